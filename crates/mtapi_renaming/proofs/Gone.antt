@@ -13,16 +13,10 @@ pub record Goes (lasts others made alive gone made_then alive_then gone_then : �
 module _ {lasts others made alive gone made_then alive_then gone_then made_last alive_last gone_last : ℕ} where
   -- what was gone first stays gone
   pub goes_first : Goes lasts others made alive gone made_then alive_then gone_then → Goes 0 0 made_then alive_then gone_then made_last alive_last gone_last → Goes lasts others made alive gone made_last alive_last gone_last
-  goes_first v w = record {
-    last = let a : gone + lasts ≤ gone_then = v.last in let b : gone_then + 0 ≤ gone_last = w.last in omega (arith, a, b);
-    other = let a : made + (alive_then + gone_then) + others ≤ made_then + (alive + gone) = v.other in let b : made_then + (alive_last + gone_last) + 0 ≤ made_last + (alive_then + gone_then) = w.other in omega (arith, a, b);
-  }
+  goes_first v w = record { last = omega (arith, v.last, w.last); other = omega (arith, v.other, w.other) }
 
   pub goes_then : Goes 0 0 made alive gone made_then alive_then gone_then → Goes lasts others made_then alive_then gone_then made_last alive_last gone_last → Goes lasts others made alive gone made_last alive_last gone_last
-  goes_then v w = record {
-    last = let a : gone + 0 ≤ gone_then = v.last in let b : gone_then + lasts ≤ gone_last = w.last in omega (arith, a, b);
-    other = let a : made + (alive_then + gone_then) + 0 ≤ made_then + (alive + gone) = v.other in let b : made_then + (alive_last + gone_last) + others ≤ made_last + (alive_then + gone_then) = w.other in omega (arith, a, b);
-  }
+  goes_then v w = record { last = omega (arith, v.last, w.last); other = omega (arith, v.other, w.other) }
 
 module _ {T : Type 0} where
   -- from one list to another
@@ -47,17 +41,10 @@ module _ {T : Type 0} where
   retired-same last (r ∷ rs) (q ∷ qs) v = grind (arith, v.0.handle, v.0.dead, retired-same last rs qs v.1)
 
   pub goes-same : (last : ℕ) (l m : List (Listed T)) → SameHandles l m → ListGoes 0 0 last last l m
-  goes-same last l m v = record {
-    last = let a : retired last l ≤ retired last m = retired-same last l m v in omega (arith, a);
-    other = let a : taken last m ≤ taken last l = taken-same last l m v in let b : length m ≡ length l = length-same l m v in omega (arith, a, b);
-  }
+  goes-same last l m v = record { last = omega (arith, retired-same last l m v); other = omega (arith, taken-same last l m v, length-same l m v) }
 
   pub goes-issue : (last h : ℕ) (v : T) (l : List (Listed T)) → ListGoes 0 0 last last l (issue h v l)
-  goes-issue last h v l =
-      let a : retired last (issue h v l) ≡ retired last l = retired-issue last h v l in
-      let b : length (live_of (issue h v l)) ≡ length (live_of l) + 1 = lives-issue h v l in
-      let c : length (issue h v l) ≡ length l + 1 = length-issue h v l in
-      record { last = omega (arith, a); other = omega (arith, a, b, c) }
+  goes-issue last h v l = record { last = omega (arith, retired-issue last h v l); other = omega (arith, retired-issue last h v l, lives-issue h v l, length-issue h v l) }
 
   -- where a live object of this handle isn't live any more, one more is gone
   abbrev Ends : ℕ → ℕ → List (Listed T) → List (Listed T) → Type 0
@@ -72,12 +59,7 @@ module _ {T : Type 0} where
   ends-same last h (r ∷ rs) (q ∷ qs) v e d = grind (arith, nat_tests, v.0.handle, v.0.dead, retired-same last rs qs v.1, taken-same last rs qs v.1, ends-same last h rs qs v.1)
 
   pub goes-ends : (last h : ℕ) (l m : List (Listed T)) → SameHandles l m → is_some (live_object l h) ≡ true → is_some (live_object m h) ≡ false → Ends last h l m
-  goes-ends last h l m v e d =
-      let w = ends-same last h l m v e d in
-      let a : retired last l + cond (generation_of h == last) 1 0 ≤ retired last m = w.0 in
-      let b : taken last m + cond (generation_of h == last) 0 1 ≤ taken last l = w.1 in
-      let c : length m ≡ length l = length-same l m v in
-      record { last = a; other = omega (arith, b, c) }
+  goes-ends last h l m v e d = let w = ends-same last h l m v e d in record { last = w.0; other = omega (arith, w.1, length-same l m v) }
 
   -- a live object stays so where another one is made
   pub live-issue : (h j : ℕ) (v : T) (l : List (Listed T)) → is_some (live_object l j) ≡ true → is_some (live_object (issue h v l) j) ≡ true

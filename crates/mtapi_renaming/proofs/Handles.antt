@@ -36,11 +36,7 @@ module _ {T : Type 0} where
   pub handles-change_all : (p : T → Bool) (F : Listed T → Listed T) → ((r : Listed T) → KeepsHandle r (F r)) → (l : List (Listed T)) → SameHandles l (change_all p F l)
   unfolding change_all
   handles-change_all p F same [] = tt
-  handles-change_all p F same (r ∷ rs) = (by_test (r.live && p r.fields), handles-change_all p F same rs)
-    where
-      by_test : (b : Bool) → KeepsHandle r (cond b (F r) r)
-      by_test true = same r
-      by_test false = keeps_itself r
+  handles-change_all p F same (r ∷ rs) = grind (arith, same r, keeps_itself r, handles-change_all p F same rs)
 
   -- what is read of the handles alone
   same_count : (p : ℕ → Bool) (l m : List (Listed T)) → SameHandles l m → how_many (λ r. p r.handle) m ≡ how_many (λ r. p r.handle) l
@@ -75,8 +71,4 @@ keeps-let_go r = record { handle = refl; dead = λ d. ap (λ (b : Bool). b && is
 pub handles-ends : (p : Task → Bool) (e : TaskEnd) (n : ℕ) (l : List (Listed Task)) → SameHandles l (end_each p e n l)
 unfolding end_each
 handles-ends p e n [] = tt
-handles-ends p e n (r ∷ rs) = by_pass (r.live && p r.fields) (handles-ends p e n rs) (handles-ends p e (n + 1) rs)
-  where
-    by_pass : (b : Bool) → SameHandles rs (end_each p e n rs) → SameHandles rs (end_each p e (n + 1) rs) → SameHandles (r ∷ rs) (cond b (ended e n r ∷ end_each p e (n + 1) rs) (r ∷ end_each p e n rs))
-    by_pass true x y = (keeps-ended e n r, y)
-    by_pass false x y = (keeps_itself r, x)
+handles-ends p e n (r ∷ rs) = grind (arith, keeps-ended e n r, keeps_itself r, handles-ends p e n rs, handles-ends p e (n + 1) rs)

@@ -20,7 +20,7 @@ module _ {T : Type 0} where
   OnceEach l = (h : ℕ) → listed h l ≤ 1
 
   pub once-same : (l m : List (Listed T)) → SameHandles l m → OnceEach l → OnceEach m
-  once-same l m v w h = let a : listed h m ≡ listed h l = listed-same h l m v in let b : listed h l ≤ 1 = w h in omega (arith, a, b)
+  once-same l m v w h = grind (arith, listed-same h l m v, w h)
 
   unlisted : (last h : ℕ) (l : List (Listed T)) → may_issue last h l ≡ true → listed h l ≡ 0
   unfolding may_issue
@@ -31,7 +31,7 @@ module _ {T : Type 0} where
 
   once-rest : (r : Listed T) (rs : List (Listed T)) → OnceEach (r ∷ rs) → OnceEach rs
   unfolding listed
-  once-rest r rs w h = let e : cond {A = ℕ} (r.handle == h) 1 0 + listed h rs ≤ 1 = w h in omega (arith, e)
+  once-rest r rs w h = grind (arith, w h)
 
   none_behind : (r : Listed T) (rs : List (Listed T)) → OnceEach (r ∷ rs) → listed r.handle rs ≡ 0
   unfolding listed
@@ -63,29 +63,7 @@ module _ {T : Type 0} where
   pub retired-gone : (last : ℕ) (l : List (Listed T)) → OnceEach l → retired last l ≡ how_many (λ h. not (is_some (live_object l h))) (lasts_in last l)
   unfolding retired lasts_in
   retired-gone last [] w = refl
-  retired-gone last (r ∷ rs) w = by_test (generation_of r.handle == last) (retired-gone last rs (once-rest r rs w) ∙ counted_same last r.handle _ gone (λ h e. ap (λ (o : Option T). not (is_some o)) (sym (other_named r rs h e))) rs (none_behind r rs w))
-    where
-      gone : ℕ → Bool
-      gone h = not (is_some (live_object (r ∷ rs) h))
-
-      here : not r.live ≡ gone r.handle
-      here = ap not (sym (live_named r rs (none_behind r rs w)))
-
-      no_test : (b : Bool) → (not b && false) ≡ false
-      no_test true = refl
-      no_test false = refl
-
-      all_test : (b : Bool) → (not b && true) ≡ not b
-      all_test true = refl
-      all_test false = refl
-
-      zero_more : (n : ℕ) → 0 + n ≡ n
-      zero_more n = omega arith
-
-      by_test : (b : Bool) → how_many (λ q. not q.live && (generation_of q.handle == last)) rs ≡ how_many gone (lasts_in last rs) →
-          cond {A = ℕ} (not r.live && b) 1 0 + how_many (λ q. not q.live && (generation_of q.handle == last)) rs ≡ how_many gone (cond b (r.handle ∷ lasts_in last rs) (lasts_in last rs))
-      by_test true rest = λ i. cond {A = ℕ} ((all_test r.live ∙ here) i) 1 0 + rest i
-      by_test false rest = (λ i. cond {A = ℕ} (no_test r.live i) 1 0 + rest i) ∙ zero_more _
+  retired-gone last (r ∷ rs) w = grind (arith, live_named r rs (none_behind r rs w), retired-gone last rs (once-rest r rs w), counted_same last r.handle (λ h. not (is_some (live_object rs h))) (λ h. not (is_some (live_object (r ∷ rs) h))) (λ h e. ap (λ (o : Option T). not (is_some o)) (sym (other_named r rs h e))) rs (none_behind r rs w))
 
   pub full-told : (last max : ℕ) (l : List (Listed T)) → OnceEach l → is_full last max l ≡ (length (live_of l) + how_many (λ h. not (is_some (live_object l h))) (lasts_in last l) == max)
   unfolding is_full

@@ -40,14 +40,7 @@ module _ {T : Type 0} (g : Renaming) (one : IsOneToOne g) (k : ObjectKind) (f : 
         (l : List (Listed T)) → HasEach g k P l → renamed_list (g k) f (change_all m F l) ≡ change_all q G (renamed_list (g k) f l)
     unfolding change_all inside
     change_all-renamed F G to [] n = refl
-    change_all-renamed F G to (r ∷ rs) n = λ i. by_test (r.live && m r.fields) i ∷ change_all-renamed F G to rs n.1 i
-      where
-        by_pass : (b : Bool) → turned_one (g k) (λ i x. f x) (cond b (F r) r) ≡ cond b (G (turned_one (g k) (λ i x. f x) r)) (turned_one (g k) (λ i x. f x) r)
-        by_pass true = to r
-        by_pass false = refl
-
-        by_test : (b : Bool) → turned_one (g k) (λ i x. f x) (cond (r.live && m r.fields) (F r) r) ≡ cond (r.live && q (f r.fields)) (G (turned_one (g k) (λ i x. f x) r)) (turned_one (g k) (λ i x. f x) r)
-        by_test b = by_pass (r.live && m r.fields) ∙ (λ i. cond (r.live && (sym (same r.fields n.0.1) i)) (G (turned_one (g k) (λ i x. f x) r)) (turned_one (g k) (λ i x. f x) r))
+    change_all-renamed F G to (r ∷ rs) n = grind (arith, to r, same r.fields n.0.1, change_all-renamed F G to rs n.1)
 
 -- a handle that is another one's
 pub record IsOther (g : Renaming) (k : ObjectKind) (other : ℕ) : Type 0 where
@@ -60,15 +53,7 @@ module _ {T : Type 0} (g : Renaming) (k : ObjectKind) (P : T → Type 0) where
   pub found-other : (f : T → T) (h : ℕ) (x : T) (l : List (Listed T)) → HasEach g k P l → live_object (renamed_list (g k) f l) h ≡ Some x → IsOther g k h
   unfolding live_of inside
   found-other f h x [] n e = absurd (cc)
-  found-other f h x (r ∷ rs) n e = by_live r.live (λ d. found-other f h x rs n.1 d) e
-    where
-      by_handle : (b : Bool) → (g k r.handle == h) ≡ b → (live_object (renamed_list (g k) f rs) h ≡ Some x → IsOther g k h) → cond b (Some (f r.fields)) (live_object (renamed_list (g k) f rs) h) ≡ Some x → IsOther g k h
-      by_handle true i rest d = record { own = r.handle; has = n.0.0; is = sym (eqb-true (g k r.handle) h i) }
-      by_handle false i rest d = rest d
-
-      by_live : (b : Bool) → (live_object (renamed_list (g k) f rs) h ≡ Some x → IsOther g k h) → lookup (cond b ((g k r.handle, f r.fields) ∷ live_of (renamed_list (g k) f rs)) (live_of (renamed_list (g k) f rs))) h ≡ Some x → IsOther g k h
-      by_live true rest d = by_handle (g k r.handle == h) refl rest d
-      by_live false rest d = rest d
+  found-other f h x (r ∷ rs) n e = elim (g k r.handle == h) as (λ b. (g k r.handle == h) ≡ b → IsOther g k h) [ true ↦ λ i. record { own = r.handle; has = n.0.0; is = sym (eqb-true (g k r.handle) h i) } | false ↦ λ i. found-other f h x rs n.1 (grind arith) ] refl
 
   -- the live object of a handle, and the handle
   pub found-has : (h : ℕ) (x : T) (l : List (Listed T)) → HasEach g k P l → live_object l h ≡ Some x → Has g k h × P x
@@ -92,11 +77,7 @@ module _ {T : Type 0} (g : Renaming) (k : ObjectKind) (P : T → Type 0) where
   pub has-change_all : (p : T → Bool) (F : Listed T → Listed T) → ((r : Listed T) → (F r).handle ≡ r.handle) → ((r : Listed T) → P r.fields → P (F r).fields) → (l : List (Listed T)) → HasEach g k P l → HasEach g k P (change_all p F l)
   unfolding change_all
   has-change_all p F same keeps [] n = tt
-  has-change_all p F same keeps (r ∷ rs) n = (by_test (r.live && p r.fields), has-change_all p F same keeps rs n.1)
-    where
-      by_test : (b : Bool) → Has g k (cond b (F r) r).handle × P (cond b (F r) r).fields
-      by_test true = (subst (λ (x : ℕ). Has g k x) (sym (same r)) n.0.0, keeps r n.0.1)
-      by_test false = n.0
+  has-change_all p F same keeps (r ∷ rs) n = grind (arith, same r, keeps r n.0.1, n.0, has-change_all p F same keeps rs n.1)
 
   pub has-issue : (h : ℕ) (v : T) (l : List (Listed T)) → Has g k h → P v → HasEach g k P l → HasEach g k P (issue h v l)
   unfolding issue

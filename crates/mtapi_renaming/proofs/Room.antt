@@ -21,7 +21,7 @@ module _ {T : Type 0} where
   taken-same last (r ∷ rs) (q ∷ qs) v = grind (arith, v.0.handle, v.0.dead, taken-same last rs qs v.1)
 
   pub within-same : (last max : ℕ) (l m : List (Listed T)) → SameHandles l m → IsWithin last max l → IsWithin last max m
-  within-same last max l m v w = let less : taken last m ≤ taken last l = taken-same last l m v in omega (arith, less, w)
+  within-same last max l m v w = omega (arith, taken-same last l m v, w)
 
   room_left : (last max : ℕ) (l : List (Listed T)) → is_full last max l ≡ false → IsWithin last max l → taken last l + 1 ≤ max
   unfolding is_full
@@ -29,10 +29,7 @@ module _ {T : Type 0} where
 
   -- an object is made only where a slot is left
   pub within-issue : (last max h : ℕ) (v : T) (l : List (Listed T)) → is_full last max l ≡ false → IsWithin last max l → IsWithin last max (issue h v l)
-  within-issue last max h v l e w =
-      let left : taken last l + 1 ≤ max = room_left last max l e w in
-      let one : length (live_of (issue h v l)) ≡ length (live_of l) + 1 = length-issue h v l in
-      let same : retired last (issue h v l) ≡ retired last l = retired-issue last h v l in omega (arith, left, one, same)
+  within-issue last max h v l e w = omega (arith, room_left last max l e w, length-issue h v l, retired-issue last h v l)
 
   -- so by the handles of the last generation
   pub within-told : (last max : ℕ) (l : List (Listed T)) → OnceEach l → IsWithin last max l → length (live_of l) + how_many (λ h. not (is_some (live_object l h))) (lasts_in last l) ≤ max

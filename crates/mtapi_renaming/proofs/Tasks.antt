@@ -1,5 +1,5 @@
 -- What is read of a task, and what its list becomes, once its handles are others.
-use Rattle.mtapi_renaming.proofs.Names.{◌≡◌, ℕ, zero, suc, ◌+◌, Bool, true, false, ◌&&◌, cond, List, [], ◌∷◌, Option, Some, None, refl, sym, ◌∙◌, ap, ◌==◌, not, nat_lt, option_map, option_or, IfSome, ObjectKind, TaskEnd, holds, Listed, live_of, inside, Action, some_below, is_eligible, has_worker, Task, is_unended, end_of, ended, end_each, is_member, is_unended_member, Ending, insert, insert_ended, endings, fault_of, first_fault, is_in, is_unended_in, is_head, Renaming, Has, IsOneToOne, renamed_list, renamed_task, HasTask, NoHandle, HasEach}
+use Rattle.mtapi_renaming.proofs.Names.{◌≡◌, ℕ, zero, suc, ◌+◌, Bool, true, false, ◌&&◌, cond, List, [], ◌∷◌, Option, Some, None, refl, sym, ◌∙◌, ap, ◌==◌, not, nat_lt, option_map, option_or, IfSome, ObjectKind, TaskEnd, holds, Listed, live_of, inside, Action, some_below, is_eligible, has_worker, Task, is_unended, end_of, ended, end_each, is_member, is_unended_member, Ending, insert, insert_ended, endings, fault_of, first_fault, is_in, is_unended_in, is_head, Renaming, Has, IsOneToOne, renamed_list, renamed_task, HasTask, NoHandle, HasEach, arith}
 use Rattle.mtapi_values.specs.declared.handles.ObjectKind.TheVariants as kind
 use Rattle.handle_pool.specs.Inside.{turned as turned_one}
 use Rattle.mtapi_renaming.proofs.Lists.{same_test, same_any}
@@ -21,11 +21,7 @@ below_same (suc n) p q same = λ i. cond (same n i) true (below_same n p q same 
 pub has-ends : (g : Renaming) (p : Task → Bool) (e : TaskEnd) (n : ℕ) (l : List (Listed Task)) → HasEach g kind.Task (HasTask g) l → HasEach g kind.Task (HasTask g) (end_each p e n l)
 unfolding end_each
 has-ends g p e n [] v = tt
-has-ends g p e n (r ∷ rs) v = by_pass (r.live && p r.fields) (has-ends g p e n rs v.1) (has-ends g p e (n + 1) rs v.1)
-  where
-    by_pass : (b : Bool) → HasEach g kind.Task (HasTask g) (end_each p e n rs) → HasEach g kind.Task (HasTask g) (end_each p e (n + 1) rs) → HasEach g kind.Task (HasTask g) (cond b (ended e n r ∷ end_each p e (n + 1) rs) (r ∷ end_each p e n rs))
-    by_pass true x y = ((v.0.0, record { queue = v.0.1.queue; notes = v.0.1.notes }), y)
-    by_pass false x y = (v.0, x)
+has-ends g p e n (r ∷ rs) v = grind (arith, v.0, has-ends g p e n rs v.1, has-ends g p e (n + 1) rs v.1)
 
 -- the faults of ended tasks
 abbrev pub renamed_ending : Renaming → Ending → Ending
@@ -41,12 +37,7 @@ fault-renamed g (x ∷ xs) = ap (option_or (fault_of x.end)) (fault-renamed g xs
 
 insert-renamed : (g : Renaming) (x : Ending) (xs : List Ending) → renamed_endings g (insert x xs) ≡ insert (renamed_ending g x) (renamed_endings g xs)
 insert-renamed g x [] = refl
-insert-renamed g x (y ∷ ys) = by_order (nat_lt x.number y.number) (insert-renamed g x ys)
-  where
-    by_order : (b : Bool) → renamed_endings g (insert x ys) ≡ insert (renamed_ending g x) (renamed_endings g ys) →
-        renamed_endings g (cond b (x ∷ y ∷ ys) (y ∷ insert x ys)) ≡ cond b (renamed_ending g x ∷ renamed_ending g y ∷ renamed_endings g ys) (renamed_ending g y ∷ insert (renamed_ending g x) (renamed_endings g ys))
-    by_order true e = refl
-    by_order false e = ap (λ (z : List Ending). renamed_ending g y ∷ z) e
+insert-renamed g x (y ∷ ys) = grind (arith, insert-renamed g x ys)
 
 insert_ended-renamed : (g : Renaming) (h : ℕ) (x : Option (TaskEnd × ℕ)) (xs ys : List Ending) → ys ≡ renamed_endings g xs → insert_ended (g kind.Task h) x ys ≡ renamed_endings g (insert_ended h x xs)
 insert_ended-renamed g h None xs ys e = e
@@ -91,29 +82,10 @@ module _ (g : Renaming) (one : IsOneToOne g) where
   pub end_each-renamed : (q m : Task → Bool) → SameTest g q m → (e : TaskEnd) (n : ℕ) (l : List (Listed Task)) → HasEach g kind.Task (HasTask g) l → renamed_tasks g (end_each m e n l) ≡ end_each q e n (renamed_tasks g l)
   unfolding end_each inside
   end_each-renamed q m same e n [] v = refl
-  end_each-renamed q m same e n (r ∷ rs) v =
-      by_pass (r.live && m r.fields) (end_each-renamed q m same e n rs v.1) (end_each-renamed q m same e (n + 1) rs v.1) ∙ (λ i. with_first (r.live && (sym (same r.fields v.0.1) i)) r rs q e n)
-    where
-      by_pass : (b : Bool) → renamed_tasks g (end_each m e n rs) ≡ end_each q e n (renamed_tasks g rs) → renamed_tasks g (end_each m e (n + 1) rs) ≡ end_each q e (n + 1) (renamed_tasks g rs) →
-          renamed_tasks g (cond b (ended e n r ∷ end_each m e (n + 1) rs) (r ∷ end_each m e n rs)) ≡ with_first b r rs q e n
-      by_pass true x y = ap (λ (z : List (Listed Task)). one_task (ended e n r) ∷ z) y
-      by_pass false x y = ap (λ (z : List (Listed Task)). one_task r ∷ z) x
+  end_each-renamed q m same e n (r ∷ rs) v = grind (arith, same r.fields v.0.1, end_each-renamed q m same e n rs v.1, end_each-renamed q m same e (n + 1) rs v.1)
 
   -- the members that have ended, in the order of their ends
   pub endings-renamed : (h : ℕ) (l : List (Listed Task)) → HasEach g kind.Task (HasTask g) l → endings (g kind.Group h) (live_of (renamed_tasks g l)) ≡ renamed_endings g (endings h (live_of l))
   unfolding endings live_of inside
   endings-renamed h [] v = refl
-  endings-renamed h (r ∷ rs) v = by_live r.live (endings-renamed h rs v.1)
-    where
-      by_pass : (b : Bool) → endings (g kind.Group h) (live_of (renamed_tasks g rs)) ≡ renamed_endings g (endings h (live_of rs)) →
-          cond b (insert_ended (g kind.Task r.handle) (end_of r.fields.state) (endings (g kind.Group h) (live_of (renamed_tasks g rs)))) (endings (g kind.Group h) (live_of (renamed_tasks g rs)))
-          ≡ renamed_endings g (cond b (insert_ended r.handle (end_of r.fields.state) (endings h (live_of rs))) (endings h (live_of rs)))
-      by_pass true e = insert_ended-renamed g r.handle (end_of r.fields.state) (endings h (live_of rs)) _ e
-      by_pass false e = e
-
-      by_live : (b : Bool) → endings (g kind.Group h) (live_of (renamed_tasks g rs)) ≡ renamed_endings g (endings h (live_of rs)) →
-          endings (g kind.Group h) (cond b ((g kind.Task r.handle, renamed_task g r.fields) ∷ live_of (renamed_tasks g rs)) (live_of (renamed_tasks g rs))) ≡ renamed_endings g (endings h (cond b ((r.handle, r.fields) ∷ live_of rs) (live_of rs)))
-      by_live true e =
-          (λ i. cond (same_member h r.fields v.0.1 i) (insert_ended (g kind.Task r.handle) (end_of r.fields.state) (endings (g kind.Group h) (live_of (renamed_tasks g rs)))) (endings (g kind.Group h) (live_of (renamed_tasks g rs))))
-          ∙ by_pass (is_member h r.fields) e
-      by_live false e = e
+  endings-renamed h (r ∷ rs) v = grind (arith, same_member h r.fields v.0.1, insert_ended-renamed g r.handle (end_of r.fields.state) (endings h (live_of rs)) (endings (g kind.Group h) (live_of (renamed_tasks g rs))) (endings-renamed h rs v.1), endings-renamed h rs v.1)
