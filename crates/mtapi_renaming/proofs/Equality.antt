@@ -3,16 +3,7 @@ use Rattle.mtapi_renaming.proofs.Names.{◌≡◌, ℕ, Bool, true, false, ◌&&
 use Rattle.mtapi_values.specs.declared.kinds.Kind.TheVariants as k
 use Rattle.mtapi_values.specs.declared.statuses.MtapiStatus.TheVariants as t
 use Rattle.mtapi_values.specs.declared.statuses.MrapiStatus.TheVariants as r
-
--- both of two tests
-pub both_decide : {P Q : Type 0} (a b : Bool) → Decides a P → Decides b Q → Decides (a && b) (P × Q)
-both_decide true true d e = (λ i. (d.0 refl, e.0 refl), λ i. refl)
-both_decide true false d e = (λ i. absurd (cc), λ i. e.1 i.1)
-both_decide false b d e = (λ i. absurd (cc), λ i. d.1 i.0)
-
--- a test of one fact is a test of another that says the same
-pub decides_so : {P Q : Type 0} (a : Bool) → (P → Q) → (Q → P) → Decides a P → Decides a Q
-decides_so a to back d = (λ i. to (d.0 i), λ q. d.1 (back q))
+use Rattle.mtapi_machine.proofs.Derived.{both_decide, decides_so}
 
 -- a status and a kind are told by their numbers
 abbrev mtapi_of : ℕ → MtapiStatus

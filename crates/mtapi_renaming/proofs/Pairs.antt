@@ -40,22 +40,11 @@ module _ {T : Type 0} (g : Renaming) (one : IsOneToOne g) (k : ObjectKind) (f : 
 
   new-pair : (h other : ℕ) (l : List (Listed T)) → HasEach g k P l → ((a : ℕ) → Has g k a → 1 ≤ listed a l) → listed h l ≡ 0 → 1 ≤ h → listed other (renamed_list (g k) f l) ≡ 0 → 1 ≤ other → IsNew g k h other
   new-pair h other l v only none some no_other others = record {
-    absent = by_number (g k h) refl;
+    absent = grind (arith, only h, none);
     some = some;
     others = others;
-    apart = λ a e. elsewhere a e;
+    apart = λ a e. let same = listed-renamed a l v in grind (arith, only a, e, others, same, no_other);
   }
-    where
-      by_number : (m : ℕ) → g k h ≡ m → m ≡ 0
-      by_number zero e = refl
-      by_number (suc m) e = let once : 1 ≤ listed h l = only h (omega (arith, e)) in absurd (omega (arith, once, none))
-
-      elsewhere : (a : ℕ) → g k a ≡ other → ⊥
-      elsewhere a e =
-          let once : 1 ≤ listed a l = only a (omega (arith, e, others)) in
-          let same : listed (g k a) (renamed_list (g k) f l) ≡ listed a l = listed-renamed a l v in
-          let zero : listed (g k a) (renamed_list (g k) f l) ≡ 0 = subst (λ (m : ℕ). listed m (renamed_list (g k) f l) ≡ 0) (sym e) no_other in
-          omega (arith, once, same, zero)
 
 -- so of the handles that two states may issue
 pub is_new : {T : Type 0} (g : Renaming) (x : Room) (s : State) → IsOneToOne g → (o : Objects T) (f : T → T) (P : T → Type 0) → o.list (renamed g x s) ≡ renamed_list (g o.kind) f (o.list s) → HasEach g o.kind P (o.list s) → ((a : ℕ) → Has g o.kind a → 1 ≤ listed a (o.list s)) →
@@ -66,26 +55,13 @@ is_new g x s one o f P is v only h other a b =
     new-pair g one o.kind f P h other (o.list s) v only own.0 own.1 (subst (λ (l : List (Listed _)). listed other l ≡ 0) is others.0) others.1
 
 module _ (g : Renaming) (k : ObjectKind) (h other : ℕ) where
-  -- the new pair is the one that is asked for, or another one
-  cases : (j : ObjectKind) (a : ℕ) → ((j ≡ k) × (a ≡ h)) ⊎ (with_pair k h other g j a ≡ g j a)
-  cases j a = by_test (object_number j == object_number k) (a == h) refl refl
-    where
-      by_test : (b c : Bool) → (object_number j == object_number k) ≡ b → (a == h) ≡ c → ((j ≡ k) × (a ≡ h)) ⊎ (cond (b && c) other (g j a) ≡ g j a)
-      by_test true true d e = inl (same_kind j k (eqb-true (object_number j) (object_number k) d), eqb-true a h e)
-      by_test true false d e = inr refl
-      by_test false c d e = inr refl
-
   pub at-new : with_pair k h other g k h ≡ other
   at-new = λ i. cond (eq-eqb (object_number k) (object_number k) refl i && eq-eqb h h refl i) other (g k h)
 
   module _ (one : IsOneToOne g) (new : IsNew g k h other) where
     -- what the renaming had, it has still
     pub extends : (j : ObjectKind) (a : ℕ) → Has g j a → with_pair k h other g j a ≡ g j a
-    extends j a has = by_case (cases j a)
-      where
-        by_case : ((j ≡ k) × (a ≡ h)) ⊎ (with_pair k h other g j a ≡ g j a) → with_pair k h other g j a ≡ g j a
-        by_case (inl e) = let d : g j a ≡ 0 = (λ i. g (e.0 i) (e.1 i)) ∙ new.absent in absurd (omega (arith, has, d))
-        by_case (inr e) = e
+    extends j a has = grind (arith, nat_tests, same_kind j k, new.absent, has)
 
     pub has_still : (j : ObjectKind) (a : ℕ) → Has g j a → Has (with_pair k h other g) j a
     has_still j a has = subst (λ (m : ℕ). 1 ≤ m) (sym (extends j a has)) has
@@ -94,26 +70,10 @@ module _ (g : Renaming) (k : ObjectKind) (h other : ℕ) where
     has_new = subst (λ (m : ℕ). 1 ≤ m) (sym at-new) new.others
 
     pub one-pair : IsOneToOne (with_pair k h other g)
-    one-pair j a b has e = by_case (cases j a) (cases j b)
-      where
-        at_a : (j ≡ k) × (a ≡ h) → with_pair k h other g j a ≡ other
-        at_a d = (λ i. with_pair k h other g (d.0 i) (d.1 i)) ∙ at-new
-
-        at_b : (j ≡ k) × (b ≡ h) → with_pair k h other g j b ≡ other
-        at_b d = (λ i. with_pair k h other g (d.0 i) (d.1 i)) ∙ at-new
-
-        by_case : ((j ≡ k) × (a ≡ h)) ⊎ (with_pair k h other g j a ≡ g j a) → ((j ≡ k) × (b ≡ h)) ⊎ (with_pair k h other g j b ≡ g j b) → a ≡ b
-        by_case (inl c) (inl d) = c.1 ∙ sym d.1
-        by_case (inl c) (inr d) = absurd (new.apart b (ap (λ (i : ObjectKind). g i b) (sym c.0) ∙ sym d ∙ sym e ∙ at_a c))
-        by_case (inr c) (inl d) = absurd (new.apart a (ap (λ (i : ObjectKind). g i a) (sym d.0) ∙ sym c ∙ e ∙ at_b d))
-        by_case (inr c) (inr d) = one j a b (subst (λ (m : ℕ). 1 ≤ m) c has) (sym c ∙ e ∙ d)
+    one-pair j a b has e = grind (arith, nat_tests, same_kind j k, one j a b, new.apart a, new.apart b, new.others)
 
     pub zero-pair : (j : ObjectKind) → g j 0 ≡ 0 → with_pair k h other g j 0 ≡ 0
-    zero-pair j z = by_case (cases j 0)
-      where
-        by_case : ((j ≡ k) × (0 ≡ h)) ⊎ (with_pair k h other g j 0 ≡ g j 0) → with_pair k h other g j 0 ≡ 0
-        by_case (inl e) = absurd (omega (arith, new.some, e.1))
-        by_case (inr e) = e ∙ z
+    zero-pair j z = grind (arith, nat_tests, new.some)
 
     -- a list by the longer renaming
     has-more : {T : Type 0} (j : ObjectKind) (P Q : T → Type 0) → ((y : T) → P y → Q y) → (l : List (Listed T)) → HasEach g j P l → HasEach (with_pair k h other g) j Q l
@@ -182,11 +142,7 @@ module _ (g : Renaming) (k : ObjectKind) (h other : ℕ) where
 
     -- and has just what was issued in a state in which the new handle was issued too
     only-more : (s t : State) → Only g s → ((j : ObjectKind) (a : ℕ) → listed_in j s a ≤ listed_in j t a) → 1 ≤ listed_in k t h → Only (with_pair k h other g) t
-    only-more s t o more there j a has = by_case (cases j a)
-      where
-        by_case : ((j ≡ k) × (a ≡ h)) ⊎ (with_pair k h other g j a ≡ g j a) → 1 ≤ listed_in j t a
-        by_case (inl e) = subst (λ (m : ℕ). 1 ≤ m) (λ i. listed_in (sym e.0 i) t (sym e.1 i)) there
-        by_case (inr e) = let old : 1 ≤ listed_in j s a = o j a (subst (λ (m : ℕ). 1 ≤ m) e has) in let grows : listed_in j s a ≤ listed_in j t a = more j a in omega (arith, old, grows)
+    only-more s t o more there j a has = grind (arith, nat_tests, same_kind j k, o j a, more j a, there)
 
     module _ (x : Room) (s : State) (n : Fits g s) where
       state-same : renamed (with_pair k h other g) x s ≡ renamed g x s
@@ -207,13 +163,10 @@ at_least : (m : ℕ) → m ≤ m
 at_least m = omega arith
 
 issue_more : {T : Type 0} (h a : ℕ) (w : T) (l : List (Listed T)) → listed a l ≤ listed a (issue h w l)
-issue_more h a w l = let e : listed a (issue h w l) ≡ listed a l + cond {A = ℕ} (h == a) 1 0 = listed-issue a h w l in omega (arith, e)
+issue_more h a w l = omega (arith, listed-issue a h w l)
 
 issue_there : {T : Type 0} (h : ℕ) (w : T) (l : List (Listed T)) → 1 ≤ listed h (issue h w l)
-issue_there h w l =
-    let e : listed h (issue h w l) ≡ listed h l + cond {A = ℕ} (h == h) 1 0 = listed-issue h h w l in
-    let d : cond {A = ℕ} (h == h) 1 0 ≡ 1 = ap (λ (b : Bool). cond {A = ℕ} b 1 0) (eq-eqb h h refl) in
-    omega (arith, e, d)
+issue_there h w l = grind (arith, nat_tests, listed-issue h h w l)
 
 -- each list of a state with a new object has what it had
 abbrev HasMore : ℕ → (T : Type 0) → Objects T → List (Listed T) → List (Listed T) → Type 0

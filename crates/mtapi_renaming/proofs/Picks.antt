@@ -1,5 +1,5 @@
 -- A worker that may take a task isn't told anything else.
-use Rattle.mtapi_renaming.proofs.Names.{◌≡◌, ℕ, Bool, true, false, ◌&&◌, cond, List, [], ◌∷◌, Option, Some, None, refl, sym, subst, not, ℤ, Kind, TaskHandle, ActionHandle, live_of, live_object, any_listed, any_live-at, Action, is_eligible, Task, Reply, Picked, Idle, Stop, State, workers, is_stop, stops, runs_task, Row, unless, gives, never, Allows, says, only, live, is_ready, can_take, has_better, picks, row, fst_true, snd_true, takes_task}
+use Rattle.mtapi_renaming.proofs.Names.{◌≡◌, ℕ, Bool, true, false, ◌&&◌, cond, List, [], ◌∷◌, Option, Some, None, refl, sym, subst, not, ℤ, Kind, TaskHandle, ActionHandle, live_of, live_object, any_listed, any_live-at, Action, is_eligible, Task, Reply, Picked, Idle, Stop, State, workers, is_stop, stops, runs_task, Row, unless, gives, never, Allows, says, only, live, is_ready, can_take, has_better, picks, row, fst_true, snd_true, takes_task, arith}
 use Rattle.mtapi_machine.specs.declared.ops.Op.TheVariants as op
 
 -- where a row takes a task, it allows nothing else
@@ -8,31 +8,20 @@ record OnlyTakes (own : Reply → Row) : Type 0 where
 
 -- a reply that takes no task is another one
 other_reply : (t : TaskHandle) (a : ActionHandle) (k : Kind) (args : List ℤ) (y : Reply) → takes_task op.Pick y ≡ false → Picked t a k args ≡ y → ⊥
-other_reply t a k args y e i = let d : takes_task op.Pick (Picked t a k args) ≡ false = subst (λ (z : Reply). takes_task op.Pick z ≡ false) (sym i) e in absurd (cc)
+other_reply t a k args y e i = grind arith
 
 unless_takes : {b : Bool} {y : Reply} {own : Reply → Row} → takes_task op.Pick y ≡ false → OnlyTakes own → OnlyTakes (λ r. unless b y (own r))
-unless_takes {b} {y} {own} e v = by_test b
-  where
-    by_test : (c : Bool) → OnlyTakes (λ r. unless c y (own r))
-    by_test true = record { takes = λ t a k args r i j. absurd (other_reply t a k args y e i) }
-    by_test false = record { takes = v.takes }
+unless_takes {b = true} e v = record { takes = λ t a k args r i j. absurd (other_reply t a k args _ e i) }
+unless_takes {b = false} e v = record { takes = v.takes }
 
 stop_takes : (b : Bool) (w : ℕ) {own : Reply → Row} → OnlyTakes own → OnlyTakes (λ r. cond b (gives Stop (stops w ∷ [])) (own r))
-stop_takes b w {own} v = by_test b
-  where
-    by_test : (c : Bool) → OnlyTakes (λ r. cond c (gives Stop (stops w ∷ [])) (own r))
-    by_test true = record { takes = λ t a k args r i j. absurd (other_reply t a k args Stop refl i) }
-    by_test false = record { takes = v.takes }
+stop_takes true w v = record { takes = λ t a k args r i j. absurd (other_reply t a k args Stop refl i) }
+stop_takes false w v = record { takes = v.takes }
 
 -- the worker could take the task that it takes
 could_take : (s : State) (w : ℕ) (t a : ℕ) (x : Task) (y : Action) → live_object s.tasks t ≡ Some x → live_object s.actions a ≡ Some y → (is_ready s x && is_eligible (workers s) w x.job x.cores y) ≡ true → any_listed (can_take s w) s.tasks ≡ true
 unfolding can_take
-could_take s w t a x y d e may =
-    let eligible : any_listed (is_eligible (workers s) w x.job x.cores) s.actions ≡ true = any_live-at (is_eligible (workers s) w x.job x.cores) (live_of s.actions) a y e (snd_true (is_ready s x) _ may) in
-    any_live-at (can_take s w) (live_of s.tasks) t x d (both _ _ (fst_true (is_ready s x) _ may) eligible)
-  where
-    both : (b c : Bool) → b ≡ true → c ≡ true → (b && c) ≡ true
-    both b c i j = λ n. i n && j n
+could_take s w t a x y d e may = any_live-at (can_take s w) (live_of s.tasks) t x d (grind (arith, any_live-at (is_eligible (workers s) w x.job x.cores) (live_of s.actions) a y e))
 
 picked : (s : State) (w : ℕ) (t : TaskHandle) (a : ActionHandle) (k : Kind) (args : List ℤ) → Allows (picks s w (Picked t a k args)) (Picked t a k args) → any_listed (can_take s w) s.tasks ≡ true
 picked s w t a k args = by_objects (live_object s.tasks t.0) (live_object s.actions a.0) refl refl

@@ -129,11 +129,10 @@ module _ {g : Renaming} {x : Room} {s : State} (n : Fits g s) {k : Option Object
 
   -- what follows a refusal, where its cause doesn't hold
   pub unless_then : {a b : Bool} {y : Reply} {own other : Row} → b ≡ a → is_plain y ≡ true → (a ≡ false → Alike g x s k r own other) → Alike g x s k r (unless a y own) (unless b y other)
-  unless_then {a} {b} {y} {own} {other} e p w = subst (λ (z : Bool). Alike g x s k r (unless a y own) (unless z y other)) (sym e) (by_test a refl)
-    where
-      by_test : (z : Bool) → a ≡ z → Alike g x s k r (unless z y own) (unless z y other)
-      by_test true d = let v : Alike g x s k r (says y) (says y) = says_alike p in record { allowed = v.allowed; comes = v.comes; leads = v.leads; fits = v.fits }
-      by_test false d = let v : Alike g x s k r own other = w d in record { allowed = v.allowed; comes = v.comes; leads = v.leads; fits = v.fits }
+  unless_then {a = true} {b = true} e p w = let v : Alike g x s k r (says _) (says _) = says_alike p in record { allowed = v.allowed; comes = v.comes; leads = v.leads; fits = v.fits }
+  unless_then {a = false} {b = false} e p w = let v = w refl in record { allowed = v.allowed; comes = v.comes; leads = v.leads; fits = v.fits }
+  unless_then {a = true} {b = false} e p w = absurd (cc)
+  unless_then {a = false} {b = true} e p w = absurd (cc)
 
   pub unless_alike : {a b : Bool} {y : Reply} {own other : Row} → b ≡ a → is_plain y ≡ true → Alike g x s k r own other → Alike g x s k r (unless a y own) (unless b y other)
   unless_alike e p w = unless_then e p (λ d. w)
@@ -143,18 +142,16 @@ module _ {g : Renaming} {x : Room} {s : State} (n : Fits g s) {k : Option Object
   not_yet_alike false late p = says_alike refl
 
   pub cond_alike : (a b : Bool) {v w y z : Row} → b ≡ a → Alike g x s k r v y → Alike g x s k r w z → Alike g x s k r (cond a v w) (cond b y z)
-  cond_alike a b {v} {w} {y} {z} e i j = subst (λ (c : Bool). Alike g x s k r (cond a v w) (cond c y z)) (sym e) (by_test a)
-    where
-      by_test : (c : Bool) → Alike g x s k r (cond c v w) (cond c y z)
-      by_test true = i
-      by_test false = j
+  cond_alike true true e i j = i
+  cond_alike false false e i j = j
+  cond_alike true false e i j = absurd (cc)
+  cond_alike false true e i j = absurd (cc)
 
   pub only_alike : {a b : Bool} {own other : Row} → b ≡ a → (a ≡ true → Alike g x s k r own other) → Alike g x s k r (only a own) (only b other)
-  only_alike {a} {b} {own} {other} e w = subst (λ (z : Bool). Alike g x s k r (only a own) (only z other)) (sym e) (by_test a refl)
-    where
-      by_test : (z : Bool) → a ≡ z → Alike g x s k r (only z own) (only z other)
-      by_test true d = w d
-      by_test false d = never_alike
+  only_alike {a = true} {b = true} e w = w refl
+  only_alike {a = false} {b = false} e w = never_alike
+  only_alike {a = true} {b = false} e w = absurd (cc)
+  only_alike {a = false} {b = true} e w = absurd (cc)
 
   pub live_alike : {T : Type 0} (f : T → T) {o p : Option T} {own other : Row} (v w : T → Row) → p ≡ option_map f o → Alike g x s k r own other → ((y : T) → o ≡ Some y → Alike g x s k r (v y) (w (f y))) → Alike g x s k r (live o own v) (live p other w)
   live_alike {T} f {o} {p} {own} {other} v w e i j = subst (λ (z : Option T). Alike g x s k r (live o own v) (live z other w)) (sym e) (by_object o refl)

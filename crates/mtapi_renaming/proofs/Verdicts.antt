@@ -2,7 +2,8 @@
 use Rattle.mtapi_renaming.proofs.Names.{◌≡◌, ℕ, zero, suc, ◌+◌, ◌≤◌, ◌<◌, Bool, true, false, cond, List, [], ◌∷◌, length, take, Option, Some, None, refl, subst, arith, nat_lt, nat_le, Decides, nat_tests, is_pure, answer_of, Terms, Op, Finish, Reply, State, opening, seats, Row, unless, gives, never, Allows, NodeEntry, IsHonest, row_of, IsNext, next, LegalFrom, answer, is_honest, is_answer, may_come, first_illegal, IsJudged}
 use Rattle.std.specs.Prelude.{option_map}
 use Rattle.mtapi_machine.specs.Legal.{Fits}
-use Rattle.mtapi_renaming.proofs.Equality.{both_decide, decides_so, act_decides, reply_decides}
+use Rattle.mtapi_machine.proofs.Derived.{both_decide, decides_so}
+use Rattle.mtapi_renaming.proofs.Equality.{act_decides, reply_decides}
 
 lt_decides : (a b : ℕ) → Decides (nat_lt a b) (a < b)
 lt_decides a b = (λ i. grind (arith, nat_tests), λ i. grind (arith, nat_tests))
@@ -38,15 +39,7 @@ legal_none s (e ∷ es) l = λ i. cond ((come_decides s e).1 l.0 i) (option_map 
 none_legal : (s : State) (L : List NodeEntry) → first_illegal s L ≡ None → LegalFrom s L
 unfolding LegalFrom first_illegal
 none_legal s [] i = tt
-none_legal s (e ∷ es) i = by_test (λ j. none_legal (next s e) es j) (may_come s e) refl i
-  where
-    by_rest : (o : Option ℕ) → option_map (λ n. n + 1) o ≡ None → o ≡ None
-    by_rest None j = refl
-    by_rest (Some n) j = absurd (cc)
-
-    by_test : (first_illegal (next s e) es ≡ None → LegalFrom (next s e) es) → (b : Bool) → may_come s e ≡ b → cond b (option_map (λ n. n + 1) (first_illegal (next s e) es)) (Some 1) ≡ None → IsNext s e × LegalFrom (next s e) es
-    by_test more true d j = ((come_decides s e).0 d, more (by_rest (first_illegal (next s e) es) j))
-    by_test more false d j = absurd (cc)
+none_legal s (e ∷ es) i = elim (may_come s e) as (λ b. may_come s e ≡ b → IsNext s e × LegalFrom (next s e) es) [ true ↦ λ d. ((come_decides s e).0 d, none_legal (next s e) es (grind (arith, i, d))) | false ↦ λ d. absurd (grind (arith, i, d)) ] refl
 
 -- n is the least number such that the first n entries aren't legal from this state on
 record IsLeast (s : State) (L : List NodeEntry) (n : ℕ) : Type 0 where
@@ -61,13 +54,9 @@ unfolding LegalFrom
 first_bad s e es d = record {
   some = omega arith;
   within = omega arith;
-  before = λ m k. by_number m k;
-  illegal = λ l. let t : may_come s e ≡ true = (come_decides s e).1 l.0 in absurd (cc);
+  before = elim [ zero ↦ λ k. tt | suc m ↦ λ k. absurd (omega arith) ];
+  illegal = λ l. let t = (come_decides s e).1 l.0 in absurd (cc);
 }
-  where
-    by_number : (m : ℕ) → m < 1 → LegalFrom s (take m (e ∷ es))
-    by_number zero k = tt
-    by_number (suc m) k = absurd (omega arith)
 
 -- it may, and a later one is the first that may not
 later_bad : (s : State) (e : NodeEntry) (es : List NodeEntry) (n : ℕ) → may_come s e ≡ true → IsLeast (next s e) es n → IsLeast s (e ∷ es) (suc n)
@@ -75,13 +64,9 @@ unfolding LegalFrom
 later_bad s e es n d l = record {
   some = omega arith;
   within = omega (arith, l.within);
-  before = λ m k. by_number m k;
+  before = elim [ zero ↦ λ k. tt | suc m ↦ λ k. ((come_decides s e).0 d, l.before m (omega arith)) ];
   illegal = λ h. l.illegal h.1;
 }
-  where
-    by_number : (m : ℕ) → m < suc n → LegalFrom s (take m (e ∷ es))
-    by_number zero k = tt
-    by_number (suc m) k = ((come_decides s e).0 d, l.before m (omega arith))
 
 least : (s : State) (L : List NodeEntry) (n : ℕ) → first_illegal s L ≡ Some n → IsLeast s L n
 unfolding first_illegal

@@ -1,26 +1,18 @@
 -- The rows by which workers take tasks and end them, and those of tallies, in the renamed state.
-use Rattle.mtapi_renaming.proofs.Names.{◌≡◌, ℕ, Bool, true, false, ◌&&◌, ◌||◌, cond, List, Option, Some, None, inr, refl, sym, ◌∙◌, ap, subst, length, ◌==◌, not, nat_lt, is_none, is_some, ℤ, option_map, ObjectKind, MtapiStatus, TaskEnd, holds, live_of, live_object, first_handle, Action, is_eligible, Task, Notes, is_unstarted, is_unended, Adds, asked_once, with_tally, tally_has, Queue, lets, Mutex, locked_by, unlocked, Segment, with_attached, Reply, Picked, State, workers, is_past_open, is_stop, Queues, Mutexes, Segments, Row, is_ready, can_take, has_better, picks, on_tally, gives_up, takes_both, locks, gives_back, Renaming, Has, Room, renamed_task, renamed_notes, renamed, HasTask, HasNotes, NoHandle, Fits, renamed_answer}
+use Rattle.mtapi_renaming.proofs.Names.{◌≡◌, ℕ, Bool, true, false, ◌&&◌, ◌||◌, cond, List, Option, Some, None, inr, refl, sym, ◌∙◌, ap, subst, length, ◌==◌, not, nat_lt, is_none, is_some, ℤ, option_map, ObjectKind, MtapiStatus, TaskEnd, holds, live_of, live_object, first_handle, Action, is_eligible, Task, Notes, is_unstarted, is_unended, Adds, asked_once, with_tally, tally_has, Queue, lets, Mutex, locked_by, unlocked, Segment, with_attached, Reply, Picked, State, workers, is_past_open, is_stop, Queues, Mutexes, Segments, Row, is_ready, can_take, has_better, picks, on_tally, gives_up, takes_both, locks, gives_back, Renaming, Has, Room, renamed_task, renamed_notes, renamed, HasTask, HasNotes, NoHandle, Fits, renamed_answer, arith}
 use Rattle.std.specs.Prelude.{◌+◌}
 use Rattle.mtapi_values.specs.declared.handles.ObjectKind.TheVariants as kind
 use Rattle.mtapi_renaming.proofs.Lists.{found-renamed, found-has, first-has}
 use Rattle.mtapi_renaming.proofs.Tasks.{SameTest, same_head}
 use Rattle.mtapi_renaming.proofs.Moves.{NoteKeeps, one_move, then_moves, runs_task-renames, ends_task-renames, notes-renames, alters-renames}
 use Rattle.mtapi_renaming.proofs.Rows.{Alike, sort-found, sort-first, unless_alike, gives_renamed, gives_alike, says_alike, never_alike, cond_alike, only_alike, live_alike, on_task, chosen_sort}
-use Rattle.mtapi_renaming.proofs.TaskRows.{action-any, task-any}
+use Rattle.mtapi_renaming.proofs.TaskRows.{is_none-map, action-any, task-any}
 
 pub asked_same : (g : Renaming) (y : Notes) → renamed_notes g (asked_once y) ≡ asked_once (renamed_notes g y)
-asked_same g y = by_request y.requested
-  where
-    by_request : (b : Bool) → renamed_notes g (cond b (record y { seen = true }) (record y { looks = y.looks + 1 })) ≡ cond b (record (renamed_notes g y) { seen = true }) (record (renamed_notes g y) { looks = y.looks + 1 })
-    by_request true = refl
-    by_request false = refl
+asked_same g y = grind arith
 
 pub asked_keeps : (g : Renaming) → NoteKeeps g asked_once
-asked_keeps g y v = by_request y.requested
-  where
-    by_request : (b : Bool) → HasNotes g (cond b (record y { seen = true }) (record y { looks = y.looks + 1 }))
-    by_request true = record { group = v.group; tally = v.tally }
-    by_request false = record { group = v.group; tally = v.tally }
+asked_keeps g y v = grind (arith, v.group, v.tally)
 
 -- Picking
 
@@ -33,13 +25,9 @@ module _ {g : Renaming} {s : State} (n : Fits g s) (x : Room) where
       by_object None = refl
       by_object (Some q) = ap (λ (b : Bool). q.enabled && (not q.ordered || b)) (same_head g n.one h t s.tasks n.tasks)
 
-  is_none-queue : (o : Option ℕ) → is_none (option_map (g kind.Queue) o) ≡ is_none o
-  is_none-queue None = refl
-  is_none-queue (Some h) = refl
-
   same_ready : SameTest g (is_ready (renamed g x s)) (is_ready s)
   unfolding is_ready
-  same_ready t v = λ i. is_unstarted t && (is_none-queue t.queue i || queue_lets t t.queue i)
+  same_ready t v = λ i. is_unstarted t && (is_none-map (g kind.Queue) t.queue i || queue_lets t t.queue i)
 
   same_take : (w : ℕ) → SameTest g (can_take (renamed g x s) w) (can_take s w)
   unfolding can_take
