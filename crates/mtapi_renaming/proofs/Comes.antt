@@ -53,20 +53,14 @@ takes_still g r i = i
 -- what a worker takes
 
 past : (b : Bool) (y q : Reply) (w : Row) → is_plain y ≡ true → is_plain q ≡ false → Allows (unless b y w) q → Allows w q
-past b y q w p f a = by_test b a
-  where
-    by_test : (c : Bool) → Allows (unless c y w) q → Allows w q
-    by_test true i = absurd (no_plain y q p i f)
-    by_test false i = i
+past true y q w p f a = absurd (no_plain y q p a f)
+past false y q w p f a = a
 
 past_gives : (b : Bool) (y q : Reply) (ms : List Move) (w : Row) → is_plain y ≡ true → is_plain q ≡ false → Allows (cond b (gives y ms) w) q → Allows w q
-past_gives b y q ms w p f a = by_test b a
-  where
-    by_test : (c : Bool) → Allows (cond c (gives y ms) w) q → Allows w q
-    by_test true i = absurd (no_plain y q p i f)
-    by_test false i = i
+past_gives true y q ms w p f a = absurd (no_plain y q p a f)
+past_gives false y q ms w p f a = a
 
-if_there : {T C : Type 0} (o : Option T) (v : T → Row) (q : Reply) → ((y : T) → o ≡ Some y → Allows (v y) q → C) → Allows (live o never v) q → C
+pub if_there : {T C : Type 0} (o : Option T) (v : T → Row) (q : Reply) → ((y : T) → o ≡ Some y → Allows (v y) q → C) → Allows (live o never v) q → C
 if_there None v q e i = absurd i
 if_there (Some y) v q e i = e y refl i
 

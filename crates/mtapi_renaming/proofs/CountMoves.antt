@@ -110,17 +110,12 @@ no_task t o e i = i
 
 no_sort : (t : Sort) (o : Op) → made_kind o ≡ None → makes_kind t o ≡ true → ⊥
 no_sort Groups op.GroupCreate e i = absurd (cc)
-no_sort Groups o e i = absurd (cc)
 no_sort Queues (op.QueueCreate id job priority limit ordered retain) e i = absurd (cc)
-no_sort Queues o e i = absurd (cc)
 no_sort Mutexes (op.MutexCreate id recursive) e i = absurd (cc)
-no_sort Mutexes o e i = absurd (cc)
 no_sort Sems (op.SemCreate id limit) e i = absurd (cc)
-no_sort Sems o e i = absurd (cc)
 no_sort Rwls (op.RwlCreate id limit) e i = absurd (cc)
-no_sort Rwls o e i = absurd (cc)
 no_sort Segments (op.ShmemCreate id cells) e i = absurd (cc)
-no_sort Segments o e i = absurd (cc)
+no_sort t o e i = absurd (cc)
 
 pub by_none : (s : State) (o : Op) (m : Move) → made_kind o ≡ None → IsMade s o m → MakesNothing m
 by_none s o (makes_action h a) e i = no_action a o e i.by

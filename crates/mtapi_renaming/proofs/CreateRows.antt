@@ -56,11 +56,8 @@ pub record HoldsOfNew (s : State) (Q : ObjectKind → State → Type 0) (h : ℕ
 
 module _ {s : State} {Q : ObjectKind → State → Type 0} {h : ℕ} where
   unless_makes : {k : ObjectKind} {a : Bool} {y : Reply} {own : Reply → Row} → is_plain y ≡ true → Makes s Q h k own → Makes s Q h k (λ r. unless a y (own r))
-  unless_makes {k} {a} {y} {own} p v = by_test a
-    where
-      by_test : (b : Bool) → Makes s Q h k (λ r. unless b y (own r))
-      by_test true = record { makes = λ i. absurd (no_handle h y p i) }
-      by_test false = record { makes = v.makes }
+  unless_makes {a = true} {y = y} p v = record { makes = λ i. absurd (no_handle h y p i) }
+  unless_makes {a = false} p v = record { makes = v.makes }
 
   creates_makes : {T : Type 0} {k : ObjectKind} (o : Objects T) (make : ℕ → Move) → is_plain o.limit ≡ true → Q k (apply (make h) s) → Makes s Q h k (λ r. creates o s r make)
   creates_makes {T} {k} o make p new = record {

@@ -1,5 +1,5 @@
 -- The rows of the ops that make objects, in the renamed state.
-use Rattle.mtapi_renaming.proofs.Names.{◌≡◌, ◌↔◌, ℕ, Bool, true, false, List, [], ◌∷◌, Option, Some, None, refl, sym, ◌∙◌, ap, subst, ◌==◌, not, is_none, option_map, IfSome, MatchBool, ObjectKind, MrapiStatus, holds, live_object, Action, has_job, has_enabled_job, NewTask, Group, Queue, Reply, Handle, State, Objects, actions, tasks, queues, Move, Sort, Groups, Queues, Fields, all_of, makes_action, starts_task, makes, is_fresh, apply, after_moves, of_sort, Row, unless, gives, Allows, after_row, says, only, mtapi_unless, handle_of, live, on, creates, Keyed, mrapi_unless, creates_keyed, start_refusals, Renaming, Has, with_pair, Room, renamed_task, renamed, HasTask, NoHandle, Fits, Follows, full, is_full_of, is_fresh_of, limit_of, CanBe, is_handle}
+use Rattle.mtapi_renaming.proofs.Names.{◌≡◌, ◌↔◌, ℕ, Bool, true, false, List, [], ◌∷◌, Option, Some, None, refl, sym, ◌∙◌, ap, subst, ◌==◌, not, is_none, option_map, IfSome, MatchBool, ObjectKind, MrapiStatus, holds, live_object, Action, has_job, has_enabled_job, NewTask, Group, Queue, Reply, Handle, State, Objects, actions, tasks, queues, Move, Sort, Groups, Queues, Fields, all_of, makes_action, starts_task, makes, is_fresh, apply, after_moves, of_sort, Row, unless, gives, Allows, after_row, says, only, mtapi_unless, handle_of, live, on, creates, Keyed, mrapi_unless, creates_keyed, start_refusals, Renaming, Has, with_pair, Room, renamed_task, renamed, HasTask, NoHandle, Fits, Follows, full, is_full_of, is_fresh_of, limit_of, CanBe, is_handle, makes_or_not, refusal_in, Ok, arith, cond}
 use Rattle.mtapi_values.specs.declared.handles.ObjectKind.TheVariants as kind
 use Rattle.mtapi_renaming.proofs.Rows.{is_plain}
 use Rattle.mtapi_renaming.proofs.Lists.{found-has}
@@ -9,6 +9,24 @@ use Rattle.mtapi_renaming.proofs.Rows.{sort-found, sort-any}
 use Rattle.mtapi_renaming.proofs.TaskRows.{action-any, served, group_missing}
 use Rattle.mtapi_renaming.proofs.Pairs.{MakesPair, is_new, makes_action-pair, starts_task-pair, makes-pair}
 
+-- two rows that refuse alike before their last conditions
+pub record SameRefusal (own other : Row) : Type 0 where
+  pub ends : makes_or_not other ≡ makes_or_not own
+  pub same : refusal_in other ≡ refusal_in own
+
+unless_same : {a b : Bool} {y : Reply} {own other : Row} → b ≡ a → SameRefusal own other → SameRefusal (unless a y own) (unless b y other)
+unfolding refusal_in
+unless_same {y = y} e v = record { ends = refl; same = λ i. cond (v.ends i) None (cond (e i) (Some y) (v.same i)) }
+
+refused_same : {y : Reply} {own other : Row} → makes_or_not other ≡ makes_or_not own → SameRefusal (unless true y own) (unless true y other)
+unfolding refusal_in
+refused_same {y = y} e = record { ends = refl; same = ap (λ (b : Bool). cond b None (Some y)) e }
+
+-- no refusal is read at the limit
+pub creates_none : {T : Type 0} (o : Objects T) (s : State) (make : ℕ → Move) → refusal_in (creates o s Ok make) ≡ None
+unfolding refusal_in
+creates_none o s make = elim (is_fresh o s (handle_of Ok)) as (λ b. refusal_in (unless (full o s) o.limit (only b (gives (Handle (handle_of Ok)) (make (handle_of Ok) ∷ [])))) ≡ None) [ true ↦ refl | false ↦ refl ]
+
 -- the rows of an op that makes an object, for each reply: in the state, and in the renamed one
 pub record CreateAlike (g : Renaming) (x : Room) (s : State) (k : ObjectKind) (h other : ℕ) (own others : Reply → Row) : Type 0 where
   pub refused : (r : Reply) → is_handle r ≡ false → (r ≡ limit_of k → ⊥) → Allows (own r) r ↔ Allows (others r) r
@@ -16,9 +34,10 @@ pub record CreateAlike (g : Renaming) (x : Room) (s : State) (k : ObjectKind) (h
   pub answers : Allows (others (Handle other)) (Handle other) → (r : Reply) → Allows (own r) r ↔ CanBe k s r
   pub made : is_full_of k s ≡ false → is_full_of k (renamed g x s) ≡ false → is_fresh_of k s h ≡ true → is_fresh_of k (renamed g x s) other ≡ true → Allows (own (Handle h)) (Handle h) ↔ Allows (others (Handle other)) (Handle other)
   pub makes : Allows (own (Handle h)) (Handle h) → Allows (others (Handle other)) (Handle other) → MakesPair g x s k h other (after_row s (own (Handle h))) (after_row (renamed g x s) (others (Handle other)))
+  pub same : SameRefusal (own Ok) (others Ok)
 
 pub no_handle : (h : ℕ) (y : Reply) → is_plain y ≡ true → Handle h ≡ y → ⊥
-no_handle h y p e = let t : is_plain (Handle h) ≡ true = subst (λ (z : Reply). is_plain z ≡ true) (sym e) p in absurd (cc)
+no_handle h y p e = grind arith
 
 -- what is refused for a reason that doesn't depend on the handle
 pub says_creates : {g : Renaming} {x : Room} {s : State} {k : ObjectKind} {h other : ℕ} {y : Reply} → is_plain y ≡ true → CreateAlike g x s k h other (λ r. says y) (λ r. says y)
@@ -28,20 +47,23 @@ says_creates {g} {x} {s} {k} {h} {other} {y} p = record {
   answers = λ i r. absurd (no_handle other y p i);
   made = λ a b c d. (λ i. absurd (no_handle h y p i), λ i. absurd (no_handle other y p i));
   makes = λ i j. absurd (no_handle h y p i);
+  same = record { ends = refl; same = refl };
 }
 
 module _ {g : Renaming} {x : Room} {s : State} {k : ObjectKind} {h other : ℕ} where
-  pub unless_creates : {a b : Bool} {y : Reply} {own others : Reply → Row} → b ≡ a → is_plain y ≡ true → (a ≡ false → CreateAlike g x s k h other own others) →
+  -- behind a refusal for the same cause
+  unless_then : {a b : Bool} {y : Reply} {own others : Reply → Row} → b ≡ a → is_plain y ≡ true → makes_or_not (others Ok) ≡ makes_or_not (own Ok) → (a ≡ false → CreateAlike g x s k h other own others) →
       CreateAlike g x s k h other (λ r. unless a y (own r)) (λ r. unless b y (others r))
-  unless_creates {a} {b} {y} {own} {others} e p w = subst (λ (c : Bool). CreateAlike g x s k h other (λ r. unless a y (own r)) (λ r. unless c y (others r))) (sym e) (by_test a refl)
-    where
-      by_test : (c : Bool) → a ≡ c → CreateAlike g x s k h other (λ r. unless c y (own r)) (λ r. unless c y (others r))
-      by_test true d = let v : CreateAlike g x s k h other (λ r. says y) (λ r. says y) = says_creates p in record { refused = v.refused; refuses = v.refuses; answers = v.answers; made = v.made; makes = v.makes }
-      by_test false d = let v : CreateAlike g x s k h other own others = w d in record { refused = v.refused; refuses = v.refuses; answers = v.answers; made = v.made; makes = v.makes }
+  unless_then {a = true} {b = true} {y} e p ends w = let v : CreateAlike g x s k h other (λ r. says y) (λ r. says y) = says_creates p in record { refused = v.refused; refuses = v.refuses; answers = v.answers; made = v.made; makes = v.makes; same = refused_same ends }
+  unless_then {a = false} {b = false} e p ends w = let v = w refl in record { refused = v.refused; refuses = v.refuses; answers = v.answers; made = v.made; makes = v.makes; same = unless_same refl v.same }
+  unless_then e p ends w = absurd (cc)
+
+  pub unless_creates : {a b : Bool} {y : Reply} {own others : Reply → Row} → b ≡ a → is_plain y ≡ true → CreateAlike g x s k h other own others → CreateAlike g x s k h other (λ r. unless a y (own r)) (λ r. unless b y (others r))
+  unless_creates e p v = unless_then e p v.same.ends (λ d. v)
 
   pub mrapi_creates : (cs : List (Bool × MrapiStatus)) {own others : Reply → Row} → CreateAlike g x s k h other own others → CreateAlike g x s k h other (λ r. mrapi_unless cs (own r)) (λ r. mrapi_unless cs (others r))
   mrapi_creates [] w = w
-  mrapi_creates (c ∷ cs) {own} {others} w = unless_creates {own = λ r. mrapi_unless cs (own r)} {others = λ r. mrapi_unless cs (others r)} refl refl (λ d. mrapi_creates cs {own = own} {others = others} w)
+  mrapi_creates (c ∷ cs) {own} {others} w = unless_creates {own = λ r. mrapi_unless cs (own r)} {others = λ r. mrapi_unless cs (others r)} refl refl (mrapi_creates cs {own = own} {others = others} w)
 
   pub live_creates : {T : Type 0} (f : T → T) {o p : Option T} (y : Reply) (v w : T → Reply → Row) → p ≡ option_map f o → is_plain y ≡ true → ((z : T) → o ≡ Some z → CreateAlike g x s k h other (v z) (w (f z))) →
       CreateAlike g x s k h other (λ r. live o (says y) (λ z. v z r)) (λ r. live p (says y) (λ z. w z r))
@@ -57,7 +79,7 @@ ends_in f limit b r ms = unless f limit (only b (gives (Handle (handle_of r)) ms
 
 none_other : (f b : Bool) (limit r : Reply) (ms : List Move) → is_handle r ≡ false → (r ≡ limit → ⊥) → Allows (ends_in f limit b r ms) r → ⊥
 none_other true b limit r ms no_r less i = less i
-none_other false true limit r ms no_r less i = let t : is_handle (Handle (handle_of r)) ≡ false = subst (λ (z : Reply). is_handle z ≡ false) i no_r in absurd (cc)
+none_other false true limit r ms no_r less i = grind arith
 none_other false false limit r ms no_r less i = i
 
 pub reached : (f b : Bool) (limit : Reply) (h : ℕ) (ms : List Move) → is_plain limit ≡ true → Allows (ends_in f limit b (Handle h) ms) (Handle h) → (f ≡ false) × (b ≡ true)
@@ -66,19 +88,21 @@ reached false true limit h ms p i = (refl, refl)
 reached false false limit h ms p i = absurd i
 
 given : (f b : Bool) (limit : Reply) (h : ℕ) (ms : List Move) → f ≡ false → b ≡ true → Allows (ends_in f limit b (Handle h) ms) (Handle h)
-given true b limit h ms e d = absurd (cc)
 given false true limit h ms e d = refl
-given false false limit h ms e d = absurd (cc)
+given f b limit h ms e d = absurd (cc)
 
 pub after_given : (s : State) (f b : Bool) (limit : Reply) (h : ℕ) (ms : List Move) → f ≡ false → b ≡ true → after_row s (ends_in f limit b (Handle h) ms) ≡ after_moves ms s
-after_given s true b limit h ms e d = absurd (cc)
 after_given s false true limit h ms e d = refl
-after_given s false false limit h ms e d = absurd (cc)
+after_given s f b limit h ms e d = absurd (cc)
 
 pub can_be : (f b : Bool) (limit r : Reply) (ms : List Move) → Allows (ends_in f limit b r ms) r ↔ MatchBool f (r ≡ limit) ((b ≡ true) × (r ≡ Handle (handle_of r)))
 can_be true b limit r ms = (λ i. i, λ i. i)
 can_be false true limit r ms = (λ i. (refl, i), λ i. i.1)
 can_be false false limit r ms = (λ i. absurd i, λ i. absurd (cc))
+
+pub stays_in : (s : State) (f b : Bool) (limit r : Reply) (ms : List Move) → Allows (ends_in f limit b r ms) r → is_handle r ≡ false → after_row s (ends_in f limit b r ms) ≡ s
+stays_in s false true limit r ms i e = absurd (grind arith)
+stays_in s f b limit r ms i e = refl
 
 -- the six kinds that no rule of tasks speaks of
 pub full_same : (t : Sort) (u : State) → is_full_of (all_of t).kind u ≡ full (all_of t) u
@@ -112,6 +136,7 @@ module _ {g : Renaming} {x : Room} {s : State} (n : Follows g s) {h other : ℕ}
     refused = λ r no_r less. let far : r ≡ o.limit → ⊥ = λ i. less (i ∙ sym el) in
         (λ i. absurd (none_other (full o s) (is_fresh o s (handle_of r)) o.limit r (make (handle_of r) ∷ []) no_r far i), λ i. absurd (none_other (full o (renamed g x s)) (is_fresh o (renamed g x s) (handle_of r)) o.limit r (make_other (handle_of r) ∷ []) no_r far i));
     refuses = λ given r no_r less i. absurd (none_other (full o (renamed g x s)) (is_fresh o (renamed g x s) (handle_of given)) o.limit given (make_other (handle_of given) ∷ []) no_r (λ j. less (j ∙ sym el)) i);
+    same = record { ends = refl; same = creates_none o (renamed g x s) make_other ∙ sym (creates_none o s make) };
     answers = λ i r. subst (λ (b : Bool). Allows (creates o s r make) r ↔ MatchBool b (r ≡ limit_of o.kind) ((is_fresh_of o.kind s (handle_of r) ≡ true) × (r ≡ Handle (handle_of r)))) (sym (ef s))
         (subst (λ (b : Bool). Allows (creates o s r make) r ↔ MatchBool (full o s) (r ≡ limit_of o.kind) ((b ≡ true) × (r ≡ Handle (handle_of r)))) (sym (er s (handle_of r)))
         (subst (λ (y : Reply). Allows (creates o s r make) r ↔ MatchBool (full o s) (r ≡ y) ((is_fresh o s (handle_of r) ≡ true) × (r ≡ Handle (handle_of r)))) (sym el)
@@ -147,15 +172,15 @@ module _ {g : Renaming} {x : Room} {s : State} (n : Follows g s) {h other : ℕ}
 
   -- a new object, where no live one has its id
   pub keyed_creates : {t : Sort} (o : Keyed t) (w : Fields t) → is_plain o.exists ≡ true → CreateAlike g x s (all_of t).kind h other (λ r. creates_keyed o s r w) (λ r. creates_keyed o (renamed g x s) r w)
-  keyed_creates {t} o w p = unless_creates (sort-any n.fits x t (λ y. o.id y == o.id w)) p (λ d. creates_sort t w)
+  keyed_creates {t} o w p = unless_creates (sort-any n.fits x t (λ y. o.id y == o.id w)) p (creates_sort t w)
 
   -- Starting
 
   pub starts_creates : (t : NewTask) {own others : Reply → Row} → (IfSome t.group (Has g kind.Group) → CreateAlike g x s kind.Task h other own others) →
       CreateAlike g x s kind.Task h other (λ r. mtapi_unless (start_refusals s t) (own r)) (λ r. mtapi_unless (start_refusals (renamed g x s) (renamed_new g t)) (others r))
   starts_creates t {own} {others} w =
-      unless_creates (ap not (action-any n.fits x (has_job t.job))) refl (λ a. unless_creates (group_missing n.fits x t.group) refl (λ b. unless_creates (ap not (action-any n.fits x (has_enabled_job t.job))) refl (λ c.
-      unless_creates {own = own} {others = others} (ap not (served n.fits x t.job t.cores)) refl (λ d. w (group_has n.fits t.group b)))))
+      unless_creates (ap not (action-any n.fits x (has_job t.job))) refl (unless_then (group_missing n.fits x t.group) refl refl (λ b. unless_creates (ap not (action-any n.fits x (has_enabled_job t.job))) refl
+      (unless_creates {own = own} {others = others} (ap not (served n.fits x t.job t.cores)) refl (w (group_has n.fits t.group b)))))
 
   -- an enqueue on the live queue of a handle
   pub on_queue : (q : ℕ) (v w : Queue → Reply → Row) → ((y : Queue) → Has g kind.Queue q → CreateAlike g x s kind.Task h other (v y) (w y)) →

@@ -47,12 +47,12 @@ act_decides (Done a) (Done b) = decides_so (pointwise int_eq a b) (λ e. ap Done
 act_decides (Fails a) (Fails b) = decides_so (mtapi_number a == mtapi_number b) (λ e. ap Fails e) (λ e. cc) (mtapi_decides a b)
 act_decides a b = (λ i. absurd (cc), λ i. absurd (cc))
 
-task_in : Reply → ℕ
+unfoldable pub task_in : Reply → ℕ
 task_in (Given v b) = v.0
 task_in (Picked v w z xs) = v.0
 task_in _ = 0
 
-action_in : Reply → ℕ
+unfoldable pub action_in : Reply → ℕ
 action_in (Picked v w z xs) = w.0
 action_in _ = 0
 

@@ -36,9 +36,8 @@ module _ {T : Type 0} where
   retired-same : (last : ℕ) (l m : List (Listed T)) → SameHandles l m → retired last l ≤ retired last m
   unfolding retired
   retired-same last [] [] v = omega arith
-  retired-same last [] (q ∷ qs) v = absurd v
-  retired-same last (r ∷ rs) [] v = absurd v
   retired-same last (r ∷ rs) (q ∷ qs) v = grind (arith, v.0.handle, v.0.dead, retired-same last rs qs v.1)
+  retired-same last l m v = absurd v
 
   pub goes-same : (last : ℕ) (l m : List (Listed T)) → SameHandles l m → ListGoes 0 0 last last l m
   goes-same last l m v = record { last = omega (arith, retired-same last l m v); other = omega (arith, taken-same last l m v, length-same l m v) }

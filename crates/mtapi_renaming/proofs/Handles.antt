@@ -41,9 +41,8 @@ module _ {T : Type 0} where
   -- what is read of the handles alone
   same_count : (p : ℕ → Bool) (l m : List (Listed T)) → SameHandles l m → how_many (λ r. p r.handle) m ≡ how_many (λ r. p r.handle) l
   same_count p [] [] v = refl
-  same_count p [] (q ∷ qs) v = absurd v
-  same_count p (r ∷ rs) [] v = absurd v
   same_count p (r ∷ rs) (q ∷ qs) v = λ i. cond {A = ℕ} (p (v.0.handle i)) 1 0 + same_count p rs qs v.1 i
+  same_count p l m v = absurd v
 
   pub listed-same : (h : ℕ) (l m : List (Listed T)) → SameHandles l m → listed h m ≡ listed h l
   unfolding listed
@@ -55,9 +54,8 @@ module _ {T : Type 0} where
 
   pub length-same : (l m : List (Listed T)) → SameHandles l m → length m ≡ length l
   length-same [] [] v = refl
-  length-same [] (q ∷ qs) v = absurd v
-  length-same (r ∷ rs) [] v = absurd v
   length-same (r ∷ rs) (q ∷ qs) v = ap suc (length-same rs qs v.1)
+  length-same l m v = absurd v
 
 pub keeps-ended : (e : TaskEnd) (n : ℕ) (r : Listed Task) → KeepsHandle r (ended e n r)
 keeps-ended e n r = record { handle = refl; dead = λ d. ap (λ (b : Bool). b && not r.fields.notes.detached) d }

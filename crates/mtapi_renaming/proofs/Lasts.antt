@@ -6,9 +6,8 @@ module _ {T : Type 0} where
   pub lasts-same : (last : ℕ) (l m : List (Listed T)) → SameHandles l m → lasts_in last m ≡ lasts_in last l
   unfolding lasts_in
   lasts-same last [] [] v = refl
-  lasts-same last [] (q ∷ qs) v = absurd v
-  lasts-same last (r ∷ rs) [] v = absurd v
   lasts-same last (r ∷ rs) (q ∷ qs) v = λ i. cond (generation_of (v.0.handle i) == last) (v.0.handle i ∷ lasts-same last rs qs v.1 i) (lasts-same last rs qs v.1 i)
+  lasts-same last l m v = absurd v
 
   pub lasts-issue : (last h : ℕ) (v : T) (l : List (Listed T)) → lasts_in last (issue h v l) ≡ with_last last h (lasts_in last l)
   unfolding lasts_in issue

@@ -13,7 +13,6 @@ pub mod CreateTable
 pub mod CreateRows
 pub mod Refusals
 pub mod Tells
-pub mod Plain
 pub mod Picks
 pub mod Counts
 pub mod CountMoves

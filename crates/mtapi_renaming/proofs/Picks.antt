@@ -1,6 +1,7 @@
 -- A worker that may take a task isn't told anything else.
 use Rattle.mtapi_renaming.proofs.Names.{◌≡◌, ℕ, Bool, true, false, ◌&&◌, cond, List, [], ◌∷◌, Option, Some, None, refl, sym, subst, not, ℤ, Kind, TaskHandle, ActionHandle, live_of, live_object, any_listed, any_live-at, Action, is_eligible, Task, Reply, Picked, Idle, Stop, State, workers, is_stop, stops, runs_task, Row, unless, gives, never, Allows, says, only, live, is_ready, can_take, has_better, picks, row, fst_true, snd_true, takes_task, arith}
 use Rattle.mtapi_machine.specs.declared.ops.Op.TheVariants as op
+use Rattle.mtapi_renaming.proofs.Comes.{if_there}
 
 -- where a row takes a task, it allows nothing else
 record OnlyTakes (own : Reply → Row) : Type 0 where
@@ -23,36 +24,23 @@ could_take : (s : State) (w : ℕ) (t a : ℕ) (x : Task) (y : Action) → live_
 unfolding can_take
 could_take s w t a x y d e may = any_live-at (can_take s w) (live_of s.tasks) t x d (grind (arith, any_live-at (is_eligible (workers s) w x.job x.cores) (live_of s.actions) a y e))
 
+holds_only : (b : Bool) (w : Row) (q : Reply) → Allows (only b w) q → b ≡ true
+holds_only true w q i = refl
+holds_only false w q i = absurd i
+
 picked : (s : State) (w : ℕ) (t : TaskHandle) (a : ActionHandle) (k : Kind) (args : List ℤ) → Allows (picks s w (Picked t a k args)) (Picked t a k args) → any_listed (can_take s w) s.tasks ≡ true
-picked s w t a k args = by_objects (live_object s.tasks t.0) (live_object s.actions a.0) refl refl
-  where
-    test : Task → Action → Bool
-    test x y = is_ready s x && is_eligible (workers s) w x.job x.cores y && not (has_better s w x.priority)
-
-    by_test : (b : Bool) (x : Task) (y : Action) → live_object s.tasks t.0 ≡ Some x → live_object s.actions a.0 ≡ Some y → test x y ≡ b → Allows (only b (gives (Picked t a y.kind x.args) (runs_task t.0 w y.kind ∷ []))) (Picked t a k args) → any_listed (can_take s w) s.tasks ≡ true
-    by_test true x y d e f i = could_take s w t.0 a.0 x y d e (fst_true _ (not (has_better s w x.priority)) f)
-    by_test false x y d e f i = absurd i
-
-    by_objects : (o : Option Task) (p : Option Action) → live_object s.tasks t.0 ≡ o → live_object s.actions a.0 ≡ p →
-        Allows (live o never (λ x. live p never (λ y. only (test x y) (gives (Picked t a y.kind x.args) (runs_task t.0 w y.kind ∷ []))))) (Picked t a k args) → any_listed (can_take s w) s.tasks ≡ true
-    by_objects None p d e i = absurd i
-    by_objects (Some x) None d e i = absurd i
-    by_objects (Some x) (Some y) d e i = by_test (test x y) x y d e refl i
+picked s w t a k args i =
+    let q : Reply = Picked t a k args in
+    if_there (live_object s.tasks t.0) _ q (λ x d j. if_there (live_object s.actions a.0) _ q (λ y e l. could_take s w t.0 a.0 x y d e (fst_true _ _ (holds_only _ _ q l))) j) i
 
 not_idle : (b : Bool) (r : Reply) → b ≡ true → Allows (only (not b) (says Idle)) r → ⊥
 not_idle true r e i = i
 not_idle false r e i = absurd (cc)
 
 picks_take : (s : State) (w : ℕ) → OnlyTakes (picks s w)
-picks_take s w = record { takes = by_reply }
-  where
-    by_reply : (t : TaskHandle) (a : ActionHandle) (k : Kind) (args : List ℤ) (r : Reply) → Allows (picks s w (Picked t a k args)) (Picked t a k args) → Allows (picks s w r) r → takes_task op.Pick r ≡ true
-    by_reply t a k args (Picked u b l brgs) i j = refl
-    by_reply t a k args r i j = absurd (not_idle (any_listed (can_take s w) s.tasks) r (picked s w t a k args i) j)
+picks_take s w = record { takes = λ t a k args. elim [ Picked u b l brgs ↦ λ i j. refl | r ↦ λ i j. absurd (not_idle (any_listed (can_take s w) s.tasks) r (picked s w t a k args i) j) ] }
 
 pub pick_takes : (s : State) (who : ℕ) (t : TaskHandle) (a : ActionHandle) (k : Kind) (args : List ℤ) (r : Reply) →
     Allows (row s who op.Pick (Picked t a k args)) (Picked t a k args) → Allows (row s who op.Pick r) r → takes_task op.Pick r ≡ true
-pick_takes s who = whole.takes
-  where
-    whole : OnlyTakes (λ r. row s who op.Pick r)
-    whole = unless_takes refl (unless_takes refl (unless_takes refl (stop_takes (is_stop s) who (picks_take s who))))
+pick_takes s who =
+    let whole : OnlyTakes (λ r. row s who op.Pick r) = unless_takes refl (unless_takes refl (unless_takes refl (stop_takes (is_stop s) who (picks_take s who)))) in whole.takes

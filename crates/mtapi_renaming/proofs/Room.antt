@@ -16,9 +16,8 @@ module _ {T : Type 0} where
   pub taken-same : (last : ℕ) (l m : List (Listed T)) → SameHandles l m → taken last m ≤ taken last l
   unfolding live_of retired
   taken-same last [] [] v = omega arith
-  taken-same last [] (q ∷ qs) v = absurd v
-  taken-same last (r ∷ rs) [] v = absurd v
   taken-same last (r ∷ rs) (q ∷ qs) v = grind (arith, v.0.handle, v.0.dead, taken-same last rs qs v.1)
+  taken-same last l m v = absurd v
 
   pub within-same : (last max : ℕ) (l m : List (Listed T)) → SameHandles l m → IsWithin last max l → IsWithin last max m
   within-same last max l m v w = omega (arith, taken-same last l m v, w)

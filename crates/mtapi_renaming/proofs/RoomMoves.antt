@@ -36,11 +36,8 @@ record KeepsWithin (s : State) (k : ObjectKind) (own : Reply → Row) : Type 0 w
 
 module _ {s : State} where
   unless_within : {k : ObjectKind} {a : Bool} {y : Reply} {own : Reply → Row} → KeepsWithin s k own → KeepsWithin s k (λ r. unless a y (own r))
-  unless_within {k} {a} {y} {own} v = by_test a
-    where
-      by_test : (b : Bool) → KeepsWithin s k (λ r. unless b y (own r))
-      by_test true = record { within = λ r w. w }
-      by_test false = record { within = v.within }
+  unless_within {a = true} v = record { within = λ r w. w }
+  unless_within {a = false} v = record { within = v.within }
 
   creates_within : {T : Type 0} {k : ObjectKind} (o : Objects T) (make : ℕ → Move) → ((h : ℕ) → full o s ≡ false → WithinAll s → WithinAll (apply (make h) s)) → KeepsWithin s k (λ r. creates o s r make)
   creates_within o make new = record { within = λ r w. by_test (full o s) (is_fresh o s (handle_of r)) r refl w }

@@ -2,6 +2,7 @@
 use Rattle.mtapi_renaming.proofs.Names.{◌≡◌, ◌↔◌, ℕ, Bool, true, false, List, [], ◌∷◌, Option, Some, None, refl, sym, ◌∙◌, ap, subst, ◌==◌, option_map, ObjectKind, TaskHandle, ActionHandle, MrapiStatus, TaskEnd, Kind, Listed, live_of, live_object, any_listed, first_handle, Action, Task, Reply, Handle, Given, Picked, State, actions, tasks, Move, Sort, Groups, Fields, all_of, Row, unless, gives, never, Allows, after_row, says, not_yet, only, live, on, chosen, Keyed, mrapi_unless, found, gets, alters_one, looks_one, deletes, Renaming, Has, IsOneToOne, Room, renamed_task, renamed, HasTask, NoHandle, Fits, renamed_answer}
 use Rattle.std.specs.Prelude.{cond}
 use Rattle.mtapi_values.specs.declared.handles.ObjectKind.TheVariants as kind
+use Rattle.mtapi_renaming.proofs.Equality.{task_in, action_in}
 use Rattle.mtapi_renaming.proofs.Lists.{found-renamed, found-has, first-has, same_any, same_first}
 use Rattle.mtapi_renaming.proofs.Moves.{MovesRename, no_move, one_move, sort-list, sort-has, alters-renames, removes-renames}
 
@@ -47,41 +48,25 @@ plain_one g k y r p e = e
 
 handle_one : (g : Renaming) → IsOneToOne g → (k : ObjectKind) (h : ℕ) (r : Reply) → Has g k h → renamed_answer g (Some k) r ≡ Handle (g k h) → r ≡ Handle h
 handle_one g one k h (Handle a) has e = let d : g k h ≡ g k a = cc in ap Handle (sym (one k h a has d))
-handle_one g one k h (Given t d) has e = absurd (cc)
-handle_one g one k h (Picked t a x args) has e = absurd (cc)
 handle_one g one k h r has e = absurd (cc)
 
 given_one : (g : Renaming) → IsOneToOne g → (k : Option ObjectKind) (t : TaskHandle) (end : TaskEnd) (r : Reply) → Has g kind.Task t.0 → renamed_answer g k r ≡ renamed_answer g k (Given t end) → r ≡ Given t end
+unfolding task_in
 given_one g one k t end (Given u d) has e =
-    let i : g kind.Task t.0 ≡ g kind.Task u.0 = ap (λ (y : Reply). task_in y) (sym e) in
+    let i : g kind.Task t.0 ≡ g kind.Task u.0 = ap task_in (sym e) in
     let same : d ≡ end = cc in
     λ j. Given (record { 0 = sym (one kind.Task t.0 u.0 has i) j }) (same j)
-  where
-    task_in : Reply → ℕ
-    task_in (Given v b) = v.0
-    task_in _ = 0
-given_one g one k t end (Handle a) has e = absurd (cc)
-given_one g one k t end (Picked u a x args) has e = absurd (cc)
 given_one g one k t end r has e = absurd (cc)
 
 picked_one : (g : Renaming) → IsOneToOne g → (k : Option ObjectKind) (t : TaskHandle) (a : ActionHandle) (x : Kind) (args : List _) (r : Reply) → Has g kind.Task t.0 → Has g kind.Action a.0 →
     renamed_answer g k r ≡ renamed_answer g k (Picked t a x args) → r ≡ Picked t a x args
+unfolding task_in action_in
 picked_one g one k t a x args (Picked u b y brgs) has some e =
-    let i : g kind.Task t.0 ≡ g kind.Task u.0 = ap (λ (z : Reply). task_in z) (sym e) in
-    let j : g kind.Action a.0 ≡ g kind.Action b.0 = ap (λ (z : Reply). action_in z) (sym e) in
+    let i : g kind.Task t.0 ≡ g kind.Task u.0 = ap task_in (sym e) in
+    let j : g kind.Action a.0 ≡ g kind.Action b.0 = ap action_in (sym e) in
     let c : y ≡ x = cc in
     let d : brgs ≡ args = cc in
     λ n. Picked (record { 0 = sym (one kind.Task t.0 u.0 has i) n }) (record { 0 = sym (one kind.Action a.0 b.0 some j) n }) (c n) (d n)
-  where
-    task_in : Reply → ℕ
-    task_in (Picked v w z crgs) = v.0
-    task_in _ = 0
-
-    action_in : Reply → ℕ
-    action_in (Picked v w z crgs) = w.0
-    action_in _ = 0
-picked_one g one k t a x args (Handle h) has some e = absurd (cc)
-picked_one g one k t a x args (Given u d) has some e = absurd (cc)
 picked_one g one k t a x args r has some e = absurd (cc)
 
 reply_one : (g : Renaming) → IsOneToOne g → (k : Option ObjectKind) (y r : Reply) → HasAnswer g k y → renamed_answer g k r ≡ renamed_answer g k y → r ≡ y
@@ -131,8 +116,7 @@ module _ {g : Renaming} {x : Room} {s : State} (n : Fits g s) {k : Option Object
   pub unless_then : {a b : Bool} {y : Reply} {own other : Row} → b ≡ a → is_plain y ≡ true → (a ≡ false → Alike g x s k r own other) → Alike g x s k r (unless a y own) (unless b y other)
   unless_then {a = true} {b = true} e p w = let v : Alike g x s k r (says _) (says _) = says_alike p in record { allowed = v.allowed; comes = v.comes; leads = v.leads; fits = v.fits }
   unless_then {a = false} {b = false} e p w = let v = w refl in record { allowed = v.allowed; comes = v.comes; leads = v.leads; fits = v.fits }
-  unless_then {a = true} {b = false} e p w = absurd (cc)
-  unless_then {a = false} {b = true} e p w = absurd (cc)
+  unless_then e p w = absurd (cc)
 
   pub unless_alike : {a b : Bool} {y : Reply} {own other : Row} → b ≡ a → is_plain y ≡ true → Alike g x s k r own other → Alike g x s k r (unless a y own) (unless b y other)
   unless_alike e p w = unless_then e p (λ d. w)
@@ -144,14 +128,12 @@ module _ {g : Renaming} {x : Room} {s : State} (n : Fits g s) {k : Option Object
   pub cond_alike : (a b : Bool) {v w y z : Row} → b ≡ a → Alike g x s k r v y → Alike g x s k r w z → Alike g x s k r (cond a v w) (cond b y z)
   cond_alike true true e i j = i
   cond_alike false false e i j = j
-  cond_alike true false e i j = absurd (cc)
-  cond_alike false true e i j = absurd (cc)
+  cond_alike a b e i j = absurd (cc)
 
   pub only_alike : {a b : Bool} {own other : Row} → b ≡ a → (a ≡ true → Alike g x s k r own other) → Alike g x s k r (only a own) (only b other)
   only_alike {a = true} {b = true} e w = w refl
   only_alike {a = false} {b = false} e w = never_alike
-  only_alike {a = true} {b = false} e w = absurd (cc)
-  only_alike {a = false} {b = true} e w = absurd (cc)
+  only_alike e w = absurd (cc)
 
   pub live_alike : {T : Type 0} (f : T → T) {o p : Option T} {own other : Row} (v w : T → Row) → p ≡ option_map f o → Alike g x s k r own other → ((y : T) → o ≡ Some y → Alike g x s k r (v y) (w (f y))) → Alike g x s k r (live o own v) (live p other w)
   live_alike {T} f {o} {p} {own} {other} v w e i j = subst (λ (z : Option T). Alike g x s k r (live o own v) (live z other w)) (sym e) (by_object o refl)
