@@ -1,10 +1,10 @@
 -- Every reply that the renamed state allows to an op that makes nothing is the renamed one of a reply; and which rows read the reply.
-use Rattle.mtapi_renaming.proofs.Names.{◌≡◌, ℕ, Bool, true, false, cond, List, [], ◌∷◌, Option, Some, None, refl, sym, ◌∙◌, ap, subst, is_some, not, nat_lt, TaskHandle, ActionHandle, Kind, live_object, any_listed, runs_on, Op, Reply, Ok, Handle, Given, Picked, Idle, Stop, Mtapi, State, workers, is_new, is_stop, Move, stops, Row, unless, gives, never, says, only, live, work, Allows, can_take, picks, row, answer, answer-allowed, Renaming, Room, renamed_task, renamed, HasTask, NoHandle, Fits, answered_kind, renamed_op, renamed_reply, made_kind, takes_task}
+use Rattle.mtapi_renaming.proofs.Names.{arith, nat_tests, ◌≡◌, ℕ, Bool, true, false, cond, List, [], ◌∷◌, Option, Some, None, refl, ap, subst, is_some, not, nat_lt, TaskHandle, ActionHandle, Kind, live_object, any_listed, runs_on, Op, Reply, Ok, Picked, Idle, Stop, Mtapi, State, workers, is_new, is_stop, Move, stops, Row, unless, gives, never, says, only, live, Allows, can_take, picks, row, answer, answer-allowed, Renaming, Room, renamed_task, renamed, HasTask, NoHandle, Fits, answered_kind, renamed_op, renamed_reply, made_kind, takes_task}
 use Rattle.mtapi_values.specs.declared.handles.ObjectKind.TheVariants as kind
 use Rattle.mtapi_values.specs.declared.statuses.MtapiStatus.TheVariants as m
 use Rattle.mtapi_machine.specs.declared.ops.Op.TheVariants as op
 use Rattle.mtapi_renaming.proofs.Lists.{IsOther, found-other}
-use Rattle.mtapi_renaming.proofs.Rows.{is_plain, no_plain, IsRenamed}
+use Rattle.mtapi_renaming.proofs.Rows.{is_plain, IsRenamed}
 use Rattle.mtapi_renaming.proofs.Table.{row_alike}
 
 -- the op may be answered by several replies
@@ -14,17 +14,7 @@ chooses o = is_some (made_kind o)
 
 -- the row of an op whose reply isn't chosen reads nothing of it
 pub not_read : (s : State) (who : ℕ) (o : Op) (q r : Reply) → chooses o ≡ false → row s who o q ≡ row s who o r
-not_read s who (op.ActionCreate job y cores) q r i = absurd (cc)
-not_read s who (op.TaskStart job args priority cores detached group) q r i = absurd (cc)
-not_read s who (op.TaskEnqueue queue args cores detached group) q r i = absurd (cc)
-not_read s who op.GroupCreate q r i = absurd (cc)
-not_read s who (op.QueueCreate id job priority limit ordered retain) q r i = absurd (cc)
-not_read s who (op.MutexCreate id recursive) q r i = absurd (cc)
-not_read s who (op.SemCreate id limit) q r i = absurd (cc)
-not_read s who (op.RwlCreate id limit) q r i = absurd (cc)
-not_read s who (op.ShmemCreate id cells) q r i = absurd (cc)
-not_read s who op.Pick q r i = absurd (cc)
-not_read s who o q r i = refl
+not_read s who o q r e1 = grind (arith, nat_tests)
 
 -- a row allows one reply
 pub allowed_one : (w : Row) (q r : Reply) → Allows w q → Allows w r → r ≡ q
@@ -32,37 +22,28 @@ allowed_one w q r a b = let e : answer w ≡ Some q = answer-allowed w q a in le
 
 -- a renamed op chooses where the op does
 pub still : (g : Renaming) (o : Op) → chooses o ≡ false → chooses (renamed_op g o) ≡ false
-still g (op.TaskStart job args priority cores detached group) i = i
-still g o i = i
+still g o e1 = grind (arith, nat_tests)
 
 -- a pick that takes nothing reads nothing of its reply
 idles : (s : State) (w : ℕ) (r : Reply) → takes_task op.Pick r ≡ false → picks s w r ≡ only (not (any_listed (can_take s w) s.tasks)) (says Idle)
-idles s w (Picked t a y args) i = absurd (cc)
-idles s w r i = refl
+idles s w r e1 = grind (arith, nat_tests)
 
 pub pick_not_read : (s : State) (who : ℕ) (q r : Reply) → takes_task op.Pick q ≡ false → takes_task op.Pick r ≡ false → row s who op.Pick q ≡ row s who op.Pick r
-pick_not_read s who q r i j =
-    ap (λ (v : Row). work s who (unless (any_listed (runs_on who) s.tasks) (Mtapi m.ErrParameter) (unless (is_new s.phase) Idle (cond (is_stop s) (gives Stop (stops who ∷ [])) v)))) (idles s who q i ∙ sym (idles s who r j))
+pick_not_read s who q r e1 e2 = grind (arith, nat_tests)
 
 pub takes_still : (g : Renaming) (r : Reply) → takes_task op.Pick r ≡ false → takes_task op.Pick (renamed_reply g op.Pick r) ≡ false
-takes_still g (Handle h) i = refl
-takes_still g (Given t e) i = refl
-takes_still g (Picked t a y args) i = absurd (cc)
-takes_still g r i = i
+takes_still g r e1 = grind (arith, nat_tests)
 
 -- what a worker takes
 
 past : (b : Bool) (y q : Reply) (w : Row) → is_plain y ≡ true → is_plain q ≡ false → Allows (unless b y w) q → Allows w q
-past true y q w p f a = absurd (no_plain y q p a f)
-past false y q w p f a = a
+past b y q w e1 e2 e3 = grind (arith, nat_tests)
 
 past_gives : (b : Bool) (y q : Reply) (ms : List Move) (w : Row) → is_plain y ≡ true → is_plain q ≡ false → Allows (cond b (gives y ms) w) q → Allows w q
-past_gives true y q ms w p f a = absurd (no_plain y q p a f)
-past_gives false y q ms w p f a = a
+past_gives b y q ms w e1 e2 e3 = grind (arith, nat_tests)
 
 pub if_there : {T C : Type 0} (o : Option T) (v : T → Row) (q : Reply) → ((y : T) → o ≡ Some y → Allows (v y) q → C) → Allows (live o never v) q → C
-if_there None v q e i = absurd i
-if_there (Some y) v q e i = e y refl i
+if_there o v q e1 e2 = grind (arith, nat_tests)
 
 module _ {g : Renaming} {s : State} (n : Fits g s) (x : Room) (who : ℕ) where
   picked_comes : (t : TaskHandle) (a : ActionHandle) (y : Kind) (args : List _) → Allows (picks (renamed g x s) who (Picked t a y args)) (Picked t a y args) → IsRenamed g None (Picked t a y args)

@@ -1,5 +1,5 @@
 -- The counts of a state, over its moves and over entries.
-use Rattle.mtapi_renaming.proofs.Names.{◌≡◌, ℕ, ◌+◌, ◌<◌, Bool, true, false, ◌&&◌, List, [], None, refl, sym, ◌∙◌, ap, subst, arith, ◌==◌, not, slice_set, ObjectKind, names_kind, Listed, live_of, may_issue, issue, change, listed, with_fields, gone, Action, with_enabled, has_worker, Task, NewTask, new_task, Running, is_unstarted, is_unended, ended, with_state, with_notes, is_member, freed, let_go, Phase, Terms, Op, Reply, State, Objects, FieldsOf, objects_of, workers, opening, actions, tasks, Move, Sort, Groups, Queues, Mutexes, Sems, Rwls, Segments, Fields, all_of, phase_is, released, stops, makes_action, enables, withdraws, starts_task, runs_task, ends_task, ends_waiting, notes, leaves, frees_members, lets_members_go, makes, alters, removes, is_fresh, apply, moves_of, after_row, row, NodeEntry, after, IsMade, MakesAction, StartsTask, WithdrawsAction, makes_kind, fst_true, snd_true, row_made, moves_keep, along, own_kind, at_opening, OnEach, each_so, each_with, made_kind, live_in, is_full_of, is_fresh_of, made_in, most_of, is_next_of, MakesNone, is_live_of, live_object, is_some, length, is_full}
+use Rattle.mtapi_renaming.proofs.Names.{nat_tests, ◌≡◌, ℕ, ◌+◌, ◌<◌, Bool, true, ◌&&◌, List, [], None, refl, sym, ◌∙◌, ap, arith, ◌==◌, not, slice_set, ObjectKind, names_kind, Listed, live_of, may_issue, issue, listed, with_fields, gone, Action, with_enabled, Task, NewTask, new_task, Running, is_unstarted, is_unended, ended, with_state, with_notes, is_member, freed, let_go, Phase, Terms, Op, Reply, State, Objects, FieldsOf, objects_of, opening, actions, tasks, Move, Sort, Fields, all_of, phase_is, released, stops, makes_action, enables, withdraws, starts_task, runs_task, ends_task, ends_waiting, notes, leaves, frees_members, lets_members_go, makes, alters, removes, is_fresh, apply, moves_of, after_row, row, NodeEntry, after, IsMade, MakesAction, StartsTask, WithdrawsAction, makes_kind, fst_true, snd_true, row_made, moves_keep, along, own_kind, at_opening, OnEach, each_so, each_with, made_kind, live_in, is_full_of, is_fresh_of, made_in, most_of, is_next_of, MakesNone, is_live_of, live_object, is_some, length, is_full}
 use Rattle.mtapi_values.specs.declared.handles.ObjectKind.TheVariants as kind
 use Rattle.mtapi_machine.specs.declared.ops.Op.TheVariants as op
 use Rattle.mtapi_renaming.proofs.Handles.{KeepsHandle, keeps-fields, keeps-gone, keeps-ended, keeps-freed, keeps-let_go, SameHandles, handles-same, handles-change, handles-change_all, handles-ends, issued_at-same, length-same}
@@ -35,9 +35,7 @@ with-tasks s starts ends ts w = same-so s s.phase s.released s.stopped starts en
 
 -- an action that is withdrawn keeps its handle, and isn't live again
 withdrawn : (h : ℕ) (f : Listed Action → Listed Action) (o : Op) → WithdrawsAction h f o → (r : Listed Action) → KeepsHandle r (f r)
-withdrawn h f (op.ActionDelete a) i r = subst (λ (c : Listed Action → Listed Action). KeepsHandle r (c r)) (sym i.1) (keeps-gone r)
-withdrawn h f (op.ActionDisable a) i r = subst (λ (c : Listed Action → Listed Action). KeepsHandle r (c r)) (sym i.1) (keeps-fields (with_enabled false) r)
-withdrawn h f o i r = absurd i
+withdrawn h f o e1 r = grind (arith, nat_tests)
 
 -- the move makes no object
 abbrev pub MakesNothing : Move → Type 0
@@ -52,9 +50,7 @@ move_same s o released i idle k = same-so s s.phase true s.stopped s.starts s.en
 move_same s o (stops w) i idle k = same-so s s.phase s.released (slice_set s.stopped w true) s.starts s.ends s.actions s.tasks (handles-same s.actions) (handles-same s.tasks) k
 move_same s o (makes_action h a) i idle k = absurd idle
 move_same s o (enables h) i idle k = same-so s s.phase s.released s.stopped s.starts s.ends _ s.tasks (handles-change h (with_fields (with_enabled true)) (keeps-fields (with_enabled true)) s.actions) (handles-same s.tasks) k
-move_same s o (withdraws h f c) i idle k =
-    same-so s s.phase s.released s.stopped s.starts _ _ _ (handles-change h f (withdrawn h f o i.by) s.actions)
-    (handles-ends (λ t. is_unstarted t && not (has_worker (workers s) t.job t.cores (live_of (change h f s.actions)))) _ s.ends s.tasks) k
+move_same s o (withdraws h f c) i idle k = grind (arith, nat_tests, same-so, handles-change, withdrawn, handles-ends, is_unstarted)
 move_same s o (starts_task h t) i idle k = absurd idle
 move_same s o (runs_task h w y) i idle k = with-tasks s s.starts s.ends _ (handles-change h (with_fields (with_state (Running w y))) (keeps-fields (with_state (Running w y))) s.tasks) k
 move_same s o (ends_task h e) i idle k = with-tasks s s.starts _ _ (handles-change h (ended e s.ends) (keeps-ended e s.ends) s.tasks) k
@@ -92,36 +88,21 @@ turn_after : (terms : Terms) (L : List NodeEntry) → InTurnAll (after terms L)
 turn_after terms L = along InTurnAll (λ o s m i w. turn_kept o s m i w) (opening terms) L (at_opening (λ T l. InTurn l) no_turn terms)
 
 pub fresh_next : (terms : Terms) (L : List NodeEntry) (k : ObjectKind) (h : ℕ) → is_fresh_of k (after terms L) h ≡ is_next_of k (after terms L) h
-fresh_next terms L k h =
-    let s = after terms L in
-    ap (λ (j : ObjectKind). names_kind s.terms.layout j h && may_issue s.terms.settings.generations h ((objects_of k).list s)) (own_kind k)
-    ∙ ap (λ (b : Bool). names_kind s.terms.layout k h && b) (fresh-next s.terms.settings.generations h ((objects_of k).list s) (turn_after terms L k))
+fresh_next terms L k h = grind (arith, nat_tests, names_kind, may_issue, objects_of, own_kind, fresh-next, turn_after)
 
 -- an op that makes nothing
 
 no_action : (a : Action) (o : Op) → made_kind o ≡ None → MakesAction a o → ⊥
-no_action a (op.ActionCreate job y cores) e i = absurd (cc)
-no_action a o e i = i
+no_action a o e1 e2 = grind (arith, nat_tests)
 
 no_task : (t : NewTask) (o : Op) → made_kind o ≡ None → StartsTask t o → ⊥
-no_task t (op.TaskStart job args priority cores detached group) e i = absurd (cc)
-no_task t (op.TaskEnqueue queue args cores detached group) e i = absurd (cc)
-no_task t o e i = i
+no_task t o e1 e2 = grind (arith, nat_tests)
 
 no_sort : (t : Sort) (o : Op) → made_kind o ≡ None → makes_kind t o ≡ true → ⊥
-no_sort Groups op.GroupCreate e i = absurd (cc)
-no_sort Queues (op.QueueCreate id job priority limit ordered retain) e i = absurd (cc)
-no_sort Mutexes (op.MutexCreate id recursive) e i = absurd (cc)
-no_sort Sems (op.SemCreate id limit) e i = absurd (cc)
-no_sort Rwls (op.RwlCreate id limit) e i = absurd (cc)
-no_sort Segments (op.ShmemCreate id cells) e i = absurd (cc)
-no_sort t o e i = absurd (cc)
+no_sort t o e1 e2 = grind (arith, nat_tests)
 
 pub by_none : (s : State) (o : Op) (m : Move) → made_kind o ≡ None → IsMade s o m → MakesNothing m
-by_none s o (makes_action h a) e i = no_action a o e i.by
-by_none s o (starts_task h t) e i = no_task t o e i.by
-by_none s o (makes t h v) e i = no_sort t o e i.by
-by_none s o m e i = tt
+by_none s o m e1 e2 = grind (arith, nat_tests)
 
 then_none : (s t u : State) → MakesNone s t → SameMade t u → MakesNone s u
 then_none s t u v w = record { counts = λ k. length-same _ _ (w k) ∙ v.counts k; slots = λ k j. issued_at-same j _ _ (w k) ∙ v.slots k j }

@@ -1,5 +1,5 @@
 -- How many objects a list has, and which handle is the next of its slot.
-use Rattle.mtapi_renaming.proofs.Names.{◌≡◌, ℕ, zero, suc, ◌+◌, ◌≤◌, ◌<◌, Bool, true, false, ◌&&◌, cond, List, [], ◌∷◌, length, refl, ◌∙◌, ap, subst, arith, ◌==◌, nat_le, not, eqb-true, eq-eqb, nat_tests, slot_of, generation_of, Listed, how_many, live_of, issue, listed, issued_at, retired, is_full, may_issue, same_tests, listed-issue, issued_at-issue}
+use Rattle.mtapi_renaming.proofs.Names.{◌≡◌, ℕ, ◌+◌, ◌≤◌, ◌<◌, Bool, true, ◌&&◌, List, [], ◌∷◌, length, refl, ap, arith, ◌==◌, nat_le, not, nat_tests, slot_of, generation_of, Listed, how_many, live_of, issue, listed, issued_at, retired, is_full, may_issue, same_tests, listed-issue, issued_at-issue}
 use Rattle.mtapi_renaming.proofs.Handles.{SameHandles, listed-same, issued_at-same}
 
 module _ {T : Type 0} where

@@ -1,11 +1,11 @@
 -- The rows of the ops that make objects: a refusal, or the limit and then a new object, behind conditions. What holds of these parts
 -- holds of each such row. This is the one proof with a case for each of these ops.
-use Rattle.mtapi_renaming.proofs.Names.{◌≡◌, ℕ, Bool, true, false, [], ◌∷◌, ◌++◌, Option, Some, None, refl, sym, subst, ◌==◌, ObjectKind, live_object, count_listed, Action, new_action, NewTask, new_group, put_refusals, is_unended_in, new_mutex, new_sem, new_rwl, new_segment, Op, Reply, Handle, Mtapi, State, Objects, actions, tasks, Move, Sort, Groups, Queues, Mutexes, Sems, Rwls, Segments, Fields, all_of, makes_action, starts_task, makes, is_fresh, apply, Row, unless, Allows, after_row, says, mtapi_unless, live, creates, start_refusals, asked_for, asked_of, new_queue, row, full, made_kind}
+use Rattle.mtapi_renaming.proofs.Names.{arith, nat_tests, ◌≡◌, ℕ, Bool, true, [], ◌∷◌, ◌++◌, Option, Some, None, refl, subst, ◌==◌, ObjectKind, live_object, count_listed, Action, new_action, NewTask, new_group, put_refusals, is_unended_in, new_mutex, new_sem, new_rwl, new_segment, Op, Reply, Handle, Mtapi, State, Objects, actions, tasks, Move, Sort, Groups, Queues, Mutexes, Sems, Rwls, Segments, Fields, all_of, makes_action, starts_task, makes, apply, Row, unless, Allows, after_row, says, mtapi_unless, live, creates, start_refusals, asked_for, asked_of, new_queue, row, made_kind}
 use Rattle.mtapi_values.specs.declared.handles.ObjectKind.TheVariants as kind
 use Rattle.mtapi_values.specs.declared.statuses.MtapiStatus.TheVariants as m
 use Rattle.mtapi_machine.specs.declared.ops.Op.TheVariants as op
 use Rattle.mtapi_renaming.proofs.Rows.{is_plain}
-use Rattle.mtapi_renaming.proofs.Creates.{no_handle, reached, after_given, limit_plain}
+use Rattle.mtapi_renaming.proofs.Creates.{no_handle, limit_plain}
 
 -- what holds of the rows of an op for each reply, by the kind that it makes
 pub record HoldsInParts (s : State) (P : ObjectKind → (Reply → Row) → Type 0) : Type 0 where
@@ -56,15 +56,10 @@ pub record HoldsOfNew (s : State) (Q : ObjectKind → State → Type 0) (h : ℕ
 
 module _ {s : State} {Q : ObjectKind → State → Type 0} {h : ℕ} where
   unless_makes : {k : ObjectKind} {a : Bool} {y : Reply} {own : Reply → Row} → is_plain y ≡ true → Makes s Q h k own → Makes s Q h k (λ r. unless a y (own r))
-  unless_makes {a = true} {y = y} p v = record { makes = λ i. absurd (no_handle h y p i) }
-  unless_makes {a = false} p v = record { makes = v.makes }
+  unless_makes e1 e2 = grind (arith, nat_tests)
 
   creates_makes : {T : Type 0} {k : ObjectKind} (o : Objects T) (make : ℕ → Move) → is_plain o.limit ≡ true → Q k (apply (make h) s) → Makes s Q h k (λ r. creates o s r make)
-  creates_makes {T} {k} o make p new = record {
-    makes = λ i.
-        let e : (full o s ≡ false) × (is_fresh o s h ≡ true) = reached (full o s) (is_fresh o s h) o.limit h (make h ∷ []) p i in
-        subst (λ (t : State). Q k t) (sym (after_given s (full o s) (is_fresh o s h) o.limit h (make h ∷ []) e.0 e.1)) new;
-  }
+  creates_makes o make e1 e2 = grind (arith, nat_tests)
 
   -- and so it holds after an op that answers the handle of a new object
   pub after_create : HoldsOfNew s Q h → (who : ℕ) (k : ObjectKind) (o : Op) → made_kind o ≡ Some k → Allows (row s who o (Handle h)) (Handle h) → Q k (after_row s (row s who o (Handle h)))

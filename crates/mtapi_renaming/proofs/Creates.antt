@@ -1,5 +1,5 @@
 -- The rows of the ops that make objects, in the renamed state.
-use Rattle.mtapi_renaming.proofs.Names.{◌≡◌, ◌↔◌, ℕ, Bool, true, false, List, [], ◌∷◌, Option, Some, None, refl, sym, ◌∙◌, ap, subst, ◌==◌, not, is_none, option_map, IfSome, MatchBool, ObjectKind, MrapiStatus, holds, live_object, Action, has_job, has_enabled_job, NewTask, Group, Queue, Reply, Handle, State, Objects, actions, tasks, queues, Move, Sort, Groups, Queues, Fields, all_of, makes_action, starts_task, makes, is_fresh, apply, after_moves, of_sort, Row, unless, gives, Allows, after_row, says, only, mtapi_unless, handle_of, live, on, creates, Keyed, mrapi_unless, creates_keyed, start_refusals, Renaming, Has, with_pair, Room, renamed_task, renamed, HasTask, NoHandle, Fits, Follows, full, is_full_of, is_fresh_of, limit_of, CanBe, is_handle, makes_or_not, refusal_in, Ok, arith, cond}
+use Rattle.mtapi_renaming.proofs.Names.{nat_tests, ◌≡◌, ◌↔◌, ℕ, Bool, true, false, List, [], ◌∷◌, Option, Some, None, refl, sym, ◌∙◌, ap, subst, ◌==◌, not, is_none, option_map, IfSome, MatchBool, ObjectKind, MrapiStatus, holds, live_object, Action, has_job, has_enabled_job, NewTask, Group, Queue, Reply, Handle, State, Objects, actions, tasks, queues, Move, Sort, Groups, Queues, Fields, all_of, makes_action, starts_task, makes, is_fresh, apply, after_moves, of_sort, Row, unless, gives, Allows, after_row, says, only, mtapi_unless, handle_of, live, on, creates, Keyed, mrapi_unless, creates_keyed, start_refusals, Renaming, Has, with_pair, Room, renamed_task, renamed, HasTask, NoHandle, Fits, Follows, full, is_full_of, is_fresh_of, limit_of, CanBe, is_handle, makes_or_not, refusal_in, Ok, arith, cond}
 use Rattle.mtapi_values.specs.declared.handles.ObjectKind.TheVariants as kind
 use Rattle.mtapi_renaming.proofs.Rows.{is_plain}
 use Rattle.mtapi_renaming.proofs.Lists.{found-has}
@@ -41,14 +41,7 @@ no_handle h y p e = grind arith
 
 -- what is refused for a reason that doesn't depend on the handle
 pub says_creates : {g : Renaming} {x : Room} {s : State} {k : ObjectKind} {h other : ℕ} {y : Reply} → is_plain y ≡ true → CreateAlike g x s k h other (λ r. says y) (λ r. says y)
-says_creates {g} {x} {s} {k} {h} {other} {y} p = record {
-  refused = λ r no_r less. (λ i. i, λ i. i);
-  refuses = λ given r no_r less i. (λ j. j ∙ sym i, λ j. j ∙ i);
-  answers = λ i r. absurd (no_handle other y p i);
-  made = λ a b c d. (λ i. absurd (no_handle h y p i), λ i. absurd (no_handle other y p i));
-  makes = λ i j. absurd (no_handle h y p i);
-  same = record { ends = refl; same = refl };
-}
+says_creates e1 = grind (arith, nat_tests)
 
 module _ {g : Renaming} {x : Room} {s : State} {k : ObjectKind} {h other : ℕ} where
   -- behind a refusal for the same cause
@@ -78,31 +71,22 @@ abbrev ends_in : Bool → Reply → Bool → Reply → List Move → Row
 ends_in f limit b r ms = unless f limit (only b (gives (Handle (handle_of r)) ms))
 
 none_other : (f b : Bool) (limit r : Reply) (ms : List Move) → is_handle r ≡ false → (r ≡ limit → ⊥) → Allows (ends_in f limit b r ms) r → ⊥
-none_other true b limit r ms no_r less i = less i
-none_other false true limit r ms no_r less i = grind arith
-none_other false false limit r ms no_r less i = i
+none_other f b limit r ms e1 e2 e3 = grind (arith, nat_tests)
 
 pub reached : (f b : Bool) (limit : Reply) (h : ℕ) (ms : List Move) → is_plain limit ≡ true → Allows (ends_in f limit b (Handle h) ms) (Handle h) → (f ≡ false) × (b ≡ true)
-reached true b limit h ms p i = absurd (no_handle h limit p i)
-reached false true limit h ms p i = (refl, refl)
-reached false false limit h ms p i = absurd i
+reached f b limit h ms e1 e2 = grind (arith, nat_tests)
 
 given : (f b : Bool) (limit : Reply) (h : ℕ) (ms : List Move) → f ≡ false → b ≡ true → Allows (ends_in f limit b (Handle h) ms) (Handle h)
-given false true limit h ms e d = refl
-given f b limit h ms e d = absurd (cc)
+given f b limit h ms e1 e2 = grind (arith, nat_tests)
 
 pub after_given : (s : State) (f b : Bool) (limit : Reply) (h : ℕ) (ms : List Move) → f ≡ false → b ≡ true → after_row s (ends_in f limit b (Handle h) ms) ≡ after_moves ms s
-after_given s false true limit h ms e d = refl
-after_given s f b limit h ms e d = absurd (cc)
+after_given s f b limit h ms e1 e2 = grind (arith, nat_tests)
 
 pub can_be : (f b : Bool) (limit r : Reply) (ms : List Move) → Allows (ends_in f limit b r ms) r ↔ MatchBool f (r ≡ limit) ((b ≡ true) × (r ≡ Handle (handle_of r)))
-can_be true b limit r ms = (λ i. i, λ i. i)
-can_be false true limit r ms = (λ i. (refl, i), λ i. i.1)
-can_be false false limit r ms = (λ i. absurd i, λ i. absurd (cc))
+can_be f b limit r ms = grind (arith, nat_tests)
 
 pub stays_in : (s : State) (f b : Bool) (limit r : Reply) (ms : List Move) → Allows (ends_in f limit b r ms) r → is_handle r ≡ false → after_row s (ends_in f limit b r ms) ≡ s
-stays_in s false true limit r ms i e = absurd (grind arith)
-stays_in s f b limit r ms i e = refl
+stays_in s f b limit r ms e1 e2 = grind (arith, nat_tests)
 
 -- the six kinds that no rule of tasks speaks of
 pub full_same : (t : Sort) (u : State) → is_full_of (all_of t).kind u ≡ full (all_of t) u
@@ -121,12 +105,7 @@ limit_plain t = refl
 
 -- the group of a new task that is not refused
 pub group_has : {g : Renaming} {s : State} → Fits g s → (c : Option ℕ) → holds (λ a. is_none (live_object s.groups a)) c ≡ false → IfSome c (Has g kind.Group)
-group_has n None e = tt
-group_has {g} {s} n (Some a) e = by_object (live_object s.groups a) refl e
-  where
-    by_object : (o : Option Group) → live_object s.groups a ≡ o → is_none o ≡ false → Has g kind.Group a
-    by_object None d f = absurd (cc)
-    by_object (Some y) d f = (found-has g kind.Group NoHandle a y s.groups n.groups d).0
+group_has e1 c e2 = grind (arith, nat_tests, live_object, found-has)
 
 module _ {g : Renaming} {x : Room} {s : State} (n : Follows g s) {h other : ℕ} where
   creates_alike : {T : Type 0} (o : Objects T) (make make_other : ℕ → Move) → ((t : State) → is_full_of o.kind t ≡ full o t) → ((t : State) (a : ℕ) → is_fresh_of o.kind t a ≡ is_fresh o t a) → limit_of o.kind ≡ o.limit → is_plain o.limit ≡ true →

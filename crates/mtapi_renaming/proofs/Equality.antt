@@ -1,5 +1,5 @@
 -- The tests of equality decide it.
-use Rattle.mtapi_renaming.proofs.Names.{◌≡◌, ℕ, Bool, true, false, ◌&&◌, cond, List, refl, sym, ◌∙◌, ap, ◌==◌, beq, Decides, int_eq, signed_Decides, booleans_Decides, signed_items, pointwise, Decides-eqb, Kind, MtapiStatus, MrapiStatus, mtapi_number, mrapi_number, TaskHandle, ActionHandle, TaskEnd, Completed, Cancelled, Failed, ActEnd, Done, Fails, kind_number, Reply, Ok, Handle, Number, Ended, Given, Pending, Picked, Idle, Stop, Asked, Mtapi, Mrapi, same_end, same_act, same_reply}
+use Rattle.mtapi_renaming.proofs.Names.{arith, nat_tests, ◌≡◌, ℕ, ◌&&◌, cond, List, refl, sym, ◌∙◌, ap, ◌==◌, beq, Decides, int_eq, signed_Decides, booleans_Decides, signed_items, pointwise, Decides-eqb, Kind, MtapiStatus, MrapiStatus, mtapi_number, mrapi_number, TaskHandle, ActionHandle, TaskEnd, ActEnd, kind_number, Reply, Ok, Handle, Number, Ended, Given, Pending, Picked, Idle, Stop, Asked, Mtapi, Mrapi, same_end, same_act, same_reply}
 use Rattle.mtapi_values.specs.declared.kinds.Kind.TheVariants as k
 use Rattle.mtapi_values.specs.declared.statuses.MtapiStatus.TheVariants as t
 use Rattle.mtapi_values.specs.declared.statuses.MrapiStatus.TheVariants as r
@@ -24,8 +24,7 @@ abbrev kind_of : ℕ → Kind
 kind_of m = cond (m == 1) k.Add (cond (m == 2) k.Mul (cond (m == 3) k.Max (cond (m == 4) k.Div (cond (m == 5) k.Gcd (cond (m == 6) k.Echo (cond (m == 7) k.Triangle (cond (m == 8) k.Fail (cond (m == 9) k.Watch (k.Tally)))))))))
 
 kind-number : (c : Kind) → kind_of (kind_number c) ≡ c
-kind-number k.Add = refl
-kind-number k = refl
+kind-number c = grind (arith, nat_tests)
 
 mtapi_decides : (a b : MtapiStatus) → Decides (mtapi_number a == mtapi_number b) (a ≡ b)
 mtapi_decides a b = decides_so (mtapi_number a == mtapi_number b) (λ e. sym (mtapi-number a) ∙ ap mtapi_of e ∙ mtapi-number b) (λ e. ap mtapi_number e) (Decides-eqb (mtapi_number a) (mtapi_number b))
@@ -37,15 +36,10 @@ kind_decides : (a b : Kind) → Decides (kind_number a == kind_number b) (a ≡ 
 kind_decides a b = decides_so (kind_number a == kind_number b) (λ e. sym (kind-number a) ∙ ap kind_of e ∙ kind-number b) (λ e. ap kind_number e) (Decides-eqb (kind_number a) (kind_number b))
 
 pub end_decides : (a b : TaskEnd) → Decides (same_end a b) (a ≡ b)
-end_decides (Completed a) (Completed b) = decides_so (pointwise int_eq a b) (λ e. ap Completed e) (λ e. cc) (signed_items a b)
-end_decides Cancelled Cancelled = (λ i. refl, λ i. refl)
-end_decides (Failed a) (Failed b) = decides_so (mtapi_number a == mtapi_number b) (λ e. ap Failed e) (λ e. cc) (mtapi_decides a b)
-end_decides a b = (λ i. absurd (cc), λ i. absurd (cc))
+end_decides a b = grind (arith, nat_tests, decides_so, int_eq, signed_items, mtapi_number, mtapi_decides)
 
 pub act_decides : (a b : ActEnd) → Decides (same_act a b) (a ≡ b)
-act_decides (Done a) (Done b) = decides_so (pointwise int_eq a b) (λ e. ap Done e) (λ e. cc) (signed_items a b)
-act_decides (Fails a) (Fails b) = decides_so (mtapi_number a == mtapi_number b) (λ e. ap Fails e) (λ e. cc) (mtapi_decides a b)
-act_decides a b = (λ i. absurd (cc), λ i. absurd (cc))
+act_decides a b = grind (arith, nat_tests, decides_so, int_eq, signed_items, mtapi_number, mtapi_decides)
 
 unfoldable pub task_in : Reply → ℕ
 task_in (Given v b) = v.0
@@ -58,8 +52,7 @@ action_in _ = 0
 
 given_decides : (u v : TaskHandle) (a b : TaskEnd) → Decides ((u.0 == v.0) && same_end a b) (Given u a ≡ Given v b)
 unfolding task_in
-given_decides u v a b =
-    decides_so ((u.0 == v.0) && same_end a b) (λ e i. Given (record { 0 = e.0 i }) (e.1 i)) (λ e. (ap task_in e, let d : a ≡ b = cc in d)) (both_decide (u.0 == v.0) (same_end a b) (Decides-eqb u.0 v.0) (end_decides a b))
+given_decides u v a b = grind (arith, nat_tests, decides_so, same_end, both_decide, Decides-eqb, end_decides)
 
 picked_decides : (u v : TaskHandle) (a b : ActionHandle) (c d : Kind) (xs ys : List _) → Decides ((u.0 == v.0) && (a.0 == b.0) && (kind_number c == kind_number d) && pointwise int_eq xs ys) (Picked u a c xs ≡ Picked v b d ys)
 unfolding task_in action_in

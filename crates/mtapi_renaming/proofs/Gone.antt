@@ -1,5 +1,5 @@
 -- The taken slots of a list and those that were the last of theirs: as many as were made at most, and none becomes live again.
-use Rattle.mtapi_renaming.proofs.Names.{◌≡◌, ℕ, suc, ◌+◌, ◌≤◌, Bool, true, false, ◌&&◌, cond, List, [], ◌∷◌, length, Some, refl, sym, subst, ap, ◌∙◌, arith, ◌==◌, not, is_some, eqb-true, generation_of, Listed, live_of, lookup, live_object, issue, retired, retired-issue, lasts_in, nat_tests}
+use Rattle.mtapi_renaming.proofs.Names.{◌≡◌, ℕ, ◌+◌, ◌≤◌, true, false, cond, List, [], ◌∷◌, length, arith, ◌==◌, is_some, generation_of, Listed, live_of, live_object, issue, retired, retired-issue, lasts_in, nat_tests}
 use Rattle.handle_pool.proofs.ListedLemmas.{length-issue as lives-issue}
 use Rattle.mtapi_renaming.proofs.Handles.{SameHandles, length-same}
 use Rattle.mtapi_renaming.proofs.Counts.{length-issue}

@@ -1,5 +1,5 @@
 -- Lists of the same handles, in the same order: what is read of the handles alone is the same.
-use Rattle.mtapi_renaming.proofs.Names.{◌≡◌, ℕ, suc, ◌+◌, Bool, true, false, ◌&&◌, cond, List, [], ◌∷◌, length, refl, ap, ◌==◌, not, TaskEnd, slot_of, Listed, how_many, change, change_all, with_fields, gone, listed, issued_at, Task, is_unended, end_each, ended, freed, let_go, arith}
+use Rattle.mtapi_renaming.proofs.Names.{◌≡◌, ℕ, suc, ◌+◌, Bool, false, ◌&&◌, cond, List, [], ◌∷◌, length, refl, ap, ◌==◌, not, TaskEnd, slot_of, Listed, how_many, change, change_all, with_fields, gone, listed, issued_at, Task, is_unended, end_each, ended, freed, let_go, arith}
 
 module _ {T : Type 0} where
   -- an object keeps its handle, and isn't live again

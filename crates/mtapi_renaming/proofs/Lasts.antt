@@ -1,5 +1,5 @@
 -- The handles of the last generation of a list: how many of them are gone, what adds to them and what leaves them.
-use Rattle.mtapi_renaming.proofs.Names.{◌≡◌, ℕ, ◌+◌, ◌≤◌, Bool, true, false, ◌&&◌, cond, List, [], ◌∷◌, ◌++◌, length, Option, Some, None, refl, sym, ◌∙◌, ap, arith, ◌==◌, not, is_some, eqb-true, eq-eqb, nat_tests, generation_of, Listed, how_many, live_of, lookup, live_object, issue, listed, retired, is_full, may_issue, listed-issue, lasts_in, with_last}
+use Rattle.mtapi_renaming.proofs.Names.{◌≡◌, ℕ, ◌+◌, ◌≤◌, Bool, true, false, cond, List, [], ◌∷◌, length, Option, None, refl, sym, ap, arith, ◌==◌, not, is_some, nat_tests, generation_of, Listed, how_many, live_of, live_object, issue, listed, retired, is_full, may_issue, listed-issue, lasts_in, with_last}
 use Rattle.mtapi_renaming.proofs.Handles.{SameHandles, listed-same}
 
 module _ {T : Type 0} where

@@ -1,5 +1,5 @@
 -- What a list of objects answers once its handles are others, and what its changes leave of the renaming.
-use Rattle.mtapi_renaming.proofs.Names.{◌≡◌, ℕ, Bool, true, false, ◌&&◌, cond, List, [], ◌∷◌, Some, refl, sym, ◌∙◌, ap, subst, ◌==◌, option_map, eqb-true, eq-eqb, ObjectKind, Listed, live_of, lookup, live_object, any_live, any_listed, first_handle, count_listed, issue, change, change_all, inside, Apart, Agree, at-inside, count-inside, same_tests, Renaming, Has, IsOneToOne, renamed_list, HasEach, arith, nat_tests}
+use Rattle.mtapi_renaming.proofs.Names.{◌≡◌, ℕ, Bool, true, false, ◌&&◌, List, [], ◌∷◌, Some, refl, sym, ap, ◌==◌, option_map, eqb-true, eq-eqb, ObjectKind, Listed, live_of, live_object, any_listed, first_handle, count_listed, issue, change, change_all, inside, Apart, Agree, at-inside, count-inside, same_tests, Renaming, Has, IsOneToOne, renamed_list, HasEach, arith, nat_tests}
 use Rattle.handle_pool.specs.Inside.{turned as turned_one}
 
 -- two handles are told apart by their other ones, where the first has another

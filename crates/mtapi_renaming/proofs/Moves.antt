@@ -1,5 +1,5 @@
 -- Each move of a state is, in the renamed state, the same move with the other handles, and leaves what the renaming has.
-use Rattle.mtapi_renaming.proofs.Names.{◌≡◌, ℕ, ◌+◌, Bool, true, ◌&&◌, List, [], ◌∷◌, refl, sym, ◌∙◌, ap, not, slice_set, option_map, Kind, TaskEnd, Failed, MtapiStatus, Listed, live_of, change, issue, update, retire, gone, with_fields, change-inside, update-inside, retire-inside, issue-inside, Action, with_enabled, has_worker, Task, NewTask, Notes, new_task, Running, is_unstarted, is_unended, ended, with_state, with_notes, is_member, freed, let_go, Phase, State, workers, end_tasks, Move, Sort, Groups, Queues, Mutexes, Sems, Rwls, Segments, Fields, all_of, phase_is, released, stops, makes_action, enables, withdraws, starts_task, runs_task, ends_task, ends_waiting, notes, leaves, frees_members, lets_members_go, makes, alters, removes, apply, after_moves, Renaming, Room, renamed_list, renamed_task, renamed_notes, renamed, HasNotes, HasTask, NoHandle, HasEach, Fits}
+use Rattle.mtapi_renaming.proofs.Names.{arith, nat_tests, ◌≡◌, ℕ, ◌+◌, Bool, true, ◌&&◌, List, [], ◌∷◌, refl, sym, ◌∙◌, ap, not, slice_set, option_map, Kind, TaskEnd, Failed, MtapiStatus, Listed, live_of, change, issue, update, retire, gone, with_fields, change-inside, update-inside, retire-inside, issue-inside, Action, with_enabled, has_worker, Task, NewTask, Notes, new_task, is_unstarted, is_unended, ended, with_state, with_notes, is_member, freed, let_go, Phase, State, workers, end_tasks, Move, Sort, Groups, Queues, Mutexes, Sems, Rwls, Segments, Fields, all_of, phase_is, released, stops, makes_action, enables, withdraws, starts_task, runs_task, ends_task, ends_waiting, notes, leaves, frees_members, lets_members_go, makes, alters, removes, apply, after_moves, Renaming, Room, renamed_list, renamed_task, renamed_notes, renamed, HasNotes, HasTask, NoHandle, HasEach, Fits}
 use Rattle.mtapi_values.specs.declared.handles.ObjectKind.TheVariants as kind
 use Rattle.handle_pool.specs.Inside.{turned as turned_one}
 use Rattle.mtapi_renaming.proofs.Lists.{apart, same_count, change_all-renamed, has-change, has-change_all}
@@ -71,9 +71,7 @@ module _ (g : Renaming) (x : Room) (s : State) where
   makes_action-renames h a = λ i. record (renamed g x s) { actions = issue-inside (g kind.Action) (λ j y. y) h a s.actions i }
 
   pub starts_task-renames : (h : ℕ) (t : NewTask) → g kind.Mutex 0 ≡ 0 → g kind.Shmem 0 ≡ 0 → renamed g x (apply (starts_task h t) s) ≡ apply (starts_task (g kind.Task h) (renamed_new g t)) (renamed g x s)
-  starts_task-renames h t a b =
-      (λ i. record (renamed g x s) { tasks = issue-inside (g kind.Task) (λ j y. renamed_task g y) h (new_task t s.starts) s.tasks i; starts = s.starts + 1 })
-      ∙ (λ i. record (renamed g x s) { tasks = issue (g kind.Task h) (record (new_task (renamed_new g t) s.starts) { notes = record (new_task (renamed_new g t) s.starts).notes { tally = record (new_task t s.starts).notes.tally { mutex = a i; segment = b i } } }) (renamed g x s).tasks; starts = s.starts + 1 })
+  starts_task-renames h t e1 e2 = grind (arith, nat_tests, issue-inside, renamed_task, new_task)
 
   pub makes-renames : (k : Sort) (h : ℕ) (v : Fields k) → renamed g x (apply (makes k h v) s) ≡ apply (makes k (g (all_of k).kind h) v) (renamed g x s)
   makes-renames k h v =
@@ -103,10 +101,7 @@ module _ (g : Renaming) (x : Room) (s : State) (n : Fits g s) where
   task_changes h F G to = λ i. record (renamed g x s) { tasks = update-inside (g kind.Task) (λ j y. renamed_task g y) h F G s.tasks to (apart g n.one kind.Task (renamed_task g) (HasTask g) h s.tasks n.tasks) i }
 
   pub runs_task-renames : (h w : ℕ) (k : Kind) → MoveRenames g x s (runs_task (g kind.Task h) w k) (runs_task h w k)
-  runs_task-renames h w k = record {
-    same = task_changes h (with_state (Running w k)) (with_state (Running w k)) (λ t. refl);
-    fits = with_tasks s.starts s.ends _ (has-change g kind.Task (HasTask g) h (with_fields (with_state (Running w k))) (λ r. refl) (λ r v. record { queue = v.queue; notes = v.notes }) s.tasks n.tasks);
-  }
+  runs_task-renames h w k = grind (arith, nat_tests, task_changes, with_state, with_tasks, has-change, with_fields)
 
   pub notes-renames : (h : ℕ) (f c : Notes → Notes) → ((y : Notes) → renamed_notes g (f y) ≡ c (renamed_notes g y)) → NoteKeeps g f → MoveRenames g x s (notes (g kind.Task h) c) (notes h f)
   notes-renames h f c to keeps = record {
@@ -131,16 +126,10 @@ module _ (g : Renaming) (x : Room) (s : State) (n : Fits g s) where
 
   -- every task that passes ends
   ends-same : (q m : Task → Bool) → SameTest g q m → (e : TaskEnd) → renamed g x (end_tasks m e s) ≡ end_tasks q e (renamed g x s)
-  ends-same q m same e = λ i. record (renamed g x s) {
-    tasks = end_each-renamed g n.one q m same e s.ends s.tasks n.tasks i;
-    ends = s.ends + sym (same_count g n.one kind.Task (renamed_task g) (HasTask g) q m same s.tasks n.tasks) i;
-  }
+  ends-same q m e1 e = grind (arith, nat_tests, end_each-renamed, same_count, renamed_task)
 
   pub ends_waiting-renames : (q m : Task → Bool) → SameTest g q m → (e : TaskEnd) → MoveRenames g x s (ends_waiting q e) (ends_waiting m e)
-  ends_waiting-renames q m same e = record {
-    same = ends-same (λ t. is_unstarted t && q t) (λ t. is_unstarted t && m t) (λ t v. ap (λ (b : Bool). is_unstarted t && b) (same t v)) e;
-    fits = with_tasks s.starts _ _ (has-ends g (λ t. is_unstarted t && m t) e s.ends s.tasks n.tasks);
-  }
+  ends_waiting-renames q m e1 e = grind (arith, nat_tests, ends-same, is_unstarted, with_tasks, has-ends)
 
   pub frees_members-renames : (h : ℕ) → MoveRenames g x s (frees_members (g kind.Group h)) (frees_members h)
   frees_members-renames h = record {

@@ -1,5 +1,5 @@
 -- The names that the proofs of this crate cite of lower crates and of its own specs/, passed on from one place. Declares nothing.
-pub use Rattle.std.proofs.Common.{Bool, List, None, Option, Some, [], ap, arith, cond, false, inl, inr, length, refl, subst, suc, sym, take, true, zero, ℕ, ◌&&◌, ◌++◌, ◌+◌, ◌<◌, ◌||◌, ◌↔◌, ◌∙◌, ◌∷◌, ◌≡◌, ◌≤◌, ◌⊎◌}
+pub use Rattle.std.proofs.Common.{Bool, List, None, Option, Some, [], ap, arith, cond, false, inl, inr, length, refl, subst, suc, sym, take, true, zero, ℕ, ◌&&◌, ◌++◌, ◌+◌, ◌<◌, ◌||◌, ◌↔◌, ◌∙◌, ◌∷◌, ◌≡◌, ◌≤◌}
 pub use Rattle.std.proofs.lemmas.Bool.{eq-eqb, eqb-true}
 pub use Rattle.std.proofs.lemmas.Bool.Decides.{Decides-eqb, nat_tests}
 pub use Rattle.std.specs.Bool.{Decides, MatchBool, beq}
@@ -11,12 +11,11 @@ pub use Rattle.std.specs.Ordering.{int_eq}
 pub use Rattle.std.specs.Prelude.{is_none, is_some, nat_le, nat_lt, not, pos, slice_set, ℤ, ◌==◌}
 pub use Rattle.action_fn.specs.Answers.{is_pure}
 pub use Rattle.action_fn.specs.declared.finished.ActEnd.{ActEnd}
-pub use Rattle.action_fn.specs.declared.finished.ActEnd.TheVariants.{Done, Fails}
 pub use Rattle.handle_pool.proofs.InsideLemmas.{at-inside, change-inside, count-inside, issue-inside, retire-inside, update-inside}
 pub use Rattle.handle_pool.proofs.ListedLemmas.{issued_at-issue, length-issue, listed-issue, retired-issue}
 pub use Rattle.handle_pool.proofs.LiveLemmas.{any_live-at, same_tests}
 pub use Rattle.handle_pool.specs.Inside.{Agree, Apart}
-pub use Rattle.handle_pool.specs.Issued.{Listed, any_listed, any_live, count_listed, first_handle, gone, how_many, live_object, lookup, retire, update, with_fields}
+pub use Rattle.handle_pool.specs.Issued.{Listed, any_listed, count_listed, first_handle, gone, how_many, live_object, retire, update, with_fields}
 pub use Rattle.handle_pool.specs.Slots.{generation_of, slot_of}
 pub use Rattle.mtapi_machine.proofs.EachKind.{OnEach, at_opening, each_so, each_with, of_sort, own_kind, sort_at}
 pub use Rattle.mtapi_machine.proofs.Lists.{after-one}
@@ -30,7 +29,7 @@ pub use Rattle.mtapi_machine.specs.Legal.{IsHonest, IsNext, NodeEntry, after, ne
 pub use Rattle.mtapi_machine.specs.Moves.{Fields, Groups, Move, Mutexes, Queues, Rwls, Segments, Sems, Sort, after_moves, all_of, alters, apply, enables, ends_task, ends_waiting, frees_members, is_fresh, is_served, leaves, lets_members_go, makes, makes_action, notes, phase_is, released, removes, runs_task, starts_task, stops, withdraws}
 pub use Rattle.mtapi_machine.specs.QueueRows.{new_queue}
 pub use Rattle.mtapi_machine.specs.Replay.{answer}
-pub use Rattle.mtapi_machine.specs.Row.{Allows, Row, after_row, chosen, creates, gives, handle_of, live, moves_of, mtapi_unless, never, not_yet, on, only, says, unless, work}
+pub use Rattle.mtapi_machine.specs.Row.{Allows, Row, after_row, chosen, creates, gives, handle_of, live, moves_of, mtapi_unless, never, not_yet, on, only, says, unless}
 pub use Rattle.mtapi_machine.specs.Rows.{row}
 pub use Rattle.mtapi_machine.specs.State.{FieldsOf, Objects, State, actions, end_tasks, is_new, is_past_open, is_stop, objects_of, opening, queues, seats, tasks, workers}
 pub use Rattle.mtapi_machine.specs.TallyRows.{gives_back, gives_up, locks, on_tally, takes_both}
@@ -67,7 +66,7 @@ pub use Rattle.mtapi_values.specs.Conditions.{holds}
 pub use Rattle.mtapi_values.specs.Layouts.{names_kind, object_number}
 pub use Rattle.mtapi_values.specs.Statuses.{mrapi_number, mtapi_number}
 pub use Rattle.mtapi_values.specs.declared.ends.TaskEnd.{TaskEnd}
-pub use Rattle.mtapi_values.specs.declared.ends.TaskEnd.TheVariants.{Cancelled, Completed, Failed}
+pub use Rattle.mtapi_values.specs.declared.ends.TaskEnd.TheVariants.{Cancelled, Failed}
 pub use Rattle.mtapi_values.specs.declared.handles.ActionHandle.{ActionHandle}
 pub use Rattle.mtapi_values.specs.declared.handles.GroupHandle.{GroupHandle}
 pub use Rattle.mtapi_values.specs.declared.handles.ObjectKind.{ObjectKind}

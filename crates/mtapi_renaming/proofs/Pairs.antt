@@ -1,5 +1,5 @@
 -- A renaming with one pair more: what it has, and what a state is by it.
-use Rattle.mtapi_renaming.proofs.Names.{◌≡◌, ◌⊎◌, ℕ, zero, suc, ◌+◌, ◌≤◌, Bool, true, false, ◌&&◌, cond, List, [], ◌∷◌, Option, Some, None, inl, inr, refl, sym, ◌∙◌, ap, subst, arith, ◌==◌, option_map, IfSome, eqb-true, eq-eqb, nat_tests, ObjectKind, object_number, generation_of, Listed, listed, may_issue, issue, inside, Agree, count-inside, listed-issue, Action, Task, NewTask, new_task, State, Objects, Sort, Fields, all_of, makes_action, starts_task, makes, is_fresh, apply, snd_true, of_sort, sort_at, each_so, each_with, Renaming, Has, IsOneToOne, with_pair, Room, renamed_list, renamed_task, renamed, HasOrNone, HasTask, NoHandle, HasEach, Fits, listed_in, Only, Follows}
+use Rattle.mtapi_renaming.proofs.Names.{◌≡◌, ℕ, zero, ◌+◌, ◌≤◌, true, ◌&&◌, cond, List, [], ◌∷◌, Option, Some, None, inl, inr, refl, sym, ◌∙◌, ap, subst, arith, ◌==◌, option_map, IfSome, eq-eqb, nat_tests, ObjectKind, object_number, Listed, listed, may_issue, issue, inside, Agree, count-inside, listed-issue, Action, Task, NewTask, new_task, State, Objects, Sort, Fields, all_of, makes_action, starts_task, makes, is_fresh, apply, snd_true, of_sort, sort_at, each_so, each_with, Renaming, Has, IsOneToOne, with_pair, Room, renamed_list, renamed_task, renamed, HasOrNone, HasTask, NoHandle, HasEach, Fits, listed_in, Only, Follows}
 use Rattle.mtapi_values.specs.declared.handles.ObjectKind.TheVariants as kind
 use Rattle.mtapi_renaming.proofs.Lists.{same_test, has-issue}
 use Rattle.mtapi_renaming.proofs.Moves.{renamed_new, sort-has, has-with, has-so, makes_action-renames, starts_task-renames, makes-renames}
@@ -9,8 +9,7 @@ abbrev object_of : ℕ → ObjectKind
 object_of m = cond (m == 1) kind.Action (cond (m == 2) kind.Task (cond (m == 3) kind.Group (cond (m == 4) kind.Queue (cond (m == 5) kind.Mutex (cond (m == 6) kind.Sem (cond (m == 7) kind.Rwl kind.Shmem))))))
 
 object-number : (k : ObjectKind) → object_of (object_number k) ≡ k
-object-number kind.Action = refl
-object-number k = refl
+object-number k = grind (arith, nat_tests)
 
 same_kind : (j k : ObjectKind) → object_number j ≡ object_number k → j ≡ k
 same_kind j k e = sym (object-number j) ∙ ap object_of e ∙ object-number k
@@ -25,9 +24,7 @@ pub record IsNew (g : Renaming) (k : ObjectKind) (h other : ℕ) : Type 0 where
 -- where a handle may be issued, it is none of those that were, and not 0
 issued-facts : {T : Type 0} (last h : ℕ) (l : List (Listed T)) → may_issue last h l ≡ true → (listed h l ≡ 0) × (1 ≤ h)
 unfolding may_issue
-issued-facts last h l e =
-    let once : 1 ≤ generation_of h = grind (arith, nat_tests) in
-    (grind (arith, nat_tests), omega (arith, once))
+issued-facts last h l e1 = grind (arith, nat_tests)
 
 module _ {T : Type 0} (g : Renaming) (one : IsOneToOne g) (k : ObjectKind) (f : T → T) (P : T → Type 0) where
   pub listed-renamed : (h : ℕ) (l : List (Listed T)) → HasEach g k P l → listed (g k h) (renamed_list (g k) f l) ≡ listed h l
@@ -39,20 +36,12 @@ module _ {T : Type 0} (g : Renaming) (one : IsOneToOne g) (k : ObjectKind) (f : 
       agree (r ∷ rs) n = (same_test g one k r.handle h n.0.0, agree rs n.1)
 
   new-pair : (h other : ℕ) (l : List (Listed T)) → HasEach g k P l → ((a : ℕ) → Has g k a → 1 ≤ listed a l) → listed h l ≡ 0 → 1 ≤ h → listed other (renamed_list (g k) f l) ≡ 0 → 1 ≤ other → IsNew g k h other
-  new-pair h other l v only none some no_other others = record {
-    absent = grind (arith, only h, none);
-    some = some;
-    others = others;
-    apart = λ a e. let same = listed-renamed a l v in grind (arith, only a, e, others, same, no_other);
-  }
+  new-pair h other l v only none some no_other others = grind (arith, nat_tests, listed-renamed)
 
 -- so of the handles that two states may issue
 pub is_new : {T : Type 0} (g : Renaming) (x : Room) (s : State) → IsOneToOne g → (o : Objects T) (f : T → T) (P : T → Type 0) → o.list (renamed g x s) ≡ renamed_list (g o.kind) f (o.list s) → HasEach g o.kind P (o.list s) → ((a : ℕ) → Has g o.kind a → 1 ≤ listed a (o.list s)) →
     (h other : ℕ) → is_fresh o s h ≡ true → is_fresh o (renamed g x s) other ≡ true → IsNew g o.kind h other
-is_new g x s one o f P is v only h other a b =
-    let own : (listed h (o.list s) ≡ 0) × (1 ≤ h) = issued-facts s.terms.settings.generations h (o.list s) (snd_true _ _ a) in
-    let others : (listed other (o.list (renamed g x s)) ≡ 0) × (1 ≤ other) = issued-facts x.generations other (o.list (renamed g x s)) (snd_true _ _ b) in
-    new-pair g one o.kind f P h other (o.list s) v only own.0 own.1 (subst (λ (l : List (Listed _)). listed other l ≡ 0) is others.0) others.1
+is_new g x s e1 o f P e2 e3 e4 h other e5 e6 = grind (arith, nat_tests, issued-facts, snd_true, new-pair)
 
 module _ (g : Renaming) (k : ObjectKind) (h other : ℕ) where
   pub at-new : with_pair k h other g k h ≡ other

@@ -1,5 +1,5 @@
 -- A worker that may take a task isn't told anything else.
-use Rattle.mtapi_renaming.proofs.Names.{◌≡◌, ℕ, Bool, true, false, ◌&&◌, cond, List, [], ◌∷◌, Option, Some, None, refl, sym, subst, not, ℤ, Kind, TaskHandle, ActionHandle, live_of, live_object, any_listed, any_live-at, Action, is_eligible, Task, Reply, Picked, Idle, Stop, State, workers, is_stop, stops, runs_task, Row, unless, gives, never, Allows, says, only, live, is_ready, can_take, has_better, picks, row, fst_true, snd_true, takes_task, arith}
+use Rattle.mtapi_renaming.proofs.Names.{nat_tests, ◌≡◌, ℕ, Bool, true, false, ◌&&◌, cond, List, [], ◌∷◌, Some, refl, not, ℤ, Kind, TaskHandle, ActionHandle, live_of, live_object, any_listed, any_live-at, Action, is_eligible, Task, Reply, Picked, Idle, Stop, State, workers, is_stop, stops, Row, unless, gives, Allows, says, only, is_ready, can_take, picks, row, fst_true, takes_task, arith}
 use Rattle.mtapi_machine.specs.declared.ops.Op.TheVariants as op
 use Rattle.mtapi_renaming.proofs.Comes.{if_there}
 
@@ -12,12 +12,10 @@ other_reply : (t : TaskHandle) (a : ActionHandle) (k : Kind) (args : List ℤ) (
 other_reply t a k args y e i = grind arith
 
 unless_takes : {b : Bool} {y : Reply} {own : Reply → Row} → takes_task op.Pick y ≡ false → OnlyTakes own → OnlyTakes (λ r. unless b y (own r))
-unless_takes {b = true} e v = record { takes = λ t a k args r i j. absurd (other_reply t a k args _ e i) }
-unless_takes {b = false} e v = record { takes = v.takes }
+unless_takes e1 e2 = grind (arith, nat_tests)
 
 stop_takes : (b : Bool) (w : ℕ) {own : Reply → Row} → OnlyTakes own → OnlyTakes (λ r. cond b (gives Stop (stops w ∷ [])) (own r))
-stop_takes true w v = record { takes = λ t a k args r i j. absurd (other_reply t a k args Stop refl i) }
-stop_takes false w v = record { takes = v.takes }
+stop_takes b w e1 = grind (arith, nat_tests)
 
 -- the worker could take the task that it takes
 could_take : (s : State) (w : ℕ) (t a : ℕ) (x : Task) (y : Action) → live_object s.tasks t ≡ Some x → live_object s.actions a ≡ Some y → (is_ready s x && is_eligible (workers s) w x.job x.cores y) ≡ true → any_listed (can_take s w) s.tasks ≡ true
@@ -25,17 +23,13 @@ unfolding can_take
 could_take s w t a x y d e may = any_live-at (can_take s w) (live_of s.tasks) t x d (grind (arith, any_live-at (is_eligible (workers s) w x.job x.cores) (live_of s.actions) a y e))
 
 holds_only : (b : Bool) (w : Row) (q : Reply) → Allows (only b w) q → b ≡ true
-holds_only true w q i = refl
-holds_only false w q i = absurd i
+holds_only b w q e1 = grind (arith, nat_tests)
 
 picked : (s : State) (w : ℕ) (t : TaskHandle) (a : ActionHandle) (k : Kind) (args : List ℤ) → Allows (picks s w (Picked t a k args)) (Picked t a k args) → any_listed (can_take s w) s.tasks ≡ true
-picked s w t a k args i =
-    let q : Reply = Picked t a k args in
-    if_there (live_object s.tasks t.0) _ q (λ x d j. if_there (live_object s.actions a.0) _ q (λ y e l. could_take s w t.0 a.0 x y d e (fst_true _ _ (holds_only _ _ q l))) j) i
+picked s w t a k args e1 = grind (arith, nat_tests, if_there, live_object, could_take, fst_true, holds_only)
 
 not_idle : (b : Bool) (r : Reply) → b ≡ true → Allows (only (not b) (says Idle)) r → ⊥
-not_idle true r e i = i
-not_idle false r e i = absurd (cc)
+not_idle b r e1 e2 = grind (arith, nat_tests)
 
 picks_take : (s : State) (w : ℕ) → OnlyTakes (picks s w)
 picks_take s w = record { takes = λ t a k args. elim [ Picked u b l brgs ↦ λ i j. refl | r ↦ λ i j. absurd (not_idle (any_listed (can_take s w) s.tasks) r (picked s w t a k args i) j) ] }

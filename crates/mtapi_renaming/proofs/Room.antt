@@ -1,5 +1,5 @@
 -- How many slots of a list are taken, by live objects and by those of the last generation that aren't: never more than there may be.
-use Rattle.mtapi_renaming.proofs.Names.{◌≡◌, ℕ, ◌+◌, ◌≤◌, Bool, true, false, ◌&&◌, cond, List, [], ◌∷◌, length, refl, sym, subst, arith, ◌==◌, not, is_some, nat_tests, generation_of, Listed, how_many, live_of, live_object, issue, retired, is_full, length-issue, retired-issue, lasts_in}
+use Rattle.mtapi_renaming.proofs.Names.{◌≡◌, ℕ, ◌+◌, ◌≤◌, false, List, [], ◌∷◌, length, subst, arith, not, is_some, nat_tests, Listed, how_many, live_of, live_object, issue, retired, is_full, length-issue, retired-issue, lasts_in}
 use Rattle.mtapi_renaming.proofs.Handles.{SameHandles}
 use Rattle.mtapi_renaming.proofs.Lasts.{OnceEach, retired-gone}
 

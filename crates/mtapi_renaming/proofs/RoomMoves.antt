@@ -1,5 +1,5 @@
 -- The taken slots of a state, over its moves and over entries: a create takes one only where its kind isn't full.
-use Rattle.mtapi_renaming.proofs.Names.{◌≡◌, ℕ, ◌+◌, ◌≤◌, Bool, true, false, List, [], ◌∷◌, Option, Some, None, refl, sym, subst, ObjectKind, Listed, Action, NewTask, new_task, Terms, Op, Reply, Handle, State, Objects, objects_of, opening, actions, tasks, Move, Sort, Fields, all_of, makes_action, starts_task, makes, is_fresh, apply, Row, unless, gives, only, handle_of, creates, moves_of, after_row, row, NodeEntry, next, after_from, after, row_made, moves_keep, at_opening, OnEach, each_so, each_with, full, made_kind, live_in, most_of, lasts_of, gone_of, arith}
+use Rattle.mtapi_renaming.proofs.Names.{nat_tests, ◌≡◌, ℕ, ◌+◌, ◌≤◌, Bool, false, List, [], ◌∷◌, Option, Some, None, refl, sym, subst, ObjectKind, Listed, Action, NewTask, new_task, Terms, Op, Reply, State, Objects, objects_of, opening, actions, tasks, Move, Sort, Fields, all_of, makes_action, starts_task, makes, apply, Row, unless, creates, moves_of, after_row, row, NodeEntry, next, after_from, after, row_made, moves_keep, at_opening, OnEach, each_so, each_with, full, made_kind, live_in, most_of, lasts_of, gone_of, arith}
 use Rattle.mtapi_renaming.proofs.CountMoves.{move_same, by_none, live_is, most_is}
 use Rattle.mtapi_renaming.proofs.CreateRows.{HoldsInParts, create_row}
 use Rattle.mtapi_renaming.proofs.LastMoves.{once_after, terms_stay, gone_is}
@@ -36,16 +36,10 @@ record KeepsWithin (s : State) (k : ObjectKind) (own : Reply → Row) : Type 0 w
 
 module _ {s : State} where
   unless_within : {k : ObjectKind} {a : Bool} {y : Reply} {own : Reply → Row} → KeepsWithin s k own → KeepsWithin s k (λ r. unless a y (own r))
-  unless_within {a = true} v = record { within = λ r w. w }
-  unless_within {a = false} v = record { within = v.within }
+  unless_within e1 = grind (arith, nat_tests)
 
   creates_within : {T : Type 0} {k : ObjectKind} (o : Objects T) (make : ℕ → Move) → ((h : ℕ) → full o s ≡ false → WithinAll s → WithinAll (apply (make h) s)) → KeepsWithin s k (λ r. creates o s r make)
-  creates_within o make new = record { within = λ r w. by_test (full o s) (is_fresh o s (handle_of r)) r refl w }
-    where
-      by_test : (f b : Bool) (r : Reply) → full o s ≡ f → WithinAll s → WithinAll (after_row s (unless f o.limit (only b (gives (Handle (handle_of r)) (make (handle_of r) ∷ [])))))
-      by_test true b r e w = w
-      by_test false true r e w = new (handle_of r) e w
-      by_test false false r e w = w
+  creates_within o make e1 = grind (arith, nat_tests)
 
 create_within : (s : State) (who : ℕ) (o : Op) (k : ObjectKind) (r : Reply) → made_kind o ≡ Some k → WithinAll s → WithinAll (after_row s (row s who o r))
 create_within s who o k r i = (create_row parts who k o i).within r

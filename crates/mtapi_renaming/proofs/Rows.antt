@@ -1,5 +1,5 @@
 -- The ways in which a row is made up: where its parts are alike in the renamed state, so is the whole.
-use Rattle.mtapi_renaming.proofs.Names.{◌≡◌, ◌↔◌, ℕ, Bool, true, false, List, [], ◌∷◌, Option, Some, None, refl, sym, ◌∙◌, ap, subst, ◌==◌, option_map, ObjectKind, TaskHandle, ActionHandle, MrapiStatus, TaskEnd, Kind, Listed, live_of, live_object, any_listed, first_handle, Action, Task, Reply, Handle, Given, Picked, State, actions, tasks, Move, Sort, Groups, Fields, all_of, Row, unless, gives, never, Allows, after_row, says, not_yet, only, live, on, chosen, Keyed, mrapi_unless, found, gets, alters_one, looks_one, deletes, Renaming, Has, IsOneToOne, Room, renamed_task, renamed, HasTask, NoHandle, Fits, renamed_answer}
+use Rattle.mtapi_renaming.proofs.Names.{arith, nat_tests, ◌≡◌, ◌↔◌, ℕ, Bool, true, false, List, [], ◌∷◌, Option, Some, None, refl, sym, ◌∙◌, ap, subst, ◌==◌, option_map, ObjectKind, TaskHandle, ActionHandle, MrapiStatus, TaskEnd, Kind, Listed, live_of, live_object, any_listed, first_handle, Action, Task, Reply, Handle, Given, Picked, State, actions, tasks, Move, Sort, Groups, Fields, all_of, Row, unless, gives, never, Allows, after_row, says, not_yet, only, live, on, chosen, Keyed, mrapi_unless, found, gets, alters_one, looks_one, deletes, Renaming, Has, IsOneToOne, Room, renamed_task, renamed, HasTask, NoHandle, Fits, renamed_answer}
 use Rattle.std.specs.Prelude.{cond}
 use Rattle.mtapi_values.specs.declared.handles.ObjectKind.TheVariants as kind
 use Rattle.mtapi_renaming.proofs.Equality.{task_in, action_in}
@@ -25,56 +25,32 @@ HasAnswer g k (Picked t a x args) = Has g kind.Task t.0 × Has g kind.Action a.0
 HasAnswer g k r = Unit {0}
 
 plain-same : (g : Renaming) (k : Option ObjectKind) (y : Reply) → is_plain y ≡ true → renamed_answer g k y ≡ y
-plain-same g k (Handle h) p = absurd (cc)
-plain-same g k (Given t e) p = absurd (cc)
-plain-same g k (Picked t a x args) p = absurd (cc)
-plain-same g k y p = refl
+plain-same g k y e1 = grind (arith, nat_tests)
 
 plain-has : (g : Renaming) (k : Option ObjectKind) (y : Reply) → is_plain y ≡ true → HasAnswer g k y
-plain-has g k (Handle h) p = absurd (cc)
-plain-has g k (Given t e) p = absurd (cc)
-plain-has g k (Picked t a x args) p = absurd (cc)
-plain-has g k y p = tt
+plain-has g k y e1 = grind (arith, nat_tests)
 
 pub no_plain : (y z : Reply) → is_plain y ≡ true → z ≡ y → is_plain z ≡ false → ⊥
 no_plain y z p e f = let t : is_plain z ≡ true = subst (λ (w : Reply). is_plain w ≡ true) (sym e) p in absurd (cc)
 
 -- no two replies become the same one
 plain_one : (g : Renaming) (k : Option ObjectKind) (y r : Reply) → is_plain y ≡ true → renamed_answer g k r ≡ y → r ≡ y
-plain_one g k y (Handle h) p e = absurd (no_plain y _ p e refl)
-plain_one g k y (Given t d) p e = absurd (no_plain y _ p e refl)
-plain_one g k y (Picked t a x args) p e = absurd (no_plain y _ p e refl)
-plain_one g k y r p e = e
+plain_one g k y r e1 e2 = grind (arith, nat_tests)
 
 handle_one : (g : Renaming) → IsOneToOne g → (k : ObjectKind) (h : ℕ) (r : Reply) → Has g k h → renamed_answer g (Some k) r ≡ Handle (g k h) → r ≡ Handle h
-handle_one g one k h (Handle a) has e = let d : g k h ≡ g k a = cc in ap Handle (sym (one k h a has d))
-handle_one g one k h r has e = absurd (cc)
+handle_one g e1 k h r e2 e3 = grind (arith, nat_tests)
 
 given_one : (g : Renaming) → IsOneToOne g → (k : Option ObjectKind) (t : TaskHandle) (end : TaskEnd) (r : Reply) → Has g kind.Task t.0 → renamed_answer g k r ≡ renamed_answer g k (Given t end) → r ≡ Given t end
 unfolding task_in
-given_one g one k t end (Given u d) has e =
-    let i : g kind.Task t.0 ≡ g kind.Task u.0 = ap task_in (sym e) in
-    let same : d ≡ end = cc in
-    λ j. Given (record { 0 = sym (one kind.Task t.0 u.0 has i) j }) (same j)
-given_one g one k t end r has e = absurd (cc)
+given_one g e1 k t end r e2 e3 = grind (arith, nat_tests)
 
 picked_one : (g : Renaming) → IsOneToOne g → (k : Option ObjectKind) (t : TaskHandle) (a : ActionHandle) (x : Kind) (args : List _) (r : Reply) → Has g kind.Task t.0 → Has g kind.Action a.0 →
     renamed_answer g k r ≡ renamed_answer g k (Picked t a x args) → r ≡ Picked t a x args
 unfolding task_in action_in
-picked_one g one k t a x args (Picked u b y brgs) has some e =
-    let i : g kind.Task t.0 ≡ g kind.Task u.0 = ap task_in (sym e) in
-    let j : g kind.Action a.0 ≡ g kind.Action b.0 = ap action_in (sym e) in
-    let c : y ≡ x = cc in
-    let d : brgs ≡ args = cc in
-    λ n. Picked (record { 0 = sym (one kind.Task t.0 u.0 has i) n }) (record { 0 = sym (one kind.Action a.0 b.0 some j) n }) (c n) (d n)
-picked_one g one k t a x args r has some e = absurd (cc)
+picked_one g e1 k t a x args r e2 e3 e4 = grind (arith, nat_tests)
 
 reply_one : (g : Renaming) → IsOneToOne g → (k : Option ObjectKind) (y r : Reply) → HasAnswer g k y → renamed_answer g k r ≡ renamed_answer g k y → r ≡ y
-reply_one g one None (Handle h) r has e = absurd has
-reply_one g one (Some k) (Handle h) r has e = handle_one g one k h r has e
-reply_one g one k (Given t end) r has e = given_one g one k t end r has e
-reply_one g one k (Picked t a x args) r has e = picked_one g one k t a x args r has.0 has.1 e
-reply_one g one k y r has e = plain_one g k y r refl e
+reply_one g e1 k y r e2 e3 = grind (arith, nat_tests)
 
 pub sort-invalid : (t : Sort) → is_plain (all_of t).invalid ≡ true
 sort-invalid Groups = refl
@@ -96,12 +72,7 @@ pub record Alike (g : Renaming) (x : Room) (s : State) (k : Option ObjectKind) (
 
 module _ {g : Renaming} {x : Room} {s : State} (n : Fits g s) {k : Option ObjectKind} {r : Reply} where
   pub gives_renamed : {y : Reply} {ms ws : List Move} → HasAnswer g k y → MovesRename g x s ms ws → Alike g x s k r (gives y ws) (gives (renamed_answer g k y) ms)
-  gives_renamed {y} has e = record {
-    allowed = (λ i. ap (renamed_answer g k) i, λ i. reply_one g n.one k y r has i);
-    comes = λ q i. record { own = y; has = has; is = i };
-    leads = e.same;
-    fits = e.fits;
-  }
+  gives_renamed e1 e2 = grind (arith, nat_tests)
 
   pub gives_alike : {y : Reply} {ms ws : List Move} → is_plain y ≡ true → MovesRename g x s ms ws → Alike g x s k r (gives y ws) (gives y ms)
   gives_alike {y} {ms} {ws} p e = subst (λ (z : Reply). Alike g x s k r (gives y ws) (gives z ms)) (plain-same g k y p) (gives_renamed (plain-has g k y p) e)
@@ -114,9 +85,7 @@ module _ {g : Renaming} {x : Room} {s : State} (n : Fits g s) {k : Option Object
 
   -- what follows a refusal, where its cause doesn't hold
   pub unless_then : {a b : Bool} {y : Reply} {own other : Row} → b ≡ a → is_plain y ≡ true → (a ≡ false → Alike g x s k r own other) → Alike g x s k r (unless a y own) (unless b y other)
-  unless_then {a = true} {b = true} e p w = let v : Alike g x s k r (says _) (says _) = says_alike p in record { allowed = v.allowed; comes = v.comes; leads = v.leads; fits = v.fits }
-  unless_then {a = false} {b = false} e p w = let v = w refl in record { allowed = v.allowed; comes = v.comes; leads = v.leads; fits = v.fits }
-  unless_then e p w = absurd (cc)
+  unless_then e1 e2 e3 = grind (arith, nat_tests, says_alike)
 
   pub unless_alike : {a b : Bool} {y : Reply} {own other : Row} → b ≡ a → is_plain y ≡ true → Alike g x s k r own other → Alike g x s k r (unless a y own) (unless b y other)
   unless_alike e p w = unless_then e p (λ d. w)
@@ -126,21 +95,13 @@ module _ {g : Renaming} {x : Room} {s : State} (n : Fits g s) {k : Option Object
   not_yet_alike false late p = says_alike refl
 
   pub cond_alike : (a b : Bool) {v w y z : Row} → b ≡ a → Alike g x s k r v y → Alike g x s k r w z → Alike g x s k r (cond a v w) (cond b y z)
-  cond_alike true true e i j = i
-  cond_alike false false e i j = j
-  cond_alike a b e i j = absurd (cc)
+  cond_alike a b e1 e2 e3 = grind (arith, nat_tests)
 
   pub only_alike : {a b : Bool} {own other : Row} → b ≡ a → (a ≡ true → Alike g x s k r own other) → Alike g x s k r (only a own) (only b other)
-  only_alike {a = true} {b = true} e w = w refl
-  only_alike {a = false} {b = false} e w = never_alike
-  only_alike e w = absurd (cc)
+  only_alike e1 e2 = grind (arith, nat_tests)
 
   pub live_alike : {T : Type 0} (f : T → T) {o p : Option T} {own other : Row} (v w : T → Row) → p ≡ option_map f o → Alike g x s k r own other → ((y : T) → o ≡ Some y → Alike g x s k r (v y) (w (f y))) → Alike g x s k r (live o own v) (live p other w)
-  live_alike {T} f {o} {p} {own} {other} v w e i j = subst (λ (z : Option T). Alike g x s k r (live o own v) (live z other w)) (sym e) (by_object o refl)
-    where
-      by_object : (z : Option T) → o ≡ z → Alike g x s k r (live z own v) (live (option_map f z) other w)
-      by_object None d = i
-      by_object (Some y) d = j y d
+  live_alike f v w e1 e2 e3 = grind (arith, nat_tests)
 
   pub mrapi_alike : (cs : List (Bool × MrapiStatus)) {own other : Row} → Alike g x s k r own other → Alike g x s k r (mrapi_unless cs own) (mrapi_unless cs other)
   mrapi_alike [] w = w

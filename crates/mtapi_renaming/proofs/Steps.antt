@@ -1,5 +1,5 @@
 -- The laws of one step and of the start.
-use Rattle.mtapi_renaming.proofs.Names.{◌≡◌, ◌↔◌, ℕ, suc, Bool, true, false, cond, List, [], ◌∷◌, length, Some, None, refl, sym, ◌∙◌, ap, subst, arith, is_some, ObjectKind, Listed, live_of, live_object, inside, Terms, Op, Reply, State, Row, Allows, row, Renaming, Room, renamed_list, renamed_task, renamed, HasTask, NoHandle, Follows, renamed_op, renamed_reply, made_kind, live_in, is_live_of, takes_task, row_in, StepRenames, CreateRenames, LiveAlike, StartRenames}
+use Rattle.mtapi_renaming.proofs.Names.{nat_tests, ◌≡◌, ◌↔◌, ℕ, false, List, [], ◌∷◌, length, Some, None, refl, sym, ap, subst, arith, is_some, ObjectKind, Listed, live_of, live_object, inside, Terms, Op, Reply, State, Row, Allows, row, Renaming, Room, renamed_list, renamed_task, renamed, Follows, renamed_op, renamed_reply, made_kind, live_in, is_live_of, takes_task, row_in, StepRenames, CreateRenames, LiveAlike, StartRenames}
 use Rattle.mtapi_values.specs.declared.handles.ObjectKind.TheVariants as kind
 use Rattle.mtapi_machine.specs.declared.ops.Op.TheVariants as op
 use Rattle.mtapi_renaming.proofs.Lists.{found-renamed}
@@ -38,34 +38,14 @@ same_length f c [] = refl
 same_length f c (r ∷ rs) = grind (arith, same_length f c rs)
 
 as_many_live : (g : Renaming) (x : Room) (s : State) (k : ObjectKind) → live_in k (renamed g x s) ≡ live_in k s
-as_many_live g x s kind.Action = same_length (g kind.Action) (λ y. y) s.actions
-as_many_live g x s kind.Task = same_length (g kind.Task) (renamed_task g) s.tasks
-as_many_live g x s kind.Group = same_length (g kind.Group) (λ y. y) s.groups
-as_many_live g x s kind.Queue = same_length (g kind.Queue) (λ y. y) s.queues
-as_many_live g x s kind.Mutex = same_length (g kind.Mutex) (λ y. y) s.mutexes
-as_many_live g x s kind.Sem = same_length (g kind.Sem) (λ y. y) s.sems
-as_many_live g x s kind.Rwl = same_length (g kind.Rwl) (λ y. y) s.rwls
-as_many_live g x s kind.Shmem = same_length (g kind.Shmem) (λ y. y) s.segments
+as_many_live g x s k = grind (arith, nat_tests, same_length, renamed_task)
 
 same_live : (g : Renaming) (x : Room) (s : State) (k : ObjectKind) → Follows g s → (h : ℕ) → is_live_of k (renamed g x s) (g k h) ≡ is_live_of k s h
-same_live g x s kind.Action n h = ap is_some (found-renamed g n.fits.one kind.Action (λ y. y) NoHandle h s.actions n.fits.actions) ∙ is_some-map (λ y. y) (live_object s.actions h)
-same_live g x s kind.Task n h = ap is_some (found-renamed g n.fits.one kind.Task (renamed_task g) (HasTask g) h s.tasks n.fits.tasks) ∙ is_some-map (renamed_task g) (live_object s.tasks h)
-same_live g x s kind.Group n h = ap is_some (found-renamed g n.fits.one kind.Group (λ y. y) NoHandle h s.groups n.fits.groups) ∙ is_some-map (λ y. y) (live_object s.groups h)
-same_live g x s kind.Queue n h = ap is_some (found-renamed g n.fits.one kind.Queue (λ y. y) NoHandle h s.queues n.fits.queues) ∙ is_some-map (λ y. y) (live_object s.queues h)
-same_live g x s kind.Mutex n h = ap is_some (found-renamed g n.fits.one kind.Mutex (λ y. y) NoHandle h s.mutexes n.fits.mutexes) ∙ is_some-map (λ y. y) (live_object s.mutexes h)
-same_live g x s kind.Sem n h = ap is_some (found-renamed g n.fits.one kind.Sem (λ y. y) NoHandle h s.sems n.fits.sems) ∙ is_some-map (λ y. y) (live_object s.sems h)
-same_live g x s kind.Rwl n h = ap is_some (found-renamed g n.fits.one kind.Rwl (λ y. y) NoHandle h s.rwls n.fits.rwls) ∙ is_some-map (λ y. y) (live_object s.rwls h)
-same_live g x s kind.Shmem n h = ap is_some (found-renamed g n.fits.one kind.Shmem (λ y. y) NoHandle h s.segments n.fits.segments) ∙ is_some-map (λ y. y) (live_object s.segments h)
+same_live g x s k e1 h = grind (arith, nat_tests, found-renamed, is_some-map, live_object, renamed_task)
 
 pub lives_alike : (g : Renaming) (x : Room) (s : State) (k : ObjectKind) → Follows g s → LiveAlike g x s k
 lives_alike g x s k n = record { same = same_live g x s k n; count = as_many_live g x s k }
 
 pub start_renames : (x : Room) (terms : Terms) → StartRenames x terms
 unfolding inside
-start_renames x terms = record {
-  follows = record {
-    fits = record { one = λ k a b has e. absurd (omega (arith, has)); zero = λ k. refl; actions = tt; tasks = tt; groups = tt; queues = tt; mutexes = tt; sems = tt; rwls = tt; segments = tt };
-    only = λ k h has. absurd (omega (arith, has));
-  };
-  renamed = refl;
-}
+start_renames x terms = grind (arith, nat_tests)

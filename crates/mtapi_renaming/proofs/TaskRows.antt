@@ -1,5 +1,5 @@
 -- The rows of tasks, groups and queues, in the renamed state.
-use Rattle.mtapi_renaming.proofs.Names.{◌≡◌, ℕ, Bool, true, false, cond, List, [], ◌∷◌, Option, Some, None, refl, sym, ◌∙◌, ap, subst, not, is_none, is_some, option_map, ObjectKind, MtapiStatus, Cancelled, holds, live_object, any_listed, count_listed, Action, Task, TaskState, Scheduled, Running, Ending, in_no_group, Queue, opened, is_in, is_unended_in, is_shut_in, Reply, Ok, State, workers, Queues, Groups, ends_waiting, alters, is_served, gives, looks_at, cancels, verdict, gives_end, gives_first, Renaming, Has, Room, renamed_task, renamed, HasTask, NoHandle, Fits}
+use Rattle.mtapi_renaming.proofs.Names.{arith, nat_tests, ◌≡◌, ℕ, Bool, true, false, cond, List, [], ◌∷◌, Option, Some, None, refl, sym, ◌∙◌, ap, subst, not, is_none, is_some, option_map, ObjectKind, MtapiStatus, Cancelled, holds, live_object, any_listed, count_listed, Action, Task, TaskState, Scheduled, Running, Ending, in_no_group, Queue, opened, is_in, is_unended_in, is_shut_in, Reply, Ok, State, workers, Queues, Groups, ends_waiting, alters, is_served, gives, looks_at, cancels, verdict, gives_end, gives_first, Renaming, Has, Room, renamed_task, renamed, HasTask, NoHandle, Fits}
 use Rattle.mtapi_values.specs.declared.handles.ObjectKind.TheVariants as kind
 use Rattle.mtapi_objects.specs.Tasks.{Ended}
 use Rattle.mtapi_renaming.proofs.Rows.{is_plain}
@@ -9,16 +9,13 @@ use Rattle.mtapi_renaming.proofs.Moves.{one_move, then_moves, notes-renames, lea
 use Rattle.mtapi_renaming.proofs.Rows.{Alike, sort-found, gives_renamed, gives_alike, says_alike, never_alike, not_yet_alike, live_alike}
 
 pub is_none-map : {T U : Type 0} (f : T → U) (o : Option T) → is_none (option_map f o) ≡ is_none o
-is_none-map f None = refl
-is_none-map f (Some x) = refl
+is_none-map f o = grind (arith, nat_tests)
 
 pub is_some-map : {T U : Type 0} (f : T → U) (o : Option T) → is_some (option_map f o) ≡ is_some o
-is_some-map f None = refl
-is_some-map f (Some x) = refl
+is_some-map f o = grind (arith, nat_tests)
 
 pub verdict_plain : (c : Option MtapiStatus) → is_plain (verdict c) ≡ true
-verdict_plain None = refl
-verdict_plain (Some c) = refl
+verdict_plain c = grind (arith, nat_tests)
 
 -- what is read of the lists
 module _ {g : Renaming} {s : State} (n : Fits g s) (x : Room) where

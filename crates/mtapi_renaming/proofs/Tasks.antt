@@ -1,8 +1,8 @@
 -- What is read of a task, and what its list becomes, once its handles are others.
-use Rattle.mtapi_renaming.proofs.Names.{◌≡◌, ℕ, zero, suc, ◌+◌, Bool, true, false, ◌&&◌, cond, List, [], ◌∷◌, Option, Some, None, refl, sym, ◌∙◌, ap, ◌==◌, not, nat_lt, option_map, option_or, IfSome, ObjectKind, TaskEnd, holds, Listed, live_of, inside, Action, some_below, is_eligible, has_worker, Task, is_unended, end_of, ended, end_each, is_member, is_unended_member, Ending, insert, insert_ended, endings, fault_of, first_fault, is_in, is_unended_in, is_head, Renaming, Has, IsOneToOne, renamed_list, renamed_task, HasTask, NoHandle, HasEach, arith}
+use Rattle.mtapi_renaming.proofs.Names.{nat_tests, ◌≡◌, ℕ, ◌+◌, Bool, ◌&&◌, cond, List, [], ◌∷◌, Option, refl, ap, ◌==◌, nat_lt, option_map, option_or, IfSome, ObjectKind, TaskEnd, holds, Listed, live_of, inside, Action, some_below, is_eligible, has_worker, Task, is_unended, end_of, ended, end_each, is_member, is_unended_member, Ending, insert, insert_ended, endings, fault_of, first_fault, is_in, is_unended_in, is_head, Renaming, Has, IsOneToOne, renamed_list, renamed_task, HasTask, NoHandle, HasEach, arith}
 use Rattle.mtapi_values.specs.declared.handles.ObjectKind.TheVariants as kind
 use Rattle.handle_pool.specs.Inside.{turned as turned_one}
-use Rattle.mtapi_renaming.proofs.Lists.{same_test, same_any}
+use Rattle.mtapi_renaming.proofs.Lists.{same_any}
 
 -- the tasks with their other handles
 abbrev pub renamed_tasks : Renaming → List (Listed Task) → List (Listed Task)
@@ -14,8 +14,7 @@ SameTest g q m = (t : Task) → HasTask g t → q (renamed_task g t) ≡ m t
 
 -- the workers that can take tasks
 below_same : (n : ℕ) (p q : ℕ → Bool) → ((w : ℕ) → p w ≡ q w) → some_below n p ≡ some_below n q
-below_same zero p q same = refl
-below_same (suc n) p q same = λ i. cond (same n i) true (below_same n p q same i)
+below_same n p q e1 = grind (arith, nat_tests)
 
 -- the ends of tasks leave what the renaming has
 pub has-ends : (g : Renaming) (p : Task → Bool) (e : TaskEnd) (n : ℕ) (l : List (Listed Task)) → HasEach g kind.Task (HasTask g) l → HasEach g kind.Task (HasTask g) (end_each p e n l)
@@ -40,14 +39,11 @@ insert-renamed g x [] = refl
 insert-renamed g x (y ∷ ys) = grind (arith, insert-renamed g x ys)
 
 insert_ended-renamed : (g : Renaming) (h : ℕ) (x : Option (TaskEnd × ℕ)) (xs ys : List Ending) → ys ≡ renamed_endings g xs → insert_ended (g kind.Task h) x ys ≡ renamed_endings g (insert_ended h x xs)
-insert_ended-renamed g h None xs ys e = e
-insert_ended-renamed g h (Some x) xs ys e =
-    ap (insert (record { task = g kind.Task h; end = x.0; number = x.1 })) e ∙ sym (insert-renamed g (record { task = h; end = x.0; number = x.1 }) xs)
+insert_ended-renamed g h x xs ys e1 = grind (arith, nat_tests, insert-renamed)
 
 module _ (g : Renaming) (one : IsOneToOne g) where
   same_handle : (k : ObjectKind) (h : ℕ) (o : Option ℕ) → IfSome o (Has g k) → holds (λ a. a == g k h) (option_map (g k) o) ≡ holds (λ a. a == h) o
-  same_handle k h None n = refl
-  same_handle k h (Some a) n = same_test g one k a h n
+  same_handle k h o e1 = grind (arith, nat_tests)
 
   pub same_member : (h : ℕ) → SameTest g (is_member (g kind.Group h)) (is_member h)
   same_member h t n = same_handle kind.Group h t.notes.group n.notes.group
@@ -63,9 +59,7 @@ module _ (g : Renaming) (one : IsOneToOne g) where
 
   -- the task is the head of its queue
   pub same_head : (q : ℕ) (t : Task) (l : List (Listed Task)) → HasEach g kind.Task (HasTask g) l → is_head (g kind.Queue q) (renamed_task g t) (live_of (renamed_tasks g l)) ≡ is_head q t (live_of l)
-  same_head q t l n =
-      ap not (same_any g one kind.Task (renamed_task g) (HasTask g) (λ u. is_unended_in (g kind.Queue q) u && nat_lt u.start t.start) (λ u. is_unended_in q u && nat_lt u.start t.start)
-      (λ u m. ap (λ (b : Bool). b && nat_lt u.start t.start) (same_unended_in q u m)) l n)
+  same_head q t l e1 = grind (arith, nat_tests, same_any, renamed_task, is_unended_in, nat_lt, same_unended_in)
 
   pub same_workers : (workers job cores : ℕ) (l : List (Listed Action)) → HasEach g kind.Action NoHandle l → has_worker workers job cores (live_of (renamed_list (g kind.Action) (λ x. x) l)) ≡ has_worker workers job cores (live_of l)
   unfolding has_worker

@@ -1,5 +1,5 @@
 -- What an op that makes an object is refused for tells what it may answer; it is no handle, and leaves the state as it was.
-use Rattle.mtapi_renaming.proofs.Names.{◌≡◌, ◌↔◌, ℕ, Bool, true, false, cond, [], ◌∷◌, Option, Some, None, refl, sym, ◌∙◌, ap, subst, arith, MatchBool, ObjectKind, Op, Reply, Ok, Handle, State, Objects, actions, tasks, Move, all_of, makes_action, starts_task, makes, is_fresh, Row, unless, after_row, Allows, says, handle_of, creates, row, full, made_kind, is_full_of, is_fresh_of, limit_of, CanBe, is_handle, makes_or_not, refusal_in, refusal_of, CanAnswer}
+use Rattle.mtapi_renaming.proofs.Names.{nat_tests, ◌≡◌, ◌↔◌, ℕ, Bool, true, false, cond, [], ◌∷◌, Option, Some, None, refl, sym, ◌∙◌, ap, subst, arith, MatchBool, ObjectKind, Op, Reply, Ok, Handle, State, Objects, actions, tasks, Move, all_of, makes_action, starts_task, makes, is_fresh, Row, unless, after_row, Allows, says, handle_of, creates, row, full, made_kind, is_full_of, is_fresh_of, limit_of, CanBe, is_handle, makes_or_not, refusal_in, refusal_of, CanAnswer}
 use Rattle.mtapi_renaming.proofs.Rows.{is_plain}
 use Rattle.mtapi_renaming.proofs.Creates.{can_be, stays_in, creates_none, full_same, fresh_same, limit_same}
 use Rattle.mtapi_renaming.proofs.CreateRows.{HoldsInParts, create_row}
@@ -15,8 +15,7 @@ record Tells (s : State) (k : ObjectKind) (own : Reply → Row) : Type 0 where
   stays : (r : Reply) → Allows (own r) r → is_handle r ≡ false → after_row s (own r) ≡ s
 
 no_handle_in : (y : Reply) → is_plain y ≡ true → is_handle y ≡ false
-no_handle_in (Handle h) p = absurd (cc)
-no_handle_in y p = refl
+no_handle_in y e1 = grind (arith, nat_tests)
 
 module _ {s : State} where
   says_tells : {k : ObjectKind} (y : Reply) → is_plain y ≡ true → Tells s k (λ r. says y)

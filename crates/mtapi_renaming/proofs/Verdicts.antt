@@ -1,5 +1,5 @@
 -- A list is legal exactly where it has no first illegal entry.
-use Rattle.mtapi_renaming.proofs.Names.{◌≡◌, ℕ, zero, suc, ◌+◌, ◌≤◌, ◌<◌, Bool, true, false, cond, List, [], ◌∷◌, length, take, Option, Some, None, refl, subst, arith, nat_lt, nat_le, Decides, nat_tests, is_pure, answer_of, Terms, Op, Finish, Reply, State, opening, seats, Row, unless, gives, never, Allows, NodeEntry, IsHonest, row_of, IsNext, next, LegalFrom, answer, is_honest, is_answer, may_come, first_illegal, IsJudged}
+use Rattle.mtapi_renaming.proofs.Names.{◌≡◌, ℕ, suc, ◌+◌, ◌≤◌, ◌<◌, Bool, true, false, cond, List, [], ◌∷◌, length, take, Option, Some, None, refl, subst, arith, nat_lt, nat_le, Decides, nat_tests, is_pure, answer_of, Terms, Op, Finish, Reply, State, opening, seats, Row, unless, gives, never, Allows, NodeEntry, IsHonest, row_of, IsNext, next, LegalFrom, answer, is_honest, is_answer, may_come, first_illegal, IsJudged}
 use Rattle.std.specs.Prelude.{option_map}
 use Rattle.mtapi_machine.specs.Legal.{Fits}
 use Rattle.mtapi_machine.proofs.Derived.{both_decide, decides_so}
@@ -51,22 +51,12 @@ record IsLeast (s : State) (L : List NodeEntry) (n : ℕ) : Type 0 where
 -- the first entry may not come
 first_bad : (s : State) (e : NodeEntry) (es : List NodeEntry) → may_come s e ≡ false → IsLeast s (e ∷ es) 1
 unfolding LegalFrom
-first_bad s e es d = record {
-  some = omega arith;
-  within = omega arith;
-  before = elim [ zero ↦ λ k. tt | suc m ↦ λ k. absurd (omega arith) ];
-  illegal = λ l. let t = (come_decides s e).1 l.0 in absurd (cc);
-}
+first_bad s e es e1 = grind (arith, nat_tests, come_decides)
 
 -- it may, and a later one is the first that may not
 later_bad : (s : State) (e : NodeEntry) (es : List NodeEntry) (n : ℕ) → may_come s e ≡ true → IsLeast (next s e) es n → IsLeast s (e ∷ es) (suc n)
 unfolding LegalFrom
-later_bad s e es n d l = record {
-  some = omega arith;
-  within = omega (arith, l.within);
-  before = elim [ zero ↦ λ k. tt | suc m ↦ λ k. ((come_decides s e).0 d, l.before m (omega arith)) ];
-  illegal = λ h. l.illegal h.1;
-}
+later_bad s e es n e1 e2 = grind (arith, nat_tests, come_decides)
 
 least : (s : State) (L : List NodeEntry) (n : ℕ) → first_illegal s L ≡ Some n → IsLeast s L n
 unfolding first_illegal

@@ -1,6 +1,5 @@
 -- The rows by which workers take tasks and end them, and those of tallies, in the renamed state.
-use Rattle.mtapi_renaming.proofs.Names.{◌≡◌, ℕ, Bool, true, false, ◌&&◌, ◌||◌, cond, List, Option, Some, None, inr, refl, sym, ◌∙◌, ap, subst, length, ◌==◌, not, nat_lt, is_none, is_some, ℤ, option_map, ObjectKind, MtapiStatus, TaskEnd, holds, live_of, live_object, first_handle, Action, is_eligible, Task, Notes, is_unstarted, is_unended, Adds, asked_once, with_tally, tally_has, Queue, lets, Mutex, locked_by, unlocked, Segment, with_attached, Reply, Picked, State, workers, is_past_open, is_stop, Queues, Mutexes, Segments, Row, is_ready, can_take, has_better, picks, on_tally, gives_up, takes_both, locks, gives_back, Renaming, Has, Room, renamed_task, renamed_notes, renamed, HasTask, HasNotes, NoHandle, Fits, renamed_answer, arith}
-use Rattle.std.specs.Prelude.{◌+◌}
+use Rattle.mtapi_renaming.proofs.Names.{◌≡◌, ℕ, Bool, true, false, ◌&&◌, ◌||◌, List, Option, Some, None, inr, refl, sym, ◌∙◌, ap, subst, length, ◌==◌, not, nat_lt, is_some, ℤ, option_map, ObjectKind, MtapiStatus, TaskEnd, holds, live_of, live_object, first_handle, Action, is_eligible, Task, Notes, is_unstarted, is_unended, Adds, asked_once, with_tally, tally_has, Queue, lets, Mutex, locked_by, unlocked, Segment, with_attached, Reply, Picked, State, workers, is_past_open, is_stop, Queues, Mutexes, Segments, Row, is_ready, can_take, has_better, picks, on_tally, gives_up, takes_both, locks, gives_back, Renaming, Has, Room, renamed_task, renamed_notes, renamed, HasTask, NoHandle, Fits, renamed_answer, arith}
 use Rattle.mtapi_values.specs.declared.handles.ObjectKind.TheVariants as kind
 use Rattle.mtapi_renaming.proofs.Lists.{found-renamed, found-has, first-has}
 use Rattle.mtapi_renaming.proofs.Tasks.{SameTest, same_head}
