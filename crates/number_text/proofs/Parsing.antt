@@ -1,14 +1,14 @@
 -- What parse says, and lists of numbers as loops read them.
-use Rattle.std.proofs.Common.{◌≡◌, ℕ, ℤ, ◌+◌, ◌^◌, ◌<◌, ◌≤◌, List, [], ◌∷◌, ◌++◌, Bool, true, false, cond, ◌&&◌, ◌||◌, not, ◌==◌, ◌⊎◌, length, get_or, drop, Option, Some, None, refl, sym, ap, ◌∙◌, arith, append_assoc, inl, inr, ltb, leb, pos, negsuc, neg_ℤ, ◌-ℤ◌, ◌-◌, nat_le, nat_lt, ◌*◌, ◌%◌, lit<, add-one, zero, suc, drop-cons}
+use Rattle.std.proofs.lemmas.Bool.Decides.{nat_tests}
+use Rattle.std.proofs.Common.{◌≡◌, ℕ, ℤ, ◌+◌, ◌^◌, ◌<◌, ◌≤◌, List, [], ◌∷◌, ◌++◌, Bool, true, false, cond, ◌&&◌, ◌||◌, not, ◌==◌, ◌⊎◌, length, get_or, drop, Option, Some, None, refl, sym, ap, ◌∙◌, arith, append_assoc, ltb, leb, pos, neg_ℤ, ◌-ℤ◌, ◌-◌, nat_le, nat_lt, ◌*◌, ◌%◌, lit<, add-one, suc, drop-cons}
 use Rattle.std.specs.List.{list_all}
 use Rattle.std.specs.Char.{is_ascii_digit, digit_value}
 use Rattle.std.specs.Str.Parse.{digits_value, digits_value_after}
 use Rattle.std.proofs.lemmas.Str.Parse.{IsNumeralModel, numerals_by_value}
-use Rattle.std.proofs.lemmas.Str.{digit_value_digit}
 use Rattle.std.specs.Prelude.{IsTrue, SomeIff, FitsSigned, slice_index}
 use Rattle.std.specs.Bool.{OnTrue}
 use Rattle.std.proofs.lemmas.List.{length_push, append-nil, drop_all}
-use Rattle.std.proofs.lemmas.Bool.{ltb-false, lt-ltb, le-ltb, leb-true, le-leb, lt-leb, and_parts, cases_Bool}
+use Rattle.std.proofs.lemmas.Bool.{lt-ltb, le-ltb, le-leb, and_parts}
 use Rattle.std.specs.Int.{w64}
 use Rattle.std.proofs.lemmas.Nat.{one_shl}
 use Rattle.std.proofs.Math.Nat.{pow-le-pow_right}
@@ -18,8 +18,7 @@ use Rattle.number_text.specs.Lists.{◌>>=◌, between, list_of, wholes}
 use Rattle.number_text.specs.Cores.{bits_from}
 
 pub some_cond : {A : Type 0} (b : Bool) (x y : A) → cond b (Some x) None ≡ Some y → (b ≡ true) × (x ≡ y)
-some_cond true x y e = (refl, cc)
-some_cond false x y e = absurd cc
+some_cond b x y e1 = grind (arith, nat_tests)
 
 pub own : IsNumeralModel (λ ds. list_all is_ascii_digit ds ≡ true) (digits_value 10)
 own = numerals_by_value _ (search rules)
@@ -38,17 +37,10 @@ grows n [] = omega arith
 grows n (c ∷ cs) = omega (arith, grows (n * 10 + digit_value c) cs)
 
 more : (n c : ℕ) (cs : List ℕ) → is_ascii_digit c ≡ true → read_from n (c ∷ cs) ≡ read_from (n * 10 + (c - 48)) cs
-more n c cs h =
-    let b = and_parts (nat_le 48 c) (nat_le c 57) h in
-    let low : 48 ≤ c = leb-true _ _ b.0 in
-    let high : c ≤ 57 = leb-true _ _ b.1 in
-    let e : digit_value c ≡ c - 48 = omega (arith, digit_value_digit c (low, high)) in
-    rw (b.0, b.1, e) refl
+more n c cs e1 = grind (arith, nat_tests)
 
 large : (n : ℕ) (ds : List ℕ) → 2 ^ 64 ≤ n → read_from n ds ≡ None
-large n ds le =
-    let over : ltb (digits_value_after 10 n ds) (2 ^ 64) ≡ false = le-ltb _ _ (omega (arith, grows n ds)) in
-    rw over (elim (list_all is_ascii_digit ds) as (λ b. cond (b && false) (Some (digits_value_after 10 n ds)) None ≡ nothing) [ true ↦ refl | false ↦ refl ])
+large n ds e1 = grind (arith, nat_tests, digits_value_after, le-ltb, grows)
 
 pub read_more : (n i : ℕ) (text : List ℕ) (o : Option ℕ) → i < length text → is_ascii_digit (get_or text i 0) ≡ true → read_from n (drop i text) ≡ o → read_from (n * 10 + (get_or text i 0 - 48)) (drop (i + 1) text) ≡ o
 read_more n i text o lt h e =
@@ -56,31 +48,21 @@ read_more n i text o lt h e =
     rw (add-one i) (sym (more n (get_or text i 0) (drop (suc i) text) h) ∙ k)
 
 pub read_stop : (n i : ℕ) (text : List ℕ) (o : Option ℕ) → i < length text → is_ascii_digit (get_or text i 0) ≡ false → read_from n (drop i text) ≡ o → None ≡ o
-read_stop n i text o lt h e =
-    let k = rw (drop-cons text i 0 lt) at e in
-    rw h at k
+read_stop n i text o e1 e2 e3 = grind (arith, nat_tests, drop-cons)
 
 pub read_over : (n i : ℕ) (text : List ℕ) (o : Option ℕ) → i < length text → is_ascii_digit (get_or text i 0) ≡ true → 2 ^ 64 ≤ n * 10 + (get_or text i 0 - 48) → read_from n (drop i text) ≡ o → None ≡ o
 read_over n i text o lt h le e = sym (large _ (drop (i + 1) text) le) ∙ read_more n i text o lt h e
 
 pub read_done : (n i : ℕ) (text : List ℕ) (o : Option ℕ) → length text ≤ i → n < 2 ^ 64 → read_from n (drop i text) ≡ o → Some n ≡ o
-read_done n i text o le lt e =
-    let k = rw (drop_all i text le) at e in
-    rw (lt-ltb n (2 ^ 64) lt) at k
+read_done n i text o e1 e2 e3 = grind (arith, nat_tests, drop_all, lt-ltb)
 
 -- ---- numbers
 
 not_begun : {X : Type 0} (a l c t : Bool) (x : X) → (a && c) ≡ false → None ≡ cond ((a && l && c) && t) (Some x) None
-not_begun true true true t x h = absurd cc
-not_begun true true false t x h = refl
-not_begun true false c t x h = refl
-not_begun false l c t x h = refl
+not_begun a l c t x e1 = grind (arith, nat_tests)
 
 begun : {X : Type 0} (a l c t : Bool) (x : X) (o : Option X) → (a && c) ≡ true → o ≡ cond (l && t) (Some x) None → o ≡ cond ((a && l && c) && t) (Some x) None
-begun true true true t x o h e = e
-begun true false true t x o h e = e
-begun true l false t x o h e = absurd cc
-begun false l c t x o h e = absurd cc
+begun a l c t x o e1 e2 = grind (arith, nat_tests)
 
 pub number_begun : (text : List ℕ) (o : Option ℕ) → (nat_lt 0 (length text) && ((length text == 1) || not (slice_index text 0 == 48))) ≡ true → o ≡ read_from 0 text → o ≡ number text
 unfolding number
@@ -99,78 +81,49 @@ below : (d : Bool) (v n : ℕ) → Some n ≡ cond (d && ltb v (2 ^ 64)) (Some v
 below d v n e = let g = some_cond (d && ltb v (2 ^ 64)) v n (sym e) in ((and_parts d (ltb v (2 ^ 64)) g.0).0, g.1)
 
 above : (d : Bool) (v : ℕ) → None ≡ cond (d && ltb v (2 ^ 64)) (Some v) None → (d ≡ false) ⊎ (2 ^ 64 ≤ v)
-above false v e = inl refl
-above true v e = elim (cases_Bool (ltb v (2 ^ 64))) [ inl t ↦ absurd (let f = rw t at e in cc) | inr f ↦ inr (ltb-false v (2 ^ 64) f) ]
+above d v e1 = grind (arith, nat_tests)
 
 pub plain_small : (text : List ℕ) (n : ℕ) → Some n ≡ number text → n < 2 ^ 63 → Some (pos n) ≡ cond (is_decimal text && ltb (digits_value 10 text) (2 ^ 63)) (Some (pos (digits_value 10 text))) None
 unfolding number
-plain_small text n e lt =
-    let g = below (is_decimal text) (digits_value 10 text) n e in
-    let fits : ltb (digits_value 10 text) (2 ^ 63) ≡ true = rw g.1 (lt-ltb n (2 ^ 63) lt) in
-    rw (g.0, fits) (ap (λ (m : ℕ). Some (pos m)) (sym g.1))
+plain_small text n e1 e2 = grind (arith, nat_tests)
 
 pub plain_large : (text : List ℕ) (n : ℕ) → Some n ≡ number text → 2 ^ 63 ≤ n → none_at ≡ cond (is_decimal text && ltb (digits_value 10 text) (2 ^ 63)) (Some (pos (digits_value 10 text))) None
 unfolding number
-plain_large text n e le =
-    let g = below (is_decimal text) (digits_value 10 text) n e in
-    let over : ltb (digits_value 10 text) (2 ^ 63) ≡ false = rw g.1 (le-ltb n (2 ^ 63) le) in
-    rw (g.0, over) refl
+plain_large text n e1 e2 = grind (arith, nat_tests)
 
 pub plain_none : (text : List ℕ) → None ≡ number text → none_at ≡ cond (is_decimal text && ltb (digits_value 10 text) (2 ^ 63)) (Some (pos (digits_value 10 text))) None
 unfolding number
-plain_none text e = elim (above (is_decimal text) (digits_value 10 text) e) [
-  | inl f ↦ rw f refl
-  | inr le ↦
-      let over : ltb (digits_value 10 text) (2 ^ 63) ≡ false = le-ltb _ (2 ^ 63) (omega arith) in
-      rw over (elim (is_decimal text) as (λ b. none_at ≡ cond (b && false) (Some (pos (digits_value 10 text))) None) [ true ↦ refl | false ↦ refl ])
-]
+plain_none text e1 = grind (arith, nat_tests)
 
 negative_fits : (n : ℕ) → n ≤ 2 ^ 63 → FitsSigned w64 (neg_ℤ (pos n))
-negative_fits zero h = record { sfits = omega arith }
-negative_fits (suc n) h = record { sfits = h }
+negative_fits n e1 = grind (arith, nat_tests)
 
 fits_negative : (n : ℕ) → FitsSigned w64 (neg_ℤ (pos n)) → n ≤ 2 ^ 63
-fits_negative zero h = omega arith
-fits_negative (suc n) h = h.sfits
+fits_negative n e1 = grind (arith, nat_tests)
 
 zero_minus : (n : ℕ) → pos 0 -ℤ pos n ≡ neg_ℤ (pos n)
-zero_minus zero = refl
-zero_minus (suc n) = let t : ltb 0 (suc n) ≡ true = lt-ltb 0 (suc n) (omega arith) in rw t (ap negsuc (omega arith))
+zero_minus n = grind (arith, nat_tests)
 
 negated : (n : ℕ) (r : Option ℤ) → SomeIff r (FitsSigned w64 (pos 0 -ℤ pos n)) (pos 0 -ℤ pos n) → r ≡ cond (leb n (2 ^ 63)) (Some (neg_ℤ (pos n))) None
-negated n (Some z) h = rw (h.1, zero_minus n, le-leb n (2 ^ 63) (fits_negative n (rw (zero_minus n) at h.0))) refl
-negated n None h = elim (cases_Bool (leb n (2 ^ 63))) [
-  | inl t ↦ absurd (h (rw (zero_minus n) (negative_fits n (leb-true n (2 ^ 63) t))))
-  | inr f ↦ rw f refl
-]
+negated n r e1 = grind (arith, nat_tests)
 
 -- what a minus with these digits is
 abbrev pub negative_of : List ℕ → Option ℤ
 negative_of ds = cond (is_decimal ds && not (slice_index ds 0 == 48) && leb (digits_value 10 ds) (2 ^ 63)) (Some (neg_ℤ (pos (digits_value 10 ds)))) None
 
 no_fit : (d z : Bool) (x : ℤ) → none_at ≡ cond (d && z && false) (Some x) None
-no_fit true true x = refl
-no_fit true false x = refl
-no_fit false z x = refl
+no_fit d z x = grind (arith, nat_tests)
 
 no_case : (d t : Bool) (x : ℤ) → none_at ≡ cond (d && false && t) (Some x) None
-no_case true t x = refl
-no_case false t x = refl
+no_case d t x = grind (arith, nat_tests)
 
 pub negative_some : (ds : List ℕ) (n : ℕ) (r : Option ℤ) → (slice_index ds 0 == 48) ≡ false → Some n ≡ number ds → SomeIff r (FitsSigned w64 (pos 0 -ℤ pos n)) (pos 0 -ℤ pos n) → r ≡ negative_of ds
 unfolding number
-negative_some ds n r first e h =
-    let g = below (is_decimal ds) (digits_value 10 ds) n e in
-    rw (g.0, first, g.1) (negated n r h)
+negative_some ds n r e1 e2 e3 = grind (arith, nat_tests)
 
 pub negative_none : (ds : List ℕ) → None ≡ number ds → None ≡ negative_of ds
 unfolding number
-negative_none ds e = elim (above (is_decimal ds) (digits_value 10 ds) e) [
-  | inl f ↦ rw f refl
-  | inr le ↦
-      let over : leb (digits_value 10 ds) (2 ^ 63) ≡ false = lt-leb _ (2 ^ 63) (omega arith) in
-      rw over (no_fit (is_decimal ds) (not (slice_index ds 0 == 48)) (neg_ℤ (pos (digits_value 10 ds))))
-]
+negative_none ds e1 = grind (arith, nat_tests)
 
 abbrev pub with_front : List ℤ → Option (List ℤ) → Option (List ℤ)
 with_front prefix rest = rest >>= λ zs. Some (prefix ++ zs)
@@ -195,8 +148,7 @@ abbrev pub add_bits : ℕ → Option ℕ → Option ℕ
 add_bits mask rest = rest >>= λ bits. Some (mask + bits)
 
 add_step : (mask power : ℕ) (rest : Option ℕ) → add_bits mask (rest >>= λ bits. Some (power + bits)) ≡ add_bits (mask + power) rest
-add_step mask power None = refl
-add_step mask power (Some bits) = ap Some (omega arith)
+add_step mask power rest = grind (arith, nat_tests)
 
 pub cores_more : (mask low core : ℕ) (part : List ℕ) (rest : List (List ℕ)) (total : Option ℕ) → Some core ≡ number_within low 63 part → add_bits mask (bits_from low (part ∷ rest)) ≡ total → add_bits (mask + 2 ^ core) (bits_from (core + 1) rest) ≡ total
 unfolding bits_from
@@ -231,5 +183,4 @@ room_more mask low core lt le =
     omega (arith, p, q)
 
 pub pushed : (old new : List ℤ) (z : ℤ) (r : Bool) → r ≡ true → (IsTrue r → length old < 16) → OnTrue r (new ≡ old ++ z ∷ []) → (length old < 16) × (new ≡ old ++ z ∷ []) × (length new ≡ length old + 1)
-pushed old new z true t room h = (room refl, h, rw h (length_push old z))
-pushed old new z false t room h = absurd cc
+pushed old new z r e1 e2 e3 = grind (arith, nat_tests, length_push)

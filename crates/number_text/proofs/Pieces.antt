@@ -1,8 +1,9 @@
 -- Texts that are cut at a byte.
-use Rattle.std.proofs.Common.{◌≡◌, ℕ, ◌+◌, ◌<◌, ◌≤◌, List, [], ◌∷◌, ◌++◌, Bool, eqb, length, take, drop, Option, Some, None, refl, sym, ◌∙◌, arith, inl, inr, append_assoc}
-use Rattle.std.specs.Prelude.{IfSome, position, nat_lt}
+use Rattle.std.proofs.lemmas.Bool.Decides.{nat_tests}
+use Rattle.std.proofs.Common.{◌≡◌, ℕ, ◌+◌, ◌<◌, ◌≤◌, List, [], ◌∷◌, ◌++◌, Bool, eqb, length, take, drop, Option, Some, None, refl, sym, arith, append_assoc}
+use Rattle.std.specs.Prelude.{IfSome, position}
 use Rattle.std.specs.List.{position_or_len, slice_split}
-use Rattle.std.proofs.lemmas.Bool.{ltb-true, ltb-false, lt-ltb, le-ltb, false_from_ne_true, cases_Bool}
+use Rattle.std.proofs.lemmas.Bool.{lt-ltb, le-ltb, false_from_ne_true}
 use Rattle.std.proofs.lemmas.List.Sums.{position_or_len_is}
 use Rattle.memchr.specs.Find.{IsFirstByte, is_byte}
 use Rattle.std.proofs.lemmas.List.Splits.{slice_split_first}
@@ -15,30 +16,13 @@ use Rattle.number_text.specs.Lists.{led}
 -- where no element passes, the list is one piece
 split_none : {X : Type 0} (p : X → Bool) (xs : List X) → length xs ≤ position_or_len p xs → slice_split p xs ≡ xs ∷ []
 split_none p [] h = refl
-split_none p (x ∷ xs) h =
-    elim (cases_Bool (p x)) [
-      | inl t ↦ absurd (let e : position_or_len p (x ∷ xs) ≡ 0 = rw t refl in omega arith)
-      | inr f ↦
-          let e : position_or_len p (x ∷ xs) ≡ 1 + position_or_len p xs = rw f refl in
-          let r = split_none p xs (omega arith) in
-          rw (f, r) refl
-    ]
+split_none p (x ∷ xs) h = grind (arith, nat_tests, split_none p xs, position_or_len)
 
 pub place_some : {X : Type 0} (p : X → Bool) (xs : List X) (i : ℕ) → position p xs ≡ Some i → (i < length xs) × (position_or_len p xs ≡ i)
-place_some p xs i e =
-    elim (cases_Bool (nat_lt (position_or_len p xs) (length xs))) [
-      | inl t ↦ let e2 : position p xs ≡ Some (position_or_len p xs) = rw t refl in
-          let same : position_or_len p xs ≡ i = cc in
-          (omega (arith, ltb-true _ _ t), same)
-      | inr f ↦ let e2 : position p xs ≡ None = rw f refl in absurd (cc)
-    ]
+place_some p xs i e1 = grind (arith, nat_tests)
 
 pub place_none : {X : Type 0} (p : X → Bool) (xs : List X) → position p xs ≡ None → length xs ≤ position_or_len p xs
-place_none p xs e =
-    elim (cases_Bool (nat_lt (position_or_len p xs) (length xs))) [
-      | inl t ↦ let e2 : position p xs ≡ Some (position_or_len p xs) = rw t refl in absurd (cc)
-      | inr f ↦ ltb-false _ _ f
-    ]
+place_none p xs e1 = grind (arith, nat_tests)
 
 -- the first place that a search by vectors gives
 pub first_place : (byte : ℕ) (text : List ℕ) (r : Option ℕ) → IsFirstByte (is_byte byte) text r → r ≡ position (is_byte byte) text
@@ -50,10 +34,7 @@ first_place byte text None h =
     rw (e, le-ltb (length text) (length text) (omega arith)) refl
 
 pub between_some : (byte : ℕ) (text : List ℕ) (i : ℕ) → position (λ b. eqb b byte) text ≡ Some i → between byte text ≡ take i text ∷ between byte (drop (i + 1) text)
-between_some byte text i e =
-    let h = place_some (λ b. eqb b byte) text i e in
-    let lt : position_or_len (λ b. eqb b byte) text < length text = omega (arith, h.0, h.1) in
-    slice_split_first (λ b. eqb b byte) text 0 lt ∙ rw h.1 refl
+between_some byte text i e1 = grind (arith, nat_tests, place_some, position_or_len, slice_split_first)
 
 pub between_none : (byte : ℕ) (text : List ℕ) → position (λ b. eqb b byte) text ≡ None → between byte text ≡ text ∷ []
 between_none byte text e = split_none (λ b. eqb b byte) text (place_none _ text e)
@@ -64,8 +45,7 @@ left_len None = 0
 left_len (Some rest) = length rest.now + 1
 
 pub after_len : (after : Option (Bor (List ℕ))) (n : ℕ) → IfSome after (λ r. length r.now < n) → left_len after ≤ n
-after_len None n h = omega arith
-after_len (Some r) n h = omega (arith, h)
+after_len after n e1 = grind (arith, nat_tests)
 
 -- texts joined by a byte: the first, and the others each behind it
 pub joined : (byte : ℕ) (text : List ℕ) (texts : List (List ℕ)) → join_with_byte byte (text ∷ texts) ≡ text ++ led byte texts

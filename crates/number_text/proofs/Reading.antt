@@ -1,6 +1,7 @@
 -- What reading a text gave, and the range that it lies in.
-use Rattle.std.proofs.Common.{◌≡◌, ℕ, ℤ, pos, neg_ℤ, ◌+◌, ◌*◌, ◌^◌, ◌≤◌, ◌<◌, List, [], ◌∷◌, length, Bool, true, false, cond, ◌&&◌, eqb, Option, Some, None, refl, ap, subst, arith, inl, inr, add-one, lit<, zero, suc, drop}
-use Rattle.std.specs.Prelude.{nat_le, nat_lt, option_and_then, FitsSigned, slice_index}
+use Rattle.std.proofs.lemmas.Bool.Decides.{nat_tests}
+use Rattle.std.proofs.Common.{◌≡◌, ℕ, ℤ, pos, neg_ℤ, ◌+◌, ◌*◌, ◌^◌, ◌≤◌, ◌<◌, List, [], ◌∷◌, length, Bool, true, cond, ◌&&◌, eqb, Option, Some, None, refl, subst, arith, inl, inr, add-one, lit<, drop}
+use Rattle.std.specs.Prelude.{nat_le, option_and_then, FitsSigned, slice_index}
 use Rattle.std.specs.List.{AllByRecursion}
 use Rattle.std.specs.Int.{w64}
 use Rattle.std.specs.Str.Parse.{digits_value}
@@ -8,15 +9,14 @@ use Rattle.std.proofs.lemmas.Bool.{and_parts, leb-true, ltb-true, cases_Bool}
 use Rattle.std.proofs.lemmas.List.Splits.{length-slice_split}
 use Rattle.std.proofs.Math.Nat.{pow-le-pow_right}
 use Rattle.number_text.proofs.Parsing.{some_cond}
-use Rattle.number_text.specs.Numbers.{is_decimal, number, number_within, whole}
+use Rattle.number_text.specs.Numbers.{number, number_within, whole}
 use Rattle.number_text.specs.Lists.{◌>>=◌, between, wholes, list_of}
 use Rattle.number_text.specs.Cores.{bits_from, cores_of}
 
 -- ---- steps that gave something
 
 pub bind_some : {A B : Type 0} (o : Option A) (f : A → Option B) (y : B) → (o >>= f) ≡ Some y → (x : A) × (o ≡ Some x) × (f x ≡ Some y)
-bind_some (Some x) f y e = (x, refl, e)
-bind_some None f y e = absurd cc
+bind_some o f y e1 = grind (arith, nat_tests)
 
 abbrev just : {A : Type 0} → A → Option A
 just x = Some x
@@ -28,31 +28,20 @@ just_is x y e = cc
 
 pub number_fits : (text : List ℕ) (n : ℕ) → number text ≡ Some n → n < 2 ^ 64
 unfolding number
-number_fits text n e =
-    let g = some_cond _ (digits_value 10 text) n e in
-    let both = and_parts (is_decimal text) (nat_lt (digits_value 10 text) (2 ^ 64)) g.0 in
-    let lt = ltb-true (digits_value 10 text) (2 ^ 64) both.1 in
-    subst (λ (m : ℕ). m < 2 ^ 64) g.1 lt
+number_fits text n e1 = grind (arith, nat_tests)
 
 abbrev picked : ℕ → ℕ → ℕ → Option ℕ
 picked low high n = cond (nat_le low n && nat_le n high) (Some n) None
 
 within_some : (low high n : ℕ) (o : Option ℕ) → option_and_then (picked low high) o ≡ Some n → (o ≡ Some n) × (low ≤ n) × (n ≤ high)
-within_some low high n None e = absurd cc
-within_some low high n (Some m) e =
-    let g = some_cond (nat_le low m && nat_le m high) m n e in
-    let both = and_parts (nat_le low m) (nat_le m high) g.0 in
-    let a = leb-true low m both.0 in
-    let b = leb-true m high both.1 in
-    (ap Some g.1, omega (arith, a, g.1), omega (arith, b, g.1))
+within_some low high n o e1 = grind (arith, nat_tests)
 
 pub within_is : (low high n : ℕ) (text : List ℕ) → number_within low high text ≡ Some n → (number text ≡ Some n) × (low ≤ n) × (n ≤ high)
 unfolding number_within
 within_is low high n text e = within_some low high n (number text) e
 
 neg_fits : (n : ℕ) → n ≤ 2 ^ 63 → FitsSigned w64 (neg_ℤ (pos n))
-neg_fits zero le = record { sfits = omega arith }
-neg_fits (suc n) le = record { sfits = omega arith }
+neg_fits n e1 = grind (arith, nat_tests)
 
 pos_fits : (n : ℕ) → n < 2 ^ 63 → FitsSigned w64 (pos n)
 pos_fits n lt = record { sfits = lt }
@@ -83,8 +72,7 @@ wholes_fit (text ∷ texts) zs e =
     subst (λ (l : List ℤ). (length l ≡ length (text ∷ texts)) × AllByRecursion (FitsSigned w64) l) (just_is (a.0 ∷ b.0) zs b.2) (omega (arith, rest.0), (whole_fits text a.0 a.1, rest.1))
 
 pub list_cond : (b : Bool) (o : Option (List ℤ)) (zs : List ℤ) → cond b o None ≡ Some zs → (b ≡ true) × (o ≡ Some zs)
-list_cond true o zs e = (refl, e)
-list_cond false o zs e = absurd cc
+list_cond b o zs e1 = grind (arith, nat_tests)
 
 pub list_fits : (text : List ℕ) (zs : List ℤ) → list_of text ≡ Some zs → (1 ≤ length zs) × (length zs ≤ 16) × AllByRecursion (FitsSigned w64) zs
 unfolding list_of

@@ -1,11 +1,12 @@
 -- What was read is written as it was read.
+use Rattle.std.proofs.lemmas.Bool.Decides.{nat_tests}
 use Rattle.std.proofs.Common.{◌≡◌, ℕ, ℤ, pos, neg_ℤ, ◌+◌, ◌*◌, ◌^◌, ◌≤◌, ◌<◌, List, [], ◌∷◌, ◌++◌, length, true, not, cond, eqb, Some, refl, sym, ap, ◌∙◌, arith, inl, inr, map, lit<, get_or, zero, suc, drop, append_assoc, mul_assoc, mul_comm, add-mul}
-use Rattle.std.specs.Prelude.{nat_le, nat_lt, slice_index}
+use Rattle.std.specs.Prelude.{nat_lt, slice_index}
 use Rattle.std.specs.Int.{bit_at}
 use Rattle.std.specs.Fmt.{decimal, signed_decimal}
 use Rattle.std.specs.Str.Parse.{digits_value}
 use Rattle.std.proofs.Math.Nat.{pow-le-pow_right}
-use Rattle.std.proofs.lemmas.Bool.{le-leb, and_parts, or_cases, eqb-true, leb-true, ltb-true, cases_Bool, eq-eqb, cases_eq}
+use Rattle.std.proofs.lemmas.Bool.{and_parts, or_cases, eqb-true, leb-true, ltb-true, cases_Bool, eq-eqb, cases_eq}
 use Rattle.std.proofs.lemmas.Fmt.{decimal-digits_value, decimal_digit}
 use Rattle.std.proofs.lemmas.List.{append-nil}
 use Rattle.std.proofs.lemmas.List.Splits.{join_with_byte-slice_split}
@@ -40,19 +41,16 @@ number_spelled text n e =
     ap decimal (sym g.1) ∙ decimal_text text both.0 (omega arith)
 
 minus_text : (text : List ℕ) → slice_index text 0 ≡ 45 → text ≡ 45 ∷ drop 1 text
-minus_text [] e = absurd (omega arith)
-minus_text (x ∷ xs) e = ap (λ (y : ℕ). y ∷ xs) e
+minus_text text e1 = grind (arith, nat_tests)
 
 zero_digit : (v : ℕ) (ds : List ℕ) → decimal v ≡ ds → v ≡ 0 → get_or ds 0 0 ≡ 48
 zero_digit v ds e z = rw (← e, z, decimal_digit 0 (omega arith)) (omega arith)
 
 neg_text : (v : ℕ) (ds : List ℕ) → decimal v ≡ ds → (v ≡ 0 → ⊥) → signed_decimal (neg_ℤ (pos v)) ≡ 45 ∷ ds
-neg_text zero ds e h = absurd (h refl)
-neg_text (suc m) ds e h = ap (λ (l : List ℕ). 45 ∷ l) e
+neg_text v ds e1 e2 = grind (arith, nat_tests)
 
 pub second : (text : List ℕ) → slice_index text 1 ≡ get_or (drop 1 text) 0 0
-second [] = refl
-second (x ∷ xs) = refl
+second text = grind (arith, nat_tests)
 
 pub whole_spelled : (text : List ℕ) (z : ℤ) → whole text ≡ Some z → signed_decimal z ≡ text
 unfolding whole
@@ -113,8 +111,7 @@ cores_all mask = sym (cores_up mask 0 64) ∙ ap (λ (l : List ℕ). l ++ cores_
 
 cores_same : (a b low k : ℕ) → ((i : ℕ) → low ≤ i → bit_at a i ≡ bit_at b i) → cores_from a low k ≡ cores_from b low k
 cores_same a b low zero h = refl
-cores_same a b low (suc k) h =
-    rw (h low (omega arith), cores_same a b (low + 1) k (λ (i : ℕ) (le : low + 1 ≤ i). h i (omega arith))) refl
+cores_same a b low (suc k) h = grind (arith, nat_tests, cores_same a b (low + 1) k)
 
 -- the listed cores from low on: either low comes first, or the list is one from the next core on
 data Step (low bits : ℕ) (texts : List (List ℕ)) : Type 0 where
@@ -123,11 +120,7 @@ data Step (low bits : ℕ) (texts : List (List ℕ)) : Type 0 where
 
 within_next : (low core : ℕ) (text : List ℕ) → number_within low 63 text ≡ Some core → low < core → number_within (low + 1) 63 text ≡ Some core
 unfolding number_within
-within_next low core text e lt =
-    let w = within_is low 63 core text e in
-    let a : nat_le (low + 1) core ≡ true = le-leb _ _ (omega arith) in
-    let b : nat_le core 63 ≡ true = le-leb _ _ w.2 in
-    rw (w.0, a, b) refl
+within_next low core text e1 e2 = grind (arith, nat_tests)
 
 step_at : (low bits core more : ℕ) (text : List ℕ) (texts : List (List ℕ)) → number_within low 63 text ≡ Some core → number text ≡ Some core → low ≤ core → 2 ^ core + more ≡ bits → bits_from (core + 1) texts ≡ Some more → Step low bits (text ∷ texts)
 unfolding bits_from
@@ -152,10 +145,7 @@ step low bits (text ∷ texts) e =
 none_left : (texts : List (List ℕ)) (bits : ℕ) → bits_from 64 texts ≡ Some bits → (texts ≡ []) × (bits ≡ 0)
 unfolding bits_from
 none_left [] bits e = (refl, sym (just_is 0 bits e))
-none_left (text ∷ texts) bits e =
-    let a = bind_some (number_within 64 63 text) _ bits e in
-    let w = within_is 64 63 a.0 text a.1 in
-    absurd (omega (arith, w.1, w.2))
+none_left (text ∷ texts) bits e = grind (arith, nat_tests, bind_some, number_within, within_is)
 
 pub twice : (m low : ℕ) → m * 2 ^ (low + 1) ≡ 2 * m * 2 ^ low
 twice m low = ap (λ (x : ℕ). m * x) (pow_double low) ∙ (sym (mul_assoc m 2 (2 ^ low)) ∙ ap (λ (x : ℕ). x * 2 ^ low) (mul_comm m 2))

@@ -1,17 +1,17 @@
 -- What is written is read as the same.
-use Rattle.std.proofs.Common.{◌≡◌, ℕ, ℤ, pos, negsuc, neg_ℤ, ◌+◌, ◌-◌, ◌*◌, ◌/◌, ◌%◌, ◌^◌, ◌≤◌, ◌<◌, List, [], ◌∷◌, length, true, false, not, ◌||◌, eqb, Some, refl, sym, ap, subst, ◌∙◌, arith, inl, inr, map, get_or, zero, suc, add-mul}
+use Rattle.std.proofs.lemmas.Bool.Decides.{nat_tests}
+use Rattle.std.proofs.Common.{◌≡◌, ℕ, ℤ, pos, negsuc, neg_ℤ, ◌+◌, ◌*◌, ◌/◌, ◌%◌, ◌^◌, ◌≤◌, ◌<◌, List, [], ◌∷◌, length, true, false, not, ◌||◌, eqb, Some, refl, sym, ap, subst, ◌∙◌, arith, inl, inr, map, get_or, zero, suc, add-mul}
 use Rattle.std.specs.Prelude.{slice_index, FitsSigned}
 use Rattle.std.specs.List.{AllByRecursion, list_all, join_with_byte}
 use Rattle.std.specs.Char.{is_ascii_digit}
 use Rattle.std.specs.Int.{w64, bit_at}
 use Rattle.std.specs.Fmt.{decimal, signed_decimal}
 use Rattle.std.specs.Str.Parse.{digits_value}
-use Rattle.std.proofs.lemmas.Bool.{le-leb, lt-ltb, and_parts, and_from, or_right, eqb-true, cases_Bool, eq-eqb, ne_eqb, cases_eq}
+use Rattle.std.proofs.lemmas.Bool.{le-leb, lt-ltb, and_parts, and_from, or_right, eq-eqb, ne_eqb, cases_eq}
 use Rattle.std.proofs.lemmas.Fmt.{digits_value-decimal, digits_decimal, decimal_nonempty, first_decimal, decimal_digit}
 use Rattle.std.proofs.lemmas.List.{length-map}
 use Rattle.std.proofs.lemmas.List.Elements.{All-from_recursion}
 use Rattle.std.proofs.lemmas.List.Splits.{slice_split_at, slice_split_none}
-use Rattle.std.proofs.lemmas.Nat.Bits.{bit_at_cat_high, bit_at_lowest}
 use Rattle.mtapi_values.specs.Masks.{in_mask}
 use Rattle.number_text.specs.Numbers.{is_decimal, number, number_within, whole}
 use Rattle.number_text.specs.Lists.{between, wholes, list_of, listed, list_text}
@@ -24,14 +24,7 @@ use Rattle.number_text.proofs.Spelling.{cores_from, cores_all, twice}
 
 -- the digits that are written have no zero in front of others
 no_zero : (n : ℕ) → n < 2 ^ 64 → (eqb (length (decimal n)) 1 || not (eqb (slice_index (decimal n) 0) 48)) ≡ true
-no_zero n lt =
-    elim (cases_eq n 0) [
-      | inl e ↦ rw (e, decimal_digit 0 (omega arith)) refl
-      | inr ne ↦
-          let first = first_decimal n (omega arith) lt in
-          let other : eqb (slice_index (decimal n) 0) 48 ≡ false = ne_eqb _ _ (λ (e : get_or (decimal n) 0 0 ≡ 48). omega (arith, first, e)) in
-          or_right (eqb (length (decimal n)) 1) _ (ap not other)
-    ]
+no_zero n e1 = grind (arith, nat_tests, cases_eq, decimal_digit, first_decimal, ne_eqb, or_right)
 
 decimal_is : (n : ℕ) → n < 2 ^ 64 → is_decimal (decimal n) ≡ true
 decimal_is n lt = and_from _ _ (and_from _ _ (lt-ltb 0 (length (decimal n)) (decimal_nonempty n lt)) (digits_decimal own n lt)) (no_zero n lt)
@@ -52,11 +45,7 @@ within_written low high n lt a b = within_from low high n (decimal n) (number_wr
 
 -- the first byte is a digit, and that of a number that is not 0 is not 0
 first_digit : (n : ℕ) → n < 2 ^ 64 → 48 ≤ get_or (decimal n) 0 0
-first_digit n lt =
-    elim (cases_eq n 0) [
-      | inl e ↦ rw (e, decimal_digit 0 (omega arith)) (omega arith)
-      | inr ne ↦ let first = first_decimal n (omega arith) lt in omega (arith, first)
-    ]
+first_digit n e1 = grind (arith, nat_tests, cases_eq, decimal_digit, first_decimal)
 
 whole_of_pos : (text : List ℕ) (n : ℕ) → is_decimal text ≡ true → eqb (slice_index text 0) 45 ≡ false → digits_value 10 text ≡ n → n < 2 ^ 63 → whole text ≡ Some (pos n)
 unfolding whole
@@ -86,16 +75,10 @@ Lacks byte text = AllByRecursion (λ b. eqb b byte ≡ false) text
 pub between_joined : (byte : ℕ) (first : List ℕ) (rest : List (List ℕ)) → AllByRecursion (Lacks byte) (first ∷ rest) → between byte (join_with_byte byte (first ∷ rest)) ≡ first ∷ rest
 unfolding Lacks
 between_joined byte first [] h = slice_split_none (λ b. eqb b byte) first (All-from_recursion (λ (b : ℕ). eqb b byte ≡ false) first h.0)
-between_joined byte first (next ∷ rest) h =
-    slice_split_at (λ b. eqb b byte) first byte (join_with_byte byte (next ∷ rest)) (All-from_recursion (λ (b : ℕ). eqb b byte ≡ false) first h.0) (eq-eqb byte byte refl)
-    ∙ ap (λ (x : List (List ℕ)). first ∷ x) (between_joined byte next rest h.1)
+between_joined byte first (next ∷ rest) h = grind (arith, nat_tests, between_joined byte next rest h.1, slice_split_at, join_with_byte, All-from_recursion, eq-eqb)
 
 digit_lacks : (b : ℕ) → is_ascii_digit b ≡ true → eqb b 44 ≡ false
-digit_lacks b h =
-    elim (cases_Bool (eqb b 44)) [
-      | inl t ↦ absurd (let e = eqb-true b 44 t in let g = rw e at h in cc)
-      | inr f ↦ f
-    ]
+digit_lacks b e1 = grind (arith, nat_tests)
 
 digits_lack : (ds : List ℕ) → list_all is_ascii_digit ds ≡ true → Lacks 44 ds
 unfolding Lacks
@@ -110,8 +93,7 @@ unfolding Lacks
 minus_lacks ds h = (refl, h)
 
 whole_lacks : (z : ℤ) → FitsSigned w64 z → Lacks 44 (signed_decimal z)
-whole_lacks (pos n) f = decimal_lacks n (omega (arith, f.sfits))
-whole_lacks (negsuc n) f = minus_lacks (decimal (suc n)) (decimal_lacks (suc n) (omega (arith, f.sfits)))
+whole_lacks z e1 = grind (arith, nat_tests, decimal_lacks, minus_lacks)
 
 -- ---- lists
 
@@ -157,9 +139,7 @@ pub cores_no : (mask low k : ℕ) → in_mask low mask ≡ false → map decimal
 cores_no mask low k f = rw f refl
 
 lowest : (m low r mask : ℕ) → mask ≡ m * 2 ^ low + r → r < 2 ^ low → bit_at mask low ≡ m % 2
-lowest m low r mask e lt =
-    let z : low - low ≡ 0 = omega arith in
-    ap (λ (x : ℕ). bit_at x low) e ∙ (bit_at_cat_high m low r low lt (omega arith) ∙ (ap (bit_at m) z ∙ bit_at_lowest m))
+lowest m low r mask e1 e2 = grind (arith, nat_tests)
 
 nothing_left : (m low : ℕ) → m ≡ 0 → bits_from low [] ≡ Some (m * 2 ^ low)
 unfolding bits_from
@@ -193,12 +173,7 @@ cores_bits (suc k) low m r mask sum e rl ml =
 
 cores_lack : (k low mask : ℕ) → low + k ≡ 64 → AllByRecursion (Lacks 44) (map decimal (cores_from mask low k))
 cores_lack zero low mask sum = tt
-cores_lack (suc k) low mask sum =
-    let rest = cores_lack k (low + 1) mask (omega arith) in
-    elim (cases_Bool (in_mask low mask)) [
-      | inl t ↦ subst (λ (ts : List (List ℕ)). AllByRecursion (Lacks 44) ts) (sym (cores_yes mask low k t)) (decimal_lacks low (omega arith), rest)
-      | inr f ↦ subst (λ (ts : List (List ℕ)). AllByRecursion (Lacks 44) ts) (sym (cores_no mask low k f)) rest
-    ]
+cores_lack (suc k) low mask sum = grind (arith, nat_tests, cores_lack k (low + 1) mask, in_mask, cores_yes, decimal_lacks, cores_no)
 
 none_bits : (mask : ℕ) → bits_from 0 [] ≡ Some mask → 0 ≡ mask
 unfolding bits_from
