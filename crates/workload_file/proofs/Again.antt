@@ -1,5 +1,6 @@
 -- The canonical text of what a text gives, read again.
-use Rattle.workload_file.proofs.Cited.{◌≡◌, ℕ, ◌+◌, ◌≤◌, List, [], ◌∷◌, ◌++◌, length, true, false, eqb, Some, Ok, refl, sym, ap, subst, ◌∙◌, arith, length-append, All, ◌-◌, Option, None, ◌⊎◌, inl, inr, map, append_assoc, suc, list_all, flat_map, bytes_eq, and_parts, and_from, ne_eqb, eqb-true, cases_Bool, eq-eqb, not-false, NodeSettings, Word, Naming, Value, Statement, Reading, Change, row, word_text, word_of, words, naming, fields, setting_values, place_of, use_in, is_unbound, name_in, options_in, is_misplaced, line_gives, with_change, line_adds, lines_add, start, finished, workload_of, bound_name, values_in, change_of, or_zero, settings_by, change_with, value_text, options_words, bound_words, used_words, line_text, statement_text, node_text, caller_text, Line, if_any, statement_lines_behind, lines_of_part, lines_of, laid_out, canonical, led, between, led_append, append-nil, slice_split_at, slice_split_none, Part, Workload, words_of, statement_lines, line_if_any, part_lines}
+use Rattle.std.proofs.lemmas.Bool.Decides.{nat_tests}
+use Rattle.workload_file.proofs.Cited.{◌≡◌, ℕ, ◌+◌, ◌≤◌, List, [], ◌∷◌, ◌++◌, length, true, false, eqb, Some, Ok, refl, sym, ap, subst, ◌∙◌, arith, length-append, All, ◌-◌, Option, None, ◌⊎◌, inl, inr, map, append_assoc, list_all, flat_map, bytes_eq, and_parts, and_from, ne_eqb, eqb-true, cases_Bool, eq-eqb, not-false, NodeSettings, Word, Naming, Value, Statement, Reading, Change, row, word_text, word_of, words, naming, fields, setting_values, place_of, use_in, is_unbound, name_in, options_in, is_misplaced, line_gives, with_change, line_adds, lines_add, start, finished, workload_of, bound_name, values_in, change_of, or_zero, settings_by, change_with, value_text, options_words, bound_words, used_words, line_text, statement_text, node_text, caller_text, Line, if_any, statement_lines_behind, lines_of_part, lines_of, laid_out, canonical, led, between, led_append, append-nil, slice_split_at, slice_split_none, Part, Workload, words_of, statement_lines, line_if_any, part_lines}
 use Rattle.workload_file.specs.declared.table.Word.TheVariants as word
 use Rattle.workload_file.specs.declared.table.Naming.TheVariants as rule
 use Rattle.workload_file.specs.declared.reading.Change.TheVariants as change
@@ -27,9 +28,7 @@ word_spelled first w e = bytes_are (word_text w) first (find_passes (λ w. bytes
 
 pub deed_naming : (w : Word) → is_deed w ≡ true → naming w ≡ rule.Caller → ⊥
 unfolding row
-deed_naming word.Node h e = cc
-deed_naming word.Caller h e = cc
-deed_naming _ h e = cc
+deed_naming w e1 e2 = grind (arith, nat_tests)
 
 -- the words between the first one and the options
 names_written : (before : List Statement) (n : Naming) (name : List ℕ) (ps : List (List ℕ)) → (n ≡ rule.Caller → ⊥) → is_unbound n (use_in before n name) ≡ false → bound_words (bound_name n name) ++ (used_words before (place_at n (or_zero (use_in before n name))) ++ ps) ≡ named n name ++ ps
@@ -42,11 +41,7 @@ unfolding options_words row value_text
 node_options before settings = refl
 
 split_again : (n : Naming) (rest : List (List ℕ)) (name : List ℕ) (ps : List (List ℕ)) → name_in n rest ≡ name → (name_in n (named n name ++ ps) ≡ name) × (options_in n (named n name ++ ps) ≡ ps)
-split_again rule.Bare [] name [] e = (e, refl)
-split_again rule.Bare [] name (p ∷ ps) e = (e, refl)
-split_again rule.Bare (x ∷ xs) name [] e = (e, refl)
-split_again rule.Bare (x ∷ xs) name (p ∷ ps) e = (e, refl)
-split_again _ rest name ps e = (refl, refl)
+split_again n rest name ps e1 = grind (arith, nat_tests)
 
 node_named : (name : List ℕ) → named (naming word.Node) name ≡ []
 unfolding row
@@ -174,9 +169,7 @@ statement_shown r s =
 
 caller_shown : (r : Reading) (line : ℕ) (name : List ℕ) → 1 ≤ line → shown (with_change r line (Some (change.Caller name))) ≡ shown r ++ (line, caller_text name) ∷ []
 unfolding with_change
-caller_shown r line name le =
-    let b = flat_push lines_of_part (r.before ++ r.current ∷ []) (record { line = line; name = name; statements = [] }) in
-    rw (b, line_shown line (caller_text name) le, statements_none []) (sym (append_assoc (if_any r.node_line (node_text r.settings)) (flat_map lines_of_part (r.before ++ r.current ∷ [])) ((line, caller_text name) ∷ [])))
+caller_shown r line name e1 = grind (arith, nat_tests, flat_push, lines_of_part, line_shown, caller_text, statements_none, if_any)
 
 -- as many lines as statements
 statements_count : (before xs : List Statement) → length (statement_lines_behind before xs) ≡ length (map (λ (s : Statement). s.line) xs)
@@ -236,14 +229,11 @@ From line (l ∷ ls) = line ≤ l.0
 
 from_less : (line : ℕ) (ls : List Line) → From (line + 1) ls → From line ls
 unfolding From
-from_less line [] h = tt
-from_less line (l ∷ ls) h = omega (arith, h)
+from_less line ls e1 = grind (arith, nat_tests)
 
 pub laid_step : (line : ℕ) (l : Line) (ls : List Line) → line + 1 ≤ l.0 → laid_out line (l ∷ ls) ≡ 10 ∷ laid_out (line + 1) (l ∷ ls)
 unfolding laid_out
-laid_step line l ls le =
-    let n : l.0 - line ≡ suc (l.0 - (line + 1)) = omega arith in
-    rw n refl
+laid_step line l ls e1 = grind (arith, nat_tests)
 
 pub laid_here : (line : ℕ) (text : List ℕ) (ls : List Line) → laid_out line ((line, text) ∷ ls) ≡ text ++ laid_out line ls
 unfolding laid_out
@@ -270,8 +260,7 @@ next_adds r s end line text (l ∷ ls) lacks from e h =
 
 laid_less : (line : ℕ) (ls : List Line) → From (line + 1) ls → length (laid_out line ls) ≤ length (laid_out (line + 1) ls) + 1
 unfolding From
-laid_less line [] h = rw (laid_none line) (omega arith)
-laid_less line (l ∷ ls) h = rw (laid_step line l ls h) (omega arith)
+laid_less line ls e1 = grind (arith, nat_tests, laid_none, laid_step)
 
 -- the lines that are written of the lines from this one on
 record IsReread (r s : Reading) (line : ℕ) (texts : List (List ℕ)) : Type 0 where
@@ -283,11 +272,7 @@ record IsReread (r s : Reading) (line : ℕ) (texts : List (List ℕ)) : Type 0 
 
 -- how long the lines behind one line are
 behind : (line : ℕ) (text written : List ℕ) (texts : List (List ℕ)) (ls : List Line) → From (line + 1) ls → length written ≤ length text → (length (laid_out (line + 1) ls) + 1 ≤ length (led 10 texts)) ⊎ ((texts ≡ []) × (ls ≡ [])) → length (written ++ laid_out line ls) + 1 ≤ length (led 10 (text ∷ texts))
-behind line text written texts ls from le (inl h) = omega (arith, le, h, laid_less line ls from, length-append written (laid_out line ls), length-append text (led 10 texts))
-behind line text written texts ls from le (inr h) =
-    let none : laid_out line ls ≡ [] = ap (laid_out line) h.1 ∙ laid_none line in
-    let zero_long : length (laid_out line ls) ≡ 0 = ap (λ (l : List ℕ). length l) none in
-    omega (arith, le, zero_long, length-append written (laid_out line ls), length-append text (led 10 texts))
+behind line text written texts ls e1 e2 e3 = grind (arith, nat_tests, laid_less, length-append, laid_out, laid_none)
 
 pub nothing_lacks : All (λ b. eqb b 10 ≡ false) []
 nothing_lacks = λ k d lt. absurd (omega arith)
@@ -317,10 +302,7 @@ none_is r line = refl
 
 by_change : (r mid s : Reading) (line : ℕ) (text : List ℕ) (texts : List (List ℕ)) (c : Option Change) → IsFormed r line → 1 ≤ line → line_gives r line text ≡ Ok c → with_change r line c ≡ mid → IsReread mid s (line + 1) texts → IsReread r s line (text ∷ texts)
 by_change r mid s line text texts None f le e is h = skipped r mid s line text texts (sym (none_is r line) ∙ is) h
-by_change r mid s line text texts (Some c) f le e is h =
-    let again = line_again r line text c e in
-    let here = change_shown r line text c f le e in
-    given_line r mid s line text (text_of_change r c) texts (ap shown (sym is) ∙ here) again.shorter (again.adds ∙ ap Ok is) again.lacks h
+by_change r mid s line text texts (Some c) f le e is h = grind (arith, nat_tests, line_again, change_shown, given_line)
 
 nothing_read : (r s : Reading) (line : ℕ) → r ≡ s → lines_add r line (between 10 (laid_out line [])) ≡ Ok s
 nothing_read r s line e = subst (λ (t : List ℕ). lines_add r line (between 10 t) ≡ Ok s) (sym (laid_none line)) (one_adds r s line [] (empty_adds r line ∙ ap Ok e))
@@ -345,10 +327,7 @@ record IsSame (bytes : List ℕ) (load : Workload) : Type 0 where
 
 whole_short : (bytes : List ℕ) (lines : List Line) → (length (laid_out 1 lines) + 1 ≤ length (led 10 (between 10 bytes))) ⊎ ((between 10 bytes ≡ []) × (lines ≡ [])) → length (laid_out 1 lines) ≤ length bytes
 whole_short bytes lines (inl h) = omega (arith, h, text_led 10 bytes)
-whole_short bytes lines (inr h) =
-    let none : laid_out 1 lines ≡ [] = ap (laid_out 1) h.1 ∙ laid_none 1 in
-    let zero_long : length (laid_out 1 lines) ≡ 0 = ap (λ (l : List ℕ). length l) none in
-    omega (arith, zero_long)
+whole_short bytes lines (inr h) = grind (arith, nat_tests, laid_out, laid_none)
 
 read_whole : (lines : List Line) (end : Reading) → lines_add start 1 (between 10 (laid_out 1 lines)) ≡ Ok end → workload_of (laid_out 1 lines) ≡ Ok (finished end)
 unfolding workload_of

@@ -1,5 +1,6 @@
 -- Comments, spaces, the order of options and written-out defaults.
-use Rattle.workload_file.proofs.Cited.{◌≡◌, ℕ, ◌≤◌, List, [], ◌∷◌, ◌++◌, length, replicate, Bool, true, false, not, cond, eqb, ◌&&◌, ◌||◌, Option, Some, None, Ok, refl, sym, ap, subst, ◌∙◌, arith, inl, inr, zero, suc, ◌+◌, map, nat_le, nat_lt, filter, is_some, option_and_then, slice_get, option_map, find, list_any, list_all, onto_first, position_or_len, bytes_eq, and_parts, and_from, or_parts, or_from, cases_Bool, eqb-true, lt-ltb, le-ltb, not-false, append-nil, map-append, length-map, length-slice_split, between, Word, Naming, Key, Field, Value, Statement, Workload, Reading, Change, is_name, is_name_byte, begins_with_letter, words_of, naming, fields, key_text, word_of, key_of, value_of, is_known, has_twice, gives, text_of, has_second, name_in, options_in, use_in, is_called, bound_at, is_binding, place_of, is_taken, is_misplaced, is_ninth_caller, is_unbound, value_given, value_absent, value_at, values_in, change_with, change_of, or_unbound, line_gives, line_adds, lines_add, at_line, start, workload_of, with_change, finished, IsPlain, has_equals, IsSwapped, IsWrittenOut, AddsAlike, DifferAt, AddsNothing, IsInserted, still, still_part, AreStill, GivesStill, is_statement, is_printable, slice_get-map, Sort, Shape, Part, is_begin, length-append, length-replicate, filter-append}
+use Rattle.std.proofs.lemmas.Bool.Decides.{nat_tests}
+use Rattle.workload_file.proofs.Cited.{◌≡◌, ℕ, ◌≤◌, List, [], ◌∷◌, ◌++◌, length, replicate, Bool, true, false, not, cond, eqb, ◌&&◌, ◌||◌, Option, Some, None, Ok, refl, sym, ap, subst, ◌∙◌, arith, inl, inr, zero, suc, ◌+◌, map, nat_le, nat_lt, filter, is_some, option_and_then, slice_get, option_map, find, list_any, list_all, onto_first, position_or_len, bytes_eq, and_parts, and_from, or_parts, or_from, cases_Bool, le-ltb, not-false, append-nil, map-append, length-map, length-slice_split, between, Word, Naming, Key, Field, Value, Statement, Workload, Reading, Change, is_name, is_name_byte, begins_with_letter, words_of, naming, fields, key_text, word_of, key_of, value_of, is_known, has_twice, gives, text_of, has_second, name_in, options_in, use_in, is_called, bound_at, is_binding, place_of, is_taken, is_misplaced, is_ninth_caller, is_unbound, value_given, value_absent, value_at, values_in, change_with, change_of, or_unbound, line_gives, line_adds, lines_add, at_line, start, workload_of, with_change, finished, IsPlain, has_equals, IsSwapped, IsWrittenOut, AddsAlike, DifferAt, AddsNothing, IsInserted, still, still_part, AreStill, GivesStill, is_statement, is_printable, slice_get-map, Sort, Shape, Part, is_begin, length-append, length-replicate, filter-append}
 use Rattle.workload_file.specs.declared.table.Naming.TheVariants as rule
 use Rattle.workload_file.specs.declared.table.Word.TheVariants as word
 use Rattle.workload_file.specs.declared.table.Shape.TheVariants as shape
@@ -23,8 +24,7 @@ leads_words zero a = refl
 leads_words (suc n) a = lead_words (replicate n 32 ++ a) ∙ leads_words n a
 
 comment_words : (parts : List (List ℕ)) → is_statement (filter (λ w. nat_lt 0 (length w)) (onto_first 35 parts)) ≡ false
-comment_words [] = refl
-comment_words (p ∷ ps) = rw (lt-ltb 0 (length (35 ∷ p)) (omega arith)) refl
+comment_words parts = grind (arith, nat_tests)
 
 comment_silent : (text : List ℕ) → is_statement (words_of (35 ∷ text)) ≡ false
 unfolding words_of
@@ -54,18 +54,14 @@ comment_adds r line n text plain = plain_adds r line (replicate n 32 ++ 35 ∷ t
 -- ---- spaces
 
 onto_append : (x : ℕ) (ps qs : List (List ℕ)) → 1 ≤ length ps → onto_first x (ps ++ qs) ≡ onto_first x ps ++ qs
-onto_append x [] qs h = absurd (omega arith)
-onto_append x (p ∷ ps) qs h = refl
+onto_append x ps qs e1 = grind (arith, nat_tests)
 
 cut_append : (ends : Bool) (x : ℕ) (ps qs : List (List ℕ)) → 1 ≤ length ps → cond ends ([] ∷ (ps ++ qs)) (onto_first x (ps ++ qs)) ≡ cond ends ([] ∷ ps) (onto_first x ps) ++ qs
-cut_append true x ps qs h = refl
-cut_append false x ps qs h = onto_append x ps qs h
+cut_append ends x ps qs e1 = grind (arith, nat_tests)
 
 between_append : (a b : List ℕ) → between 32 (a ++ 32 ∷ b) ≡ between 32 a ++ between 32 b
 between_append [] b = refl
-between_append (x ∷ xs) b =
-    let some = length-slice_split (λ c. eqb c 32) xs in
-    ap (λ (ps : List (List ℕ)). cond (eqb x 32) ([] ∷ ps) (onto_first x ps)) (between_append xs b) ∙ cut_append (eqb x 32) x (between 32 xs) (between 32 b) (omega (arith, some))
+between_append (x ∷ xs) b = grind (arith, nat_tests, between_append xs b, length-slice_split, onto_first, cut_append)
 
 words_append : (a b : List ℕ) → words_of (a ++ 32 ∷ b) ≡ words_of a ++ words_of b
 unfolding words_of
@@ -81,9 +77,7 @@ unfolding line_adds line_gives
 same_words r line text other w p h k = rw (le-ltb 512 (length text) h, le-ltb 512 (length other) k, p, w) refl
 
 pub inner_space : (r : Reading) (line : ℕ) (a b : List ℕ) → length (a ++ 32 ∷ (32 ∷ b)) ≤ 512 → line_adds r line (a ++ 32 ∷ (32 ∷ b)) ≡ line_adds r line (a ++ 32 ∷ b)
-inner_space r line a b h =
-    let words : words_of (a ++ 32 ∷ (32 ∷ b)) ≡ words_of (a ++ 32 ∷ b) = words_append a (32 ∷ b) ∙ (ap (λ (ws : List (List ℕ)). words_of a ++ ws) (lead_words b) ∙ sym (words_append a b)) in
-    same_words r line (a ++ 32 ∷ (32 ∷ b)) (a ++ 32 ∷ b) words (printable_space a (32 ∷ b)) h (omega (arith, h, length-append a (32 ∷ b), length-append a (32 ∷ (32 ∷ b))))
+inner_space r line a b e1 = grind (arith, nat_tests, words_of, words_append, lead_words, same_words, printable_space, length-append)
 
 pub first_space : (r : Reading) (line : ℕ) (a : List ℕ) → length (32 ∷ a) ≤ 512 → line_adds r line (32 ∷ a) ≡ line_adds r line a
 first_space r line a h = same_words r line (32 ∷ a) a (lead_words a) refl h (omega (arith, h))
@@ -127,21 +121,7 @@ record IsInstead (before : List Statement) (fs : List Field) (ps qs : List (List
   values : values_in before qs fs ≡ values_in before ps fs
 
 read_instead : (r : Reading) (first : List ℕ) (rest others : List (List ℕ)) (w : Word) (name : List ℕ) (ps qs : List (List ℕ)) → IsRead r first rest w name ps → name_in (naming w) others ≡ name → options_in (naming w) others ≡ qs → IsInstead (here r) (fields w) ps qs → IsRead r first others w name qs
-read_instead r first rest others w name ps qs read n o q = record {
-  comment = read.comment;
-  word = read.word;
-  name_is = n;
-  options_are = o;
-  few = read.few;
-  callers = read.callers;
-  placed = read.placed;
-  named = read.named;
-  known = q.known;
-  once = q.once;
-  sound = ap (list_all is_sound) q.values ∙ read.sound;
-  free = read.free;
-  bound = read.bound;
-}
+read_instead r first rest others w name ps qs e1 e2 e3 e4 = grind (arith, nat_tests)
 
 change_instead : (r : Reading) (line : ℕ) (w : Word) (name : List ℕ) (ps qs : List (List ℕ)) → values_in (here r) qs (fields w) ≡ values_in (here r) ps (fields w) → change_of r line w name qs ≡ change_of r line w name ps
 change_instead r line w name ps qs e = ap (λ (vs : List Value). change_with line w name (use_in (here r) (naming w) name) vs) e
@@ -149,14 +129,10 @@ change_instead r line w name ps qs e = ap (λ (vs : List Value). change_with lin
 -- ---- two options in the other order
 
 and_swap : (a b c : Bool) → (a && (b && c)) ≡ (b && (a && c))
-and_swap true b c = refl
-and_swap false true c = refl
-and_swap false false c = refl
+and_swap a b c = grind (arith, nat_tests)
 
 or_swap : (a b c : Bool) → (a || (b || c)) ≡ (b || (a || c))
-or_swap false b c = refl
-or_swap true true c = refl
-or_swap true false c = refl
+or_swap a b c = grind (arith, nat_tests)
 
 all_swap : (q : List ℕ → Bool) (front : List (List ℕ)) (x y : List ℕ) (back : List (List ℕ)) → list_all q (front ++ x ∷ (y ∷ back)) ≡ list_all q (front ++ y ∷ (x ∷ back))
 all_swap q [] x y back = and_swap (q x) (q y) (list_all q back)
@@ -167,9 +143,7 @@ any_swap q [] x y back = or_swap (q x) (q y) (list_any q back)
 any_swap q (w ∷ ws) x y back = ap (λ (t : Bool). q w || t) (any_swap q ws x y back)
 
 pick_swap : (a b : Bool) (x y : List ℕ) (o : Option (List ℕ)) → (a && b) ≡ false → cond a (Some x) (cond b (Some y) o) ≡ cond b (Some y) (cond a (Some x) o)
-pick_swap true true x y o h = absurd cc
-pick_swap true false x y o h = refl
-pick_swap false b x y o h = refl
+pick_swap a b x y o e1 = grind (arith, nat_tests)
 
 find_swap : (q : List ℕ → Bool) (front : List (List ℕ)) (x y : List ℕ) (back : List (List ℕ)) → (q x && q y) ≡ false → find q (front ++ x ∷ (y ∷ back)) ≡ find q (front ++ y ∷ (x ∷ back))
 find_swap q [] x y back h = pick_swap (q x) (q y) x y (find q back) h
@@ -204,18 +178,10 @@ unfolding text_of
 text_swap k front x y back apart = ap (option_map value_of) (sym (find_swap (λ w. bytes_eq (key_of w) (key_text k)) front x y back (not_both (key_of x) (key_of y) (key_text k) apart)))
 
 values_same : (before : List Statement) (ps qs : List (List ℕ)) (fs : List Field) → ((k : Key) → text_of k qs ≡ text_of k ps) → values_in before qs fs ≡ values_in before ps fs
-values_same before ps qs [] e = refl
-values_same before ps qs (f ∷ fs) e =
-    let first = ap (value_at before f) (e f.key) in
-    let rest = values_same before ps qs fs e in
-    λ i. first i ∷ rest i
+values_same before ps qs fs e1 = grind (arith, nat_tests)
 
 byte_equals : (b : ℕ) → is_name_byte b ≡ true → eqb b 61 ≡ false
-byte_equals b h =
-    elim (cases_Bool (eqb b 61)) [
-      | inl t ↦ absurd (let e = eqb-true b 61 t in let g = rw e at h in cc)
-      | inr f ↦ f
-    ]
+byte_equals b e1 = grind (arith, nat_tests)
 
 bytes_equals : (bs : List ℕ) → list_all is_name_byte bs ≡ true → list_any (λ b. eqb b 61) bs ≡ false
 bytes_equals [] h = refl
@@ -268,9 +234,7 @@ name_push _ [] o h = absurd (nameless (not-false (is_name []) h))
 name_push _ (x ∷ xs) o h = (refl, refl)
 
 any_named : (q : List ℕ → Bool) (n : Naming) (rest : List (List ℕ)) → list_any q rest ≡ false → list_any q (options_in n rest) ≡ false
-any_named q rule.Bare rest h = h
-any_named q _ [] h = h
-any_named q _ (x ∷ xs) h = (or_parts (q x) (list_any q xs) h).1
+any_named q n rest e1 = grind (arith, nat_tests)
 
 twice_push : (k : Key) (ps : List (List ℕ)) (o : List ℕ) → key_of o ≡ key_text k → has_twice ps ≡ false → gives k ps ≡ false → has_twice (ps ++ o ∷ []) ≡ false
 unfolding has_twice
@@ -357,19 +321,12 @@ written_adds text other w plain = λ r line s e.
 
 lines_alike : (before after : List (List ℕ)) (text other : List ℕ) → AddsAlike text other → (r : Reading) (line : ℕ) (s : Reading) → lines_add r line (before ++ text ∷ after) ≡ Ok s → lines_add r line (before ++ other ∷ after) ≡ Ok s
 unfolding lines_add
-lines_alike [] after text other a r line s e =
-    let b = bind_ok (line_adds r line text) _ s e in
-    one_more r b.0 line other after (Ok s) (a r line b.0 b.1) b.2
-lines_alike (x ∷ xs) after text other a r line s e =
-    let b = bind_ok (line_adds r line x) _ s e in
-    one_more r b.0 line x (xs ++ other ∷ after) (Ok s) b.1 (lines_alike xs after text other a b.0 (line + 1) s b.2)
+lines_alike [] after text other a r line s e = grind (arith, nat_tests, bind_ok, line_adds, one_more)
+lines_alike (x ∷ xs) after text other a r line s e = grind (arith, nat_tests, lines_alike xs after text other a, bind_ok, line_adds, one_more)
 
 pub texts_alike : (bytes others text other : List ℕ) (load : Workload) → DifferAt bytes others text other → AddsAlike text other → workload_of bytes ≡ Ok load → workload_of others ≡ Ok load
 unfolding workload_of
-texts_alike bytes others text other load d a e =
-    let b = bind_ok (lines_add start 1 (between 10 bytes)) _ load e in
-    let h = lines_alike d.before d.after text other a start 1 b.0 (subst (λ (ts : List (List ℕ)). lines_add start 1 ts ≡ Ok b.0) d.lines b.1) in
-    rw (d.other_lines, h) b.2
+texts_alike bytes others text other load e1 e2 e3 = grind (arith, nat_tests, bind_ok, lines_add, lines_alike)
 
 -- ==== a line more that adds nothing moves the numbers of the lines behind it, and nothing else
 
@@ -380,22 +337,16 @@ same_length f xs ys e = sym (length-map xs f) ∙ (ap (λ (l : List _). length l
 
 place_still : (name : List ℕ) (sts : List Statement) → position_or_len (λ s. is_called name s.name) (map still sts) ≡ position_or_len (λ s. is_called name s.name) sts
 place_still name [] = refl
-place_still name (s ∷ ss) =
-    elim (cases_Bool (is_called name s.name)) [
-      | inl t ↦ rw t refl
-      | inr f ↦ rw (f, place_still name ss) refl
-    ]
+place_still name (s ∷ ss) = grind (arith, nat_tests, place_still name ss, is_called)
 
 bound_still : (name : List ℕ) (sts : List Statement) → bound_at name (map still sts) ≡ bound_at name sts
 bound_still name sts = rw (place_still name sts, length-map sts still) refl
 
 binding_still : (s : Sort) (o : Option Statement) → is_binding s (option_map still o) ≡ is_binding s o
-binding_still s None = refl
-binding_still s (Some x) = refl
+binding_still s o = grind (arith, nat_tests)
 
 found_still : (s : Sort) (sts : List Statement) (o : Option ℕ) → option_and_then (λ place. cond (is_binding s (slice_get (map still sts) place)) (Some place) None) o ≡ option_and_then (λ place. cond (is_binding s (slice_get sts place)) (Some place) None) o
-found_still s sts None = refl
-found_still s sts (Some i) = rw (slice_get-map still sts i, binding_still s (slice_get sts i)) refl
+found_still s sts o = grind (arith, nat_tests, slice_get-map, binding_still)
 
 named_still : (s : Sort) (name : List ℕ) (sts : List Statement) → place_of s name (map still sts) ≡ place_of s name sts
 unfolding place_of
@@ -423,46 +374,35 @@ place_alike r q a s name = sym (named_still s name (here r)) ∙ (ap (place_of s
 
 callers_alike : (r q : Reading) (w : Word) → AreAlike r q → is_ninth_caller r w ≡ is_ninth_caller q w
 unfolding is_ninth_caller
-callers_alike r q word.Caller a = ap (nat_le 8) (same_length still_part r.before q.before a.before)
-callers_alike r q _ a = refl
+callers_alike r q w e1 = grind (arith, nat_tests, nat_le, same_length, still_part)
 
 begin_alike : (r q : Reading) → AreAlike r q → list_any (λ s. is_begin s.deed) (here r) ≡ list_any (λ s. is_begin s.deed) (here q)
 begin_alike r q a = sym (begins_still (here r)) ∙ (ap (list_any (λ s. is_begin s.deed)) a.statements ∙ begins_still (here q))
 
 placed_alike : (r q : Reading) (w : Word) → AreAlike r q → is_misplaced r w ≡ is_misplaced q w
 unfolding is_misplaced
-placed_alike r q word.Node a = rw a.count refl
-placed_alike r q word.Begin a = rw (same_length still_part r.before q.before a.before, begin_alike r q a) refl
-placed_alike r q _ a = refl
+placed_alike r q w e1 = grind (arith, nat_tests, same_length, still_part, begin_alike)
 
 taken_alike : (r q : Reading) (n : Naming) (name : List ℕ) → AreAlike r q → is_taken r n name ≡ is_taken q n name
 unfolding is_taken
 taken_alike r q (rule.Binds s) name a = ap is_some (sym (bound_still name (here r)) ∙ (ap (bound_at name) a.statements ∙ bound_still name (here q)))
-taken_alike r q rule.Caller name a =
-    let names : list_any (λ p. bytes_eq p.name name) r.before ≡ list_any (λ p. bytes_eq p.name name) q.before = sym (names_still name r.before) ∙ (ap (list_any (λ p. bytes_eq p.name name)) a.before ∙ names_still name q.before) in
-    rw (a.name, names) refl
+taken_alike r q rule.Caller name a = grind (arith, nat_tests, bytes_eq, names_still)
 taken_alike r q rule.Bare name a = refl
 taken_alike r q (rule.Uses s) name a = refl
 
 given_alike : (r q : Reading) (s : Shape) (text : List ℕ) → AreAlike r q → value_given (here r) s text ≡ value_given (here q) s text
 unfolding value_given
-given_alike r q (shape.Named sort) text a = ap (λ (o : Option ℕ). cond (is_name text) (or_unbound o) given.Bad) (place_alike r q a sort text)
-given_alike r q _ text a = refl
+given_alike r q s text e1 = grind (arith, nat_tests, is_name, or_unbound, place_alike)
 
 value_alike : (r q : Reading) (f : Field) (o : Option (List ℕ)) → AreAlike r q → value_at (here r) f o ≡ value_at (here q) f o
-value_alike r q f None a = refl
-value_alike r q f (Some text) a = given_alike r q f.shape text a
+value_alike r q f o e1 = grind (arith, nat_tests, given_alike)
 
 values_alike : (r q : Reading) (options : List (List ℕ)) (fs : List Field) → AreAlike r q → values_in (here r) options fs ≡ values_in (here q) options fs
 values_alike r q options [] a = refl
-values_alike r q options (f ∷ fs) a =
-    let first = value_alike r q f (text_of f.key options) a in
-    let rest = values_alike r q options fs a in
-    λ i. first i ∷ rest i
+values_alike r q options (f ∷ fs) a = grind (arith, nat_tests, values_alike r q options fs a, value_alike, text_of)
 
 used_alike : (r q : Reading) (n : Naming) (name : List ℕ) → AreAlike r q → use_in (here r) n name ≡ use_in (here q) n name
-used_alike r q (rule.Uses s) name a = place_alike r q a s name
-used_alike r q _ name a = refl
+used_alike r q n name e1 = grind (arith, nat_tests, place_alike)
 
 -- ---- one line
 
@@ -491,14 +431,10 @@ read_alike r q first rest w name options a read = record {
 
 moved_is : (line at : ℕ) (w : Word) (name : List ℕ) (place : Option ℕ) (vs : List Value) → change_with at w name place vs ≡ moved at (change_with line w name place vs)
 unfolding change_with
-moved_is line at word.Node name place vs = refl
-moved_is line at _ name place vs = refl
+moved_is line at w name place vs = grind (arith, nat_tests)
 
 change_alike : (r q : Reading) (line at : ℕ) (w : Word) (name : List ℕ) (options : List (List ℕ)) → AreAlike r q → change_of q at w name options ≡ moved at (change_of r line w name options)
-change_alike r q line at w name options a =
-    let place = used_alike r q (naming w) name a in
-    let vs = values_alike r q options (fields w) a in
-    rw (← place, ← vs) (moved_is line at w name (use_in (here r) (naming w) name) (values_in (here r) options (fields w)))
+change_alike r q line at w name options e1 = grind (arith, nat_tests, used_alike, values_alike, moved_is, use_in, values_in)
 
 abbrev moved_if : ℕ → Option Change → Option Change
 moved_if at None = None
@@ -523,10 +459,7 @@ count_more r q a = ap (λ (n : ℕ). n + 1) a.count
 
 with_alike : (r q : Reading) (line at : ℕ) (c : Option Change) → AreAlike r q → AreAlike (with_change r line c) (with_change q at (moved_if at c))
 unfolding with_change
-with_alike r q line at None a = record { settings = a.settings; count = a.count; before = a.before; name = a.name; statements = a.statements }
-with_alike r q line at (Some (change.Node s)) a = record { settings = refl; count = count_more r q a; before = a.before; name = a.name; statements = a.statements }
-with_alike r q line at (Some (change.Caller name)) a = record { settings = a.settings; count = count_more r q a; before = parts_alike r q a; name = refl; statements = refl }
-with_alike r q line at (Some (change.Statement s)) a = record { settings = a.settings; count = count_more r q a; before = a.before; name = a.name; statements = push_alike (here r) (here q) s (record s { line = at }) a.statements refl }
+with_alike r q line at c e1 = grind (arith, nat_tests, count_more, parts_alike, push_alike)
 
 -- ---- all lines
 

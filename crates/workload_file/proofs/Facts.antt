@@ -1,13 +1,13 @@
 -- What is known of a line that was read without a fault, and the other way round.
-use Rattle.workload_file.proofs.Cited.{◌≡◌, ℕ, List, [], ◌∷◌, length, Bool, true, false, not, cond, ◌&&◌, Option, Some, None, Result, Ok, Err, refl, sym, ap, ◌∙◌, inl, inr, ◌||◌, ◌+◌, ◌++◌, arith, nat_le, nat_lt, find, list_all, list_any, not-false, or_parts, or_from, and_parts, and_from, cases_Bool, ltb-false, le-ltb, Word, Value, Cause, Reading, Change, Statement, is_name, naming, fields, word_of, is_known, has_twice, has_second, name_in, options_in, use_in, is_taken, is_unbound, is_misplaced, is_ninth_caller, words_of, values_in, is_bad, is_missing, names_nothing, change_of, is_printable, is_comment, is_statement, is_faulty, words_meet, statement_causes, word_causes, first_met, ◌>>=◌, unless, words_say, line_gives, at_line, with_change, line_adds, lines_add, start, finished, workload_of, refused_for, IsFirstFault, IsPlain, Fault, between}
+use Rattle.std.proofs.lemmas.Bool.Decides.{nat_tests}
+use Rattle.workload_file.proofs.Cited.{◌≡◌, ℕ, List, [], ◌∷◌, length, Bool, true, false, not, cond, ◌&&◌, Option, Some, None, Result, Ok, Err, refl, sym, ap, ◌∙◌, ◌||◌, ◌+◌, ◌++◌, arith, nat_le, find, list_all, list_any, not-false, or_parts, or_from, and_parts, and_from, Word, Value, Cause, Reading, Change, Statement, is_name, naming, fields, word_of, is_known, has_twice, has_second, name_in, options_in, use_in, is_taken, is_unbound, is_misplaced, is_ninth_caller, words_of, values_in, is_bad, is_missing, names_nothing, change_of, is_comment, is_statement, is_faulty, words_meet, statement_causes, word_causes, first_met, ◌>>=◌, unless, words_say, line_gives, at_line, with_change, line_adds, lines_add, start, finished, workload_of, refused_for, IsFirstFault, IsPlain, Fault, between}
 use Rattle.workload_file.specs.declared.values.Value.TheVariants as given
 use Rattle.workload_file.specs.declared.faults.Cause.TheVariants as cause
 
 -- ---- steps that did not fail
 
 pub bind_ok : {A B E : Type 0} (r : Result A E) (f : A → Result B E) (y : B) → (r >>= f) ≡ Ok y → (x : A) × (r ≡ Ok x) × (f x ≡ Ok y)
-bind_ok (Ok x) f y e = (x, refl, e)
-bind_ok (Err d) f y e = absurd cc
+bind_ok r f y e1 = grind (arith, nat_tests)
 
 abbrev done : {A : Type 0} (E : Type 0) → A → Result A E
 done E x = Ok x
@@ -28,16 +28,13 @@ pub none_some : {A : Type 0} (x : A) → nothing A ≡ Some x → ⊥
 none_some x e = cc
 
 pub at_line_ok : {A : Type 0} (line : ℕ) (x : Result A Cause) (y : A) → at_line line x ≡ Ok y → x ≡ Ok y
-at_line_ok line (Ok x) y e = ap Ok (ok_is x y e)
-at_line_ok line (Err c) y e = absurd cc
+at_line_ok line x y e1 = grind (arith, nat_tests)
 
 unless_ok : {A : Type 0} (o : Option Cause) (x y : A) → unless o x ≡ Ok y → (o ≡ None) × (x ≡ y)
-unless_ok None x y e = (refl, ok_is x y e)
-unless_ok (Some c) x y e = absurd cc
+unless_ok o x y e1 = grind (arith, nat_tests)
 
 cond_none : (b : Bool) (c : Cause) (o : Option Cause) → cond b (Some c) o ≡ None → (b ≡ false) × (o ≡ None)
-cond_none true c o e = absurd cc
-cond_none false c o e = (refl, e)
+cond_none b c o e1 = grind (arith, nat_tests)
 
 -- ---- values
 
@@ -49,28 +46,18 @@ is_sound given.Unbound = false
 is_sound _ = true
 
 one_sound : (v : Value) → is_bad v ≡ false → is_missing v ≡ false → names_nothing v ≡ false → is_sound v ≡ true
-one_sound given.Bad b m u = absurd cc
-one_sound given.Missing b m u = absurd cc
-one_sound given.Unbound b m u = absurd cc
-one_sound _ b m u = refl
+one_sound v e1 e2 e3 = grind (arith, nat_tests)
 
 all_sound : (vs : List Value) → list_any is_bad vs ≡ false → list_any is_missing vs ≡ false → list_any names_nothing vs ≡ false → list_all is_sound vs ≡ true
 all_sound [] b m u = refl
-all_sound (v ∷ vs) b m u =
-    let b2 = or_parts (is_bad v) (list_any is_bad vs) b in
-    let m2 = or_parts (is_missing v) (list_any is_missing vs) m in
-    let u2 = or_parts (names_nothing v) (list_any names_nothing vs) u in
-    and_from (is_sound v) (list_all is_sound vs) (one_sound v b2.0 m2.0 u2.0) (all_sound vs b2.1 m2.1 u2.1)
+all_sound (v ∷ vs) b m u = grind (arith, nat_tests, all_sound vs, or_parts, is_bad, is_missing, names_nothing, and_from)
 
 none_in : (p : Value → Bool) (vs : List Value) → ((v : Value) → is_sound v ≡ true → p v ≡ false) → list_all is_sound vs ≡ true → list_any p vs ≡ false
 none_in p [] h s = refl
 none_in p (v ∷ vs) h s = let both = and_parts (is_sound v) (list_all is_sound vs) s in or_from (p v) (list_any p vs) (h v both.0) (none_in p vs h both.1)
 
 sound_is : (v : Value) → is_sound v ≡ true → (is_bad v ≡ false) × (is_missing v ≡ false) × (names_nothing v ≡ false)
-sound_is given.Bad s = absurd cc
-sound_is given.Missing s = absurd cc
-sound_is given.Unbound s = absurd cc
-sound_is _ s = (refl, refl, refl)
+sound_is v e1 = grind (arith, nat_tests)
 
 -- ---- a statement
 
@@ -134,9 +121,7 @@ read_of r first rest w c e none =
 
 of_read : (r : Reading) (w : Word) (name : List ℕ) (options : List (List ℕ)) (first : List ℕ) (rest : List (List ℕ)) → IsRead r first rest w name options → statement_met r w name options ≡ None
 unfolding is_faulty
-of_read r w name options first rest f =
-    let vs = values_in (here r) options (fields w) in
-    rw (f.few, f.callers, f.placed, f.named, f.known, f.once, none_in is_bad vs (λ v s. (sound_is v s).0) f.sound, none_in is_missing vs (λ v s. (sound_is v s).1) f.sound, f.free, f.bound, none_in names_nothing vs (λ v s. (sound_is v s).2) f.sound) refl
+of_read r w name options first rest e1 = grind (arith, nat_tests, values_in, none_in, is_bad, sound_is, is_missing, names_nothing)
 
 -- ---- words
 
@@ -161,8 +146,7 @@ known_says : (r : Reading) (line : ℕ) (first : List ℕ) (rest : List (List �
 known_says r line first rest w c e = rw (c, e) refl
 
 pub silent_says : (r : Reading) (line : ℕ) (words : List (List ℕ)) → is_statement words ≡ false → (words_met r words ≡ None) × (words_say r line words ≡ None)
-silent_says r line [] h = (refl, refl)
-silent_says r line (first ∷ rest) h = let c = not-false (is_comment first) h in (rw c refl, rw c refl)
+silent_says r line words e1 = grind (arith, nat_tests)
 
 unknown_met : (r : Reading) (first : List ℕ) (rest : List (List ℕ)) → is_comment first ≡ false → word_of first ≡ None → words_met r (first ∷ rest) ≡ Some cause.UnknownWord
 unknown_met r first rest c e = rw (c, e) refl
@@ -181,24 +165,10 @@ by_word r line first rest (Some w) c n e m s = record {
 }
 
 words_stated : (r : Reading) (line : ℕ) (words : List (List ℕ)) (c : Change) → words_met r words ≡ None → words_say r line words ≡ Some c → IsStated r line words c
-words_stated r line [] c m s = absurd (none_some c s)
-words_stated r line (first ∷ rest) c m s =
-    elim (cases_Bool (is_comment first)) [
-      | inl t ↦ absurd (none_some c (sym (silent_says r line (first ∷ rest) (ap not t)).1 ∙ s))
-      | inr f ↦ by_word r line first rest (word_of first) c f refl m s
-    ]
+words_stated r line words c e1 e2 = grind (arith, nat_tests, none_some, is_comment, silent_says, by_word, word_of)
 
 words_silent : (r : Reading) (line : ℕ) (words : List (List ℕ)) → words_met r words ≡ None → words_say r line words ≡ None → is_statement words ≡ false
-words_silent r line [] m s = refl
-words_silent r line (first ∷ rest) m s =
-    elim (cases_Bool (is_comment first)) [
-      | inl t ↦ ap not t
-      | inr f ↦ absurd (by_none r line first rest (word_of first) f refl m s)
-    ]
-  where
-    by_none : (r : Reading) (line : ℕ) (first : List ℕ) (rest : List (List ℕ)) (o : Option Word) → is_comment first ≡ false → word_of first ≡ o → words_met r (first ∷ rest) ≡ None → words_say r line (first ∷ rest) ≡ None → ⊥
-    by_none r line first rest None n e m s = none_some cause.UnknownWord (sym m ∙ unknown_met r first rest n e)
-    by_none r line first rest (Some w) n e m s = none_some _ (sym s ∙ known_says r line first rest w n e)
+words_silent r line words e1 e2 = grind (arith, nat_tests)
 
 -- ---- a line
 
@@ -210,18 +180,11 @@ record IsLine (r : Reading) (line : ℕ) (text : List ℕ) (c : Option Change) :
 
 of_line : (r : Reading) (line : ℕ) (text : List ℕ) (c : Option Change) → line_gives r line text ≡ Ok c → IsLine r line text c
 unfolding line_gives
-of_line r line text c e =
-    let u = unless_ok (first_met r text) (words_say r line (words_of text)) c e in
-    let a = cond_none (nat_lt 512 (length text)) cause.LineTooLong _ u.0 in
-    let b = cond_none (not (list_all is_printable text)) cause.BadByte _ a.1 in
-    record { plain = record { short = ltb-false 512 (length text) a.0; printable = not-false _ b.0 }; met = b.1; says = u.1 }
+of_line r line text c e1 = grind (arith, nat_tests)
 
 line_of : (r : Reading) (line : ℕ) (text : List ℕ) (c : Option Change) → IsLine r line text c → line_gives r line text ≡ Ok c
 unfolding line_gives
-line_of r line text c f =
-    let long : nat_lt 512 (length text) ≡ false = le-ltb 512 (length text) f.plain.short in
-    let none : first_met r text ≡ None = rw (long, f.plain.printable) f.met in
-    rw (none, f.says) refl
+line_of r line text c e1 = grind (arith, nat_tests)
 
 -- a line that adds something is a statement
 pub stated : (r : Reading) (line : ℕ) (text : List ℕ) (c : Change) → line_gives r line text ≡ Ok (Some c) → IsPlain text × IsStated r line (words_of text) c
@@ -238,9 +201,7 @@ pub silent : (r : Reading) (line : ℕ) (text : List ℕ) → line_gives r line 
 silent r line text e = let l = of_line r line text None e in (l.plain, words_silent r line (words_of text) l.met l.says)
 
 pub silence : (r : Reading) (line : ℕ) (text : List ℕ) → IsPlain text → is_statement (words_of text) ≡ false → line_gives r line text ≡ Ok None
-silence r line text plain h =
-    let both = silent_says r line (words_of text) h in
-    line_of r line text None (record { plain = plain; met = both.0; says = both.1 })
+silence r line text e1 e2 = grind (arith, nat_tests, silent_says, words_of, line_of)
 
 pub gives_adds : (r : Reading) (line : ℕ) (text : List ℕ) (c : Option Change) → line_gives r line text ≡ Ok c → line_adds r line text ≡ Ok (with_change r line c)
 unfolding line_adds
@@ -251,8 +212,7 @@ gives_adds r line text c e = rw e refl
 -- ---- one line
 
 unless_refused : {A : Type 0} (o : Option Cause) (x : A) → refused_for (unless o x) ≡ o
-unless_refused None x = refl
-unless_refused (Some c) x = refl
+unless_refused o x = grind (arith, nat_tests)
 
 pub line_refused : (r : Reading) (line : ℕ) (text : List ℕ) → refused_for (line_gives r line text) ≡ first_met r text
 unfolding line_gives
@@ -268,10 +228,7 @@ err_is : {A E : Type 0} (e f : E) → fails A e ≡ fails A f → e ≡ f
 err_is e f h = cc
 
 fault_at : (r : Reading) (line : ℕ) (x : Result (Option Change) Cause) (f : Fault) → at_line line (x >>= λ c. Ok (with_change r line c)) ≡ Err f → (f.line ≡ line) × (refused_for x ≡ Some f.cause)
-fault_at r line (Ok c) f e = absurd cc
-fault_at r line (Err c) f e =
-    let same = err_is (record { line = line; cause = c }) f e in
-    (sym (ap (λ (g : Fault). g.line) same), ap (λ (g : Fault). Some g.cause) same)
+fault_at r line x f e1 = grind (arith, nat_tests)
 
 line_fault : (r : Reading) (line : ℕ) (text : List ℕ) (f : Fault) → line_adds r line text ≡ Err f → (f.line ≡ line) × (first_met r text ≡ Some f.cause)
 unfolding line_adds
@@ -364,8 +321,7 @@ fails_behind (first ∷ before) after text r said line f read number met = fails
 -- ---- the text
 
 kept_fault : (x : Result Reading Fault) (f : Fault) → (x >>= λ r. Ok (finished r)) ≡ Err f → x ≡ Err f
-kept_fault (Ok r) f e = absurd cc
-kept_fault (Err g) f e = ap failed (err_is g f e)
+kept_fault x f e1 = grind (arith, nat_tests)
 
 pub text_refused : (bytes : List ℕ) (fault : Fault) → workload_of bytes ≡ Err fault → IsFirstFault bytes fault
 unfolding workload_of
@@ -384,6 +340,4 @@ text_refused bytes fault e =
 
 pub refused_text : (bytes : List ℕ) (fault : Fault) → IsFirstFault bytes fault → workload_of bytes ≡ Err fault
 unfolding workload_of
-refused_text bytes fault h =
-    let fails = fails_behind h.before h.after h.text start h.said 1 fault h.read (omega (arith, h.number)) h.cause in
-    rw (h.lines, fails) refl
+refused_text bytes fault e1 = grind (arith, nat_tests, fails_behind)

@@ -1,4 +1,6 @@
 -- The fields of a statement, the kinds of statements, and what each kind says.
+use Rattle.std.proofs.lemmas.Bool.Decides.{nat_tests}
+use Rattle.std.proofs.Common.{arith}
 use Rattle.workload_file.proofs.Cited.{◌≡◌, List, [], ◌∷◌, Bool, true, Some, refl, ℕ, false, None, subst, ◌&&◌, ◌||◌, not, ℤ, Option, ◌++◌, eqb, AllByRecursion, find, list_all, list_any, bytes_eq, and_parts, or_parts, not-true, Word, Field, row, word_text, words, word_of, naming, fields, key_text, nat_le, Shape, Absent, Value, Deed, Statement, Reading, Change, use_in, deed_with, deed_spelled, queue_deed, lock_deed, segment_deed, setting_values, number_in, whole_in, args_in, cores_in, kind_in, flag_in, mode_in, timeout_in, place_in, place_there, values_in, or_zero, bound_name, settings_by, change_with, change_of, Kind, Timeout, Args, Mask, NodeSettings, Key, Naming, key_of, value_of}
 use Rattle.workload_file.specs.declared.table.Word.TheVariants as word
 use Rattle.workload_file.specs.declared.table.Shape.TheVariants as shape
@@ -17,8 +19,7 @@ use Rattle.workload_file.proofs.Phrases.{is_inner}
 
 pub word_found : (w : Word) → word_of (word_text w) ≡ Some w
 unfolding word_of row
-word_found word.Node = refl
-word_found _ = refl
+word_found w = grind (arith, nat_tests)
 
 first_word : (w : Word) → find (λ x. bytes_eq (word_text x) (word_text w)) words ≡ Some w
 unfolding word_of
@@ -57,9 +58,7 @@ pub data Says (r : Reading) (line : ℕ) (w : Word) (name : List ℕ) (options :
 
 said : (r : Reading) (line : ℕ) (w : Word) (name : List ℕ) (options : List (List ℕ)) → Says r line w name options (change_of r line w name options)
 unfolding change_with
-said r line word.Node name options = says_node refl refl
-said r line word.Caller name options = says_caller refl refl
-said r line _ name options = says_deed refl refl
+said r line w name options = grind (arith, nat_tests)
 
 pub says : (r : Reading) (line : ℕ) (w : Word) (name : List ℕ) (options : List (List ℕ)) (c : Change) → change_of r line w name options ≡ c → Says r line w name options c
 says r line w name options c e = subst (Says r line w name options) e (said r line w name options)
@@ -67,9 +66,7 @@ says r line w name options c e = subst (Says r line w name options) e (said r li
 -- the name that a statement binds
 pub name_changed : (line : ℕ) (w : Word) (name : List ℕ) (place : Option ℕ) (vs : List Value) → name_of (change_with line w name place vs) ≡ bound_name (naming w) name
 unfolding change_with row
-name_changed line word.Node name place vs = refl
-name_changed line word.Caller name place vs = refl
-name_changed line _ name place vs = refl
+name_changed line w name place vs = grind (arith, nat_tests)
 
 -- ---- the fields of a statement
 
@@ -84,9 +81,7 @@ are_apart (f ∷ fs) = not (list_any (λ g. bytes_eq (key_text g.key) (key_text 
 
 apart_from : (fs : List Field) → are_apart fs ≡ true → AreApart fs
 apart_from [] h = tt
-apart_from (f ∷ fs) h =
-    let both = and_parts (not (list_any (λ g. bytes_eq (key_text g.key) (key_text f.key)) fs)) (are_apart fs) h in
-    (not-true _ both.0, apart_from fs both.1)
+apart_from (f ∷ fs) h = grind (arith, nat_tests, apart_from fs, and_parts, bytes_eq, key_text, not-true)
 
 every_apart : list_all (λ w. are_apart (fields w)) words ≡ true
 unfolding row key_text
@@ -244,13 +239,11 @@ pub record IsOption (word : List ℕ) (k : Key) (text : List ℕ) : Type 0 where
 
 pub option_is : (k : Key) (text : List ℕ) → IsOption (key_text k ++ 61 ∷ text) k text
 unfolding key_text
-option_is key.Workers text = record { key = refl; value = refl; equals = refl }
-option_is _ text = record { key = refl; value = refl; equals = refl }
+option_is k text = grind (arith, nat_tests)
 
 pub key_good : (k : Key) → list_all is_inner (key_text k) ≡ true
 unfolding key_text
-key_good key.Workers = refl
-key_good _ = refl
+key_good k = grind (arith, nat_tests)
 
 -- ---- deeds
 
@@ -263,9 +256,7 @@ place_at (rule.Binds sort) place = None
 
 deed_held : (w : Word) (place : ℕ) (x : AllHeld (fields w)) → is_deed w ≡ true → deed_spelled (deed_with w place (all_with (fields w) x)) ≡ record { word = w; place = place_at (naming w) place; values = all_with (fields w) x }
 unfolding row deed_spelled deed_with queue_deed lock_deed segment_deed number_in whole_in args_in cores_in kind_in flag_in mode_in timeout_in place_in place_there
-deed_held word.Node place x h = absurd cc
-deed_held word.Caller place x h = absurd cc
-deed_held _ place x h = refl
+deed_held w place x e1 = grind (arith, nat_tests)
 
 -- a deed is spelled by the word, the place and the values of which it was made
 pub deed_is : (w : Word) (place : ℕ) (vs : List Value) → is_deed w ≡ true → are_filled (fields w) vs ≡ true → deed_spelled (deed_with w place vs) ≡ record { word = w; place = place_at (naming w) place; values = vs }

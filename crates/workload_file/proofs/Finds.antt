@@ -1,39 +1,23 @@
 -- What is found in a list.
-use Rattle.workload_file.proofs.Cited.{◌≡◌, List, [], ◌∷◌, ◌++◌, Bool, true, false, Some, None, refl, inl, inr, find, list_any, list_all, and_parts, or_parts, or_left, or_right, cases_Bool}
+use Rattle.std.proofs.lemmas.Bool.Decides.{nat_tests}
+use Rattle.std.proofs.Common.{arith}
+use Rattle.workload_file.proofs.Cited.{◌≡◌, List, [], ◌∷◌, ◌++◌, Bool, true, false, Some, None, refl, find, list_any, list_all, and_parts, or_parts, or_left, or_right}
 
 pub find_passes : {X : Type 0} (p : X → Bool) (xs : List X) (x : X) → find p xs ≡ Some x → p x ≡ true
 find_passes p [] x e = absurd cc
-find_passes p (y ∷ ys) x e =
-    elim (cases_Bool (p y)) [
-      | inl t ↦ let e2 = rw t at e in let same : y ≡ x = cc in rw (← same) t
-      | inr f ↦ find_passes p ys x (rw f at e)
-    ]
+find_passes p (y ∷ ys) x e = grind (arith, nat_tests, find_passes p ys x)
 
 pub find_all : {X : Type 0} (p q : X → Bool) (xs : List X) (x : X) → find p xs ≡ Some x → list_all q xs ≡ true → q x ≡ true
 find_all p q [] x e h = absurd cc
-find_all p q (y ∷ ys) x e h =
-    let both = and_parts (q y) (list_all q ys) h in
-    elim (cases_Bool (p y)) [
-      | inl t ↦ let e2 = rw t at e in let same : y ≡ x = cc in rw (← same) both.0
-      | inr f ↦ find_all p q ys x (rw f at e) both.1
-    ]
+find_all p q (y ∷ ys) x e h = grind (arith, nat_tests, find_all p q ys x, and_parts)
 
 pub find_none : {X : Type 0} (p q : X → Bool) (xs : List X) (x : X) → find p xs ≡ Some x → list_any q xs ≡ false → q x ≡ false
 find_none p q [] x e h = absurd cc
-find_none p q (y ∷ ys) x e h =
-    let both = or_parts (q y) (list_any q ys) h in
-    elim (cases_Bool (p y)) [
-      | inl t ↦ let e2 = rw t at e in let same : y ≡ x = cc in rw (← same) both.0
-      | inr f ↦ find_none p q ys x (rw f at e) both.1
-    ]
+find_none p q (y ∷ ys) x e h = grind (arith, nat_tests, find_none p q ys x, or_parts)
 
 pub find_any : {X : Type 0} (p : X → Bool) (xs : List X) → find p xs ≡ None → list_any p xs ≡ false
 find_any p [] e = refl
-find_any p (y ∷ ys) e =
-    elim (cases_Bool (p y)) [
-      | inl t ↦ absurd (let e2 = rw t at e in cc)
-      | inr f ↦ rw f (find_any p ys (rw f at e))
-    ]
+find_any p (y ∷ ys) e = grind (arith, nat_tests, find_any p ys)
 
 pub find_skip : {X : Type 0} (p : X → Bool) (xs ys : List X) (y : X) → list_any p xs ≡ false → p y ≡ true → find p (xs ++ y ∷ ys) ≡ Some y
 find_skip p [] ys y h t = rw t refl

@@ -1,5 +1,6 @@
 -- Each line keeps what is read well formed.
-use Rattle.workload_file.proofs.Cited.{◌≡◌, ℕ, ◌+◌, ◌≤◌, ◌<◌, List, [], ◌∷◌, ◌++◌, length, Bool, true, false, not, cond, eqb, Option, Some, refl, sym, ap, arith, inl, inr, append_assoc, ◌&&◌, None, Ok, subst, ◌∙◌, ◌⊎◌, map, is_some, IfSome, AllByRecursion, list_any, flat_map, position_or_len, list_all, bytes_eq, or_parts, or_from, eqb-true, cases_Bool, lt-ltb, le-leb, not-false, leb-false, ne_eqb, append-nil, length_push, map-append, NodeSettings, Word, Naming, Deed, Statement, Part, Reading, is_name, row, naming, fields, deed_spelled, word_for, used_place, values, used_with, setting_values, is_begin, number_in, Spelled, is_called, bound_at, is_taken, is_misplaced, place_of, has_second, name_in, options_in, use_in, is_unbound, is_ninth_caller, finished, with_change, line_gives, line_adds, lines_add, start, workload_of, with_setting, usual_settings, bound_name, values_in, settings_by, or_zero, AllFit, IsBoundAt, has_name, IsNew, IsStatement, AreStatements, begins, IsPart, IsMain, IsFurther, MainFirst, HaveDifferentNames, statement_lines, Rise, line_if_any, part_lines, WellFormed, Workload, Change, between}
+use Rattle.std.proofs.lemmas.Bool.Decides.{nat_tests}
+use Rattle.workload_file.proofs.Cited.{◌≡◌, ℕ, ◌+◌, ◌≤◌, ◌<◌, List, [], ◌∷◌, ◌++◌, length, Bool, true, false, not, cond, Option, Some, refl, sym, ap, arith, inl, inr, append_assoc, ◌&&◌, None, Ok, subst, ◌∙◌, ◌⊎◌, map, is_some, IfSome, AllByRecursion, list_any, flat_map, position_or_len, list_all, bytes_eq, or_parts, or_from, eqb-true, lt-ltb, le-leb, not-false, leb-false, ne_eqb, append-nil, length_push, map-append, NodeSettings, Word, Naming, Deed, Statement, Part, Reading, is_name, row, naming, fields, deed_spelled, word_for, used_place, values, used_with, setting_values, is_begin, number_in, Spelled, is_called, bound_at, is_taken, is_misplaced, place_of, has_second, name_in, options_in, use_in, is_unbound, is_ninth_caller, finished, with_change, line_gives, line_adds, lines_add, start, workload_of, with_setting, usual_settings, bound_name, values_in, settings_by, or_zero, AllFit, IsBoundAt, has_name, IsNew, IsStatement, AreStatements, begins, IsPart, IsMain, IsFurther, MainFirst, HaveDifferentNames, statement_lines, Rise, line_if_any, part_lines, WellFormed, Workload, Change, between}
 use Rattle.workload_file.specs.declared.table.Word.TheVariants as word
 use Rattle.workload_file.specs.declared.table.Naming.TheVariants as rule
 use Rattle.workload_file.specs.declared.workload.Deed.TheVariants as deed
@@ -26,8 +27,7 @@ main_last [] p q h m f = (m refl h.0, tt)
 main_last (b ∷ bs) p q h m f = (h.0, last_all IsFurther bs p q h.1 (f (omega arith)))
 
 pub main_push : (xs : List Part) (p q : Part) → MainFirst (xs ++ p ∷ []) → IsFurther q → MainFirst ((xs ++ p ∷ []) ++ q ∷ [])
-main_push [] p q h f = (h.0, (f, tt))
-main_push (x ∷ xs) p q h f = (h.0, push_all IsFurther (xs ++ p ∷ []) q h.1 f)
+main_push xs p q e1 e2 = grind (arith, nat_tests, push_all)
 
 pub any_push : {X : Type 0} (t : X → Bool) (xs : List X) (y : X) → list_any t xs ≡ false → t y ≡ false → list_any t (xs ++ y ∷ []) ≡ false
 any_push t [] y h e = or_from (t y) false e refl
@@ -43,9 +43,7 @@ names_last (x ∷ xs) p q e h = (any_last x.name xs p q e h.0, names_last xs p q
 
 pub names_push : (xs : List Part) (q : Part) → HaveDifferentNames xs → list_any (λ p. bytes_eq p.name q.name) xs ≡ false → HaveDifferentNames (xs ++ q ∷ [])
 names_push [] q h e = (refl, tt)
-names_push (x ∷ xs) q h e =
-    let both = or_parts (bytes_eq x.name q.name) (list_any (λ p. bytes_eq p.name q.name) xs) e in
-    (any_push (λ p. bytes_eq x.name p.name) xs q h.0 both.0, names_push xs q h.1 both.1)
+names_push (x ∷ xs) q h e = grind (arith, nat_tests, names_push xs q h.1, or_parts, bytes_eq, any_push)
 
 pub begins_push : (xs : List Statement) (s : Statement) → begins (xs ++ s ∷ []) ≡ begins xs + cond (is_begin s.deed) 1 0
 begins_push [] s = omega arith
@@ -102,29 +100,17 @@ no_name e = cc
 
 -- the words behind the first one are the name and the options
 pub splits : (n : Naming) (rest : List (List ℕ)) → (has_second n && not (is_name (name_in n rest))) ≡ false → rest ≡ named n (name_in n rest) ++ options_in n rest
-splits rule.Bare [] h = refl
-splits rule.Bare (x ∷ xs) h = refl
-splits _ [] h = absurd (no_name (not-false (is_name []) h))
-splits _ (x ∷ xs) h = refl
+splits n rest e1 = grind (arith, nat_tests, no_name, not-false, is_name)
 
 unbound_any : (name : List ℕ) (xs : List Statement) → is_some (bound_at name xs) ≡ false → list_any (λ s. is_called name s.name) xs ≡ false
-unbound_any name xs h =
-    elim (cases_Bool (list_any (λ s. is_called name s.name) xs)) [
-      | inl t ↦ absurd (
-          let lt = any_place (λ (s : Statement). is_called name s.name) xs t in
-          let e : bound_at name xs ≡ Some (position_or_len (λ s. is_called name s.name) xs) = rw (lt-ltb _ _ lt) refl in
-          let g = rw e at h in cc)
-      | inr f ↦ f
-    ]
+unbound_any name xs e1 = grind (arith, nat_tests, is_called, any_place, bound_at, position_or_len, lt-ltb)
 
 bound_named : (n : Naming) (name : List ℕ) → is_some (bound_name n name) ≡ has_name n
-bound_named (rule.Binds s) name = refl
-bound_named _ name = refl
+bound_named n name = grind (arith, nat_tests)
 
 new_name : (r : Reading) (n : Naming) (name : List ℕ) → (has_second n && not (is_name name)) ≡ false → is_taken r n name ≡ false → IfSome (bound_name n name) (IsNew r.current.statements)
 unfolding is_taken
-new_name r (rule.Binds s) name h f = (not-false (is_name name) h, unbound_any name r.current.statements f)
-new_name r _ name h f = tt
+new_name r n name e1 e2 = grind (arith, nat_tests, not-false, is_name, unbound_any)
 
 -- the name that a statement uses is bound
 pub use_is : (before : List Statement) (n : Naming) (name : List ℕ) → is_unbound n (use_in before n name) ≡ false → IfSome (used_with n (place_at n (or_zero (use_in before n name)))) (λ u. IsBoundAt u.0 before u.1)
@@ -147,26 +133,17 @@ deed_given r first rest w name options h read =
     (record { word = ap (λ (x : Spelled). x.word) is; used = ap (λ (x : Spelled). x.place) is; bound = use_is (here r) (naming w) name read.bound; fits = rw same are.0 }, same)
 
 pub statement_formed : (r : Reading) (line : ℕ) (first : List ℕ) (rest : List (List ℕ)) (w : Word) (name : List ℕ) (options : List (List ℕ)) (place : Option ℕ) (d : Deed) → IsRead r first rest w name options → IsGiven r.current.statements w place d → IsStatement r.current.statements (made line w name d)
-statement_formed r line first rest w name options place d read g = record {
-  named = rw g.word (bound_named (naming w) name);
-  name = new_name r (naming w) name read.named read.free;
-  uses = rw (g.word, g.used) g.bound;
-  options = rw g.word g.fits;
-}
+statement_formed r line first rest w name options place d e1 e2 = grind (arith, nat_tests, bound_named, new_name)
 
 -- ---- begin
 
 pub begin_word : (d : Deed) → is_begin d ≡ true → word_for d ≡ word.Begin
 unfolding is_begin deed_spelled
-begin_word deed.Begin h = refl
-begin_word _ h = absurd cc
+begin_word d e1 = grind (arith, nat_tests)
 
 pub begin_free : (r : Reading) (w : Word) → w ≡ word.Begin → is_misplaced r w ≡ false → (length r.before ≡ 0) × (begins r.current.statements ≡ 0)
 unfolding is_misplaced
-begin_free r w e h =
-    let g = rw e at h in
-    let both = or_parts (not (eqb (length r.before) 0)) (list_any (λ s. is_begin s.deed) r.current.statements) g in
-    (eqb-true (length r.before) 0 (not-false _ both.0), no_begins r.current.statements both.1)
+begin_free r w e1 e2 = grind (arith, nat_tests, or_parts, is_begin, eqb-true, not-false, no_begins)
 
 -- ---- node
 
@@ -245,21 +222,12 @@ abbrev with_caller : Reading → ℕ → List ℕ → Reading
 with_caller r line name = record r { before = r.before ++ r.current ∷ []; current = new_part line name; count = r.count + 1 }
 
 lines_caller : (r : Reading) (line : ℕ) (name : List ℕ) → 1 ≤ line → lines_so_far (with_caller r line name) ≡ lines_so_far r ++ line ∷ []
-lines_caller r line name le =
-    let b = flat_push part_lines (r.before ++ r.current ∷ []) (new_part line name) in
-    rw (b, line_there line le, append-nil) (sym (append_assoc (line_if_any r.node_line) (flat_map part_lines (r.before ++ r.current ∷ [])) (line ∷ [])))
+lines_caller r line name e1 = grind (arith, nat_tests, flat_push, part_lines, line_there, append-nil, line_if_any, flat_map)
 
 -- ---- a statement
 
 begins_more : (r : Reading) (w : Word) (s : Statement) → word_for s.deed ≡ w → is_misplaced r w ≡ false → (begins (r.current.statements ++ s ∷ []) ≡ begins r.current.statements) ⊎ ((length r.before ≡ 0) × (begins (r.current.statements ++ s ∷ []) ≡ 1))
-begins_more r w s is placed =
-    let more = begins_push r.current.statements s in
-    elim (cases_Bool (is_begin s.deed)) [
-      | inl t ↦
-          let free = begin_free r w (sym is ∙ begin_word s.deed t) placed in
-          inr (free.0, more ∙ rw (t, free.1) refl)
-      | inr f ↦ inl (more ∙ rw f (omega arith))
-    ]
+begins_more r w s e1 e2 = grind (arith, nat_tests, begins_push, is_begin, begin_free, begin_word)
 
 statement_keeps : (r : Reading) (line : ℕ) (first : List ℕ) (rest : List (List ℕ)) (w : Word) (name : List ℕ) (options : List (List ℕ)) (place : Option ℕ) (d : Deed) → IsFormed r line → 1 ≤ line → IsRead r first rest w name options → IsGiven r.current.statements w place d → IsFormed (with_statement r (made line w name d)) (line + 1)
 statement_keeps r line first rest w name options place d f le read g =
@@ -369,9 +337,7 @@ adds_keeps r s line text f le e =
 lines_keep : (texts : List (List ℕ)) (r s : Reading) (line : ℕ) → IsFormed r line → 1 ≤ line → lines_add r line texts ≡ Ok s → (end : ℕ) × IsFormed s end
 unfolding lines_add
 lines_keep [] r s line f le e = (line, subst (λ (x : Reading). IsFormed x line) (ok_is r s e) f)
-lines_keep (text ∷ texts) r s line f le e =
-    let b = bind_ok (line_adds r line text) _ s e in
-    lines_keep texts b.0 s (line + 1) (adds_keeps r b.0 line text f le b.1) (omega arith) b.2
+lines_keep (text ∷ texts) r s line f le e = grind (arith, nat_tests, lines_keep texts, bind_ok, line_adds, adds_keeps)
 
 usual_fit : AllFit [] (fields word.Node) (setting_values usual_settings)
 unfolding row
@@ -379,30 +345,10 @@ usual_fit = ((omega arith, omega arith), ((omega arith, omega arith), ((omega ar
 
 pub start_formed : IsFormed start 1
 unfolding start is_name
-start_formed = record {
-  callers = omega arith;
-  main = (record { line = refl; name = refl; begin = omega arith }, tt);
-  names = (refl, tt);
-  parts = (record { name = refl; statements = tt }, tt);
-  count = refl;
-  few = omega arith;
-  rise = tt;
-  below = tt;
-  usual = λ e. refl;
-  settings = usual_fit;
-}
+start_formed = grind (arith, nat_tests, usual_fit)
 
 formed_load : (r : Reading) (line : ℕ) → IsFormed r line → WellFormed (finished r)
-formed_load r line f = record {
-  count = omega (arith, f.callers, length_push r.before r.current);
-  main = f.main;
-  names = f.names;
-  parts = f.parts;
-  statements = omega (arith, f.count, f.few);
-  lines = f.rise;
-  usual = f.usual;
-  settings = f.settings;
-}
+formed_load r line e1 = grind (arith, nat_tests, length_push)
 
 pub workload_formed : (bytes : List ℕ) (load : Workload) → workload_of bytes ≡ Ok load → WellFormed load
 unfolding workload_of

@@ -1,5 +1,6 @@
 -- The options that are written of values are options of the statement, and give the values.
-use Rattle.workload_file.proofs.Cited.{◌≡◌, ℕ, ◌-◌, ◌^◌, List, [], ◌∷◌, ◌++◌, Bool, true, false, Option, Some, None, refl, sym, ap, ◌<◌, eqb, subst, inl, inr, append_assoc, arith, length, length-append, AllByRecursion, list_any, find, list_all, bytes_eq, or_parts, eqb-true, and_from, and_parts, or_from, cases_Bool, lt-ltb, Key, Field, key_text, key_of, value_of, gives, text_of, field_of, is_known, has_twice, value_text, is_default, options_words, is_some, nat_lt, option_map, Shape, Absent, Value, Statement, value_given, value_absent, value_at, values_in}
+use Rattle.std.proofs.lemmas.Bool.Decides.{nat_tests}
+use Rattle.workload_file.proofs.Cited.{◌≡◌, ℕ, ◌-◌, List, [], ◌∷◌, ◌++◌, Bool, true, false, Option, Some, None, refl, sym, ap, ◌<◌, eqb, subst, inl, inr, append_assoc, arith, length, length-append, AllByRecursion, list_any, find, list_all, bytes_eq, or_parts, and_from, and_parts, or_from, cases_Bool, lt-ltb, Key, Field, key_text, key_of, value_of, gives, text_of, field_of, is_known, has_twice, value_text, is_default, options_words, is_some, nat_lt, option_map, Shape, Absent, Value, Statement, value_given, value_absent, value_at, values_in}
 use Rattle.workload_file.specs.declared.values.Value.TheVariants as given
 use Rattle.workload_file.specs.declared.table.Shape.TheVariants as shape
 use Rattle.workload_file.specs.declared.table.Absent.TheVariants as absent
@@ -25,9 +26,7 @@ free_push ws word k (g ∷ fs) e h f =
 
 pub text_skip : (k : Key) (xs ys : List (List ℕ)) (word text : List ℕ) → gives k xs ≡ false → key_of word ≡ key_text k → value_of word ≡ text → text_of k (xs ++ word ∷ ys) ≡ Some text
 unfolding text_of
-text_skip k xs ys word text h e v =
-    let t : bytes_eq (key_of word) (key_text k) ≡ true = rw e (bytes_same (key_text k)) in
-    rw (find_skip (λ (w : List ℕ). bytes_eq (key_of w) (key_text k)) xs ys word h t) (ap some v)
+text_skip k xs ys word text e1 e2 e3 = grind (arith, nat_tests, bytes_eq, key_of, key_text, bytes_same, find_skip)
 
 pub text_nothing : (k : Key) (xs ys : List (List ℕ)) → gives k xs ≡ false → gives k ys ≡ false → text_of k (xs ++ ys) ≡ None
 unfolding text_of
@@ -137,10 +136,7 @@ opts_words all before fs vs p h = all_opts is_word (IsField all) before fs vs (�
 no_key : (k : Key) (before : List Statement) (fs : List Field) (vs : List Value) → list_any (λ g. bytes_eq (key_text g.key) (key_text k)) fs ≡ false → AllWritten before fs vs → gives k (opts before fs vs) ≡ false
 no_key k before [] [] a h = rw (opts_none before) refl
 no_key k before (f ∷ fs) (v ∷ vs) a (left d shaped, h) = let both = or_parts _ _ a in rw (opts_left before f fs v vs d) (no_key k before fs vs both.1 h)
-no_key k before (f ∷ fs) (v ∷ vs) a (word d s, h) =
-    let both = or_parts _ _ a in
-    let o = option_is f.key (value_text before v) in
-    rw (opts_word before f fs v vs d, o.key) (or_from _ _ both.0 (no_key k before fs vs both.1 h))
+no_key k before (f ∷ fs) (v ∷ vs) a (word d s, h) = grind (arith, nat_tests, no_key k before fs vs, or_parts, option_is, value_text, opts_word, or_from)
 no_key k before [] (v ∷ vs) a h = absurd h
 no_key k before (f ∷ fs) [] a h = absurd h
 
@@ -159,12 +155,7 @@ opts_once before (f ∷ fs) [] a h = absurd h
 -- an option that is left out gives its default
 default_value : (a : Absent) (s : Shape) (v : Value) → is_good a s ≡ true → is_default a v ≡ true → is_shaped s v ≡ true → value_absent a s ≡ v
 unfolding value_absent is_default
-default_value absent.Usual shape.Args (given.Args []) good d shaped = refl
-default_value absent.Usual shape.Cores (given.Cores mask) good d shaped = ap (λ (x : ℕ). given.Cores (record { 0 = x })) (sym (eqb-true mask.0 (2 ^ 64 - 1) d))
-default_value absent.Usual shape.Flag (given.Flag false) good d shaped = refl
-default_value absent.Usual (shape.Named sort) (given.Place None) good d shaped = refl
-default_value (absent.Number n) (shape.Number low high) (given.Number m) good d shaped = ap (λ (x : ℕ). given.Number x) (sym (eqb-true m n d))
-default_value _ _ _ good d shaped = absurd cc
+default_value a s v e1 e2 e3 = grind (arith, nat_tests)
 
 -- the values that are written are read again
 pub values_from : (before : List Statement) (ws : List (List ℕ)) (fs : List Field) (vs : List Value) → AllWritten before fs vs → AreApart fs → AllByRecursion (λ f. is_good f.absent f.shape ≡ true) fs → Free ws fs → values_in before (ws ++ opts before fs vs) fs ≡ vs

@@ -1,5 +1,6 @@
 -- Words that are joined are cut into the same words, and a line of fewer words is shorter.
-use Rattle.workload_file.proofs.Cited.{◌≡◌, ℕ, ◌+◌, ◌≤◌, List, [], ◌∷◌, ◌++◌, length, Bool, true, false, not, cond, ◌&&◌, eqb, refl, ap, ◌∙◌, arith, inl, inr, length-append, All, Result, Ok, sym, ◌-◌, replicate, Err, append_assoc, take, get_or, drop, ◌<◌, ◌⊎◌, nat_lt, filter, OnOk, AllByRecursion, list_all, join_with_byte, onto_first, flat_map, and_parts, and_from, cases_Bool, eq-eqb, eqb-true, not-true, ne_eqb, All-from_recursion, slice_split_at, slice_split_none, length-slice_split, join_with_byte-slice_split, between, led, words_of, is_printable, line_text, Line, if_any, laid_out, statement_lines_behind, statement_text, lines_of_part, joined, led_append, Bor, map-append, append-nil, take_all, take_more, replicate_more, texts, Reading, Fault, LineError, line_adds, lines_add, Fails, Statement, Part, last_line}
+use Rattle.std.proofs.lemmas.Bool.Decides.{nat_tests}
+use Rattle.workload_file.proofs.Cited.{◌≡◌, ℕ, ◌+◌, ◌≤◌, List, [], ◌∷◌, ◌++◌, length, Bool, true, false, not, cond, ◌&&◌, eqb, refl, ap, ◌∙◌, arith, length-append, All, Result, Ok, sym, ◌-◌, replicate, append_assoc, take, get_or, drop, ◌<◌, ◌⊎◌, nat_lt, filter, OnOk, AllByRecursion, list_all, join_with_byte, onto_first, flat_map, and_parts, and_from, eq-eqb, not-true, ne_eqb, All-from_recursion, slice_split_at, slice_split_none, length-slice_split, join_with_byte-slice_split, between, led, words_of, is_printable, line_text, Line, if_any, laid_out, statement_lines_behind, statement_text, lines_of_part, joined, led_append, Bor, map-append, append-nil, take_all, take_more, replicate_more, texts, Reading, Fault, LineError, line_adds, lines_add, Fails, Statement, Part, last_line}
 use Rattle.workload_file.specs.declared.faults.LineError.TheVariants as errors
 
 -- ---- what words consist of
@@ -19,31 +20,20 @@ Lacks byte text = AllByRecursion (λ b. eqb b byte ≡ false) text
 inner_lacks : (w : List ℕ) → list_all is_inner w ≡ true → Lacks 32 w
 unfolding Lacks
 inner_lacks [] h = tt
-inner_lacks (b ∷ bs) h =
-    let both = and_parts (is_inner b) (list_all is_inner bs) h in
-    let parts = and_parts (is_printable b) (not (eqb b 32)) both.0 in
-    (not-true (eqb b 32) parts.1, inner_lacks bs both.1)
+inner_lacks (b ∷ bs) h = grind (arith, nat_tests, inner_lacks bs, and_parts, is_printable, not-true)
 
 pub between_joined : (byte : ℕ) (first : List ℕ) (rest : List (List ℕ)) → AllByRecursion (Lacks byte) (first ∷ rest) → between byte (join_with_byte byte (first ∷ rest)) ≡ first ∷ rest
 unfolding Lacks
 between_joined byte first [] h = slice_split_none (λ b. eqb b byte) first (All-from_recursion (λ (b : ℕ). eqb b byte ≡ false) first h.0)
-between_joined byte first (next ∷ rest) h =
-    slice_split_at (λ b. eqb b byte) first byte (join_with_byte byte (next ∷ rest)) (All-from_recursion (λ (b : ℕ). eqb b byte ≡ false) first h.0) (eq-eqb byte byte refl)
-    ∙ ap (λ (x : List (List ℕ)). first ∷ x) (between_joined byte next rest h.1)
+between_joined byte first (next ∷ rest) h = grind (arith, nat_tests, between_joined byte next rest h.1, slice_split_at, join_with_byte, All-from_recursion, eq-eqb)
 
 words_lack : (ws : List (List ℕ)) → list_all is_word ws ≡ true → AllByRecursion (Lacks 32) ws
 words_lack [] h = tt
-words_lack (w ∷ ws) h =
-    let both = and_parts (is_word w) (list_all is_word ws) h in
-    let parts = and_parts (nat_lt 0 (length w)) (list_all is_inner w) both.0 in
-    (inner_lacks w parts.1, words_lack ws both.1)
+words_lack (w ∷ ws) h = grind (arith, nat_tests, words_lack ws, and_parts, nat_lt, inner_lacks)
 
 filter_words : (ws : List (List ℕ)) → list_all is_word ws ≡ true → filter (λ w. nat_lt 0 (length w)) ws ≡ ws
 filter_words [] h = refl
-filter_words (w ∷ ws) h =
-    let both = and_parts (is_word w) (list_all is_word ws) h in
-    let parts = and_parts (nat_lt 0 (length w)) (list_all is_inner w) both.0 in
-    rw parts.0 (ap (λ (x : List (List ℕ)). w ∷ x) (filter_words ws both.1))
+filter_words (w ∷ ws) h = grind (arith, nat_tests, filter_words ws, and_parts, nat_lt)
 
 pub words_again : (first : List ℕ) (rest : List (List ℕ)) → list_all is_word (first ∷ rest) ≡ true → words_of (line_text (first ∷ rest)) ≡ first ∷ rest
 unfolding words_of
@@ -57,24 +47,15 @@ all_append q (x ∷ xs) ys h k = let both = and_parts (q x) (list_all q xs) h in
 
 pub all_parts : {X : Type 0} (q : X → Bool) (xs ys : List X) → list_all q (xs ++ ys) ≡ true → (list_all q xs ≡ true) × (list_all q ys ≡ true)
 all_parts q [] ys h = (refl, h)
-all_parts q (x ∷ xs) ys h =
-    let both = and_parts (q x) (list_all q (xs ++ ys)) h in
-    let rest = all_parts q xs ys both.1 in
-    (and_from _ _ both.0 rest.0, rest.1)
+all_parts q (x ∷ xs) ys h = grind (arith, nat_tests, all_parts q xs ys, and_parts, and_from)
 
 inner_printable : (w : List ℕ) → list_all is_inner w ≡ true → list_all is_printable w ≡ true
 inner_printable [] h = refl
-inner_printable (b ∷ bs) h =
-    let both = and_parts (is_inner b) (list_all is_inner bs) h in
-    let parts = and_parts (is_printable b) (not (eqb b 32)) both.0 in
-    and_from _ _ parts.0 (inner_printable bs both.1)
+inner_printable (b ∷ bs) h = grind (arith, nat_tests, inner_printable bs, and_parts, is_printable, and_from)
 
 led_printable : (ws : List (List ℕ)) → list_all is_word ws ≡ true → list_all is_printable (led 32 ws) ≡ true
 led_printable [] h = refl
-led_printable (w ∷ ws) h =
-    let both = and_parts (is_word w) (list_all is_word ws) h in
-    let parts = and_parts (nat_lt 0 (length w)) (list_all is_inner w) both.0 in
-    all_append is_printable w (led 32 ws) (inner_printable w parts.1) (led_printable ws both.1)
+led_printable (w ∷ ws) h = grind (arith, nat_tests, led_printable ws, and_parts, nat_lt, all_append, is_printable, inner_printable)
 
 pub line_printable : (first : List ℕ) (rest : List (List ℕ)) → list_all is_word (first ∷ rest) ≡ true → list_all is_printable (line_text (first ∷ rest)) ≡ true
 line_printable first rest h =
@@ -83,11 +64,7 @@ line_printable first rest h =
     rw (joined 32 first rest) (all_append is_printable first (led 32 rest) (inner_printable first parts.1) (led_printable rest both.1))
 
 printable_byte : (b : ℕ) → is_printable b ≡ true → eqb b 10 ≡ false
-printable_byte b h =
-    elim (cases_Bool (eqb b 10)) [
-      | inl t ↦ absurd (let e = eqb-true b 10 t in let g = rw e at h in cc)
-      | inr f ↦ f
-    ]
+printable_byte b e1 = grind (arith, nat_tests)
 
 printable_each : (text : List ℕ) → list_all is_printable text ≡ true → AllByRecursion (λ b. eqb b 10 ≡ false) text
 printable_each [] h = tt
@@ -99,29 +76,22 @@ printable_lacks text h = All-from_recursion (λ (b : ℕ). eqb b 10 ≡ false) t
 -- ---- the words of a line
 
 onto_inner : (b : ℕ) (parts : List (List ℕ)) → is_inner b ≡ true → list_all (λ w. list_all is_inner w) parts ≡ true → list_all (λ w. list_all is_inner w) (onto_first b parts) ≡ true
-onto_inner b [] i h = and_from _ _ (and_from _ _ i refl) refl
-onto_inner b (w ∷ ws) i h = let both = and_parts (list_all is_inner w) (list_all (λ w. list_all is_inner w) ws) h in and_from _ _ (and_from _ _ i both.0) both.1
+onto_inner b parts e1 e2 = grind (arith, nat_tests)
 
 -- one byte more, which ends a piece or stands before the first one
 one_more : (b : ℕ) (parts : List (List ℕ)) (ends : Bool) → (ends ≡ false → is_inner b ≡ true) → list_all (λ w. list_all is_inner w) parts ≡ true → list_all (λ w. list_all is_inner w) (cond ends ([] ∷ parts) (onto_first b parts)) ≡ true
-one_more b parts true i h = h
-one_more b parts false i h = onto_inner b parts (i refl) h
+one_more b parts ends e1 e2 = grind (arith, nat_tests)
 
 pieces_inner : (text : List ℕ) → list_all is_printable text ≡ true → list_all (λ w. list_all is_inner w) (between 32 text) ≡ true
 pieces_inner [] h = refl
-pieces_inner (b ∷ bs) h =
-    let both = and_parts (is_printable b) (list_all is_printable bs) h in
-    one_more b (between 32 bs) (eqb b 32) (λ (f : eqb b 32 ≡ false). and_from _ _ both.0 (ap not f)) (pieces_inner bs both.1)
+pieces_inner (b ∷ bs) h = grind (arith, nat_tests, pieces_inner bs, and_parts, is_printable, one_more, and_from)
 
 kept_word : (w : List ℕ) (ws : List (List ℕ)) (keep : Bool) → (keep ≡ true → is_word w ≡ true) → list_all is_word ws ≡ true → list_all is_word (cond keep (w ∷ ws) ws) ≡ true
-kept_word w ws true g h = and_from _ _ (g refl) h
-kept_word w ws false g h = h
+kept_word w ws keep e1 e2 = grind (arith, nat_tests)
 
 kept_words : (ws : List (List ℕ)) → list_all (λ w. list_all is_inner w) ws ≡ true → list_all is_word (filter (λ w. nat_lt 0 (length w)) ws) ≡ true
 kept_words [] h = refl
-kept_words (w ∷ ws) h =
-    let both = and_parts (list_all is_inner w) (list_all (λ w. list_all is_inner w) ws) h in
-    kept_word w (filter (λ w. nat_lt 0 (length w)) ws) (nat_lt 0 (length w)) (λ (t : nat_lt 0 (length w) ≡ true). and_from _ _ t both.0) (kept_words ws both.1)
+kept_words (w ∷ ws) h = grind (arith, nat_tests, kept_words ws, and_parts, kept_word, nat_lt, and_from)
 
 -- the words of a printable line
 pub words_good : (text : List ℕ) → list_all is_printable text ≡ true → list_all is_word (words_of text) ≡ true
@@ -135,13 +105,7 @@ led_length byte first rest = rw (joined byte first rest) (omega arith)
 
 filter_shorter : (p : List ℕ → Bool) (xs : List (List ℕ)) → length (led 32 (filter p xs)) ≤ length (led 32 xs)
 filter_shorter p [] = omega arith
-filter_shorter p (x ∷ xs) =
-    let rest = filter_shorter p xs in
-    let whole : length (led 32 (x ∷ xs)) ≡ length x + length (led 32 xs) + 1 = omega (arith, length-append x (led 32 xs)) in
-    elim (cases_Bool (p x)) [
-      | inl t ↦ rw t (omega (arith, whole, rest, length-append x (led 32 (filter p xs))))
-      | inr f ↦ rw f (omega (arith, whole, rest))
-    ]
+filter_shorter p (x ∷ xs) = grind (arith, nat_tests, filter_shorter p xs, length-append)
 
 between_led : (byte : ℕ) (ws : List (List ℕ)) (text : List ℕ) → 1 ≤ length ws → join_with_byte byte ws ≡ text → length (led byte ws) ≡ length text + 1
 between_led byte [] text h e = absurd (omega arith)
@@ -167,8 +131,7 @@ lines_more r s line text texts total e h = rw e at h
 
 pub lines_end : (e : LineError) (r : Reading) (line : ℕ) (text : List ℕ) (texts : List (List ℕ)) (total : Result Reading Fault) → Fails e (line_adds r line text) → lines_add r line (text ∷ texts) ≡ total → Fails e total
 unfolding lines_add
-lines_end errors.Memory r line text texts total f h = tt
-lines_end (errors.Refused x) r line text texts total f h = sym (rw f at h)
+lines_end e r line text texts total e1 e2 = grind (arith, nat_tests)
 
 pub lines_done : (r : Reading) (line : ℕ) (total : Result Reading Fault) → lines_add r line [] ≡ total → total ≡ Ok r
 unfolding lines_add
@@ -210,8 +173,7 @@ pub line_more : (at line : ℕ) (text : List ℕ) (xs : List Line) → last_line
 line_more at line text xs = rw (last-append at xs ((line, text) ∷ [])) refl
 
 pub on_ok : {T E : Type 0} (r : Result T E) (P Q : Type 0) → (P → Q) → OnOk r P → OnOk r Q
-on_ok (Ok x) P Q f h = f h
-on_ok (Err e) P Q f h = tt
+on_ok r P Q e1 e2 = grind (arith, nat_tests)
 
 -- a line that may be absent
 pub no_line : (now text : List ℕ) (at line : ℕ) → line ≡ 0 → now ≡ now ++ laid_out at (if_any line text)
@@ -234,11 +196,7 @@ abbrev pub rest_of : {X : Type 0} → List X → List X
 rest_of xs = take (length xs - 1) (drop 1 xs)
 
 pub first_rest : {X : Type 0} (xs : List X) (d : X) → 1 ≤ length xs → xs ≡ get_or xs 0 d ∷ rest_of xs
-first_rest [] d h = absurd (omega arith)
-first_rest (x ∷ xs) d h =
-    let n : length (x ∷ xs) - 1 ≡ length xs = omega arith in
-    let same : take (length xs) xs ≡ xs = take_all (length xs) xs (omega arith) in
-    rw (n, same) refl
+first_rest xs d e1 = grind (arith, nat_tests, take_all)
 
 pub none_below : {X : Type 0} (xs : List X) → length xs < 1 → xs ≡ []
 none_below [] h = refl
@@ -269,5 +227,4 @@ fed_more first now out line at le a b =
     rw (b, a, n, ← more) (append_assoc first (replicate (at - line) 10) (10 ∷ []))
 
 pub fed_all : (first now : List ℕ) (line at to : ℕ) → (at ≤ to) ⊎ (at ≡ line) → to ≤ at → line ≤ at → now ≡ first ++ replicate (at - line) 10 → now ≡ first ++ replicate (to - line) 10
-fed_all first now line at to (inl le) ge from a = let n : at - line ≡ to - line = omega arith in rw (← n) a
-fed_all first now line at to (inr same) ge from a = let n : at - line ≡ to - line = omega arith in rw (← n) a
+fed_all first now line at to e1 e2 e3 e4 = grind (arith, nat_tests)

@@ -1,4 +1,5 @@
 -- Options at their places, and words that add nothing.
+use Rattle.std.proofs.lemmas.Bool.Decides.{nat_tests}
 use Rattle.workload_file.proofs.Cited.{◌≡◌, ℕ, zero, suc, ◌<◌, ◌≤◌, ◌+◌, ◌-◌, ◌⊎◌, List, [], ◌∷◌, ◌++◌, length, Bool, true, false, cond, eqb, Option, Some, None, Ok, is_some, refl, sym, ap, ◌∙◌, arith, inl, inr, map, get_or, take, drop, replicate, find, list_any, bytes_eq, option_map, or_parts, and_parts, and_from, cases_Bool, Field, Key, Word, Statement, Value, Reading, fields, key_text, key_of, value_of, text_of, field_of, is_known, has_twice, value_at, values_in, length-map, length-append, take_more, take_all, with_change, is_statement, is_comment, words_meet, word_causes, words_say}
 use Rattle.std.specs.Prelude.{set}
 use Rattle.std.proofs.lemmas.List.{length-drop, map-set}
@@ -17,8 +18,7 @@ use denote.Ref.{Bor}
 -- ---- a word that is a key, = and a value
 
 shut : (b : Bool) (x : List ℕ) → (b ≡ true → ⊥) → nothing (List ℕ) ≡ cond b (Some x) None
-shut true x h = absurd (h refl)
-shut false x h = refl
+shut b x e1 = grind (arith, nat_tests)
 
 whole : (k : Key) (word : List ℕ) → opens word (key_text k) ≡ true → word ≡ key_text k ++ 61 ∷ value_of word
 whole k word h =
@@ -66,9 +66,7 @@ opens_key k word text d is lt byte key =
 pub option_at : (fs : List Field) (word : List ℕ) (place : ℕ) (d : Field) → place < length fs → bytes_eq (key_text (get_or fs place d).key) (key_of word) ≡ true → (is_some (field_of fs word) ≡ true) × IsOptionAt fs word place
 option_at [] word place d lt e = absurd (omega (arith, lt))
 option_at (f ∷ fs) word zero d lt e = (rw e refl, bytes_are (key_text f.key) (key_of word) e)
-option_at (f ∷ fs) word (suc place) d lt e =
-    let rest = option_at fs word place d (omega (arith, lt)) e in
-    (elim (cases_Bool (bytes_eq (key_text f.key) (key_of word))) [ inl t ↦ rw t refl | inr n ↦ rw n rest.0 ], rest.1)
+option_at (f ∷ fs) word (suc place) d lt e = grind (arith, nat_tests, option_at fs word place d, bytes_eq, key_text, key_of)
 
 -- the word that the key opens gives the option at its place
 pub opened : (fs : List Field) (word value : List ℕ) (place : ℕ) (d : Field) → place < length fs → some value ≡ cond (opens word (key_text (get_or fs place d).key)) (Some (value_of word)) None → (true ≡ is_known fs word) × IsOptionAt fs word place
@@ -86,13 +84,7 @@ not_opened fs word place d lt before e =
 
 pub none_known : (fs : List Field) (word : List ℕ) → list_any (λ f. opens word (key_text f.key)) fs ≡ false → is_known fs word ≡ false
 none_known [] word h = elim (cases_Bool (list_any (λ b. eqb b 61) word)) [ inl t ↦ rw t refl | inr n ↦ rw n refl ]
-none_known (f ∷ fs) word h =
-    let both = or_parts (opens word (key_text f.key)) (list_any (λ g. opens word (key_text g.key)) fs) h in
-    let rest = none_known fs word both.1 in
-    elim (cases_Bool (list_any (λ b. eqb b 61) word)) [
-      | inl t ↦ let a = rw t at both.0 in let b = rw t at rest in rw (t, a) b
-      | inr n ↦ rw n refl
-    ]
+none_known (f ∷ fs) word h = grind (arith, nat_tests, none_known fs word, or_parts, key_text)
 
 pub option_below : (fs : List Field) (word : List ℕ) (place : ℕ) → IsOptionAt fs word place → place < length fs
 option_below [] word place h = absurd h
@@ -142,8 +134,7 @@ text_at (f ∷ fs) ws word zero at = rw (← at) (found_any (λ v. bytes_eq (key
 text_at (f ∷ fs) ws word (suc place) at = text_at fs ws word place at
 
 one_copied : (x : Option (Bor (List ℕ))) → is_some x ≡ is_some (option_copied x)
-one_copied None = refl
-one_copied (Some x) = refl
+one_copied x = grind (arith, nat_tests)
 
 copied_at : (xs : List (Option (Bor (List ℕ)))) (place : ℕ) (d : Option (Bor (List ℕ))) → place < length xs → is_some (get_or xs place d) ≡ is_some (get_or (map option_copied xs) place None)
 copied_at [] place d lt = absurd (omega (arith, lt))
@@ -154,15 +145,11 @@ pub texts_long : (xs : List (Option (Bor (List ℕ)))) (fs : List Field) (ws : L
 texts_long xs fs ws e = sym (length-map xs option_copied) ∙ (ap (λ (l : List (Option (List ℕ))). length l) e ∙ length-map fs (λ f. text_of f.key ws))
 
 given_twice : (xs : List (Option (Bor (List ℕ)))) (fs : List Field) (ws : List (List ℕ)) (word : List ℕ) (place : ℕ) (d : Option (Bor (List ℕ))) → map option_copied xs ≡ texts_in fs ws → IsOptionAt fs word place → is_some (get_or xs place d) ≡ list_any (λ v. bytes_eq (key_of v) (key_of word)) ws
-given_twice xs fs ws word place d e at =
-    let below = option_below fs word place at in
-    let long = texts_long xs fs ws e in
-    copied_at xs place d (omega (arith, below, long)) ∙ (ap (λ (l : List (Option (List ℕ))). is_some (get_or l place None)) e ∙ text_at fs ws word place at)
+given_twice xs fs ws word place d e1 e2 = grind (arith, nat_tests, option_below, texts_long, copied_at, text_at)
 
 either : (word : List ℕ) (ws : List (List ℕ)) (here twice rest : Bool) → here ≡ list_any (λ v. bytes_eq (key_of v) (key_of word)) ws → rest ≡ has_twice ws → ((here ≡ true) × (twice ≡ true)) ⊎ ((here ≡ false) × (twice ≡ rest)) → twice ≡ has_twice (word ∷ ws)
 unfolding has_twice
-either word ws here twice rest e f (inl h) = rw (h.1, ← e, h.0) refl
-either word ws here twice rest e f (inr h) = rw (h.1, ← e, h.0) f
+either word ws here twice rest e1 e2 e3 = grind (arith, nat_tests)
 
 -- ---- words as references
 
@@ -170,10 +157,7 @@ split : (words : List (Bor (List ℕ))) (d : Bor (List ℕ)) → 1 ≤ length wo
 split words d h = ap texts (first_rest words d h)
 
 pub place_low : (xs : List (Option (Bor (List ℕ)))) (n : ℕ) (words : List (Bor (List ℕ))) (word : List ℕ) (w : Word) (place : ℕ) → n ≡ length xs → map option_copied xs ≡ texts_in (fields w) (texts words) → IsOptionAt (fields w) word place → place < n
-place_low xs n words word w place e is at =
-    let below = option_below (fields w) word place at in
-    let long = texts_long xs (fields w) (texts words) is in
-    omega (arith, below, long, e)
+place_low xs n words word w place e1 e2 e3 = grind (arith, nat_tests, option_below, texts_long)
 
 pub given_more : (xs : List (Option (Bor (List ℕ)))) (words : List (Bor (List ℕ))) (d v : Bor (List ℕ)) (w : Word) (place : ℕ) → 1 ≤ length words → map option_copied xs ≡ texts_in (fields w) (texts (rest_of words)) → IsOptionAt (fields w) (get_or words 0 d).now place → v.now ≡ value_of (get_or words 0 d).now → map option_copied (set xs place (Some v)) ≡ texts_in (fields w) (texts words)
 given_more xs words d v w place some is at value =

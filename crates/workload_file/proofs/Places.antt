@@ -1,5 +1,6 @@
 -- The index of a part's names, and the places at which the names are bound.
-use Rattle.workload_file.proofs.Cited.{◌≡◌, ℕ, ◌+◌, ◌<◌, ◌≤◌, List, [], ◌∷◌, ◌++◌, Bool, true, false, cond, eqb, length, Option, Some, None, is_some, not, refl, ap, arith, inl, inr, pow_mono, pow-add, ◌*◌, ◌-◌, ◌^◌, get_or, take, drop, take_all, ◌&&◌, ◌||◌, sym, ◌∙◌, nat_lt, nat_le, length_push, position_or_len, list_all, bytes_eq, bytes_eq-Decides, position_or_len_push, cases_Bool, lt-ltb, le-ltb, ltb-true, ltb-false, eq-eqb, ne_eqb, cases_eq, leb-true, and_parts, or_cases, eqb-true, Statement, bound_at, is_called, first_of_two, nat_cmp, is_eq, unsigned_tied, is_name, is_name_byte, is_letter, begins_with_letter}
+use Rattle.std.proofs.lemmas.Bool.Decides.{nat_tests}
+use Rattle.workload_file.proofs.Cited.{◌≡◌, ℕ, ◌+◌, ◌<◌, ◌≤◌, List, [], ◌∷◌, ◌++◌, Bool, true, false, cond, eqb, length, Option, Some, None, is_some, not, refl, arith, inl, inr, pow_mono, pow-add, ◌*◌, ◌-◌, ◌^◌, get_or, take, drop, take_all, sym, ◌∙◌, nat_lt, nat_le, length_push, position_or_len, list_all, bytes_eq, bytes_eq-Decides, position_or_len_push, cases_Bool, eq-eqb, and_parts, eqb-true, Statement, bound_at, is_called, first_of_two, nat_cmp, is_eq, unsigned_tied, is_name, is_name_byte, begins_with_letter}
 use Rattle.workload_file.specs.Indexed.{key_of}
 
 pub bytes_are : (xs ys : List ℕ) → bytes_eq xs ys ≡ true → xs ≡ ys
@@ -11,17 +12,10 @@ bytes_same xs = (bytes_eq-Decides xs xs).1 refl
 -- ---- the place at which a name is bound, after one more statement
 
 push_end : (p : Bool) (i len : ℕ) → i ≡ len → first_of_two (cond (nat_lt i len) (Some i) None) (cond p (Some len) None) ≡ cond (nat_lt (cond (eqb i len) (len + cond p 0 1) i) (len + 1)) (Some (cond (eqb i len) (len + cond p 0 1) i)) None
-push_end true i len e = rw (e, le-ltb len len (omega arith), eq-eqb len len refl, lt-ltb (len + 0) (len + 1) (omega arith)) (ap Some (omega arith))
-push_end false i len e = rw (e, le-ltb len len (omega arith), eq-eqb len len refl, le-ltb (len + 1) (len + 1) (omega arith)) refl
+push_end p i len e1 = grind (arith, nat_tests)
 
 push_place : (p : Bool) (i len : ℕ) → i ≤ len → first_of_two (cond (nat_lt i len) (Some i) None) (cond p (Some len) None) ≡ cond (nat_lt (cond (eqb i len) (len + cond p 0 1) i) (len + 1)) (Some (cond (eqb i len) (len + cond p 0 1) i)) None
-push_place p i len le =
-    elim (cases_eq i len) [
-      | inl e ↦ push_end p i len e
-      | inr n ↦
-          let lt : i < len = omega arith in
-          rw (lt-ltb i len lt, ne_eqb i len n, lt-ltb i (len + 1) (omega arith)) refl
-    ]
+push_place p i len e1 = grind (arith, nat_tests)
 
 position_le : {X : Type 0} (p : X → Bool) (xs : List X) → position_or_len p xs ≤ length xs
 position_le p [] = omega arith
@@ -48,12 +42,10 @@ key_empty (b ∷ bs) h = absurd (omega (arith, h))
 
 pub key_more : (text : List ℕ) → 1 ≤ length text → get_or text 0 0 + 256 * key_of (take (length text - 1) (drop 1 text)) ≡ key_of text
 unfolding key_of
-key_more [] h = absurd (omega (arith, h))
-key_more (b ∷ bs) h = ap (λ (rest : List ℕ). b + 256 * key_of rest) (take_all (length (b ∷ bs) - 1) bs (omega arith))
+key_more text e1 = grind (arith, nat_tests, key_of, take_all)
 
 one_less : (text : List ℕ) → 1 ≤ length text → length (take (length text - 1) (drop 1 text)) + 1 ≡ length text
-one_less [] h = absurd (omega (arith, h))
-one_less (b ∷ bs) h = let all : take (length (b ∷ bs) - 1) bs ≡ bs = take_all (length (b ∷ bs) - 1) bs (omega arith) in rw all (omega arith)
+one_less text e1 = grind (arith, nat_tests, take_all)
 
 -- one digit more
 pub key_next : (text : List ℕ) (first rest : ℕ) → 1 ≤ length text → first < 256 → rest < 2 ^ (8 * length (take (length text - 1) (drop 1 text))) → first + 256 * rest < 2 ^ (8 * length text)
@@ -71,9 +63,7 @@ key_wide n k high fits = let most : 2 ^ (8 * n) ≤ 2 ^ 128 = pow_mono {i = 8 * 
 
 pub name_short : (text : List ℕ) → is_name text ≡ true → length text ≤ 16
 unfolding is_name
-name_short text h =
-    let a = and_parts (begins_with_letter text && nat_le (length text) 16) (list_all is_name_byte text) h in
-    leb-true (length text) 16 (and_parts (begins_with_letter text) (nat_le (length text) 16) a.0).1
+name_short text e1 = grind (arith, nat_tests)
 
 -- a byte of a name is a digit to base 256, and not 0
 record IsDigit (b : ℕ) : Type 0 where
@@ -81,35 +71,18 @@ record IsDigit (b : ℕ) : Type 0 where
   below : b < 256
 
 digit : (b : ℕ) → is_name_byte b ≡ true → IsDigit b
-digit b h =
-    elim (or_cases (is_letter b || (nat_le 48 b && nat_le b 57)) (eqb b 95) h) [
-      | inl first ↦ elim (or_cases (is_letter b) (nat_le 48 b && nat_le b 57) first) [
-        | inl letter ↦ let both = and_parts (nat_le 97 b) (nat_le b 122) letter in let low = leb-true 97 b both.0 in let high = leb-true b 122 both.1 in record { above = omega arith; below = omega arith }
-        | inr number ↦ let both = and_parts (nat_le 48 b) (nat_le b 57) number in let low = leb-true 48 b both.0 in let high = leb-true b 57 both.1 in record { above = omega arith; below = omega arith }
-      ]
-      | inr line ↦ let e = eqb-true b 95 line in record { above = omega arith; below = omega arith }
-    ]
+digit b e1 = grind (arith, nat_tests)
 
 digits_same : (xs ys : List ℕ) → list_all is_name_byte xs ≡ true → list_all is_name_byte ys ≡ true → key_of xs ≡ key_of ys → xs ≡ ys
 unfolding key_of
 digits_same [] [] h k e = refl
 digits_same [] (y ∷ ys) h k e = let d = digit y (and_parts (is_name_byte y) (list_all is_name_byte ys) k).0 in absurd (omega (arith, d.above, e))
 digits_same (x ∷ xs) [] h k e = let d = digit x (and_parts (is_name_byte x) (list_all is_name_byte xs) h).0 in absurd (omega (arith, d.above, e))
-digits_same (x ∷ xs) (y ∷ ys) h k e =
-    let a = and_parts (is_name_byte x) (list_all is_name_byte xs) h in
-    let b = and_parts (is_name_byte y) (list_all is_name_byte ys) k in
-    let c = digit x a.0 in
-    let d = digit y b.0 in
-    let first : x ≡ y = omega (arith, c.below, d.below, e) in
-    let rest : key_of xs ≡ key_of ys = omega (arith, c.below, d.below, e) in
-    rw (first, digits_same xs ys a.1 b.1 rest) refl
+digits_same (x ∷ xs) (y ∷ ys) h k e = grind (arith, nat_tests, digits_same xs ys, and_parts, is_name_byte, digit, key_of)
 
 names_same : (xs ys : List ℕ) → is_name xs ≡ true → is_name ys ≡ true → key_of xs ≡ key_of ys → xs ≡ ys
 unfolding is_name
-names_same xs ys h k e =
-    let a = and_parts (begins_with_letter xs && nat_le (length xs) 16) (list_all is_name_byte xs) h in
-    let b = and_parts (begins_with_letter ys && nat_le (length ys) 16) (list_all is_name_byte ys) k in
-    digits_same xs ys a.1 b.1 e
+names_same xs ys e1 e2 e3 = grind (arith, nat_tests, and_parts, begins_with_letter, nat_le, is_name_byte, digits_same)
 
 cmp_eq : (k l : ℕ) → is_eq (nat_cmp k l) ≡ true → k ≡ l
 cmp_eq k l h = eqb-true k l (sym (unsigned_tied k l) ∙ h)
@@ -131,24 +104,16 @@ apart : (key k : ℕ) → (key ≡ k → ⊥) → is_eq (nat_cmp key k) ≡ fals
 apart key k differ = elim (cases_Bool (is_eq (nat_cmp key k))) [ inl t ↦ absurd (differ (cmp_eq key k t)) | inr f ↦ f ]
 
 pub put_short : (key k place : ℕ) (new old long : Option ℕ) → key < 2 ^ 64 → new ≡ cond (is_eq (nat_cmp key k)) (Some place) old → cond (nat_lt k (2 ^ 64)) new long ≡ cond (is_eq (nat_cmp key k)) (Some place) (cond (nat_lt k (2 ^ 64)) old long)
-put_short key k place new old long low e = elim (cases_Bool (nat_lt k (2 ^ 64))) [
-  | inl t ↦ rw t e
-  | inr f ↦ let high : 2 ^ 64 ≤ k = ltb-false k (2 ^ 64) f in rw (f, apart key k (λ (same : key ≡ k). omega (arith, same, low, high))) refl
-]
+put_short key k place new old long e1 e2 = grind (arith, nat_tests)
 
 pub put_long : (key k place : ℕ) (new old short : Option ℕ) → 2 ^ 64 ≤ key → new ≡ cond (is_eq (nat_cmp key k)) (Some place) old → cond (nat_lt k (2 ^ 64)) short new ≡ cond (is_eq (nat_cmp key k)) (Some place) (cond (nat_lt k (2 ^ 64)) short old)
-put_long key k place new old short high e = elim (cases_Bool (nat_lt k (2 ^ 64))) [
-  | inl t ↦ let low : k < 2 ^ 64 = ltb-true k (2 ^ 64) t in rw (t, apart key k (λ (same : key ≡ k). omega (arith, same, low, high))) refl
-  | inr f ↦ rw f e
-]
+put_long key k place new old short e1 e2 = grind (arith, nat_tests)
 
 pub none_is : (x : Option ℕ) (none : Bool) → is_some x ≡ not none → none ≡ true → x ≡ None
-none_is None none e h = refl
-none_is (Some y) none e h = absurd (let f = rw h at e in cc)
+none_is x none e1 e2 = grind (arith, nat_tests)
 
 pub alone : (x : Option ℕ) → x ≡ first_of_two x None
-alone None = refl
-alone (Some y) = refl
+alone x = grind (arith, nat_tests)
 
 -- the place of each text, after a name that had none got one
 pub put : (name other : List ℕ) (place : ℕ) (before : Option ℕ) → is_name name ≡ true → (bytes_eq name other ≡ true → before ≡ None) → cond (is_name other) (cond (is_eq (nat_cmp (key_of name) (key_of other))) (Some place) before) None ≡ first_of_two (cond (is_name other) before None) (cond (bytes_eq name other) (Some place) None)

@@ -1,5 +1,6 @@
 -- A value that was read is in its range, and is written as it was read.
-use Rattle.workload_file.proofs.Cited.{◌≡◌, ℕ, ◌+◌, ◌-◌, ◌^◌, ◌≤◌, ◌<◌, List, [], ◌∷◌, ◌++◌, length, Bool, true, false, not, cond, ◌&&◌, eqb, Option, Some, None, refl, sym, ap, subst, ◌∙◌, arith, ◌⊎◌, inl, inr, get_or, zero, suc, length-append, nat_le, is_some, option_and_then, slice_get, codes, list_any, position_or_len, AllByRecursion, find, list_all, decimal, bytes_eq, eqb-true, and_parts, leb-true, cases_Bool, eq-eqb, and_from, or_parts, or_left, or_right, position-Some, split_at_first, passes_at_first, Kind, Timeout, kind_all, kind_word, kind_named, list_of, led, cores_text, cores_fit, bind_some, whole_fits, list_fits, number_spelled, cores_spelled, whole_spelled, list_spelled, Sort, Statement, number, number_within, cores_of, timeout_of, flag_of, mode_of, is_name, key_of, value_of, is_known, text_of, place_of, bound_at, is_called, is_binding, name_text, timeout_text, name_at, name_of, value_text, is_default, option_words, options_words, IsBoundAt, IsTimeout, Fits, AllFit, option_map, whole, led_append, Shape, Absent, Key, Field, Value, key_text, or_bad, or_unbound, value_given, value_absent, value_at, values_in}
+use Rattle.std.proofs.lemmas.Bool.Decides.{nat_tests}
+use Rattle.workload_file.proofs.Cited.{◌≡◌, ℕ, ◌+◌, ◌-◌, ◌^◌, ◌≤◌, ◌<◌, List, [], ◌∷◌, ◌++◌, length, Bool, true, false, not, cond, ◌&&◌, eqb, Option, Some, None, refl, sym, ap, subst, ◌∙◌, arith, ◌⊎◌, inl, inr, get_or, zero, suc, length-append, nat_le, is_some, option_and_then, slice_get, codes, list_any, position_or_len, AllByRecursion, find, list_all, decimal, bytes_eq, eqb-true, and_parts, cases_Bool, and_from, or_parts, or_left, or_right, position-Some, split_at_first, passes_at_first, Kind, Timeout, kind_all, kind_word, kind_named, list_of, led, cores_text, cores_fit, bind_some, whole_fits, list_fits, number_spelled, cores_spelled, whole_spelled, list_spelled, Sort, Statement, number, number_within, cores_of, timeout_of, flag_of, mode_of, is_name, key_of, value_of, is_known, text_of, place_of, bound_at, is_called, is_binding, name_text, timeout_text, name_at, name_of, value_text, is_default, option_words, options_words, IsBoundAt, IsTimeout, Fits, AllFit, option_map, whole, led_append, Shape, Absent, Key, Field, Value, key_text, or_bad, or_unbound, value_given, value_absent, value_at, values_in}
 use Rattle.number_text.specs.Lists.{◌>>=◌}
 use Rattle.mtapi_values.specs.declared.timeouts.Timeout.TheVariants as timeout
 use Rattle.number_text.specs.Cores.{cores_of as listed_cores}
@@ -14,14 +15,7 @@ use Rattle.workload_file.proofs.Fields.{AreApart, is_good, is_refused, is_shaped
 
 pub any_place : {X : Type 0} (p : X → Bool) (xs : List X) → list_any p xs ≡ true → position_or_len p xs < length xs
 any_place p [] h = absurd cc
-any_place p (x ∷ xs) h =
-    elim (cases_Bool (p x)) [
-      | inl t ↦ let e : position_or_len p (x ∷ xs) ≡ 0 = rw t refl in omega (arith, e)
-      | inr f ↦
-          let e : position_or_len p (x ∷ xs) ≡ 1 + position_or_len p xs = rw f refl in
-          let rest : list_any p xs ≡ true = rw f at h in
-          omega (arith, e, any_place p xs rest)
-    ]
+any_place p (x ∷ xs) h = grind (arith, nat_tests, any_place p xs, position_or_len)
 
 -- a word with = is its key, = and its value
 pub spelled : (word : List ℕ) → list_any (λ b. eqb b 61) word ≡ true → word ≡ key_of word ++ 61 ∷ value_of word
@@ -35,39 +29,27 @@ spelled word h =
 -- ---- a choice between texts
 
 cond_some : {A : Type 0} (b : Bool) (x y : A) (o : Option A) → cond b (Some x) o ≡ Some y → ((b ≡ true) × (x ≡ y)) ⊎ (o ≡ Some y)
-cond_some true x y o e = inl (refl, some_is x y e)
-cond_some false x y o e = inr e
+cond_some b x y o e1 = grind (arith, nat_tests)
 
 pub some_cond : {A : Type 0} (b : Bool) (x y : A) → cond b (Some x) None ≡ Some y → (b ≡ true) × (x ≡ y)
-some_cond true x y e = (refl, some_is x y e)
-some_cond false x y e = absurd cc
+some_cond b x y e1 = grind (arith, nat_tests)
 
 -- ---- numbers
 
 within : (low high n : ℕ) (o : Option ℕ) → option_and_then (λ m. cond (nat_le low m && nat_le m high) (Some m) None) o ≡ Some n → (o ≡ Some n) × (low ≤ n) × (n ≤ high)
-within low high n None e = absurd cc
-within low high n (Some m) e =
-    let g = some_cond (nat_le low m && nat_le m high) m n e in
-    let both = and_parts (nat_le low m) (nat_le m high) g.0 in
-    subst (λ (k : ℕ). (Some m ≡ Some k) × (low ≤ k) × (k ≤ high)) g.1 (refl, leb-true low m both.0, leb-true m high both.1)
+within low high n o e1 = grind (arith, nat_tests)
 
 -- what a number is
 pub within_is : (low high n : ℕ) (text : List ℕ) → number_within low high text ≡ Some n → ((low ≤ n) × (n ≤ high)) × (decimal n ≡ text)
 unfolding number_within number
-within_is low high n text e =
-    let w = within low high n (number text) e in
-    ((w.1, w.2), number_spelled text n (wide_is 0 4294967295 n text w.0).0)
+within_is low high n text e1 = grind (arith, nat_tests, within, number_spelled, wide_is)
 
 -- ---- sets of cores, kinds, timeouts and words
 
 -- what a set of cores is: all cores have two texts
 pub cores_is : (text : List ℕ) (bits : ℕ) → cores_of text ≡ Some bits → ((0 < bits) × (bits < 2 ^ 64)) × ((bits ≡ 2 ^ 64 - 1 → ⊥) → cores_text bits ≡ text)
 unfolding cores_of
-cores_is text bits e =
-    elim (cond_some (bytes_eq text (codes "all")) (2 ^ 64 - 1) bits (listed_cores text) e) [
-      | inl h ↦ ((omega (arith, h.1), omega (arith, h.1)), λ (other : bits ≡ 2 ^ 64 - 1 → ⊥). absurd (other (sym h.1)))
-      | inr listed ↦ (cores_fit text bits listed, λ (other : bits ≡ 2 ^ 64 - 1 → ⊥). cores_spelled text bits listed)
-    ]
+cores_is text bits e1 = grind (arith, nat_tests, cond_some, bytes_eq, listed_cores, cores_fit, cores_spelled)
 
 pub kind_text : (text : List ℕ) (k : Kind) → kind_named text ≡ Some k → kind_word k ≡ text
 unfolding kind_named
@@ -129,8 +111,7 @@ unfolding place_of
 place_some s name sts i e = place_cond s sts (bound_at name sts) i e
 
 pub place_found : {A : Type 0} (o : Option A) → not (is_some o) ≡ false → (x : A) × (o ≡ Some x)
-place_found None h = absurd cc
-place_found (Some x) h = (x, refl)
+place_found o e1 = grind (arith, nat_tests)
 
 slice_get_is : {X : Type 0} (xs : List X) (i : ℕ) (d : X) → i < length xs → slice_get xs i ≡ Some (get_or xs i d)
 slice_get_is [] i d h = absurd (omega arith)
@@ -138,8 +119,7 @@ slice_get_is (x ∷ xs) zero d h = refl
 slice_get_is (x ∷ xs) (suc i) d h = slice_get_is xs i d (omega arith)
 
 called_text : (name : List ℕ) (o : Option (List ℕ)) → is_called name o ≡ true → name_text o ≡ name
-called_text name None h = absurd cc
-called_text name (Some n) h = bytes_are n name h
+called_text name o e1 = grind (arith, nat_tests, bytes_are)
 
 place_text : (name : List ℕ) (sts : List Statement) (i : ℕ) → bound_at name sts ≡ Some i → name_at sts (Some i) ≡ name
 place_text name [] i e = absurd cc
@@ -165,18 +145,13 @@ pub record IsValue (before : List Statement) (s : Shape) (text : List ℕ) (v : 
 -- all cores are the usual ones
 cores_usual : (a : Absent) (mask : ℕ) → is_good a shape.Cores ≡ true → is_default a (given.Cores (record { 0 = mask })) ≡ false → mask ≡ 2 ^ 64 - 1 → ⊥
 unfolding is_default
-cores_usual absent.Refused mask good d e = cc
-cores_usual absent.Usual mask good d e = let t = eq-eqb mask (2 ^ 64 - 1) e in cc (t, d)
-cores_usual (absent.Number n) mask good d e = cc
+cores_usual a mask e1 e2 e3 = grind (arith, nat_tests)
 
 read_some : {A : Type 0} (f : A → Value) (o : Option A) → is_sound (or_bad f o) ≡ true → (x : A) × (o ≡ Some x)
-read_some f (Some x) s = (x, refl)
-read_some f None s = absurd cc
+read_some f o e1 = grind (arith, nat_tests)
 
 bound_some : (b : Bool) (o : Option ℕ) → is_sound (cond b (or_unbound o) given.Bad) ≡ true → (b ≡ true) × (i : ℕ) × (o ≡ Some i)
-bound_some true (Some i) s = (refl, i, refl)
-bound_some true None s = absurd cc
-bound_some false o s = absurd cc
+bound_some b o e1 = grind (arith, nat_tests)
 
 pub value_is : (before : List Statement) (s : Shape) (text : List ℕ) → is_sound (value_given before s text) ≡ true → IsValue before s text (value_given before s text)
 unfolding value_given value_text
@@ -222,14 +197,7 @@ pub record IsUsual (before : List Statement) (a : Absent) (s : Shape) (v : Value
 
 pub absent_is : (before : List Statement) (a : Absent) (s : Shape) → is_good a s ≡ true → is_sound (value_absent a s) ≡ true → IsUsual before a s (value_absent a s)
 unfolding value_absent is_default
-absent_is before (absent.Number d) (shape.Number low high) good h =
-    let both = and_parts _ _ (and_parts _ _ good).1 in
-    record { fits = (leb-true low d both.0, leb-true d high both.1); shaped = refl; may = refl; default = eq-eqb d d refl }
-absent_is before absent.Usual shape.Args good h = record { fits = (omega arith, tt); shaped = refl; may = refl; default = refl }
-absent_is before absent.Usual shape.Cores good h = record { fits = (omega arith, omega arith); shaped = refl; may = refl; default = refl }
-absent_is before absent.Usual shape.Flag good h = record { fits = tt; shaped = refl; may = refl; default = refl }
-absent_is before absent.Usual (shape.Named s) good h = record { fits = tt; shaped = refl; may = refl; default = refl }
-absent_is before _ _ good h = absurd cc
+absent_is before a s e1 e2 = grind (arith, nat_tests)
 
 -- ---- all values
 
@@ -273,11 +241,7 @@ ones (f ∷ fs) w c = cond (bytes_eq (key_of w) (key_text f.key)) c 0 + ones fs 
 found_part : (k : Key) (options : List (List ℕ)) (word : List ℕ) → find (λ w. bytes_eq (key_of w) (key_text k)) options ≡ Some word → length word + 1 ≤ part k options
 unfolding part
 found_part k [] word e = absurd cc
-found_part k (w ∷ ws) word e =
-    elim (cases_Bool (bytes_eq (key_of w) (key_text k))) [
-      | inl t ↦ let g = rw t at e in let same : w ≡ word = cc in rw t (omega (arith, ap (λ (x : List ℕ). length x) same))
-      | inr f ↦ let rest = found_part k ws word (rw f at e) in rw f (omega (arith, rest))
-    ]
+found_part k (w ∷ ws) word e = grind (arith, nat_tests, found_part k ws word, bytes_eq, key_of, key_text)
 
 -- an option is left out, or is the word that gave it
 picked : (before : List Statement) (all : List Field) (options : List (List ℕ)) (f : Field) (o : Option (List ℕ)) → is_good f.absent f.shape ≡ true → list_all (is_known all) options ≡ true → find (λ w. bytes_eq (key_of w) (key_text f.key)) options ≡ o → is_sound (value_at before f (option_map value_of o)) ≡ true → length (led 32 (option_words before f (value_at before f (option_map value_of o)))) ≤ part f.key options
