@@ -112,9 +112,6 @@ enabled_same b x = record { job = refl; kind = refl; cores = refl }
 withdrawn_ages : (h : ℕ) (f : Listed Action → Listed Action) (o : Op) → WithdrawsAction h f o → (r : Listed Action) → Ages SameAction r (f r)
 withdrawn_ages h f o e1 r = grind (arith, nat_tests)
 
-opened_same : (b : Bool) (x : Queue) → SameQueue x (opened b x)
-opened_same b x = record { job = refl; priority = refl; ordered = refl }
-
 altered_same : (h : ℕ) (f : Queue → Queue) (o : Op) → AltersObject Queues h f o → (x : Queue) → SameQueue x (f x)
 altered_same h f o e1 x = grind (arith, nat_tests)
 

@@ -5,26 +5,6 @@ use Rattle.mtapi_values.specs.declared.kinds.Kind.TheVariants as kind
 use Rattle.mtapi_values.specs.declared.statuses.MtapiStatus.TheVariants as m
 use Rattle.mtapi_machine.specs.declared.ops.Op.TheVariants as op
 
-module _ (s : State) (w : ℕ) (u : TaskHandle) (t : Task) (l : w < workers s) (e : live_object s.tasks u.0 ≡ Some t) where
-  -- what a step of its own kind doesn't answer
-  asked_said : (r : Reply) → runs_as w kind.Watch t ≡ true → Allows (row s w (op.Asked u) r) r → r ≡ Mtapi m.ErrTaskInvalid → ⊥
-  asked_said r e1 e2 e3 = grind (arith, nat_tests)
-
-  watch_said : (r : Reply) → runs_as w kind.Watch t ≡ true → Allows (row s w (op.WatchEnd u) r) r → r ≡ Mtapi m.ErrTaskInvalid → ⊥
-  watch_said r e1 e2 e3 = grind (arith, nat_tests)
-
-  lock_said : (r : Reply) → runs_as w kind.Tally t ≡ true → Allows (row s w (op.TallyLock u) r) r → r ≡ Mtapi m.ErrTaskInvalid → ⊥
-  lock_said r e1 e2 e3 = grind (arith, nat_tests)
-
-  read_said : (r : Reply) → runs_as w kind.Tally t ≡ true → Allows (row s w (op.TallyRead u) r) r → r ≡ Mtapi m.ErrTaskInvalid → ⊥
-  read_said r e1 e2 e3 = grind (arith, nat_tests)
-
-  write_said : (value : ℤ) (r : Reply) → runs_as w kind.Tally t ≡ true → Allows (row s w (op.TallyWrite u value) r) r → r ≡ Mtapi m.ErrTaskInvalid → ⊥
-  write_said value r e1 e2 e3 = grind (arith, nat_tests)
-
-  end_said : (r : Reply) → runs_as w kind.Tally t ≡ true → Allows (row s w (op.TallyEnd u) r) r → r ≡ Mtapi m.ErrTaskInvalid → ⊥
-  end_said r e1 e2 e3 = grind (arith, nat_tests)
-
 -- the task of the worker, and that it runs as this kind
 own : (s : State) (w : ℕ) (t u : TaskHandle) (x : Work) (k : Kind) → Holds s w t.0 x → u ≡ t → k ≡ x.kind → (y : Task) × (live_object s.tasks u.0 ≡ Some y) × (runs_as w k y ≡ true) × (y.args ≡ x.args)
 own s w t u x k v a e = (v.task, ap (λ (z : TaskHandle). live_object s.tasks z.0) a ∙ v.found, ap (λ z. runs_as w z v.task) e ∙ runs_as_its w x v.task v.runs, v.runs.arguments)
@@ -33,10 +13,10 @@ pub work_is_served : (s : State) (w : ℕ) (t : TaskHandle) (x : Work) (o : Op) 
 work_is_served s w t x (op.Finish u done) r l v a n =
     let y = own s w t u x done.kind v a.0 a.1 in
     finish_said s w u.0 done y.0 r l y.1 y.2 (same_list y.0.args done.args (a.2 ∙ sym y.3)) n.allowed
-work_is_served s w t x (op.Asked u) r l v a n = let y = own s w t u x kind.Watch v a.0 (sym a.1) in asked_said s w u y.0 l y.1 r y.2 n.allowed
-work_is_served s w t x (op.WatchEnd u) r l v a n = let y = own s w t u x kind.Watch v a.0 (sym a.1) in watch_said s w u y.0 l y.1 r y.2 n.allowed
-work_is_served s w t x (op.TallyLock u) r l v a n = let y = own s w t u x kind.Tally v a.0 (sym a.1) in lock_said s w u y.0 l y.1 r y.2 n.allowed
-work_is_served s w t x (op.TallyRead u) r l v a n = let y = own s w t u x kind.Tally v a.0 (sym a.1) in read_said s w u y.0 l y.1 r y.2 n.allowed
-work_is_served s w t x (op.TallyWrite u value) r l v a n = let y = own s w t u x kind.Tally v a.0 (sym a.1) in write_said s w u y.0 l y.1 value r y.2 n.allowed
-work_is_served s w t x (op.TallyEnd u) r l v a n = let y = own s w t u x kind.Tally v a.0 (sym a.1) in end_said s w u y.0 l y.1 r y.2 n.allowed
+work_is_served s w t x (op.Asked u) r l v a n = let y = own s w t u x kind.Watch v a.0 (sym a.1) in grind (arith, nat_tests, y.1, y.2, n.allowed)
+work_is_served s w t x (op.WatchEnd u) r l v a n = let y = own s w t u x kind.Watch v a.0 (sym a.1) in grind (arith, nat_tests, y.1, y.2, n.allowed)
+work_is_served s w t x (op.TallyLock u) r l v a n = let y = own s w t u x kind.Tally v a.0 (sym a.1) in grind (arith, nat_tests, y.1, y.2, n.allowed)
+work_is_served s w t x (op.TallyRead u) r l v a n = let y = own s w t u x kind.Tally v a.0 (sym a.1) in grind (arith, nat_tests, y.1, y.2, n.allowed)
+work_is_served s w t x (op.TallyWrite u value) r l v a n = let y = own s w t u x kind.Tally v a.0 (sym a.1) in grind (arith, nat_tests, y.1, y.2, n.allowed)
+work_is_served s w t x (op.TallyEnd u) r l v a n = let y = own s w t u x kind.Tally v a.0 (sym a.1) in grind (arith, nat_tests, y.1, y.2, n.allowed)
 work_is_served s w t x _ r l v a n = absurd a

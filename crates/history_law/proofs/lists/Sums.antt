@@ -48,11 +48,6 @@ sum_same f g (r ∷ rs) a = ap (λ (z : ℤ). z +ℤ sum_of f rs) a.0 ∙ ap (λ
 -- Records
 
 module _ {T : Type 0} where
-  pub record_none : (h : ℕ) (l : List (Listed T)) → listed h l ≡ 0 → record_of l h ≡ None
-  unfolding listed record_of
-  record_none h [] n = refl
-  record_none h (r ∷ rs) n = let a = head_apart h r rs n in ap (λ (b : Bool). cond b (Some r.fields) (record_of rs h)) a.0 ∙ record_none h rs a.1
-
   pub record_new : (h : ℕ) (v : T) (l : List (Listed T)) → listed h l ≡ 0 → record_of (issue h v l) h ≡ Some v
   unfolding listed record_of issue
   record_new h v [] n = ap (λ (b : Bool). cond b (Some v) None) (eq-eqb h h refl)

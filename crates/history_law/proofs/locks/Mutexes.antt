@@ -19,19 +19,10 @@ abbrev pub Free : Option Mutex → Type 0
 Free None = Unit {0}
 Free (Some m) = is_some m.owner ≡ false → m.depth ≡ 0
 
-unlocked_free : (m : Mutex) → (is_some m.owner ≡ false → m.depth ≡ 0) → is_some (unlocked m).owner ≡ false → (unlocked m).depth ≡ 0
-unlocked_free m e1 e2 = grind (arith, nat_tests)
-
 pub free_step : (who n : ℕ) (b : Bool) (o p : Option Mutex) (x y : Bool) → Step who n b o p x y → Free o → Free p
 free_step who n b o p x y e1 e2 = grind (arith, nat_tests)
 
 -- a worker that owns the mutex goes on owning it, unless it ends its tally
-other_worker : (who n w : ℕ) (q : Option ℕ) → q ≡ Some w → is_other who q ≡ false → nat_lt who n ≡ false → w < n → ⊥
-other_worker who n w q e1 e2 e3 e4 = grind (arith, nat_tests)
-
-same_worker : (who n w : ℕ) (q : Option ℕ) → q ≡ Some w → is_seat who q ≡ true → nat_lt who n ≡ false → w < n → ⊥
-same_worker who n w q e1 e2 e3 e4 = grind (arith, nat_tests)
-
 pub owns_step : (who n w id : ℕ) (b : Bool) (o p : Option Mutex) (x y : Bool) → Step who n b o p x y → w < n → Owns w id o → Owns w id p ⊎ ((b ≡ true) × (w ≡ who))
 owns_step who n w id b o p x y e1 e2 e3 = grind (arith, nat_tests)
 
