@@ -13,9 +13,8 @@ use Rattle.history_law.proofs.Ends.{grows_end}
 use Rattle.history_law.proofs.Ages.{SameTask, SameQueue, Under, under_at}
 use Rattle.history_law.proofs.lists.Objects.{HasObject, QueueAs, started_as, queued_as, task_then, has_along}
 use Rattle.history_law.proofs.Affinity.{Took, took}
-use Rattle.history_law.proofs.SeatMoves.{answer}
+use Rattle.history_law.proofs.SeatMoves.{answer, ready_unstarted}
 use Rattle.history_law.proofs.Answered.{true_false, none_some, on_test}
-use Rattle.history_law.proofs.SeatMoves.{ready_unstarted}
 
 -- The number of the next start doesn't fall
 

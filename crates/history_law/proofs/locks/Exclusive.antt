@@ -10,8 +10,8 @@ use Rattle.history_law.proofs.lists.Found.{count_changed}
 use Rattle.history_law.proofs.Held.{Held}
 use Rattle.history_law.proofs.Moves.{after_stands}
 use Rattle.history_law.proofs.Accepted.{opening_stands}
-use Rattle.history_law.proofs.lists.Every.{every_change, every_map, every_at, always}
-use Rattle.history_law.proofs.SeatMoves.{is_tally_lock, by_moves}
+use Rattle.history_law.proofs.lists.Every.{every_change, every_map, every_at, always, every_if}
+use Rattle.history_law.proofs.SeatMoves.{is_tally_lock, by_moves, answer, kept_along, kept_without}
 use Rattle.history_law.proofs.Others.{runs_scheduled}
 use Rattle.history_law.proofs.OnceIssued.{once_none, once_next}
 use Rattle.history_law.proofs.Answered.{true_false, whether, on_test}
@@ -24,8 +24,6 @@ use Rattle.history_law.proofs.locks.MutexSteps.{is_ending, mutex_by}
 use Rattle.history_law.proofs.locks.Attached.{Step as SegmentStep, HasMarks, marks_step, attached_step, mark_here, segment_by}
 use Rattle.mtapi_machine.specs.Answers as is
 use Rattle.mtapi_machine.specs.Answers.{HasTask, HasBoth}
-use Rattle.history_law.proofs.SeatMoves.{answer, kept_along, kept_without}
-use Rattle.history_law.proofs.lists.Every.{every_if}
 
 -- What holds after every legal list of a node with n workers
 pub record Good (n : ℕ) (s : State) : Type 0 where
