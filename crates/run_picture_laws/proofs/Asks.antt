@@ -7,7 +7,8 @@ use Rattle.run_picture.specs.declared.locks.Lock.TheVariants as lock
 use Rattle.run_picture.specs.Locks.{lane_after}
 use Rattle.run_picture_laws.proofs.Did.{Names, args_named, asks_nothing, ends_all, ends_nothing}
 use Rattle.run_picture_laws.proofs.Lanes.{Seen, known_after, lanes_known, lanes_seen, Along, names_at, along_next, along_opening}
-use Rattle.run_picture_laws.proofs.Greatest.{top, top-append, top_greatest, with_lane}
+use Rattle.run_picture_laws.proofs.Greatest.{top, top-append, top_greatest}
+use Rattle.run_picture_laws.proofs.Numbered.{with_lane}
 
 -- what the picture reads in an entry is a call on the mutex that is seen so
 abbrev calls : Lock → MutexSeen → Bool

@@ -1,5 +1,5 @@
 -- The greatest of some numbers.
-use Rattle.run_picture_laws.proofs.Names.{All, Bool, Contains, IsGreatest, List, None, Option, Some, [], arith, cases_lt, cond, false, inl, inr, max, refl, slice_get, suc, true, zero, ℕ, ◌++◌, ◌<◌, ◌∷◌, ◌≡◌, ◌≤◌, ◌⊎◌}
+use Rattle.run_picture_laws.proofs.Names.{All, Contains, IsGreatest, List, [], arith, cases_lt, inl, inr, max, refl, suc, zero, ℕ, ◌++◌, ◌<◌, ◌∷◌, ◌≡◌, ◌≤◌, ◌⊎◌}
 
 -- the greatest of a number and of these
 abbrev pub top : ℕ → List ℕ → ℕ
@@ -30,11 +30,3 @@ met n (x ∷ xs) = by_rest (met (max n x) xs) (cases_lt n x)
 
 pub top_greatest : (xs : List ℕ) → IsGreatest (top 0 xs) xs
 top_greatest xs = record { most = most 0 xs; met = met 0 xs }
-
--- what is read of the lane of a number stays, where a lane is added that has it as one that isn't there
-pub with_lane : {X : Type 0} (f : Option X → ℕ) (i : ℕ) (ls : List X) (x : X) (b : Bool) → f (Some x) ≡ f None → f (slice_get (cond b (ls ++ x ∷ []) ls) i) ≡ f (slice_get ls i)
-with_lane f i ls x false e = refl
-with_lane f zero [] x true e = e
-with_lane f (suc i) [] x true e = refl
-with_lane f zero (l ∷ ls) x true e = refl
-with_lane f (suc i) (l ∷ ls) x true e = with_lane f i ls x true e

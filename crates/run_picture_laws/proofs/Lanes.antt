@@ -1,5 +1,5 @@
 -- The lanes of mutexes show the machine's mutexes, along every legal list.
-use Rattle.run_picture_laws.proofs.Names.{Answers, FoundAs, Good, HasId, HasTask, IsNext, IsPicture, Kind, LanesAreMutexes, Legal, Legal-prefix, Legal-rest, LegalFrom, List, Lock, Locks, Move, MutexLane, MutexSeen, NodeEntry, None, On, OnAt, Op, Option, Picture, Reply, Running, Some, State, Task, TaskEnd, TaskHandle, TaskState, Terms, [], after, after-one, after_from, after_moves, answered, ap, append-nil, append_assoc, arith, as_on, by_made_moves, cases_lt, cond, count_listed, eq-eqb, eqb-true, false, first_of, found_count, get_or, good_next, good_opening, holds, ids_move, inl, inr, is_tally_end, kind_number, lane_seen, lanes_after, lanes_with, le-ltb, length, length-map, length-take-le, lock_by, lock_of, locks_after, lt-ltb, map, map-append, most_lanes, mutex_lanes_from, mutex_named, mutex_seen, named_by, nat_lt, nat_tests, new_lane, next, no_locks, on_move, one_passes, one_runner, opening, refl, replicate, rest_of, runner, runs_as, runs_on, same_found, same_kind, seats_of, snd_true, subst, sym, take, take-append-le, take-map, take_all, tally_mutex, tally_verdict, terms_stay, true, ℕ, ◌&&◌, ◌++◌, ◌+◌, ◌<◌, ◌==◌, ◌∙◌, ◌∷◌, ◌≡◌, ◌≤◌, ◌⊎◌}
+use Rattle.run_picture_laws.proofs.Names.{Answers, FoundAs, Good, HasId, HasTask, IsNext, IsPicture, Kind, LanesAreMutexes, Legal, Legal-prefix, Legal-rest, LegalFrom, List, Lock, Locks, Move, MutexLane, MutexSeen, NodeEntry, None, On, OnAt, Op, Option, Picture, Reply, Running, Some, State, Task, TaskEnd, TaskHandle, TaskState, Terms, [], after, after-one, after_from, after_moves, answered, ap, append-nil, append_assoc, arith, as_on, by_made_moves, cases_lt, cond, count_listed, eq-eqb, eqb-true, false, first_of, found_count, get_or, good_next, good_opening, holds, ids_move, inl, inr, is_tally_end, kind_number, lane_seen, lanes_after, lanes_with, le-ltb, length, length-append, length-map, length-take-le, lock_by, lock_of, locks_after, lt-ltb, map, map-append, most_lanes, mutex_lanes_from, mutex_named, mutex_seen, named_by, nat_lt, nat_tests, new_lane, next, no_locks, on_move, one_passes, one_runner, opening, refl, replicate, rest_of, runner, runs_as, runs_on, same_found, same_kind, seats_of, snd_true, subst, sym, take, take-append-le, take-map, take_all, tally_mutex, tally_verdict, terms_stay, true, ℕ, ◌&&◌, ◌++◌, ◌+◌, ◌<◌, ◌==◌, ◌∙◌, ◌∷◌, ◌≡◌, ◌≤◌, ◌⊎◌}
 use Rattle.mtapi_values.specs.declared.kinds.Kind.TheVariants as kinds
 use Rattle.mtapi_machine.specs.declared.ops.Op.TheVariants as op
 use Rattle.mtapi_machine.specs.declared.replies.Reply.TheVariants as reply
@@ -82,14 +82,10 @@ made_lane h id ls vs e = by_room (cases_lt (length vs) most_lanes)
     by_room (inl l) =
         let whole : take most_lanes vs ≡ vs = take_all most_lanes vs (omega arith) in
         let few : length ls ≡ length vs = size ∙ ap length whole in
-        let more = length_one vs (record { handle = h; id = id; live = true; owner = None }) in
+        let more = length-append vs (record { handle = h; id = id; live = true; owner = None } ∷ []) in
         ap (λ b. map lane_seen (cond b (ls ++ new_lane (length ls) h id ∷ []) ls)) (lt-ltb (length ls) most_lanes (omega arith))
         ∙ (map-append lane_seen ls (new_lane (length ls) h id ∷ [])
         ∙ (ap (λ z. z ++ seen_made (lock.Makes h id)) (e ∙ whole) ∙ sym (take_all most_lanes (vs ++ seen_made (lock.Makes h id)) (omega arith))))
-      where
-        length_one : (vs : List MutexSeen) (v : MutexSeen) → length (vs ++ v ∷ []) ≡ length vs + 1
-        length_one [] v = refl
-        length_one (u ∷ us) v = let n = length_one us v in omega arith
     by_room (inr l) =
         let full : length (take most_lanes vs) ≡ most_lanes = length-take-le most_lanes vs l in
         ap (λ b. map lane_seen (cond b (ls ++ new_lane (length ls) h id ∷ []) ls)) (le-ltb (length ls) most_lanes (omega (arith, size, full)))

@@ -14,5 +14,6 @@ pub mod Levels
 pub mod Ends
 pub mod Numbers
 pub mod Greatest
+pub mod Numbered
 pub mod Longest
 pub mod Asks

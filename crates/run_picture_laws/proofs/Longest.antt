@@ -3,7 +3,8 @@ use Rattle.run_picture_laws.proofs.Names.{Bool, Change, IsGreatest, IsPicture, L
 use Rattle.run_picture.specs.declared.waits.Wait.TheVariants as wait
 use Rattle.run_picture.specs.Waits.{new_lane, lanes_with}
 use Rattle.run_picture_laws.proofs.Levels.{Numbered, numbered_map, numbered_with}
-use Rattle.run_picture_laws.proofs.Greatest.{top, top-append, top_greatest, with_lane}
+use Rattle.run_picture_laws.proofs.Greatest.{top, top-append, top_greatest}
+use Rattle.run_picture_laws.proofs.Numbered.{with_lane}
 
 -- the number of a lane, and the count of the level that a change makes in it
 abbrev longest_in : Option QueueLane → ℕ

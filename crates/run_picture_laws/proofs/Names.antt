@@ -1,5 +1,5 @@
 -- The names that the proofs of this crate cite of lower crates and of its own specs/, passed on from one place. Declares nothing.
-pub use Rattle.std.proofs.Common.{Bool, List, None, Option, Some, [], ap, arith, cond, drop, eqb, false, get_or, inl, inr, length, map, max, min, option_map, refl, replicate, subst, suc, sym, take, true, zero, ℕ, ℤ, ◌++◌, ◌+◌, ◌-◌, ◌<◌, ◌^◌, ◌∙◌, ◌∷◌, ◌≡◌, ◌≢◌, ◌≤◌, ◌⊎◌}
+pub use Rattle.std.proofs.Common.{Bool, List, None, Option, Some, [], ap, arith, cond, drop, eqb, false, get_or, inl, inr, length, length-append, map, max, min, option_map, refl, replicate, subst, suc, sym, take, true, zero, ℕ, ℤ, ◌++◌, ◌+◌, ◌-◌, ◌<◌, ◌^◌, ◌∙◌, ◌∷◌, ◌≡◌, ◌≢◌, ◌≤◌, ◌⊎◌}
 pub use Rattle.std.proofs.lemmas.Bool.{cases_eq, cases_lt, cond_both, eq-eqb, eqb-false, eqb-true, false_from_ne_true, le-leb, le-ltb, lt-leb, lt-ltb, ne_eqb}
 pub use Rattle.std.proofs.lemmas.Bool.Decides.{nat_tests}
 pub use Rattle.std.proofs.lemmas.List.{append-nil, append_assoc, get_or-replicate, get_or-set_other, get_or-set_same, get_or_past, length-map, length-replicate, length-set, length-take-le, map-append, take-append-le, take-map, take_all}
@@ -44,7 +44,7 @@ pub use Rattle.mtapi_machine.specs.Row.{Allows, after_row}
 pub use Rattle.mtapi_machine.specs.Rows.{row}
 pub use Rattle.mtapi_machine.specs.State.{State, opening, tasks, workers}
 pub use Rattle.mtapi_machine.specs.TaskRows.{asked_for, asked_of}
-pub use Rattle.mtapi_machine.specs.WorkRows.{picks, task_end}
+pub use Rattle.mtapi_machine.specs.WorkRows.{task_end}
 pub use Rattle.mtapi_machine.specs.declared.ops.Op.{Op}
 pub use Rattle.mtapi_machine.specs.declared.replies.Reply.{Reply}
 pub use Rattle.mtapi_machine.specs.declared.terms.Terms.{Terms}

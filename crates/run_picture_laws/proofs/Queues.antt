@@ -1,5 +1,5 @@
 -- The lanes of queues count the tasks that wait, along every legal list.
-use Rattle.run_picture_laws.proofs.Names.{Answers, Bool, Change, EachCounts, IsPicture, LanesAreQueues, Legal, LegalFrom, List, Listed, Move, MrapiStatus, MtapiStatus, NodeEntry, None, OnceIn, Op, Option, Picture, Place, Queue, QueueLane, QueueSeen, Queues, Reply, Some, State, Task, Terms, Wait, Waiting, [], after, after_from, after_moves, all_of, answered, ap, append-nil, arith, cases_lt, change, change_by, changed, cond, ends_unnamed, ends_unseen, eq-eqb, eqb-true, false, fresh_unlisted, gone, head_apart, holds, how_many, inl, inr, is_changed, is_fresh, issue, lane_after, lane_place, lanes_by, le-ltb, length, length-map, length-take-le, listed, listed_next, lt-ltb, map, map-append, most_lanes, nat_lt, nat_tests, ne_eqb, new_queue, next, none_first, none_waits, once_next, once_none, opened, opening, queue_lanes_from, queue_seen, record_of, refl, seats_of, snd_true, some_entry, subst, suc, sym, take, take-append-le, take_all, true, true_false, wait_of, waiting_by, with_fields, zero, ℕ, ◌&&◌, ◌++◌, ◌+◌, ◌<◌, ◌==◌, ◌^◌, ◌∙◌, ◌∷◌, ◌≡◌, ◌≤◌, ◌⊎◌}
+use Rattle.run_picture_laws.proofs.Names.{Answers, Bool, Change, EachCounts, IsPicture, LanesAreQueues, Legal, LegalFrom, List, Listed, Move, MrapiStatus, MtapiStatus, NodeEntry, None, OnceIn, Op, Option, Picture, Place, Queue, QueueLane, QueueSeen, Queues, Reply, Some, State, Task, Terms, Wait, Waiting, [], after, after_from, after_moves, all_of, answered, ap, append-nil, arith, cases_lt, change, change_by, changed, cond, ends_unnamed, ends_unseen, eq-eqb, eqb-true, false, fresh_unlisted, gone, head_apart, holds, how_many, inl, inr, is_changed, is_fresh, issue, lane_after, lane_place, lanes_by, le-ltb, length, length-append, length-map, length-take-le, listed, listed_next, lt-ltb, map, map-append, most_lanes, nat_lt, nat_tests, ne_eqb, new_queue, next, none_first, none_waits, once_next, once_none, opened, opening, queue_lanes_from, queue_seen, record_of, refl, seats_of, snd_true, some_entry, subst, suc, sym, take, take-append-le, take_all, true, true_false, wait_of, waiting_by, with_fields, zero, ℕ, ◌&&◌, ◌++◌, ◌+◌, ◌<◌, ◌==◌, ◌^◌, ◌∙◌, ◌∷◌, ◌≡◌, ◌≤◌, ◌⊎◌}
 use Rattle.mtapi_machine.specs.declared.ops.Op.TheVariants as op
 use Rattle.mtapi_values.specs.declared.handles.ObjectKind.TheVariants as kind
 use Rattle.mtapi_machine.specs.declared.replies.Reply.TheVariants as reply
@@ -101,12 +101,12 @@ apart_push [] m a n = (tt, tt)
 apart_push (l ∷ ls) m a n = (lanes_push _ ls m a.0 n.0, apart_push ls m a.1 n.1)
 
 -- a change of each lane leaves its number, its queue and what is seen of it
-record Stays (l m : QueueLane) : Type 0 where
-  lane : m.lane ≡ l.lane
+pub record Stays (l m : QueueLane) : Type 0 where
+  pub lane : m.lane ≡ l.lane
   queue : m.queue ≡ l.queue
   seen : lane_seen m ≡ lane_seen l
 
-after_stays : (c : Change) (l : QueueLane) → Stays l (lane_after c l)
+pub after_stays : (c : Change) (l : QueueLane) → Stays l (lane_after c l)
 unfolding lane_after
 after_stays c l = by_test (is_changed c l)
   where
@@ -315,14 +315,6 @@ queued_then s t g new x more n b a =
 
 -- The lanes behind an entry
 
-length_map : (c : Change) (ls : List QueueLane) → length (map (lane_after c) ls) ≡ length ls
-length_map c [] = refl
-length_map c (l ∷ ls) = let n = length_map c ls in omega arith
-
-length_push : (ls : List QueueLane) (l : QueueLane) → length (ls ++ l ∷ []) ≡ length ls + 1
-length_push [] l = omega arith
-length_push (m ∷ ls) l = let n = length_push ls l in omega arith
-
 module _ (s t : State) (calm now g : Type 0) (from : now → calm) (by : now → g) (k : ℕ) (w : Waiting) (lanes : List QueueLane) (new : List (Listed Task)) (v : Knows calm k s w lanes) (seen : SeenAs most_lanes lanes s.queues) (small : k + 1 < 2 ^ 64) where
   abbrev Then : Wait → List QueueLane → Type 0
   Then x ls = Knows now (k + 1) t (waiting_by w lanes x) ls
@@ -339,9 +331,9 @@ module _ (s t : State) (calm now g : Type 0) (from : now → calm) (by : now →
     once_tasks = a;
     once = b;
     apart = apart_map (change_by w x) lanes v.apart;
-    below = let m = length_map (change_by w x) lanes in stay_below (length (map (f x) lanes)) x lanes (omega arith) v.below;
+    below = let m = length-map lanes (lane_after (change_by w x)) in stay_below (length (map (f x) lanes)) x lanes (omega arith) v.below;
     placed = placed_then s g w lanes new t.tasks x v.placed n c;
-    inside = λ h p i. let m = length_map (change_by w x) lanes in let j = inside_then w lanes x (length lanes) v.below v.inside h p i in omega arith;
+    inside = λ h p i. let m = length-map lanes (lane_after (change_by w x)) in let j = inside_then w lanes x (length lanes) v.below v.inside h p i in omega arith;
     right = lanes_over (LaneRight now (k + 1) (waiting_by w lanes x) t.tasks) (f x) lanes
         (lanes_both (λ l. LaneRight calm k w s.tasks l × Found lanes l) (λ l. holds (λ (y : Queue). y.retain) (record_of s.queues l.queue) ≡ l.retain) _ lanes
         (λ l d r. lane_step s calm now g from by k w lanes new t.tasks v small x n c l d.0 d.1 r)
@@ -357,9 +349,9 @@ module _ (s t : State) (calm now g : Type 0) (from : now → calm) (by : now →
     once_tasks = d.once_tasks;
     once = d.once;
     apart = apart_push ls m d.apart (lanes_both (λ l. (l.queue == q) ≡ false) (λ l. l.lane < length ls) _ ls (λ l i j. (i, ne_eqb l.lane (length ls) (λ z. omega arith))) no_lane d.below);
-    below = lanes_push (λ l. l.lane < length (ls ++ m ∷ [])) ls m (lanes_map _ _ ls (λ l i. let z = length_push ls m in omega arith) d.below) (let z = length_push ls m in omega arith);
+    below = lanes_push (λ l. l.lane < length (ls ++ m ∷ [])) ls m (lanes_map _ _ ls (λ l i. let z = length-append ls (m ∷ []) in omega arith) d.below) (let z = length-append ls (m ∷ []) in omega arith);
     placed = d.placed;
-    inside = λ h p i. let z = length_push ls m in let j = d.inside h p i in omega arith;
+    inside = λ h p i. let z = length-append ls (m ∷ []) in let j = d.inside h p i in omega arith;
     right = lanes_push (LaneRight now (k + 1) w t.tasks) ls m d.right (record {
       count = sym (count_off (λ r. held m (w r.handle)) t.tasks (λ r. off r.handle (w r.handle) refl));
       tasks = each_after (λ r. (p : ℕ) → r.fields.queue ≡ Some p → 1 ≤ listed p s.queues) (Right now w m) (λ r z. Goes g false r z) s.tasks new t.tasks (λ r z a b. idle z (λ p i. a p (sym b.queue ∙ i))) (new_idle n) v.queued c;
@@ -426,15 +418,11 @@ module _ (s t : State) (calm now g : Type 0) (from : now → calm) (by : now →
       size : length ls ≡ length (take most_lanes vs)
       size = sym (length-map ls lane_seen) ∙ ap length same
 
-      one_longer : (us : List QueueSeen) (u : QueueSeen) → length (us ++ u ∷ []) ≡ length us + 1
-      one_longer [] u = omega arith
-      one_longer (y ∷ ys) u = let i = one_longer ys u in omega arith
-
       by_room : (length vs < most_lanes) ⊎ (most_lanes ≤ length vs) → Then x (lanes_with x ls) × SeenAs most_lanes (lanes_with x ls) t.queues
       by_room (inl l) =
           let whole : take most_lanes vs ≡ vs = take_all most_lanes vs (omega arith) in
           let few : length ls ≡ length vs = size ∙ ap length whole in
-          let i = one_longer vs (record { handle = q; id = id; retain = retain }) in
+          let i = length-append vs (record { handle = q; id = id; retain = retain } ∷ []) in
           let room : nat_lt (length ls) most_lanes ≡ true = lt-ltb (length ls) most_lanes (omega arith) in
           subst (λ (c : Bool). Then x (cond c (ls ++ new_lane (length ls) q id retain ∷ []) ls) × SeenAs most_lanes (cond c (ls ++ new_lane (length ls) q id retain ∷ []) ls) t.queues) (sym room) (
             grows q id retain (fresh q id retain refl) n c (stays x a b more n c),

@@ -1,26 +1,21 @@
 -- The spans over a place are those of the owners there.
-use Rattle.run_picture_laws.proofs.Names.{Bool, IsPicture, LanesShowOwners, Legal, Legal-prefix, List, Listed, Lock, Locks, Mutex, MutexLane, MutexSeen, NodeEntry, None, Option, Picture, Some, Span, Terms, [], after, ap, append-nil, append_assoc, arith, cond, eq-eqb, false, filter, filter-append, first_of, flat_map, is_owner, is_within, lane_seen, lanes_with, le-leb, le-ltb, length, lock_by, locks_after, lt-leb, lt-ltb, map, most_lanes, mutex_seen, nat_le, nat_lt, nat_tests, ne_eqb, new_lane, no_locks, option_map, owned_from, owner_in, owner_of, refl, rest_of, seats_of, span_by, span_of, spans_by, spans_from, subst, suc, sym, take, taken, true, waited, zero, ℕ, ◌&&◌, ◌++◌, ◌+◌, ◌<◌, ◌==◌, ◌∙◌, ◌∷◌, ◌≡◌, ◌≤◌}
+use Rattle.run_picture_laws.proofs.Names.{Bool, IsPicture, LanesShowOwners, Legal, Legal-prefix, List, Listed, Lock, Locks, Mutex, MutexLane, MutexSeen, NodeEntry, None, Option, Picture, Some, Span, Terms, [], after, ap, append-nil, append_assoc, arith, cond, eq-eqb, false, filter, filter-append, first_of, flat_map, is_owner, is_within, lane_seen, lanes_with, le-leb, le-ltb, length, lock_by, locks_after, lt-leb, lt-ltb, map, most_lanes, mutex_seen, nat_le, nat_lt, nat_tests, ne_eqb, new_lane, no_locks, option_map, owned_from, owner_in, owner_of, refl, rest_of, seats_of, slice_get, slice_get-map, span_by, span_of, spans_by, spans_from, subst, suc, sym, take, taken, true, waited, zero, ℕ, ◌&&◌, ◌++◌, ◌+◌, ◌<◌, ◌==◌, ◌∙◌, ◌∷◌, ◌≡◌, ◌≤◌}
 use Rattle.run_picture.specs.declared.locks.Lock.TheVariants as lock
 use Rattle.run_picture.specs.Locks.{lane_after}
 use Rattle.run_picture_laws.proofs.Lanes.{known_after, lanes_seen}
+use Rattle.run_picture_laws.proofs.Numbered.{NumberedBy, map_numbered, more_numbered, with_lane}
 
--- the lane of this number, and its owner, and from where on
-abbrev pub lane_nth : ℕ → List MutexLane → Option MutexLane
-lane_nth i [] = None
-lane_nth zero (l ∷ ls) = Some l
-lane_nth (suc i) (l ∷ ls) = lane_nth i ls
-
+-- the owner of a lane, and from where on
 abbrev pub lane_owner : Option MutexLane → Option (ℕ × ℕ)
 lane_owner None = None
 lane_owner (Some l) = l.owner
 
 abbrev pub owner_at : ℕ → List MutexLane → Option (ℕ × ℕ)
-owner_at i ls = lane_owner (lane_nth i ls)
+owner_at i ls = lane_owner (slice_get ls i)
 
 -- the lanes have these numbers
 abbrev pub Numbered : ℕ → List MutexLane → Type 0
-Numbered k [] = Unit {0}
-Numbered k (l ∷ ls) = (l.lane ≡ k) × Numbered (k + 1) ls
+Numbered k ls = NumberedBy (λ (l : MutexLane). l.lane) k ls
 
 -- an entry frees the owner of a lane, or leaves it as it is, or gives it its first one
 data Moves (at : ℕ) (o p : Option (ℕ × ℕ)) : Bool → Type 0 where
@@ -67,43 +62,19 @@ step_of who at looks lock.Nothing l = quiet_step who at looks lock.Nothing l ref
 -- Numbers
 
 numbered_map : (who at looks k : ℕ) (x : Lock) (ls : List MutexLane) → Numbered k ls → Numbered k (map (lane_after who at looks x) ls)
-numbered_map who at looks k x [] a = tt
-numbered_map who at looks k x (l ∷ ls) a = let s = step_of who at looks x l in (s.lane ∙ a.0, numbered_map who at looks (k + 1) x ls a.1)
-
-numbered_more : (k n h id : ℕ) (ls : List MutexLane) → n ≡ k + length ls → Numbered k ls → Numbered k (ls ++ new_lane n h id ∷ [])
-numbered_more k n h id [] e a = (omega arith, tt)
-numbered_more k n h id (l ∷ ls) e a = (a.0, numbered_more (k + 1) n h id ls (omega arith) a.1)
+numbered_map who at looks k x ls a = map_numbered (λ (l : MutexLane). l.lane) (lane_after who at looks x) (λ l. (step_of who at looks x l).lane) k ls a
 
 numbered_with : (x : Lock) (ls : List MutexLane) → Numbered 0 ls → Numbered 0 (lanes_with x ls)
-numbered_with (lock.Makes h id) ls a = by_room (nat_lt (length ls) most_lanes)
-  where
-    by_room : (b : Bool) → Numbered 0 (cond b (ls ++ new_lane (length ls) h id ∷ []) ls)
-    by_room true = numbered_more 0 (length ls) h id ls (omega arith) a
-    by_room false = a
+numbered_with (lock.Makes h id) ls a = more_numbered (λ (l : MutexLane). l.lane) (nat_lt (length ls) most_lanes) ls (new_lane (length ls) h id) refl a
 numbered_with _ ls a = a
 
-owner_more : (i n h id : ℕ) (ls : List MutexLane) → owner_at i (ls ++ new_lane n h id ∷ []) ≡ owner_at i ls
-owner_more zero n h id [] = refl
-owner_more (suc i) n h id [] = refl
-owner_more zero n h id (l ∷ ls) = refl
-owner_more (suc i) n h id (l ∷ ls) = owner_more i n h id ls
-
-nth_map : (f : MutexLane → MutexLane) (i : ℕ) (ls : List MutexLane) → lane_nth i (map f ls) ≡ option_map f (lane_nth i ls)
-nth_map f i [] = refl
-nth_map f zero (l ∷ ls) = refl
-nth_map f (suc i) (l ∷ ls) = nth_map f i ls
-
-numbered_nth : (k j : ℕ) (ls : List MutexLane) (l : MutexLane) → Numbered k ls → lane_nth j ls ≡ Some l → l.lane ≡ k + j
+numbered_nth : (k j : ℕ) (ls : List MutexLane) (l : MutexLane) → Numbered k ls → slice_get ls j ≡ Some l → l.lane ≡ k + j
 numbered_nth k j [] l a e = absurd (cc)
 numbered_nth k zero (m ∷ ms) l a e = let same : m ≡ l = cc in let n = ap (λ (z : MutexLane). z.lane) same in let o = a.0 in omega arith
 numbered_nth k (suc j) (m ∷ ms) l a e = let n = numbered_nth (k + 1) j ms l a.1 e in omega arith
 
 owner_with : (i : ℕ) (x : Lock) (ls : List MutexLane) → owner_at i (lanes_with x ls) ≡ owner_at i ls
-owner_with i (lock.Makes h id) ls = by_room (nat_lt (length ls) most_lanes)
-  where
-    by_room : (b : Bool) → owner_at i (cond b (ls ++ new_lane (length ls) h id ∷ []) ls) ≡ owner_at i ls
-    by_room true = owner_more i (length ls) h id ls
-    by_room false = refl
+owner_with i (lock.Makes h id) ls = with_lane lane_owner i ls (new_lane (length ls) h id) (nat_lt (length ls) most_lanes) refl
 owner_with i _ ls = refl
 
 -- The spans of one lane that pass a test; n tells which began before a place
@@ -141,7 +112,7 @@ module _ (i n : ℕ) where
     past_lane k (l ∷ ls) m a =
         filter-append passes (f l) (flat_map f ls) ∙ (λ z. apart l (ne_eqb l.lane i (λ e. let o = a.0 in omega arith)) z ++ past_lane (k + 1) ls (omega arith) a.1 z)
 
-    by_lane : (k j : ℕ) (ls : List MutexLane) → i ≡ k + j → Numbered k ls → filter passes (flat_map f ls) ≡ in_lane f (lane_nth j ls)
+    by_lane : (k j : ℕ) (ls : List MutexLane) → i ≡ k + j → Numbered k ls → filter passes (flat_map f ls) ≡ in_lane f (slice_get ls j)
     by_lane k j [] e a = refl
     by_lane k zero (l ∷ ls) e a =
         filter-append passes (f l) (flat_map f ls) ∙ ((λ z. filter passes (f l) ++ past_lane (k + 1) ls (omega arith) a.1 z) ∙ append-nil (filter passes (f l)))
@@ -184,9 +155,9 @@ module _ (i n : ℕ) where
   over_from : (at : ℕ) (t : Locks) (es : List NodeEntry) (ns : List ℕ) → n ≤ at → Numbered 0 t.lanes → Shows at t es ns
   unfolding spans_from
   over_from at t [] ns m a =
-      (at, by_lane (λ l. span_of l.lane at l.owner) (λ l e. other_lane l.lane at l.owner e) 0 i t.lanes (omega arith) a ∙ by_nth (lane_nth i t.lanes) refl)
+      (at, by_lane (λ l. span_of l.lane at l.owner) (λ l e. other_lane l.lane at l.owner e) 0 i t.lanes (omega arith) a ∙ by_nth (slice_get t.lanes i) refl)
     where
-      by_nth : (o : Option MutexLane) → lane_nth i t.lanes ≡ o → in_lane (λ l. span_of l.lane at l.owner) o ≡ one_span at (lane_owner o)
+      by_nth : (o : Option MutexLane) → slice_get t.lanes i ≡ o → in_lane (λ l. span_of l.lane at l.owner) o ≡ one_span at (lane_owner o)
       by_nth None e = refl
       by_nth (Some l) e =
           let same : l.lane ≡ i = let k = numbered_nth 0 i t.lanes l a e in omega arith in
@@ -195,9 +166,9 @@ module _ (i n : ℕ) where
       let x : Lock = lock_by t.named e in
       let f : MutexLane → MutexLane = lane_after e.who at (first_of ns) x in
       let rest = over_from (at + 1) (locks_after at e (first_of ns) t) es (rest_of ns) (omega arith) (numbered_with x (map f t.lanes) (numbered_map e.who at (first_of ns) 0 x t.lanes a)) in
-      let owner : owner_at i (lanes_with x (map f t.lanes)) ≡ lane_owner (option_map f (lane_nth i t.lanes)) = owner_with i x (map f t.lanes) ∙ ap lane_owner (nth_map f i t.lanes) in
+      let owner : owner_at i (lanes_with x (map f t.lanes)) ≡ lane_owner (option_map f (slice_get t.lanes i)) = owner_with i x (map f t.lanes) ∙ ap lane_owner (slice_get-map f t.lanes i) in
       let z =
-      nth_next e.who at (first_of ns) rest.0 x (filter passes (spans_from (at + 1) (locks_after at e (first_of ns) t) es (rest_of ns))) (lane_nth i t.lanes) m
+      nth_next e.who at (first_of ns) rest.0 x (filter passes (spans_from (at + 1) (locks_after at e (first_of ns) t) es (rest_of ns))) (slice_get t.lanes i) m
       (λ l g. let k = numbered_nth 0 i t.lanes l a g in omega arith) (rest.1 ∙ ap (one_span rest.0) owner) in
       (z.0, filter-append passes (spans_by at e t) _ ∙ (ap (λ y. y ++ filter passes (spans_from (at + 1) (locks_after at e (first_of ns) t) es (rest_of ns))) (by_lane (span_by e.who at x) (by_apart e.who at x) 0 i t.lanes (omega arith) a) ∙ z.1))
 
@@ -253,18 +224,18 @@ none_some e = absurd (cc)
 
 began_next : (who at looks : ℕ) (x : Lock) (ls : List MutexLane) → Began at ls → Began (at + 1) (lanes_with x (map (lane_after who at looks x) ls))
 began_next who at looks x ls b i o e =
-    by_nth (lane_nth i ls) refl (sym (owner_with i x (map (lane_after who at looks x) ls) ∙ ap lane_owner (nth_map (lane_after who at looks x) i ls)) ∙ e)
+    by_nth (slice_get ls i) refl (sym (owner_with i x (map (lane_after who at looks x) ls) ∙ ap lane_owner (slice_get-map (lane_after who at looks x) ls i)) ∙ e)
   where
     from_of : Option (ℕ × ℕ) → ℕ
     from_of None = 0
     from_of (Some o) = o.1
 
-    by_moves : (l : MutexLane) (c : Bool) (p : Option (ℕ × ℕ)) → lane_nth i ls ≡ Some l → p ≡ Some o → Moves at l.owner p c → o.1 < at + 1
+    by_moves : (l : MutexLane) (c : Bool) (p : Option (ℕ × ℕ)) → slice_get ls i ≡ Some l → p ≡ Some o → Moves at l.owner p c → o.1 < at + 1
     by_moves l _ p f g (freed v) = none_some (sym v ∙ g)
     by_moves l _ p f g (stays v) = let k = b i o (ap lane_owner f ∙ (sym v ∙ g)) in omega arith
     by_moves l _ p f g (begins w u v) = let k : at ≡ o.1 = ap from_of (sym v ∙ g) in omega arith
 
-    by_nth : (q : Option MutexLane) → lane_nth i ls ≡ q → lane_owner (option_map (lane_after who at looks x) q) ≡ Some o → o.1 < at + 1
+    by_nth : (q : Option MutexLane) → slice_get ls i ≡ q → lane_owner (option_map (lane_after who at looks x) q) ≡ Some o → o.1 < at + 1
     by_nth None f g = none_some g
     by_nth (Some l) f g = let s = step_of who at looks x l in by_moves l s.frees (lane_after who at looks x l).owner f g s.owner
 
@@ -312,5 +283,5 @@ pictures_show_owners terms L ns p h c A B i cut l =
     ∙ (owners_of_one i n over.0 (owner_at i (known_after 0 first A ns).lanes) (k.1 i)
     ∙ owner_nth i most_lanes (known_after 0 first A ns).lanes (after terms A).mutexes l (lanes_seen terms A ns legal))
   where
-    none_nth : (j : ℕ) → lane_owner (lane_nth j []) ≡ None
+    none_nth : (j : ℕ) → lane_owner (slice_get [] j) ≡ None
     none_nth j = refl
