@@ -14,7 +14,7 @@ chooses o = is_some (made_kind o)
 
 -- the row of an op whose reply isn't chosen reads nothing of it
 pub not_read : (s : State) (who : ℕ) (o : Op) (q r : Reply) → chooses o ≡ false → row s who o q ≡ row s who o r
-not_read s who o q r e1 = grind (arith, nat_tests)
+not_read s who o q r i = grind (arith, nat_tests)
 
 -- a row allows one reply
 pub allowed_one : (w : Row) (q r : Reply) → Allows w q → Allows w r → r ≡ q
@@ -22,28 +22,28 @@ allowed_one w q r a b = let e : answer w ≡ Some q = answer-allowed w q a in le
 
 -- a renamed op chooses where the op does
 pub still : (g : Renaming) (o : Op) → chooses o ≡ false → chooses (renamed_op g o) ≡ false
-still g o e1 = grind (arith, nat_tests)
+still g o i = grind (arith, nat_tests)
 
 -- a pick that takes nothing reads nothing of its reply
 idles : (s : State) (w : ℕ) (r : Reply) → takes_task op.Pick r ≡ false → picks s w r ≡ only (not (any_listed (can_take s w) s.tasks)) (says Idle)
-idles s w r e1 = grind (arith, nat_tests)
+idles s w r i = grind (arith, nat_tests)
 
 pub pick_not_read : (s : State) (who : ℕ) (q r : Reply) → takes_task op.Pick q ≡ false → takes_task op.Pick r ≡ false → row s who op.Pick q ≡ row s who op.Pick r
-pick_not_read s who q r e1 e2 = grind (arith, nat_tests)
+pick_not_read s who q r i j = grind (arith, nat_tests)
 
 pub takes_still : (g : Renaming) (r : Reply) → takes_task op.Pick r ≡ false → takes_task op.Pick (renamed_reply g op.Pick r) ≡ false
-takes_still g r e1 = grind (arith, nat_tests)
+takes_still g r i = grind (arith, nat_tests)
 
 -- what a worker takes
 
 past : (b : Bool) (y q : Reply) (w : Row) → is_plain y ≡ true → is_plain q ≡ false → Allows (unless b y w) q → Allows w q
-past b y q w e1 e2 e3 = grind (arith, nat_tests)
+past b y q w i j l = grind (arith, nat_tests)
 
 past_gives : (b : Bool) (y q : Reply) (ms : List Move) (w : Row) → is_plain y ≡ true → is_plain q ≡ false → Allows (cond b (gives y ms) w) q → Allows w q
-past_gives b y q ms w e1 e2 e3 = grind (arith, nat_tests)
+past_gives b y q ms w i j l = grind (arith, nat_tests)
 
 pub if_there : {T C : Type 0} (o : Option T) (v : T → Row) (q : Reply) → ((y : T) → o ≡ Some y → Allows (v y) q → C) → Allows (live o never v) q → C
-if_there o v q e1 e2 = grind (arith, nat_tests)
+if_there o v q i j = grind (arith, nat_tests)
 
 module _ {g : Renaming} {s : State} (n : Fits g s) (x : Room) (who : ℕ) where
   picked_comes : (t : TaskHandle) (a : ActionHandle) (y : Kind) (args : List _) → Allows (picks (renamed g x s) who (Picked t a y args)) (Picked t a y args) → IsRenamed g None (Picked t a y args)

@@ -35,7 +35,7 @@ with-tasks s starts ends ts w = same-so s s.phase s.released s.stopped starts en
 
 -- an action that is withdrawn keeps its handle, and isn't live again
 withdrawn : (h : ℕ) (f : Listed Action → Listed Action) (o : Op) → WithdrawsAction h f o → (r : Listed Action) → KeepsHandle r (f r)
-withdrawn h f o e1 r = grind (arith, nat_tests)
+withdrawn h f o i r = grind (arith, nat_tests)
 
 -- the move makes no object
 abbrev pub MakesNothing : Move → Type 0
@@ -50,7 +50,7 @@ move_same s o released i idle k = same-so s s.phase true s.stopped s.starts s.en
 move_same s o (stops w) i idle k = same-so s s.phase s.released (slice_set s.stopped w true) s.starts s.ends s.actions s.tasks (handles-same s.actions) (handles-same s.tasks) k
 move_same s o (makes_action h a) i idle k = absurd idle
 move_same s o (enables h) i idle k = same-so s s.phase s.released s.stopped s.starts s.ends _ s.tasks (handles-change h (with_fields (with_enabled true)) (keeps-fields (with_enabled true)) s.actions) (handles-same s.tasks) k
-move_same s o (withdraws h f c) i idle k = grind (arith, nat_tests, same-so, handles-change, withdrawn, handles-ends, is_unstarted)
+move_same s o (withdraws h f c) i idle k = grind (arith, nat_tests, same-so, handles-change, withdrawn, handles-ends)
 move_same s o (starts_task h t) i idle k = absurd idle
 move_same s o (runs_task h w y) i idle k = with-tasks s s.starts s.ends _ (handles-change h (with_fields (with_state (Running w y))) (keeps-fields (with_state (Running w y))) s.tasks) k
 move_same s o (ends_task h e) i idle k = with-tasks s s.starts _ _ (handles-change h (ended e s.ends) (keeps-ended e s.ends) s.tasks) k
@@ -88,21 +88,21 @@ turn_after : (terms : Terms) (L : List NodeEntry) → InTurnAll (after terms L)
 turn_after terms L = along InTurnAll (λ o s m i w. turn_kept o s m i w) (opening terms) L (at_opening (λ T l. InTurn l) no_turn terms)
 
 pub fresh_next : (terms : Terms) (L : List NodeEntry) (k : ObjectKind) (h : ℕ) → is_fresh_of k (after terms L) h ≡ is_next_of k (after terms L) h
-fresh_next terms L k h = grind (arith, nat_tests, names_kind, may_issue, objects_of, own_kind, fresh-next, turn_after)
+fresh_next terms L k h = grind (arith, nat_tests, own_kind, fresh-next, turn_after)
 
 -- an op that makes nothing
 
 no_action : (a : Action) (o : Op) → made_kind o ≡ None → MakesAction a o → ⊥
-no_action a o e1 e2 = grind (arith, nat_tests)
+no_action a o i j = grind (arith, nat_tests)
 
 no_task : (t : NewTask) (o : Op) → made_kind o ≡ None → StartsTask t o → ⊥
-no_task t o e1 e2 = grind (arith, nat_tests)
+no_task t o i j = grind (arith, nat_tests)
 
 no_sort : (t : Sort) (o : Op) → made_kind o ≡ None → makes_kind t o ≡ true → ⊥
-no_sort t o e1 e2 = grind (arith, nat_tests)
+no_sort t o i j = grind (arith, nat_tests)
 
 pub by_none : (s : State) (o : Op) (m : Move) → made_kind o ≡ None → IsMade s o m → MakesNothing m
-by_none s o m e1 e2 = grind (arith, nat_tests)
+by_none s o m i j = grind (arith, nat_tests)
 
 then_none : (s t u : State) → MakesNone s t → SameMade t u → MakesNone s u
 then_none s t u v w = record { counts = λ k. length-same _ _ (w k) ∙ v.counts k; slots = λ k j. issued_at-same j _ _ (w k) ∙ v.slots k j }

@@ -56,10 +56,10 @@ pub record HoldsOfNew (s : State) (Q : ObjectKind → State → Type 0) (h : ℕ
 
 module _ {s : State} {Q : ObjectKind → State → Type 0} {h : ℕ} where
   unless_makes : {k : ObjectKind} {a : Bool} {y : Reply} {own : Reply → Row} → is_plain y ≡ true → Makes s Q h k own → Makes s Q h k (λ r. unless a y (own r))
-  unless_makes e1 e2 = grind (arith, nat_tests)
+  unless_makes i j = grind (arith, nat_tests)
 
   creates_makes : {T : Type 0} {k : ObjectKind} (o : Objects T) (make : ℕ → Move) → is_plain o.limit ≡ true → Q k (apply (make h) s) → Makes s Q h k (λ r. creates o s r make)
-  creates_makes o make e1 e2 = grind (arith, nat_tests)
+  creates_makes o make i j = grind (arith, nat_tests)
 
   -- and so it holds after an op that answers the handle of a new object
   pub after_create : HoldsOfNew s Q h → (who : ℕ) (k : ObjectKind) (o : Op) → made_kind o ≡ Some k → Allows (row s who o (Handle h)) (Handle h) → Q k (after_row s (row s who o (Handle h)))

@@ -41,7 +41,7 @@ no_handle h y p e = grind arith
 
 -- what is refused for a reason that doesn't depend on the handle
 pub says_creates : {g : Renaming} {x : Room} {s : State} {k : ObjectKind} {h other : ℕ} {y : Reply} → is_plain y ≡ true → CreateAlike g x s k h other (λ r. says y) (λ r. says y)
-says_creates e1 = grind (arith, nat_tests)
+says_creates i = grind (arith, nat_tests)
 
 module _ {g : Renaming} {x : Room} {s : State} {k : ObjectKind} {h other : ℕ} where
   -- behind a refusal for the same cause
@@ -71,22 +71,22 @@ abbrev ends_in : Bool → Reply → Bool → Reply → List Move → Row
 ends_in f limit b r ms = unless f limit (only b (gives (Handle (handle_of r)) ms))
 
 none_other : (f b : Bool) (limit r : Reply) (ms : List Move) → is_handle r ≡ false → (r ≡ limit → ⊥) → Allows (ends_in f limit b r ms) r → ⊥
-none_other f b limit r ms e1 e2 e3 = grind (arith, nat_tests)
+none_other f b limit r ms i j l = grind (arith, nat_tests)
 
 pub reached : (f b : Bool) (limit : Reply) (h : ℕ) (ms : List Move) → is_plain limit ≡ true → Allows (ends_in f limit b (Handle h) ms) (Handle h) → (f ≡ false) × (b ≡ true)
-reached f b limit h ms e1 e2 = grind (arith, nat_tests)
+reached f b limit h ms i j = grind (arith, nat_tests)
 
 given : (f b : Bool) (limit : Reply) (h : ℕ) (ms : List Move) → f ≡ false → b ≡ true → Allows (ends_in f limit b (Handle h) ms) (Handle h)
-given f b limit h ms e1 e2 = grind (arith, nat_tests)
+given f b limit h ms i j = grind (arith, nat_tests)
 
 pub after_given : (s : State) (f b : Bool) (limit : Reply) (h : ℕ) (ms : List Move) → f ≡ false → b ≡ true → after_row s (ends_in f limit b (Handle h) ms) ≡ after_moves ms s
-after_given s f b limit h ms e1 e2 = grind (arith, nat_tests)
+after_given s f b limit h ms i j = grind (arith, nat_tests)
 
 pub can_be : (f b : Bool) (limit r : Reply) (ms : List Move) → Allows (ends_in f limit b r ms) r ↔ MatchBool f (r ≡ limit) ((b ≡ true) × (r ≡ Handle (handle_of r)))
 can_be f b limit r ms = grind (arith, nat_tests)
 
 pub stays_in : (s : State) (f b : Bool) (limit r : Reply) (ms : List Move) → Allows (ends_in f limit b r ms) r → is_handle r ≡ false → after_row s (ends_in f limit b r ms) ≡ s
-stays_in s f b limit r ms e1 e2 = grind (arith, nat_tests)
+stays_in s f b limit r ms i j = grind (arith, nat_tests)
 
 -- the six kinds that no rule of tasks speaks of
 pub full_same : (t : Sort) (u : State) → is_full_of (all_of t).kind u ≡ full (all_of t) u
@@ -105,7 +105,7 @@ limit_plain t = refl
 
 -- the group of a new task that is not refused
 pub group_has : {g : Renaming} {s : State} → Fits g s → (c : Option ℕ) → holds (λ a. is_none (live_object s.groups a)) c ≡ false → IfSome c (Has g kind.Group)
-group_has e1 c e2 = grind (arith, nat_tests, live_object, found-has)
+group_has i c j = grind (arith, nat_tests, found-has)
 
 module _ {g : Renaming} {x : Room} {s : State} (n : Follows g s) {h other : ℕ} where
   creates_alike : {T : Type 0} (o : Objects T) (make make_other : ℕ → Move) → ((t : State) → is_full_of o.kind t ≡ full o t) → ((t : State) (a : ℕ) → is_fresh_of o.kind t a ≡ is_fresh o t a) → limit_of o.kind ≡ o.limit → is_plain o.limit ≡ true →

@@ -36,10 +36,10 @@ kind_decides : (a b : Kind) → Decides (kind_number a == kind_number b) (a ≡ 
 kind_decides a b = decides_so (kind_number a == kind_number b) (λ e. sym (kind-number a) ∙ ap kind_of e ∙ kind-number b) (λ e. ap kind_number e) (Decides-eqb (kind_number a) (kind_number b))
 
 pub end_decides : (a b : TaskEnd) → Decides (same_end a b) (a ≡ b)
-end_decides a b = grind (arith, nat_tests, decides_so, int_eq, signed_items, mtapi_number, mtapi_decides)
+end_decides a b = grind (arith, nat_tests, decides_so, signed_items, mtapi_decides)
 
 pub act_decides : (a b : ActEnd) → Decides (same_act a b) (a ≡ b)
-act_decides a b = grind (arith, nat_tests, decides_so, int_eq, signed_items, mtapi_number, mtapi_decides)
+act_decides a b = grind (arith, nat_tests, decides_so, signed_items, mtapi_decides)
 
 unfoldable pub task_in : Reply → ℕ
 task_in (Given v b) = v.0
@@ -52,7 +52,7 @@ action_in _ = 0
 
 given_decides : (u v : TaskHandle) (a b : TaskEnd) → Decides ((u.0 == v.0) && same_end a b) (Given u a ≡ Given v b)
 unfolding task_in
-given_decides u v a b = grind (arith, nat_tests, decides_so, same_end, both_decide, Decides-eqb, end_decides)
+given_decides u v a b = grind (arith, nat_tests, decides_so, both_decide, Decides-eqb, end_decides)
 
 picked_decides : (u v : TaskHandle) (a b : ActionHandle) (c d : Kind) (xs ys : List _) → Decides ((u.0 == v.0) && (a.0 == b.0) && (kind_number c == kind_number d) && pointwise int_eq xs ys) (Picked u a c xs ≡ Picked v b d ys)
 unfolding task_in action_in

@@ -62,7 +62,7 @@ others_keep_lasts s who o r k e =
 module _ (s : State) (h : ℕ) where
   last_so : (k : ObjectKind) (t : State) → t.terms ≡ s.terms → lasts_in s.terms.settings.generations ((objects_of k).list t) ≡ with_last s.terms.settings.generations h (lasts_of k s) →
       ((i : ObjectKind) → (i ≡ k → ⊥) → (objects_of i).list t ≡ (objects_of i).list s) → MakesLast s t k h
-  last_so k t e1 e2 e3 = grind (arith, nat_tests)
+  last_so k t i j l = grind (arith, nat_tests)
 
   last_sort : (t : Sort) (v : Fields t) → MakesLast s (apply (makes t h v) s) (all_of t).kind h
   last_sort t v =

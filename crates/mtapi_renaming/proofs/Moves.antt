@@ -71,7 +71,7 @@ module _ (g : Renaming) (x : Room) (s : State) where
   makes_action-renames h a = λ i. record (renamed g x s) { actions = issue-inside (g kind.Action) (λ j y. y) h a s.actions i }
 
   pub starts_task-renames : (h : ℕ) (t : NewTask) → g kind.Mutex 0 ≡ 0 → g kind.Shmem 0 ≡ 0 → renamed g x (apply (starts_task h t) s) ≡ apply (starts_task (g kind.Task h) (renamed_new g t)) (renamed g x s)
-  starts_task-renames h t e1 e2 = grind (arith, nat_tests, issue-inside, renamed_task, new_task)
+  starts_task-renames h t i j = grind (arith, nat_tests, issue-inside)
 
   pub makes-renames : (k : Sort) (h : ℕ) (v : Fields k) → renamed g x (apply (makes k h v) s) ≡ apply (makes k (g (all_of k).kind h) v) (renamed g x s)
   makes-renames k h v =
@@ -101,7 +101,7 @@ module _ (g : Renaming) (x : Room) (s : State) (n : Fits g s) where
   task_changes h F G to = λ i. record (renamed g x s) { tasks = update-inside (g kind.Task) (λ j y. renamed_task g y) h F G s.tasks to (apart g n.one kind.Task (renamed_task g) (HasTask g) h s.tasks n.tasks) i }
 
   pub runs_task-renames : (h w : ℕ) (k : Kind) → MoveRenames g x s (runs_task (g kind.Task h) w k) (runs_task h w k)
-  runs_task-renames h w k = grind (arith, nat_tests, task_changes, with_state, with_tasks, has-change, with_fields)
+  runs_task-renames h w k = grind (arith, nat_tests, task_changes, with_tasks, has-change)
 
   pub notes-renames : (h : ℕ) (f c : Notes → Notes) → ((y : Notes) → renamed_notes g (f y) ≡ c (renamed_notes g y)) → NoteKeeps g f → MoveRenames g x s (notes (g kind.Task h) c) (notes h f)
   notes-renames h f c to keeps = record {
@@ -126,10 +126,10 @@ module _ (g : Renaming) (x : Room) (s : State) (n : Fits g s) where
 
   -- every task that passes ends
   ends-same : (q m : Task → Bool) → SameTest g q m → (e : TaskEnd) → renamed g x (end_tasks m e s) ≡ end_tasks q e (renamed g x s)
-  ends-same q m e1 e = grind (arith, nat_tests, end_each-renamed, same_count, renamed_task)
+  ends-same q m i e = grind (arith, nat_tests, end_each-renamed, same_count)
 
   pub ends_waiting-renames : (q m : Task → Bool) → SameTest g q m → (e : TaskEnd) → MoveRenames g x s (ends_waiting q e) (ends_waiting m e)
-  ends_waiting-renames q m e1 e = grind (arith, nat_tests, ends-same, is_unstarted, with_tasks, has-ends)
+  ends_waiting-renames q m i e = grind (arith, nat_tests, ends-same, with_tasks, has-ends)
 
   pub frees_members-renames : (h : ℕ) → MoveRenames g x s (frees_members (g kind.Group h)) (frees_members h)
   frees_members-renames h = record {

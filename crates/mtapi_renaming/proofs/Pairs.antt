@@ -24,7 +24,7 @@ pub record IsNew (g : Renaming) (k : ObjectKind) (h other : ℕ) : Type 0 where
 -- where a handle may be issued, it is none of those that were, and not 0
 issued-facts : {T : Type 0} (last h : ℕ) (l : List (Listed T)) → may_issue last h l ≡ true → (listed h l ≡ 0) × (1 ≤ h)
 unfolding may_issue
-issued-facts last h l e1 = grind (arith, nat_tests)
+issued-facts last h l i = grind (arith, nat_tests)
 
 module _ {T : Type 0} (g : Renaming) (one : IsOneToOne g) (k : ObjectKind) (f : T → T) (P : T → Type 0) where
   pub listed-renamed : (h : ℕ) (l : List (Listed T)) → HasEach g k P l → listed (g k h) (renamed_list (g k) f l) ≡ listed h l
@@ -41,7 +41,7 @@ module _ {T : Type 0} (g : Renaming) (one : IsOneToOne g) (k : ObjectKind) (f : 
 -- so of the handles that two states may issue
 pub is_new : {T : Type 0} (g : Renaming) (x : Room) (s : State) → IsOneToOne g → (o : Objects T) (f : T → T) (P : T → Type 0) → o.list (renamed g x s) ≡ renamed_list (g o.kind) f (o.list s) → HasEach g o.kind P (o.list s) → ((a : ℕ) → Has g o.kind a → 1 ≤ listed a (o.list s)) →
     (h other : ℕ) → is_fresh o s h ≡ true → is_fresh o (renamed g x s) other ≡ true → IsNew g o.kind h other
-is_new g x s e1 o f P e2 e3 e4 h other e5 e6 = grind (arith, nat_tests, issued-facts, snd_true, new-pair)
+is_new g x s i o f P j l m h other n u = grind (arith, nat_tests, issued-facts, snd_true, new-pair)
 
 module _ (g : Renaming) (k : ObjectKind) (h other : ℕ) where
   pub at-new : with_pair k h other g k h ≡ other
@@ -50,7 +50,7 @@ module _ (g : Renaming) (k : ObjectKind) (h other : ℕ) where
   module _ (one : IsOneToOne g) (new : IsNew g k h other) where
     -- what the renaming had, it has still
     pub extends : (j : ObjectKind) (a : ℕ) → Has g j a → with_pair k h other g j a ≡ g j a
-    extends j a has = grind (arith, nat_tests, same_kind j k, new.absent, has)
+    extends j a has = grind (arith, nat_tests, same_kind j k, new.absent)
 
     pub has_still : (j : ObjectKind) (a : ℕ) → Has g j a → Has (with_pair k h other g) j a
     has_still j a has = subst (λ (m : ℕ). 1 ≤ m) (sym (extends j a has)) has

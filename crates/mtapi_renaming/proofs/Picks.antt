@@ -12,10 +12,10 @@ other_reply : (t : TaskHandle) (a : ActionHandle) (k : Kind) (args : List ℤ) (
 other_reply t a k args y e i = grind arith
 
 unless_takes : {b : Bool} {y : Reply} {own : Reply → Row} → takes_task op.Pick y ≡ false → OnlyTakes own → OnlyTakes (λ r. unless b y (own r))
-unless_takes e1 e2 = grind (arith, nat_tests)
+unless_takes i j = grind (arith, nat_tests)
 
 stop_takes : (b : Bool) (w : ℕ) {own : Reply → Row} → OnlyTakes own → OnlyTakes (λ r. cond b (gives Stop (stops w ∷ [])) (own r))
-stop_takes b w e1 = grind (arith, nat_tests)
+stop_takes b w i = grind (arith, nat_tests)
 
 -- the worker could take the task that it takes
 could_take : (s : State) (w : ℕ) (t a : ℕ) (x : Task) (y : Action) → live_object s.tasks t ≡ Some x → live_object s.actions a ≡ Some y → (is_ready s x && is_eligible (workers s) w x.job x.cores y) ≡ true → any_listed (can_take s w) s.tasks ≡ true
@@ -23,13 +23,13 @@ unfolding can_take
 could_take s w t a x y d e may = any_live-at (can_take s w) (live_of s.tasks) t x d (grind (arith, any_live-at (is_eligible (workers s) w x.job x.cores) (live_of s.actions) a y e))
 
 holds_only : (b : Bool) (w : Row) (q : Reply) → Allows (only b w) q → b ≡ true
-holds_only b w q e1 = grind (arith, nat_tests)
+holds_only b w q i = grind (arith, nat_tests)
 
 picked : (s : State) (w : ℕ) (t : TaskHandle) (a : ActionHandle) (k : Kind) (args : List ℤ) → Allows (picks s w (Picked t a k args)) (Picked t a k args) → any_listed (can_take s w) s.tasks ≡ true
-picked s w t a k args e1 = grind (arith, nat_tests, if_there, live_object, could_take, fst_true, holds_only)
+picked s w t a k args i = grind (arith, nat_tests, if_there, could_take, fst_true, holds_only)
 
 not_idle : (b : Bool) (r : Reply) → b ≡ true → Allows (only (not b) (says Idle)) r → ⊥
-not_idle b r e1 e2 = grind (arith, nat_tests)
+not_idle b r i j = grind (arith, nat_tests)
 
 picks_take : (s : State) (w : ℕ) → OnlyTakes (picks s w)
 picks_take s w = record { takes = λ t a k args. elim [ Picked u b l brgs ↦ λ i j. refl | r ↦ λ i j. absurd (not_idle (any_listed (can_take s w) s.tasks) r (picked s w t a k args i) j) ] }

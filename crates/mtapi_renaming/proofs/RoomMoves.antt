@@ -36,10 +36,10 @@ record KeepsWithin (s : State) (k : ObjectKind) (own : Reply → Row) : Type 0 w
 
 module _ {s : State} where
   unless_within : {k : ObjectKind} {a : Bool} {y : Reply} {own : Reply → Row} → KeepsWithin s k own → KeepsWithin s k (λ r. unless a y (own r))
-  unless_within e1 = grind (arith, nat_tests)
+  unless_within i = grind (arith, nat_tests)
 
   creates_within : {T : Type 0} {k : ObjectKind} (o : Objects T) (make : ℕ → Move) → ((h : ℕ) → full o s ≡ false → WithinAll s → WithinAll (apply (make h) s)) → KeepsWithin s k (λ r. creates o s r make)
-  creates_within o make e1 = grind (arith, nat_tests)
+  creates_within o make i = grind (arith, nat_tests)
 
 create_within : (s : State) (who : ℕ) (o : Op) (k : ObjectKind) (r : Reply) → made_kind o ≡ Some k → WithinAll s → WithinAll (after_row s (row s who o r))
 create_within s who o k r i = (create_row parts who k o i).within r

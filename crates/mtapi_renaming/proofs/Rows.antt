@@ -25,32 +25,32 @@ HasAnswer g k (Picked t a x args) = Has g kind.Task t.0 × Has g kind.Action a.0
 HasAnswer g k r = Unit {0}
 
 plain-same : (g : Renaming) (k : Option ObjectKind) (y : Reply) → is_plain y ≡ true → renamed_answer g k y ≡ y
-plain-same g k y e1 = grind (arith, nat_tests)
+plain-same g k y i = grind (arith, nat_tests)
 
 plain-has : (g : Renaming) (k : Option ObjectKind) (y : Reply) → is_plain y ≡ true → HasAnswer g k y
-plain-has g k y e1 = grind (arith, nat_tests)
+plain-has g k y i = grind (arith, nat_tests)
 
 pub no_plain : (y z : Reply) → is_plain y ≡ true → z ≡ y → is_plain z ≡ false → ⊥
 no_plain y z p e f = let t : is_plain z ≡ true = subst (λ (w : Reply). is_plain w ≡ true) (sym e) p in absurd (cc)
 
 -- no two replies become the same one
 plain_one : (g : Renaming) (k : Option ObjectKind) (y r : Reply) → is_plain y ≡ true → renamed_answer g k r ≡ y → r ≡ y
-plain_one g k y r e1 e2 = grind (arith, nat_tests)
+plain_one g k y r i j = grind (arith, nat_tests)
 
 handle_one : (g : Renaming) → IsOneToOne g → (k : ObjectKind) (h : ℕ) (r : Reply) → Has g k h → renamed_answer g (Some k) r ≡ Handle (g k h) → r ≡ Handle h
-handle_one g e1 k h r e2 e3 = grind (arith, nat_tests)
+handle_one g i k h r j l = grind (arith, nat_tests)
 
 given_one : (g : Renaming) → IsOneToOne g → (k : Option ObjectKind) (t : TaskHandle) (end : TaskEnd) (r : Reply) → Has g kind.Task t.0 → renamed_answer g k r ≡ renamed_answer g k (Given t end) → r ≡ Given t end
 unfolding task_in
-given_one g e1 k t end r e2 e3 = grind (arith, nat_tests)
+given_one g i k t end r j l = grind (arith, nat_tests)
 
 picked_one : (g : Renaming) → IsOneToOne g → (k : Option ObjectKind) (t : TaskHandle) (a : ActionHandle) (x : Kind) (args : List _) (r : Reply) → Has g kind.Task t.0 → Has g kind.Action a.0 →
     renamed_answer g k r ≡ renamed_answer g k (Picked t a x args) → r ≡ Picked t a x args
 unfolding task_in action_in
-picked_one g e1 k t a x args r e2 e3 e4 = grind (arith, nat_tests)
+picked_one g i k t a x args r j l m = grind (arith, nat_tests)
 
 reply_one : (g : Renaming) → IsOneToOne g → (k : Option ObjectKind) (y r : Reply) → HasAnswer g k y → renamed_answer g k r ≡ renamed_answer g k y → r ≡ y
-reply_one g e1 k y r e2 e3 = grind (arith, nat_tests)
+reply_one g i k y r j l = grind (arith, nat_tests)
 
 pub sort-invalid : (t : Sort) → is_plain (all_of t).invalid ≡ true
 sort-invalid Groups = refl
@@ -72,7 +72,7 @@ pub record Alike (g : Renaming) (x : Room) (s : State) (k : Option ObjectKind) (
 
 module _ {g : Renaming} {x : Room} {s : State} (n : Fits g s) {k : Option ObjectKind} {r : Reply} where
   pub gives_renamed : {y : Reply} {ms ws : List Move} → HasAnswer g k y → MovesRename g x s ms ws → Alike g x s k r (gives y ws) (gives (renamed_answer g k y) ms)
-  gives_renamed e1 e2 = grind (arith, nat_tests)
+  gives_renamed i j = grind (arith, nat_tests)
 
   pub gives_alike : {y : Reply} {ms ws : List Move} → is_plain y ≡ true → MovesRename g x s ms ws → Alike g x s k r (gives y ws) (gives y ms)
   gives_alike {y} {ms} {ws} p e = subst (λ (z : Reply). Alike g x s k r (gives y ws) (gives z ms)) (plain-same g k y p) (gives_renamed (plain-has g k y p) e)
@@ -85,7 +85,7 @@ module _ {g : Renaming} {x : Room} {s : State} (n : Fits g s) {k : Option Object
 
   -- what follows a refusal, where its cause doesn't hold
   pub unless_then : {a b : Bool} {y : Reply} {own other : Row} → b ≡ a → is_plain y ≡ true → (a ≡ false → Alike g x s k r own other) → Alike g x s k r (unless a y own) (unless b y other)
-  unless_then e1 e2 e3 = grind (arith, nat_tests, says_alike)
+  unless_then i j l = grind (arith, nat_tests, says_alike)
 
   pub unless_alike : {a b : Bool} {y : Reply} {own other : Row} → b ≡ a → is_plain y ≡ true → Alike g x s k r own other → Alike g x s k r (unless a y own) (unless b y other)
   unless_alike e p w = unless_then e p (λ d. w)
@@ -95,13 +95,13 @@ module _ {g : Renaming} {x : Room} {s : State} (n : Fits g s) {k : Option Object
   not_yet_alike false late p = says_alike refl
 
   pub cond_alike : (a b : Bool) {v w y z : Row} → b ≡ a → Alike g x s k r v y → Alike g x s k r w z → Alike g x s k r (cond a v w) (cond b y z)
-  cond_alike a b e1 e2 e3 = grind (arith, nat_tests)
+  cond_alike a b i j l = grind (arith, nat_tests)
 
   pub only_alike : {a b : Bool} {own other : Row} → b ≡ a → (a ≡ true → Alike g x s k r own other) → Alike g x s k r (only a own) (only b other)
-  only_alike e1 e2 = grind (arith, nat_tests)
+  only_alike i j = grind (arith, nat_tests)
 
   pub live_alike : {T : Type 0} (f : T → T) {o p : Option T} {own other : Row} (v w : T → Row) → p ≡ option_map f o → Alike g x s k r own other → ((y : T) → o ≡ Some y → Alike g x s k r (v y) (w (f y))) → Alike g x s k r (live o own v) (live p other w)
-  live_alike f v w e1 e2 e3 = grind (arith, nat_tests)
+  live_alike f v w i j l = grind (arith, nat_tests)
 
   pub mrapi_alike : (cs : List (Bool × MrapiStatus)) {own other : Row} → Alike g x s k r own other → Alike g x s k r (mrapi_unless cs own) (mrapi_unless cs other)
   mrapi_alike [] w = w

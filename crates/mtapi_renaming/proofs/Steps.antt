@@ -38,10 +38,10 @@ same_length f c [] = refl
 same_length f c (r ∷ rs) = grind (arith, same_length f c rs)
 
 as_many_live : (g : Renaming) (x : Room) (s : State) (k : ObjectKind) → live_in k (renamed g x s) ≡ live_in k s
-as_many_live g x s k = grind (arith, nat_tests, same_length, renamed_task)
+as_many_live g x s k = grind (arith, nat_tests, same_length)
 
 same_live : (g : Renaming) (x : Room) (s : State) (k : ObjectKind) → Follows g s → (h : ℕ) → is_live_of k (renamed g x s) (g k h) ≡ is_live_of k s h
-same_live g x s k e1 h = grind (arith, nat_tests, found-renamed, is_some-map, live_object, renamed_task)
+same_live g x s k i h = grind (arith, nat_tests, found-renamed, is_some-map)
 
 pub lives_alike : (g : Renaming) (x : Room) (s : State) (k : ObjectKind) → Follows g s → LiveAlike g x s k
 lives_alike g x s k n = record { same = same_live g x s k n; count = as_many_live g x s k }

@@ -14,7 +14,7 @@ SameTest g q m = (t : Task) → HasTask g t → q (renamed_task g t) ≡ m t
 
 -- the workers that can take tasks
 below_same : (n : ℕ) (p q : ℕ → Bool) → ((w : ℕ) → p w ≡ q w) → some_below n p ≡ some_below n q
-below_same n p q e1 = grind (arith, nat_tests)
+below_same n p q i = grind (arith, nat_tests)
 
 -- the ends of tasks leave what the renaming has
 pub has-ends : (g : Renaming) (p : Task → Bool) (e : TaskEnd) (n : ℕ) (l : List (Listed Task)) → HasEach g kind.Task (HasTask g) l → HasEach g kind.Task (HasTask g) (end_each p e n l)
@@ -39,11 +39,11 @@ insert-renamed g x [] = refl
 insert-renamed g x (y ∷ ys) = grind (arith, insert-renamed g x ys)
 
 insert_ended-renamed : (g : Renaming) (h : ℕ) (x : Option (TaskEnd × ℕ)) (xs ys : List Ending) → ys ≡ renamed_endings g xs → insert_ended (g kind.Task h) x ys ≡ renamed_endings g (insert_ended h x xs)
-insert_ended-renamed g h x xs ys e1 = grind (arith, nat_tests, insert-renamed)
+insert_ended-renamed g h x xs ys i = grind (arith, nat_tests, insert-renamed)
 
 module _ (g : Renaming) (one : IsOneToOne g) where
   same_handle : (k : ObjectKind) (h : ℕ) (o : Option ℕ) → IfSome o (Has g k) → holds (λ a. a == g k h) (option_map (g k) o) ≡ holds (λ a. a == h) o
-  same_handle k h o e1 = grind (arith, nat_tests)
+  same_handle k h o i = grind (arith, nat_tests)
 
   pub same_member : (h : ℕ) → SameTest g (is_member (g kind.Group h)) (is_member h)
   same_member h t n = same_handle kind.Group h t.notes.group n.notes.group
@@ -59,7 +59,7 @@ module _ (g : Renaming) (one : IsOneToOne g) where
 
   -- the task is the head of its queue
   pub same_head : (q : ℕ) (t : Task) (l : List (Listed Task)) → HasEach g kind.Task (HasTask g) l → is_head (g kind.Queue q) (renamed_task g t) (live_of (renamed_tasks g l)) ≡ is_head q t (live_of l)
-  same_head q t l e1 = grind (arith, nat_tests, same_any, renamed_task, is_unended_in, nat_lt, same_unended_in)
+  same_head q t l i = grind (arith, nat_tests, same_any, same_unended_in)
 
   pub same_workers : (workers job cores : ℕ) (l : List (Listed Action)) → HasEach g kind.Action NoHandle l → has_worker workers job cores (live_of (renamed_list (g kind.Action) (λ x. x) l)) ≡ has_worker workers job cores (live_of l)
   unfolding has_worker

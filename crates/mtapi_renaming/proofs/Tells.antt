@@ -15,7 +15,7 @@ record Tells (s : State) (k : ObjectKind) (own : Reply → Row) : Type 0 where
   stays : (r : Reply) → Allows (own r) r → is_handle r ≡ false → after_row s (own r) ≡ s
 
 no_handle_in : (y : Reply) → is_plain y ≡ true → is_handle y ≡ false
-no_handle_in y e1 = grind (arith, nat_tests)
+no_handle_in y i = grind (arith, nat_tests)
 
 module _ {s : State} where
   says_tells : {k : ObjectKind} (y : Reply) → is_plain y ≡ true → Tells s k (λ r. says y)

@@ -51,12 +51,12 @@ record IsLeast (s : State) (L : List NodeEntry) (n : ℕ) : Type 0 where
 -- the first entry may not come
 first_bad : (s : State) (e : NodeEntry) (es : List NodeEntry) → may_come s e ≡ false → IsLeast s (e ∷ es) 1
 unfolding LegalFrom
-first_bad s e es e1 = grind (arith, nat_tests, come_decides)
+first_bad s e es i = grind (arith, nat_tests, come_decides)
 
 -- it may, and a later one is the first that may not
 later_bad : (s : State) (e : NodeEntry) (es : List NodeEntry) (n : ℕ) → may_come s e ≡ true → IsLeast (next s e) es n → IsLeast s (e ∷ es) (suc n)
 unfolding LegalFrom
-later_bad s e es n e1 e2 = grind (arith, nat_tests, come_decides)
+later_bad s e es n i j = grind (arith, nat_tests, come_decides)
 
 least : (s : State) (L : List NodeEntry) (n : ℕ) → first_illegal s L ≡ Some n → IsLeast s L n
 unfolding first_illegal
