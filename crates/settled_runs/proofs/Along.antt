@@ -41,9 +41,7 @@ placed (a ∷ A) x B (c ∷ C) y D e = deeper (same_head a c _ _ e) (placed A x 
 pub lines_append : (who : ℕ) (P M : List NodeEntry) (ps ms : List ℕ) → length P ≡ length ps → lines_of who (P ++ M) (ps ++ ms) ≡ lines_of who P ps ++ lines_of who M ms
 unfolding lines_of
 lines_append who [] M [] ms l = refl
-lines_append who (e ∷ P) M (n ∷ ps) ms l =
-    let k = lines_append who P M ps ms (omega arith) in
-    elim (e.who == who) as (λ b. cond b (line e.op e.reply n ∷ lines_of who (P ++ M) (ps ++ ms)) (lines_of who (P ++ M) (ps ++ ms)) ≡ cond b (line e.op e.reply n ∷ lines_of who P ps) (lines_of who P ps) ++ lines_of who M ms) [ true ↦ (λ i. line e.op e.reply n ∷ k i) | false ↦ k ]
+lines_append who (e ∷ P) M (n ∷ ps) ms l = grind (arith, lines_append who P M ps ms (omega arith))
 lines_append who _ M _ ms l = absurd (omega arith)
 
 -- the entry of a line, with the seat's lines before it and behind it

@@ -1,5 +1,5 @@
 -- How many entries of a run ask for an op of some class: the statements bound it.
-use Rattle.settled_runs.proofs.Names.{Each, ◌≡◌, ℕ, suc, ◌+◌, ◌≤◌, ◌<◌, Bool, true, false, cond, List, [], ◌∷◌, ◌++◌, length, Option, Some, None, refl, sym, ◌∙◌, ap, subst, arith, ◌==◌, ◌&&◌, ◌||◌, nat_le, map, flat_map, nat_tests, eq-eqb, both_true, snd_true, how_many, Deed, Statement, Part, Workload, Op, Reply, handle_of, NodeEntry, Call, Once, Looking, call_of, Line, line, before_it, Made, RunOf, entries_that, BySeats, true_false, lines_of, Carried, all_statements, is_settled}
+use Rattle.settled_runs.proofs.Names.{Each, ◌≡◌, ℕ, suc, ◌+◌, ◌≤◌, ◌<◌, Bool, true, false, List, [], ◌∷◌, ◌++◌, length, Option, Some, None, refl, sym, ◌∙◌, ap, subst, arith, ◌==◌, ◌&&◌, ◌||◌, nat_le, map, flat_map, nat_tests, eq-eqb, both_true, snd_true, how_many, Deed, Statement, Part, Workload, Op, Reply, handle_of, NodeEntry, Call, Once, Looking, call_of, Line, line, before_it, Made, RunOf, entries_that, BySeats, true_false, lines_of, Carried, all_statements, is_settled}
 use Rattle.settled_runs.proofs.{Along.Step, Along.along, Granted.bit, Granted.bit_within}
 use Rattle.settled_runs.proofs.Each.{AllSeats, CallEach, OnlyBy, PartAt, each_map, each_of, is_outside, map_seats, settled_whole, run_each, run_parts, work_outside}
 
@@ -17,11 +17,7 @@ module _ {X : Type 0} where
   -- what passes the first test passes one of the others
   pub many_or : (p q r : X → Bool) (xs : List X) → Each (λ x. p x ≡ true → (q x || r x) ≡ true) xs → how_many p xs ≤ how_many q xs + how_many r xs
   many_or p q r [] a = omega arith
-  many_or p q r (x ∷ xs) a = let k : how_many p xs ≤ how_many q xs + how_many r xs = many_or p q r xs a.1 in by (p x) (q x) (r x) a.0 k
-    where
-      by : (a b c : Bool) → (a ≡ true → (b || c) ≡ true) → how_many p xs ≤ how_many q xs + how_many r xs → bit a + how_many p xs ≤ (bit b + how_many q xs) + (bit c + how_many r xs)
-      by true false false f k = true_false (f refl) refl
-      by _ _ _ f k = omega arith
+  many_or p q r (x ∷ xs) a = grind (arith, a.0, many_or p q r xs a.1)
 
   pub many_within : (p q : X → Bool) (xs : List X) → Each (λ x. p x ≡ true → q x ≡ true) xs → how_many p xs ≤ how_many q xs
   many_within p q [] a = omega arith
@@ -41,33 +37,22 @@ asked p ls = how_many (λ l. p l.op) ls
 
 -- entries that pass ask for it, so they are no more than those that ask
 pub entries_asks : (p : Op → Bool) (q : NodeEntry → Bool) → ((e : NodeEntry) → q e ≡ true → p e.op ≡ true) → (L : List NodeEntry) → entries_that q L ≤ asks p L
-entries_asks p q f L =
-    let a : how_many q L ≤ asks p L = many_within q (λ e. p e.op) L (each_of (λ (e : NodeEntry). q e ≡ true → p e.op ≡ true) f L) in
-    let b : entries_that q L ≡ how_many q L = entries_are q L in
-    omega arith
+entries_asks p q f L = omega (arith, many_within q (λ e. p e.op) L (each_of (λ (e : NodeEntry). q e ≡ true → p e.op ≡ true) f L), entries_are q L)
 
 -- the lines of a seat are its entries
 own_asks : (p : Op → Bool) (who : ℕ) (es : List NodeEntry) (ns : List ℕ) → length es ≡ length ns → how_many (λ e. (e.who == who) && p e.op) es ≡ asked p (lines_of who es ns)
 unfolding lines_of
 own_asks p who [] ns l = refl
 own_asks p who (e ∷ es) [] l = absurd (omega arith)
-own_asks p who (e ∷ es) (m ∷ ns) l =
-    let k = own_asks p who es ns (omega arith) in
-    elim (e.who == who) as (λ b. bit (b && p e.op) + how_many (λ e. (e.who == who) && p e.op) es ≡ asked p (cond b (line e.op e.reply m ∷ lines_of who es ns) (lines_of who es ns))) [ true ↦ ap (λ (n : ℕ). bit (p e.op) + n) k | false ↦ omega (arith, k) ]
+own_asks p who (e ∷ es) (m ∷ ns) l = grind (arith, own_asks p who es ns (omega arith))
 
 -- so they ask no more often than all entries
 pub seat_asks : (p : Op → Bool) (who : ℕ) (L : List NodeEntry) (ks : List ℕ) → length L ≡ length ks → asked p (lines_of who L ks) ≤ asks p L
-seat_asks p who L ks l =
-    let a : how_many (λ e. (e.who == who) && p e.op) L ≤ asks p L = many_within (λ e. (e.who == who) && p e.op) (λ e. p e.op) L (each_of (λ (e : NodeEntry). ((e.who == who) && p e.op) ≡ true → p e.op ≡ true) (λ e i. snd_true (e.who == who) _ i) L) in
-    let b : how_many (λ e. (e.who == who) && p e.op) L ≡ asked p (lines_of who L ks) = own_asks p who L ks l in
-    omega arith
+seat_asks p who L ks l = omega (arith, many_within (λ e. (e.who == who) && p e.op) (λ e. p e.op) L (each_of (λ (e : NodeEntry). ((e.who == who) && p e.op) ≡ true → p e.op ≡ true) (λ e i. snd_true (e.who == who) _ i) L), own_asks p who L ks l)
 
 -- where only this seat asks for it, the entries ask no more often than its lines
 pub only_asks : (who : ℕ) (p : Op → Bool) (L : List NodeEntry) (ks : List ℕ) → length L ≡ length ks → OnlyBy who p L → asks p L ≤ asked p (lines_of who L ks)
-only_asks who p L ks l o =
-    let a : asks p L ≤ how_many (λ e. (e.who == who) && p e.op) L = many_within (λ e. p e.op) (λ e. (e.who == who) && p e.op) L (each_map (λ (e : NodeEntry). p e.op ≡ true → e.who ≡ who) (λ (e : NodeEntry). p e.op ≡ true → ((e.who == who) && p e.op) ≡ true) (λ e f i. both_true _ _ (eq-eqb e.who who (f i)) i) L o) in
-    let b : how_many (λ e. (e.who == who) && p e.op) L ≡ asked p (lines_of who L ks) = own_asks p who L ks l in
-    omega arith
+only_asks who p L ks l o = omega (arith, many_within (λ e. p e.op) (λ e. (e.who == who) && p e.op) L (each_map (λ (e : NodeEntry). p e.op ≡ true → e.who ≡ who) (λ (e : NodeEntry). p e.op ≡ true → ((e.who == who) && p e.op) ≡ true) (λ e f i. both_true _ _ (eq-eqb e.who who (f i)) i) L o), own_asks p who L ks l)
 
 -- how often a call may ask for it
 abbrev pub CallAsks : (Op → Bool) → ℕ → Call → Type 0
@@ -109,10 +94,7 @@ module _ (p : Op → Bool) where
       (λ b l1 r1 s front r x i. more b l1 s front (made_asks (call_of (map handle_of r1) s.deed) (bit (q s.deed)) front r (per b l1 r1 s front r x) x.made) i) c (omega arith)
     where
       more : (b : List Statement) (l1 : List Line) (s : Statement) (front : List Line) → asked p front ≤ bit (q s.deed) → asked p l1 ≤ how_many (λ z. q z.deed) b → asked p (l1 ++ front) ≤ how_many (λ z. q z.deed) (b ++ s ∷ [])
-      more b l1 s front i j =
-          let x : asked p (l1 ++ front) ≡ asked p l1 + asked p front = many_append (λ l. p l.op) l1 front in
-          let y : how_many (λ z. q z.deed) (b ++ s ∷ []) ≡ how_many (λ z. q z.deed) b + (bit (q s.deed) + 0) = many_append (λ z. q z.deed) b (s ∷ []) in
-          omega arith
+      more b l1 s front i j = omega (arith, i, j, many_append (λ l. p l.op) l1 front, many_append (λ z. q z.deed) b (s ∷ []))
 
 -- but for the ops at the begin and at the end of a seat, only statements of the second class ask for ops of the first, one each
 pub record IsClass (p : Op → Bool) (q : Deed → Bool) : Type 0 where
@@ -142,18 +124,12 @@ module _ (p : Op → Bool) (q : Deed → Bool) (k : IsClass p q) (load : Workloa
   seats_ask first [] rss a b = let z : how_many (later first) es ≡ 0 = many_none (later first) es (none_later first es (subst (λ (n : ℕ). BySeats n es) (let e : first + 0 ≡ first = omega arith in e) b)) in omega arith
   seats_ask first (x ∷ ps) [] a b = absurd a
   seats_ask first (x ∷ ps) (rs ∷ rss) a b =
-      let c : how_many (later first) es ≤ how_many (λ e. (e.who == first) && p e.op) es + how_many (later (suc first)) es = many_or (later first) (λ e. (e.who == first) && p e.op) (later (suc first)) es (each_of (λ (e : NodeEntry). later first e ≡ true → (((e.who == first) && p e.op) || later (suc first) e) ≡ true) (λ e. split e (nat_le first e.who) refl (e.who == first) refl (nat_le (suc first) e.who) refl) es) in
+      let c : how_many (later first) es ≤ how_many (λ e. (e.who == first) && p e.op) es + how_many (later (suc first)) es = many_or (later first) (λ e. (e.who == first) && p e.op) (later (suc first)) es (each_of (λ (e : NodeEntry). later first e ≡ true → (((e.who == first) && p e.op) || later (suc first) e) ≡ true) (λ e i. grind (arith, nat_tests)) es) in
       let d : how_many (λ e. (e.who == first) && p e.op) es ≡ asked p (lines_of first es ns) = own_asks p first es ns same in
       let f : asked p (lines_of first es ns) ≤ how_many (λ s. q s.deed) x.statements = seat_class first x rs a.0 in
       let g : how_many (later (suc first)) es ≤ how_many (λ s. q s.deed) (flat_map (λ y. y.statements) ps) = seats_ask (suc first) ps rss a.1 (subst (λ (n : ℕ). BySeats n es) (let e : first + suc (length ps) ≡ suc first + length ps = omega arith in e) b) in
       let h : how_many (λ s. q s.deed) (x.statements ++ flat_map (λ y. y.statements) ps) ≡ how_many (λ s. q s.deed) x.statements + how_many (λ s. q s.deed) (flat_map (λ y. y.statements) ps) = many_append (λ s. q s.deed) x.statements (flat_map (λ y. y.statements) ps) in
       omega arith
-    where
-      split : (e : NodeEntry) (a : Bool) → nat_le first e.who ≡ a → (b : Bool) → (e.who == first) ≡ b → (c : Bool) → nat_le (suc first) e.who ≡ c → (a && p e.op) ≡ true → ((b && p e.op) || (c && p e.op)) ≡ true
-      split e false i b j c k t = true_false t refl
-      split e true i true j c k t = ap (λ (z : Bool). z || (c && p e.op)) t
-      split e true i false j true k t = t
-      split e true i false j false k t = absurd (grind (arith, nat_tests))
 
   -- the entries of a run that ask for it are no more than the statements
   pub run_asks : RunOf load es ns → BySeats (load.settings.workers + length load.parts) es → is_settled load ≡ true → asks p es ≤ how_many (λ s. q s.deed) (all_statements load)

@@ -1,5 +1,5 @@
 -- In a quiet history a call isn't refused for which there is room and all that it needs.
-use Rattle.settled_runs.proofs.Names.{◌≡◌, ℕ, ◌+◌, ◌≤◌, ◌<◌, Bool, true, false, cond, List, [], ◌∷◌, refl, ◌∙◌, arith, length, ◌==◌, ◌&&◌, not, nat_tests, entry, ObjectKind, how_many, Listed, live_object, Task, NewTask, new_task, Op, Reply, Handle, Mtapi, Terms, State, opening, Move, starts_task, apply, after_moves, Allows, after_row, NodeEntry, IsNext, next, after, SameTask, given, on_only, by_moves, objects_of, entries_that, true_false, is_handle, makes_one, HasRoom, live_of, issue, retired, is_full, row, LegalFrom, after_from, zero, suc, ◌++◌, Option, Some, None, sym, ap, subst, ℤ, ◌||◌, nat_lt, is_none, is_some, eq-eqb, holds, Kind, Mask, GroupHandle, lookup, any_live, any_listed, Action, new_action, is_job, has_job, has_enabled_job, is_eligible, some_below, Ok, Phase, Open, Closing, Closed, workers, is_open, phase_is, makes, alters, removes, is_served, Row, unless, gives, never, only, number_of, Legal, IsMade, turns, Legal-front, some_same, sorts_keep, closes, NoClose, cut_from, cut_after, AreQuiet, IsOpened, IsServed, GroupIsMade, Asks, IsGranted, has_worker, inl, inr, cases_eq, cond_both, QuietCallsAreGranted, nat_le, QueueHandle, count_listed, with_fields, gone, is_unended, Queue, is_in, is_unended_in, queues, Queues, is_fresh, handle_of, live, new_queue, AltersObject, makes_kind, some_entry, none_first, Every, every_issue, every_change, sort_move, HasAction, makes_queue, puts, IsQueued, both_true, generation_of, makes_object, FieldsOf, AgesEach, SameFields, kind_move, terms_stay, puts_entry as puts_into, MtapiStatus, whether}
+use Rattle.settled_runs.proofs.Names.{◌≡◌, ℕ, ◌+◌, ◌≤◌, ◌<◌, Bool, true, false, cond, List, [], ◌∷◌, refl, ◌∙◌, arith, length, ◌==◌, ◌&&◌, not, nat_tests, entry, ObjectKind, how_many, Listed, live_object, Task, NewTask, new_task, Op, Reply, Handle, Mtapi, Terms, State, opening, Move, starts_task, apply, after_moves, Allows, after_row, NodeEntry, IsNext, next, after, SameTask, given, on_only, by_moves, objects_of, entries_that, true_false, is_handle, makes_one, HasRoom, live_of, issue, retired, is_full, row, LegalFrom, after_from, zero, suc, ◌++◌, Option, Some, None, sym, ap, subst, ℤ, ◌||◌, nat_lt, is_none, is_some, eq-eqb, holds, Kind, Mask, GroupHandle, any_live, any_listed, Action, new_action, is_job, has_job, has_enabled_job, is_eligible, some_below, Ok, Phase, Open, Closing, Closed, workers, is_open, phase_is, makes, alters, removes, is_served, Row, unless, gives, never, only, number_of, Legal, IsMade, turns, Legal-front, sorts_keep, closes, NoClose, cut_from, cut_after, AreQuiet, IsOpened, IsServed, GroupIsMade, Asks, IsGranted, has_worker, cond_both, QuietCallsAreGranted, nat_le, QueueHandle, count_listed, with_fields, gone, Queue, is_in, is_unended_in, queues, Queues, is_fresh, handle_of, live, new_queue, AltersObject, makes_kind, some_entry, none_first, Every, every_issue, every_change, sort_move, HasAction, makes_queue, puts, IsQueued, both_true, makes_object, FieldsOf, AgesEach, SameFields, kind_move, terms_stay, puts_entry as puts_into, MtapiStatus, whether}
 use Rattle.settled_runs.proofs.Stays.{made_objects_stay, AskedAs, on_start}
 
 -- How many objects a history made, and room for another
@@ -8,9 +8,7 @@ abbrev pub bit : Bool → ℕ
 bit b = cond b 1 0
 
 pub bit_within : (a b : Bool) → (a ≡ true → b ≡ true) → bit a ≤ bit b
-bit_within false b f = omega arith
-bit_within true true f = omega arith
-bit_within true false f = true_false (f refl) refl
+bit_within a b f = grind (arith, f)
 
 -- how many objects pass that were ever issued
 module _ {T : Type 0} (p : T → Bool) where
@@ -34,11 +32,7 @@ module _ {T : Type 0} where
   length_live : (last : ℕ) (l : List (Listed T)) → length (live_of l) + retired last l ≤ issued any l
   unfolding live_of retired
   length_live last [] = omega arith
-  length_live last (r ∷ rs) = by_live r.live (generation_of r.handle == last) (length_live last rs)
-    where
-      by_live : (a b : Bool) → length (live_of rs) + retired last rs ≤ issued any rs → length (cond a ((r.handle, r.fields) ∷ live_of rs) (live_of rs)) + (cond (not a && b) 1 0 + retired last rs) ≤ issued any (r ∷ rs)
-      by_live false true k = omega arith
-      by_live _ _ k = omega arith
+  length_live last (r ∷ rs) = grind (arith, length_live last rs)
 
   -- a list with fewer than its bound isn't full
   pub not_full : (last max : ℕ) (l : List (Listed T)) → issued any l < max → is_full last max l ≡ false
@@ -114,10 +108,7 @@ queues_grow s who o r a = none_more ObjectKind.Queue s who o r refl
 pub grown_along : (f : State → ℕ) (p : NodeEntry → Bool) → ((s : State) (e : NodeEntry) → IsNext s e → f (next s e) ≤ f s + bit (p e)) → (s : State) (L : List NodeEntry) → LegalFrom s L → f (after_from s L) ≤ f s + entries_that p L
 unfolding LegalFrom after_from
 grown_along f p g s [] l = omega arith
-grown_along f p g s (e ∷ es) l =
-    let m : f (next s e) ≤ f s + bit (p e) = g s e l.0 in
-    let n : f (after_from (next s e) es) ≤ f (next s e) + entries_that p es = grown_along f p g (next s e) es l.1 in
-    omega arith
+grown_along f p g s (e ∷ es) l = omega (arith, g s e l.0, grown_along f p g (next s e) es l.1)
 
 nothing_yet : (k : ObjectKind) (terms : Terms) → made_of k any (opening terms) ≡ 0
 nothing_yet ObjectKind.Action terms = refl
@@ -125,11 +116,7 @@ nothing_yet _ terms = refl
 
 -- there is room for another where fewer were made than there may be
 pub has_room : (k : ObjectKind) → GrowsBy k → (terms : Terms) (L : List NodeEntry) → LegalFrom (opening terms) L → HasRoom terms k L → (last : ℕ) → is_full last ((objects_of k).max terms.settings) ((objects_of k).list (after terms L)) ≡ false
-has_room k g terms L l r last =
-    let n : made_of k any (after terms L) ≤ made_of k any (opening terms) + entries_that (makes_one k) L = grown_along (made_of k any) (makes_one k) (λ s e i. g s e.who e.op e.reply i.allowed) (opening terms) L l in
-    let z : made_of k any (opening terms) ≡ 0 = nothing_yet k terms in
-    let h : entries_that (makes_one k) L < (objects_of k).max terms.settings = r in
-    not_full last ((objects_of k).max terms.settings) ((objects_of k).list (after terms L)) (omega arith)
+has_room k g terms L l r last = not_full last ((objects_of k).max terms.settings) ((objects_of k).list (after terms L)) (omega (arith, grown_along (made_of k any) (makes_one k) (λ s e i. g s e.who e.op e.reply i.allowed) (opening terms) L l, nothing_yet k terms, r))
 
 -- A row whose conditions aren't met
 
@@ -186,15 +173,11 @@ opened terms L l x =
 pub any_found : {T : Type 0} (p : T → Bool) (l : List (Listed T)) (h : ℕ) (x : T) → live_object l h ≡ Some x → p x ≡ true → any_listed p l ≡ true
 unfolding live_of
 any_found p [] h x e i = absurd (cc)
-any_found p (r ∷ rs) h x e i = cond_both r.live ((r.handle, r.fields) ∷ live_of rs) (live_of rs) (λ l. lookup l h ≡ Some x → any_live p l ≡ true)
-    (λ a. cond_both (r.handle == h) (Some r.fields) (live_object rs h) (λ o. o ≡ Some x → cond (p r.fields) true (any_listed p rs) ≡ true)
-    (λ b d. ap (λ (c : Bool). cond c true (any_listed p rs)) (ap p (some_same d) ∙ i)) (λ b d. cond_both (p r.fields) true (any_listed p rs) (λ z. z ≡ true) (λ c. refl) (λ c. any_found p rs h x d i)))
-    (λ a d. any_found p rs h x d i) e
+any_found p (r ∷ rs) h x e i = grind (arith, any_found p rs h x)
 
 pub below_found : (n w : ℕ) (p : ℕ → Bool) → w < n → p w ≡ true → some_below n p ≡ true
 below_found zero w p l e = absurd (omega arith)
-below_found (suc n) w p l e = cond_both (p n) true (some_below n p) (λ z. z ≡ true) (λ i. refl)
-    (λ i. elim (cases_eq w n) as (λ z. some_below n p ≡ true) [ inl j ↦ true_false (ap p (sym j) ∙ e) i | inr j ↦ below_found n w p (omega (arith, j)) e ])
+below_found (suc n) w p l e = grind (arith, nat_tests, below_found n w p)
 
 pub record Serves (s : State) (job cores : ℕ) : Type 0 where
   pub listed : any_listed (has_job job) s.actions ≡ true
@@ -333,11 +316,7 @@ gets_along q = grown_along (given_to q) (puts_into q) (λ s e i. tasks_made (is_
 
 unended_given : (q : ℕ) (l : List (Listed Task)) → count_listed (is_unended_in q) l ≤ issued (is_in q) l
 unended_given q [] = omega arith
-unended_given q (r ∷ rs) = by_tests r.live (is_in q r.fields) (is_unended r.fields) (unended_given q rs)
-  where
-    by_tests : (a b c : Bool) → count_listed (is_unended_in q) rs ≤ issued (is_in q) rs → bit (a && (b && c)) + count_listed (is_unended_in q) rs ≤ bit b + issued (is_in q) rs
-    by_tests true true true k = omega arith
-    by_tests _ _ _ k = omega arith
+unended_given q (r ∷ rs) = grind (arith, unended_given q rs)
 
 passes_live : (o : Option Queue) (x : Queue) (v : Row) (w : Queue → Row) → o ≡ Some x → Passes (w x) → Passes (live o v w)
 passes_live o x v w e p = subst (λ (y : Option Queue). Passes (live y v w)) (sym e) p

@@ -1,5 +1,5 @@
 -- Where the faults of each group of a part have one status, the one that is told as its members are put into it is the one of a verdict.
-use Rattle.settled_runs.proofs.Names.{◌≡◌, ℕ, Bool, true, false, List, [], ◌∷◌, ◌++◌, Option, Some, refl, sym, ◌∙◌, subst, ◌==◌, ◌&&◌, ◌||◌, not, list_any, list_all, flat_map, eq-eqb, eqb-true, list_any-append, MtapiStatus, mtapi_number, Action, NewTask, fst_true, snd_true, both_true, Statement, true_false, both, fault_in, task_in, plain_fault, have_one_fault_a_group, ap, ◌⊎◌, inl, inr, or_left, or_right, or_cases, None, option_or, verdict, State, Reply, fault_at, IsVerdict, none_some, find, mtapi_all, some_same}
+use Rattle.settled_runs.proofs.Names.{◌≡◌, ℕ, Bool, true, false, List, [], ◌∷◌, ◌++◌, Option, Some, refl, sym, ◌∙◌, subst, ◌==◌, ◌&&◌, ◌||◌, not, list_any, list_all, flat_map, eq-eqb, eqb-true, list_any-append, MtapiStatus, mtapi_number, Action, NewTask, fst_true, snd_true, both_true, Statement, true_false, both, fault_in, task_in, plain_fault, have_one_fault_a_group, ap, ◌⊎◌, inl, inr, or_left, or_right, or_cases, None, option_or, verdict, State, Reply, fault_at, IsVerdict, none_some, find, mtapi_all, some_same, arith, nat_tests}
 use Rattle.settled_runs.proofs.Verdicts.{has, has_more}
 
 -- Statuses that are compared by number
@@ -26,12 +26,7 @@ module _ {X : Type 0} (key number : X → ℕ) where
 
   alike : (g n m : ℕ) (xs : List X) → agree g n xs ≡ true → has_number g m xs ≡ true → n ≡ m
   alike g n m [] a f = true_false f refl
-  alike g n m (y ∷ ys) a f = elim (or_cases ((key y == g) && (number y == m)) (has_number g m ys) f) as (λ z. n ≡ m) [ inl i ↦ here i | inr i ↦ alike g n m ys (snd_true _ _ a) i ]
-    where
-      here : ((key y == g) && (number y == m)) ≡ true → n ≡ m
-      here i =
-          let same : (g == key y) ≡ true = eq-eqb g (key y) (sym (eqb-true (key y) g (fst_true _ _ i))) in
-          eqb-true n (number y) (subst (λ (b : Bool). (not b || (n == number y)) ≡ true) same (fst_true _ (agree g n ys) a)) ∙ eqb-true (number y) m (snd_true (key y == g) _ i)
+  alike g n m (y ∷ ys) a f = grind (arith, nat_tests, alike g n m ys)
 
   -- where any two agree
   pub one_number : (F : List X → Bool) → ((x : X) (xs : List X) → F (x ∷ xs) ≡ (agree (key x) (number x) xs && F xs)) → (g c d : ℕ) (xs : List X) → F xs ≡ true → has_number g c xs ≡ true → has_number g d xs ≡ true → c ≡ d

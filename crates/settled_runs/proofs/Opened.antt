@@ -253,7 +253,7 @@ one_id id (s ∷ ss) e = by (queue_in s.deed) (fst_true (has_new_id (queue_in s.
 
 no_entry : (p : Op → Bool) (L : List NodeEntry) → asks p L ≡ 0 → some_entry (λ e. p e.op) L ≡ false
 no_entry p [] i = refl
-no_entry p (e ∷ es) i = cond_both (p e.op) true (some_entry (λ x. p x.op) es) (λ b. b ≡ false) (λ j. let k : bit (p e.op) ≡ 1 = ap bit j in absurd (omega arith)) (λ j. no_entry p es (let k : bit (p e.op) ≡ 0 = ap bit j in omega arith))
+no_entry p (e ∷ es) i = grind (arith, no_entry p es)
 
 module _ (layout : Layout) (load : Workload) (es : List NodeEntry) (ns : List ℕ) (u : SettledRun layout load es ns) (who : ℕ) (A : List Line) (l : Line) (B : List Line) (c : Cut who es ns A l B) where
   -- fewer stand before it

@@ -1,5 +1,5 @@
 -- No seat of a run uses a handle that another seat was given: so what became of a group is told by the lines of its own seat.
-use Rattle.settled_runs.proofs.Names.{Each, ◌≡◌, ℕ, Bool, true, false, List, Some, refl, ◌∙◌, arith, None, Option, ◌==◌, map, IfSome, ◌||◌, option_map, eq-eqb, eqb-true, false_from_ne_true, or_from, Layout, ObjectKind, Sort, Deed, fields, place_used, values, word_for, Statement, Part, Workload, IsBoundAt, IsStatement, AllFit, Op, Reply, handle_of, NodeEntry, handle_at, group_at, call_of, Line, true_false, run_terms, holds, looks_at, waits_for, SettledRun, looks_at_all, starts_member, deed_spelled, lines_of, append_assoc, sym, ◌≤◌, ap, cond, [], ◌∷◌, ◌++◌, length, entry, is_pending, line, with_new, members_behind, members_of, or_parts, word_row as row}
+use Rattle.settled_runs.proofs.Names.{Each, ◌≡◌, ℕ, Bool, true, false, List, Some, refl, ◌∙◌, arith, None, Option, ◌==◌, map, IfSome, ◌||◌, option_map, eq-eqb, eqb-true, false_from_ne_true, or_from, Layout, ObjectKind, Sort, Deed, fields, place_used, values, word_for, Statement, Part, Workload, IsBoundAt, IsStatement, AllFit, Op, Reply, handle_of, NodeEntry, handle_at, group_at, call_of, Line, true_false, run_terms, holds, looks_at, waits_for, SettledRun, looks_at_all, starts_member, deed_spelled, lines_of, append_assoc, sym, ◌≤◌, ap, cond, [], ◌∷◌, ◌++◌, length, entry, is_pending, with_new, members_behind, members_of, or_parts, word_row as row, nat_tests}
 use Rattle.settled_runs.proofs.{Granted.bit, Opened.seats_are, SeatsGranted.seats, Walk.Seat, Walk.seat_granted, Counted.CallAsks, Counted.calls_none}
 use Rattle.settled_runs.proofs.Along.{step_bound, step_statement}
 use Rattle.settled_runs.proofs.Each.{CallEach, OnlyBy, each_map, is_outside, made_each, map_seats, only_by, seat_each, work_outside}
@@ -103,10 +103,4 @@ pub members_lines : (who g : ℕ) (hs : List ℕ) (L : List NodeEntry) (ks : Lis
 unfolding lines_of members_of
 members_lines who g hs [] ks l o = refl
 members_lines who g hs (e ∷ es) [] l o = absurd (omega arith)
-members_lines who g hs (e ∷ es) (k ∷ ks) l o = by (e.who == who) refl (uses g e.op) refl (λ hs2. members_lines who g hs2 es ks (omega arith) o.1)
-  where
-    by : (b : Bool) → (e.who == who) ≡ b → (c : Bool) → uses g e.op ≡ c → ((hs2 : List ℕ) → members_of g hs2 es ≡ members_in g hs2 (lines_of who es ks))
-        → members_of g (members_behind g hs e) es ≡ members_in g hs (cond b (line e.op e.reply k ∷ lines_of who es ks) (lines_of who es ks))
-    by true i c j f = f (members_behind g hs e)
-    by false i true j f = true_false (eq-eqb e.who who (o.0 j)) i
-    by false i false j f = ap (λ (x : List ℕ). members_of g x es) (unused g hs e j) ∙ f hs
+members_lines who g hs (e ∷ es) (k ∷ ks) l o = grind (arith, nat_tests, o.0, unused g hs e, members_lines who g hs es ks (omega arith) o.1, members_lines who g (members_behind g hs e) es ks (omega arith) o.1)

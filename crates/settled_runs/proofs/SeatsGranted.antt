@@ -1,5 +1,5 @@
 -- In a run of a settled workload main and each further caller are given what they ask for.
-use Rattle.settled_runs.proofs.Names.{Each, ◌≡◌, inr, ℕ, ◌≤◌, Bool, true, false, List, ◌∷◌, ◌++◌, Option, Some, None, refl, ◌∙◌, subst, arith, ◌==◌, slice_get, option_and_then, option_map, list_all, NodeSettings, Layout, Action, Queue, Deed, Statement, Part, Workload, IsPart, NodeEntry, fst_true, handle_at, call_of, head_of, tail_of_main, true_false, puts, actions_in, queue_in, queue_at, is_startable, set_up, are_settled_parts, AllGranted, SettledRun, has_begin, task_in, is_settled_deed, keep_limits, [], sym, append-nil, none_some, inl, suc, ◌<◌, cond, length, ap, append_assoc, ◌||◌, not, map, list_any, flat_map, entry, begins, Reply, handle_of, Legal, snd_true, not_true, Line, line, Made, in_lines, is_release, is_released, run_terms, IsOpened, action_in, all_statements, sets_up, is_settled_part, is_settled_further, PartsGranted, SettledStatementsAreGranted, is_begin, lines_of, Carried, CallersRan, sets_up_first, eq-eqb, or_left, or_right, some_entry, Op, cond_both, or_parts, enter_behind, MadeBy}
+use Rattle.settled_runs.proofs.Names.{Each, ◌≡◌, inr, ℕ, ◌≤◌, Bool, true, false, List, ◌∷◌, ◌++◌, Option, Some, None, refl, ◌∙◌, subst, arith, ◌==◌, slice_get, option_and_then, option_map, list_all, NodeSettings, Layout, Action, Queue, Deed, Statement, Part, Workload, IsPart, NodeEntry, fst_true, handle_at, call_of, head_of, tail_of_main, true_false, puts, actions_in, queue_in, queue_at, is_startable, set_up, are_settled_parts, AllGranted, SettledRun, has_begin, task_in, is_settled_deed, keep_limits, [], sym, append-nil, none_some, inl, suc, ◌<◌, length, ap, append_assoc, ◌||◌, not, map, list_any, flat_map, entry, begins, Reply, handle_of, Legal, snd_true, not_true, Line, line, Made, in_lines, is_release, is_released, run_terms, IsOpened, action_in, all_statements, sets_up, is_settled_part, is_settled_further, PartsGranted, SettledStatementsAreGranted, is_begin, lines_of, Carried, CallersRan, sets_up_first, or_left, or_right, some_entry, Op, cond_both, or_parts, enter_behind, MadeBy, nat_tests}
 use Rattle.settled_runs.proofs.{Granted.bit, Counted.CallAsks, Counted.calls_none}
 use Rattle.settled_runs.proofs.Places.{Has, has_more, HasAction, action_map, action_has}
 use Rattle.settled_runs.proofs.Walk.{puts_outside, sets_all, Seat, seat_granted, MadeAction, Finds}
@@ -14,8 +14,7 @@ is_put (Deed.Enqueue queue args cores detached group) = true
 is_put _ = false
 
 most : (b : Bool) → bit b ≤ 1
-most true = omega arith
-most false = omega arith
+most b = grind arith
 
 puts_calls : (h : ℕ) (bound : List ℕ) (d : Deed) → CallAsks (puts h) (bit (is_put d)) (call_of bound d)
 puts_calls h bound (Deed.Enqueue queue args cores detached group) = most (handle_at bound queue == h)
@@ -130,15 +129,7 @@ some_line : (who : ℕ) (p : Op → Bool) (q : NodeEntry → Bool) → ((e : Nod
 unfolding lines_of
 some_line who p q f [] ks n o e = true_false e refl
 some_line who p q f (e ∷ es) [] n o k = absurd (omega arith)
-some_line who p q f (e ∷ es) (m ∷ ks) n o k = by (q e) refl k (some_line who p q f es ks (omega arith) o.1)
-  where
-    later : (b : Bool) → list_any (λ l. p l.op) (lines_of who es ks) ≡ true → list_any (λ l. p l.op) (cond b (line e.op e.reply m ∷ lines_of who es ks) (lines_of who es ks)) ≡ true
-    later true i = or_right (p e.op) _ i
-    later false i = i
-
-    by : (b : Bool) → q e ≡ b → cond b true (some_entry q es) ≡ true → (some_entry q es ≡ true → list_any (λ l. p l.op) (lines_of who es ks) ≡ true) → list_any (λ l. p l.op) (cond (e.who == who) (line e.op e.reply m ∷ lines_of who es ks) (lines_of who es ks)) ≡ true
-    by true i j r = ap (λ (b : Bool). list_any (λ l. p l.op) (cond b (line e.op e.reply m ∷ lines_of who es ks) (lines_of who es ks))) (eq-eqb e.who who (o.0 (f e i))) ∙ or_left (p e.op) _ (f e i)
-    by false i j r = later (e.who == who) (r j)
+some_line who p q f (e ∷ es) (m ∷ ks) n o k = grind (arith, nat_tests, f e, o.0, some_line who p q f es ks (omega arith) o.1)
 
 -- Main's part
 

@@ -1,7 +1,7 @@
 -- What a look at a whole group tells in a quiet history: its live members are the tasks that were put into it since the last verdict.
-use Rattle.settled_runs.proofs.Names.{◌≡◌, ◌⊎◌, inl, inr, ℕ, ◌+◌, ◌≤◌, Bool, true, false, cond, List, [], ◌∷◌, Option, Some, None, refl, ◌∙◌, ap, subst, arith, ◌==◌, nat_lt, is_some, option_and_then, option_or, eq-eqb, MtapiStatus, Listed, live_object, Task, TaskState, Running, Ended, end_of, is_member, Ending, insert, insert_ended, fault_of, first_fault, end_in, some_same, live_listed, true_false, at_skip, at_here, OnceIn, once_rest, live_of, listed, endings, sym, ◌&&◌, is_none, eqb-true, holds, Failed, with_fields, gone, with_state, with_notes, ended, new_task, Group, freed, let_go, Op, State, is_open, tasks, Move, starts_task, runs_task, ends_task, ends_waiting, withdraws, notes, leaves, frees_members, lets_members_go, makes, alters, removes, is_fresh, is_served, apply, NodeEntry, IsNext, next, IsMade, all_live, fst_true, snd_true, not_true, sorts_keep, Every, every_issue, every_change, every_all, every_map, every_ends, always, listed_move, LegalFrom, after_from, list_any, TaskEnd, GroupHandle, NewTask, number_of, StartsTask, FreesMembers, FoundAs, is_quiet, starts_member, looks_at_all, change, change_all, issue, end_each, cond_both, Notes, ◌++◌, ◌||◌, not, entry, any_live, any_listed, is_unended, with_waiter, new_group, is_unended_member, Reply, opening, groups, Groups, after_moves, Row, unless, gives, Allows, live, moves_of, after_row, is_detached_member, verdict, is_pending, after, AllGives, given, on_only, on_live, not_false, both_true, Legal-front, by_moves, none_first, at_issue_here, closes, cut_from, cut_after, found_changed, found_issued, fresh_unlisted, AreQuiet, with_new, members_behind, goes_on, GoOn, IsVerdict, QuietVerdicts, IsCalm, calm_next, calm_along, calm_opening, row, members_of, false_from_ne_true, or_right, or_cases, at_head, at_past, is_up, May, by_made_moves, looks_row, once_from, end_found, ObjectKind, makes_object, second_false, whether}
-use Rattle.settled_runs.proofs.ByHandle.{granted, refuses_only}
+use Rattle.settled_runs.proofs.Names.{◌≡◌, ◌⊎◌, inl, inr, ℕ, ◌+◌, ◌≤◌, Bool, true, false, cond, List, [], ◌∷◌, Option, Some, None, refl, ◌∙◌, ap, subst, arith, ◌==◌, nat_lt, is_some, option_and_then, option_or, eq-eqb, MtapiStatus, Listed, live_object, Task, TaskState, Running, Ended, end_of, is_member, Ending, insert, insert_ended, fault_of, first_fault, end_in, some_same, live_listed, true_false, at_skip, at_here, OnceIn, once_rest, live_of, listed, endings, sym, ◌&&◌, is_none, eqb-true, holds, Failed, with_fields, gone, with_state, with_notes, ended, new_task, Group, freed, let_go, Op, State, is_open, tasks, Move, starts_task, runs_task, ends_task, ends_waiting, withdraws, notes, leaves, frees_members, lets_members_go, makes, alters, removes, is_fresh, is_served, apply, NodeEntry, IsNext, next, IsMade, all_live, fst_true, snd_true, not_true, sorts_keep, Every, every_issue, every_change, every_all, every_map, every_ends, always, listed_move, LegalFrom, after_from, list_any, TaskEnd, GroupHandle, NewTask, number_of, StartsTask, FreesMembers, FoundAs, is_quiet, starts_member, looks_at_all, change, change_all, issue, end_each, cond_both, Notes, ◌++◌, ◌||◌, not, entry, any_listed, is_unended, with_waiter, new_group, is_unended_member, Reply, opening, groups, Groups, after_moves, Row, unless, gives, Allows, live, moves_of, after_row, is_detached_member, verdict, is_pending, after, AllGives, given, on_only, on_live, not_false, both_true, Legal-front, by_moves, at_issue_here, closes, cut_from, cut_after, found_changed, found_issued, fresh_unlisted, AreQuiet, with_new, members_behind, goes_on, GoOn, IsVerdict, QuietVerdicts, IsCalm, calm_next, calm_along, calm_opening, row, members_of, false_from_ne_true, or_right, or_cases, at_head, at_past, is_up, May, by_made_moves, looks_row, once_from, end_found, ObjectKind, makes_object, second_false, whether, nat_tests}
 use Rattle.settled_runs.proofs.{Stays.there_next, Stays.made_there, Granted.any_found, Granted.open_move, Stays.AskedAs, Stays.on_start}
+use Rattle.settled_runs.proofs.ByHandle.{granted, refuses_only}
 use Rattle.settled_runs.proofs.Waits.{no_deletion, notes_stay, notes_tasks, noting, taking, open_up, legal_behind, none_noted}
 
 -- The first fault of the endings
@@ -88,14 +88,7 @@ one_faulty g [] c o f = absurd (cc)
 one_faulty g (r ∷ rs) c o f = by (one_more g r rs) (λ d. later (one_faulty g rs c (once_rest r rs o) d))
   where
     later : IsFaulty g rs c → IsFaulty g (r ∷ rs) c
-    later x = record { handle = x.handle; task = x.task; found = at_skip r rs x.handle (false_from_ne_true (r.handle == x.handle) apart) ∙ x.found; member = x.member; fault = x.fault }
-      where
-        apart : (r.handle == x.handle) ≡ true → ⊥
-        apart i =
-            let n : 1 ≤ listed x.handle rs = live_listed x.handle rs (ap is_some x.found) in
-            let k : cond {A = ℕ} (r.handle == x.handle) 1 0 + listed x.handle rs ≤ 1 = o x.handle in
-            let d : cond {A = ℕ} (r.handle == x.handle) 1 0 ≡ 1 = ap (λ (b : Bool). cond {A = ℕ} b 1 0) i in
-            absurd (omega arith)
+    later x = record { handle = x.handle; task = x.task; found = at_skip r rs x.handle (grind (arith, nat_tests, o x.handle, live_listed x.handle rs (ap is_some x.found))) ∙ x.found; member = x.member; fault = x.fault }
 
     by : Joins g r rs ⊎ Passes g r rs → (first_fault (endings g (live_of rs)) ≡ Some c → IsFaulty g (r ∷ rs) c) → IsFaulty g (r ∷ rs) c
     by (inl x) k = elim (joined_some (option_and_then fault_of (end_in r.fields.state)) (first_fault (endings g (live_of rs))) (first_fault (insert_ended r.handle (end_of r.fields.state) (endings g (live_of rs)))) c (ended_is r.handle r.fields.state (endings g (live_of rs))) (sym (ap first_fault x.is) ∙ f)) as (λ z. IsFaulty g (r ∷ rs) c)
@@ -326,14 +319,7 @@ verdict_decides (Some c) = refl
 none_left : (g : ℕ) (l : List (Listed Task)) → any_listed (is_unended_member g) l ≡ false → Out g [] (change_all (λ t. is_member g t && not (is_unended t)) freed l)
 unfolding live_of change_all Out
 none_left g [] n = tt
-none_left g (r ∷ rs) n = (
-  cond_both (r.live && (is_member g r.fields && not (is_unended r.fields))) (freed r) r (λ q. q.live ≡ true → is_member g q.fields ≡ true → false ≡ true) (λ e p k. p)
-      (λ e p k. true_false (both_true _ _ k (not_false (is_unended r.fields) (sym (λ i. p i && (k i && not (is_unended r.fields))) ∙ e))) (none_first (is_unended_member g r.fields) _ (sym (ap head p) ∙ n)).0),
-  none_left g rs (cond_both r.live ((r.handle, r.fields) ∷ live_of rs) (live_of rs) (λ l. any_live (is_unended_member g) l ≡ false → any_listed (is_unended_member g) rs ≡ false) (λ i d. (none_first (is_unended_member g r.fields) _ d).1) (λ i d. d) n),
-)
-  where
-    head : Bool → Bool
-    head b = any_live (is_unended_member g) (cond b ((r.handle, r.fields) ∷ live_of rs) (live_of rs))
+none_left g (r ∷ rs) n = (grind arith, none_left g rs (grind arith))
 
 -- what is told, and what is left
 pub record Tells (g : ℕ) (hs : List ℕ) (s : State) (r : Reply) (ms : List Move) : Type 0 where
