@@ -1,12 +1,11 @@
 -- Every task that was accepted ends once.
-use Rattle.history_law.proofs.Names.{nat_tests, ◌≡◌, ℕ, ◌≤◌, true, false, List, [], ◌∷◌, ◌++◌, Option, Some, None, refl, sym, ◌∙◌, ap, subst, arith, IsSome, append-nil, TaskEnd, all_marked, Terms, Op, Reply, Ok, Handle, entry, listed, State, opening, workers, Move, starts_task, after_moves, Allows, after_row, row, asked_for, asked_of, NodeEntry, IsNext, next, LegalFrom, Legal, after_from, after, Legal-rest, after-append, after_grows, end_at, accepted_by, accepted, TasksEndOnce, some_same, Answers}
+use Rattle.history_law.proofs.Names.{nat_tests, ◌≡◌, ℕ, ◌≤◌, true, false, List, [], ◌∷◌, ◌++◌, Option, Some, None, refl, sym, ◌∙◌, ap, subst, arith, IsSome, append-nil, TaskEnd, all_marked, Terms, Op, Reply, Ok, Handle, entry, listed, State, opening, workers, Move, starts_task, after_moves, Allows, after_row, row, asked_for, asked_of, NodeEntry, IsNext, next, LegalFrom, Legal, after_from, after, Legal-rest, after-append, after_grows, end_at, accepted_by, accepted, TasksEndOnce, some_same, Answers, answered}
 use Rattle.mtapi_machine.specs.declared.ops.Op.TheVariants as op
 use Rattle.history_law.proofs.Held.{AllEnded}
 use Rattle.history_law.proofs.Moves.{Stands, after_stands, Stopped, after_stopped, once_from}
 use Rattle.history_law.proofs.Ends.{grows_listed, all_end, end_later}
 use Rattle.history_law.proofs.lists.Handles.{some_issued}
 use Rattle.mtapi_machine.specs.Answers as is
-use Rattle.mtapi_machine.proofs.Answered.{answered}
 
 -- The entry that accepts a task lists it
 
@@ -14,9 +13,7 @@ abbrev Lists : ℕ → State → Type 0
 Lists h s = 1 ≤ listed h s.tasks
 
 lists_by : (s : State) (who : ℕ) (o : Op) (k : ℕ) (ms : List Move) (h : ℕ) → accepted_by o (Handle k) ≡ Some h → Answers s who o (Handle k) ms → Lists h (after_moves ms s)
-lists_by s who _ _ _ h e (is.starts job args priority cores detached group k f) = subst (λ (j : ℕ). Lists j (after_moves (starts_task k (asked_for job args priority cores detached group) ∷ []) s)) (some_same e) (some_issued k _ s.tasks)
-lists_by s who _ _ _ h e (is.enqueues q args cores detached group k x d p f n) = subst (λ (j : ℕ). Lists j (after_moves (starts_task k (asked_of q.0 x args cores detached group) ∷ []) s)) (some_same e) (some_issued k _ s.tasks)
-lists_by s who _ _ _ h e _ = absurd (cc)
+lists_by s who o k ms h e1 e2 = grind (arith, nat_tests, after_moves, starts_task, asked_for, some_same, some_issued, asked_of)
 
 start_lists : (s : State) (who : ℕ) (o : Op) (r : Reply) (h : ℕ) → accepted_by o r ≡ Some h → Allows (row s who o r) r → Lists h (after_row s (row s who o r))
 start_lists s who o (Handle k) h e a = lists_by s who o k _ h e (answered s who o (Handle k) a)
@@ -63,8 +60,7 @@ listed_after terms P Q e h l i =
     subst (λ (t : State). 1 ≤ listed h t.tasks) (sym (after-append (opening terms) P (e ∷ Q))) (omega arith)
 
 pub shown : {A : Type 0} (o : Option A) → IsSome o → (x : A) × (o ≡ Some x)
-shown (Some x) i = (x, refl)
-shown None i = let n : false ≡ true = i in absurd (cc)
+shown o e1 = grind (arith, nat_tests)
 
 -- a handle is listed at most once
 pub listed_once : (terms : Terms) (es : List NodeEntry) (h : ℕ) → Legal terms es → listed h (after terms es).tasks ≤ 1

@@ -90,19 +90,11 @@ ended_each (r ∷ rs) (q ∷ qs) g d = (g.0.over d.0, ended_each rs qs g.1 d.1)
 pub held_keeps : (p : Phase) (m : List Bool) (l k : List (Listed Task)) → Held p m l → KeepsEach l k → Held p m k
 held_keeps p m l k v g = grind (arith, nat_tests, dead_each, ended_each)
 
--- the phase is late then
-pub held_late : (p q : Phase) (m : List Bool) (l k : List (Listed Task)) → is_past_open q ≡ true → Held p m l → KeepsEach l k → Held q m k
-held_late p q m l k t v g = grind (arith, nat_tests, dead_each, ended_each)
-
 new_late : (p : Phase) → is_new p ≡ true → is_past_open p ≡ true → ⊥
 new_late p e1 e2 = grind (arith, nat_tests)
 
 open_late : (p : Phase) → is_open p ≡ true → is_past_open p ≡ true → ⊥
 open_late p e1 e2 = grind (arith, nat_tests)
-
--- the node opens
-pub held_open : (p q : Phase) (m : List Bool) (l : List (Listed Task)) → is_new p ≡ true → Held p m l → Held q m l
-held_open p q m l n v = record { dead = v.dead; stopped = λ f. absurd (new_late p n (v.stopped f).0) }
 
 -- a new task
 
@@ -128,6 +120,3 @@ all_ended (r ∷ rs) e d = by_live r.live e d.0 (λ q. all_ended rs q d.1)
 pub held_stop : (p : Phase) (m : List Bool) (w : ℕ) (l : List (Listed Task)) → is_past_open p ≡ true → any_listed is_unended l ≡ false → Held p m l → Held p (slice_set m w true) l
 held_stop p m w l t n v = record { dead = v.dead; stopped = λ f. (t, all_ended l n v.dead) }
 
--- where each worker has stopped, of one or more, the first has
-pub all_first : (w : ℕ) (m : List Bool) → 1 ≤ w → all_marked w m ≡ true → first_mark m ≡ true
-all_first w m e1 e2 = grind (arith, nat_tests)

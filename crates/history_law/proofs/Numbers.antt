@@ -71,18 +71,7 @@ kept_numbers : (s t : State) → Numbered s → t.ends ≡ s.ends → ((n : ℕ)
 kept_numbers s t v e f = grind (arith, nat_tests)
 
 many_numbers : (s : State) (l : List (Listed Task)) (p : Task → Bool) (e : TaskEnd) → Numbered s → Numbered (record s { tasks = end_each p e s.ends s.tasks; ends = s.ends + count_listed p s.tasks })
-many_numbers s l p e v = record {
-  once = λ n. by_low n (nat_lt n s.ends) refl;
-  above = λ n i. ends_above n p e s.ends s.tasks i (v.above n (omega arith));
-}
-  where
-    by_low : (n : ℕ) (b : Bool) → nat_lt n s.ends ≡ b → has_number n (end_each p e s.ends s.tasks) ≤ 1
-    by_low n true i =
-        let low : n < s.ends = grind (arith, nat_tests) in
-        let a : has_number n (end_each p e s.ends s.tasks) ≤ has_number n s.tasks = ends_low n p e s.ends s.tasks low in
-        let b : has_number n s.tasks ≤ 1 = v.once n in
-        omega arith
-    by_low n false i = let high : s.ends ≤ n = grind (arith, nat_tests) in ends_high n p e s.ends s.tasks (v.above n high)
+many_numbers s l p e e1 = grind (arith, nat_tests, nat_lt, ends_above, end_each, ends_low, ends_high)
 
 one_number : (s : State) (h : ℕ) (e : TaskEnd) → Numbered s → Numbered (record s { tasks = change h (ended e s.ends) s.tasks; ends = s.ends + 1 })
 one_number s h e v = record {

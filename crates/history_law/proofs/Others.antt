@@ -20,33 +20,14 @@ ended_live r e n a d = (λ i. a i && not (d i))
 
 -- what another seat notes of a task leaves the waiter's mark
 noted_waits : (w who : ℕ) (f : Notes → Notes) (t : Task) → who ≢ w → Noted who f t → IsWaiter w t → IsWaiter w (with_notes f t)
-noted_waits w who f t n x i = by_waiter x.waiter
-  where
-    by_waiter : (is_other who t.notes.waiter ≡ false) ⊎ ((f t.notes).waiter ≡ t.notes.waiter) → IsWaiter w (with_notes f t)
-    by_waiter (inl a) = absurd (waiter_other w who t.notes.waiter n i.mark a)
-    by_waiter (inr e) = record { mark = ap (is_seat w) e ∙ i.mark; kept = x.detached ∙ i.kept; alone = by_group x.group }
-      where
-        by_group : ((f t.notes).group ≡ t.notes.group) ⊎ ((f t.notes).group ≡ None) → (f t.notes).group ≡ None
-        by_group (inl g) = g ∙ i.alone
-        by_group (inr g) = g
+noted_waits w who f t e1 e2 e3 = grind (arith, nat_tests)
 
 -- a task in no group is a member of none
 no_member : (g : ℕ) (t : Task) → t.notes.group ≡ None → is_member g t ≡ false
 no_member g t e = ap (holds (λ h. h == g)) e
 
 waits_stay : (w h who : ℕ) (o : Op) → who ≢ w → is_any_look o ≡ false → StaysLive (IsWaiter w) who h o
-waits_stay w h who o n b = record {
-  takes = λ y z t u i. record { mark = i.mark; kept = i.kept; alone = i.alone };
-  ends = λ e m r c d a i. (ended_live r e m a i.kept, record { mark = i.mark; kept = i.kept; alone = i.alone });
-  notes = λ f t x d i. noted_waits w who f t n x i;
-  leaves = λ t u k i. by_look t i k;
-  frees = λ g t m u i. true_false m (no_member g t i.alone);
-  lets_go = λ g r m a i. true_false m (no_member g r.fields i.alone);
-}
-  where
-    by_look : (t : Task) → IsWaiter w t → (is_any_look o ≡ true) ⊎ (is_other who t.notes.waiter ≡ false) → ⊥
-    by_look t i (inl j) = true_false j b
-    by_look t i (inr j) = waiter_other w who t.notes.waiter n i.mark j
+waits_stay w h who o e1 e2 = grind (arith, nat_tests)
 
 -- The work of a worker
 
@@ -104,11 +85,7 @@ runs_here : (w : ℕ) (q : Work) (t : Task) → RunsWith w q t → runs_on w t �
 runs_here w q t i = ap (λ (x : TaskState). holds (λ r. r.0 == w) (runner x)) i.state ∙ eq-eqb w w refl
 
 noted_runs : (w who : ℕ) (q : Work) (f : Notes → Notes) (t : Task) → who ≢ w → Noted who f t → RunsWith w q t → RunsWith w q (with_notes f t)
-noted_runs w who q f t n x i = by_work x.work
-  where
-    by_work : (runs_on who t ≡ true) ⊎ SameWork t.notes (f t.notes) → RunsWith w q (with_notes f t)
-    by_work (inl a) = true_false (runs_here w q t i) (runs_apart w who t n a)
-    by_work (inr e) = record { state = i.state; arguments = i.arguments; looked = e.looks ∙ i.looked; reported = e.seen ∙ i.reported; did = e.tally ∙ i.did }
+noted_runs w who q f t e1 e2 e3 = grind (arith, nat_tests)
 
 runs_stay_live : (w h : ℕ) (q : Work) (who : ℕ) (o : Op) → who ≢ w → StaysLive (RunsWith w q) who h o
 runs_stay_live w h q who o n = grind (arith, nat_tests, true_false, runs_here, runs_scheduled, may_end_apart, noted_runs)
@@ -116,14 +93,7 @@ runs_stay_live w h q who o n = grind (arith, nat_tests, true_false, runs_here, r
 -- Lists of entries by other seats
 
 other_head : (w : ℕ) (e : NodeEntry) (es : List NodeEntry) → Others w (e ∷ es) → (e.who ≢ w) × Others w es
-other_head w e es = by_seat (e.who == w) refl
-  where
-    apart : (e.who == w) ≡ false → e.who ≢ w
-    apart d i = grind (arith, nat_tests)
-
-    by_seat : (b : Bool) → (e.who == w) ≡ b → cond b (e ∷ entries_of w es) (entries_of w es) ≡ [] → (e.who ≢ w) × Others w es
-    by_seat true d i = absurd (cc)
-    by_seat false d i = (apart d, i)
+other_head w e es e1 = grind (arith, nat_tests)
 
 -- a member that leaves its group and goes isn't the task of a waiter
 left_apart : (w h : ℕ) (s : State) (g j : ℕ) (x : Task) → live_object s.tasks j ≡ Some x → is_member g x ≡ true → Waits s w h → Waits (after_moves (notes j in_no_group ∷ leaves j ∷ []) s) w h
@@ -213,17 +183,7 @@ pub record InTime (t : Task) : Type 0 where
   pub verdict : is_late_end t.notes.tally.verdict ≡ false
 
 time_kept : (who : ℕ) (o : Op) → IsKept InTime who o
-time_kept who o = record {
-  new = λ t n. record { state = refl; verdict = refl };
-  takes = λ w k t u i. record { state = refl; verdict = i.verdict };
-  ends = λ e n t h m c k i. record { state = ap not (by_end e t i k); verdict = i.verdict };
-  notes = λ f t x d i. record { state = i.state; verdict = x.verdict i.verdict };
-  groups = λ d g t i. record { state = i.state; verdict = i.verdict };
-}
-  where
-    by_end : (e : TaskEnd) (t : Task) → InTime t → (is_late_end e ≡ false) ⊎ (e ≡ t.notes.tally.verdict) → is_late_end e ≡ false
-    by_end e t i (inl y) = y
-    by_end e t i (inr y) = ap is_late_end y ∙ i.verdict
+time_kept who o = grind (arith, nat_tests)
 
 time_after : (s : State) (L : List NodeEntry) → LegalFrom s L → Every InTime s.tasks → Every InTime (after_from s L).tasks
 time_after s L l v = kept_along (λ t. Every InTime t.tasks) (λ t e i. by_moves (λ u. Every InTime u.tasks) t e i (every_moved InTime e.who e.op (time_kept e.who e.op))) s L l v
@@ -256,11 +216,7 @@ runs_begun : (w : ℕ) (t : Task) → runs_on w t ≡ true → is_unstarted t �
 runs_begun w t a b = true_false a (runs_scheduled w t b)
 
 noted_clean : (who : ℕ) (f : Notes → Notes) (t : Task) → Noted who f t → Clean t → Clean (with_notes f t)
-noted_clean who f t x i u = by_work x.work (i u)
-  where
-    by_work : (runs_on who t ≡ true) ⊎ SameWork t.notes (f t.notes) → IsUntouched t → IsUntouched (with_notes f t)
-    by_work (inl a) y = absurd (runs_begun who t a u)
-    by_work (inr e) y = record { looks = e.looks ∙ y.looks; seen = e.seen ∙ y.seen; tally = e.tally ∙ y.tally }
+noted_clean who f t e1 e2 = grind (arith, nat_tests)
 
 clean_kept : (who : ℕ) (o : Op) → IsKept Clean who o
 clean_kept who o = grind (arith, nat_tests, true_false, noted_clean)

@@ -1,9 +1,8 @@
 -- No handle is used again, and in layout two none names objects of two kinds.
-use Rattle.history_law.proofs.Names.{nat_tests, ◌≡◌, ℕ, ◌+◌, ◌≤◌, Bool, true, false, cond, List, [], ◌∷◌, ◌++◌, refl, sym, ◌∙◌, ap, subst, arith, ◌==◌, eqb-true, eq-eqb, false_from_ne_true, true_from_ne_false, ObjectKind, Layout, Two, object_number, named_kind, names_kind, Terms, Op, Reply, Handle, Listed, listed, may_issue, issue, Objects, FieldsOf, objects_of, State, opening, Move, is_fresh, apply, Allows, live, after_row, row, NodeEntry, IsNext, next, LegalFrom, Legal, after_from, after, IsMade, Legal-front, Legal-rest, after-append, fst_true, snd_true, own_kind, at_opening, along, by_moves, rest_keeps, some_entry, times, is_live, is_handle, issues, NeverAgain, NotInBoth, released, Answers, after_moves, ◌&&◌}
+use Rattle.history_law.proofs.Names.{nat_tests, ◌≡◌, ℕ, ◌+◌, ◌≤◌, Bool, true, false, cond, List, [], ◌∷◌, ◌++◌, refl, sym, ◌∙◌, ap, subst, arith, ◌==◌, eqb-true, eq-eqb, false_from_ne_true, true_from_ne_false, ObjectKind, Layout, Two, object_number, named_kind, names_kind, Terms, Op, Reply, Handle, Listed, listed, may_issue, issue, Objects, FieldsOf, objects_of, State, opening, Move, is_fresh, apply, Allows, live, after_row, row, NodeEntry, IsNext, next, LegalFrom, Legal, after_from, after, IsMade, Legal-front, Legal-rest, after-append, fst_true, snd_true, own_kind, at_opening, along, by_moves, rest_keeps, some_entry, times, is_live, is_handle, issues, NeverAgain, NotInBoth, released, Answers, after_moves, ◌&&◌, answered}
 use Rattle.mtapi_values.specs.declared.handles.ObjectKind.TheVariants as kind
 use Rattle.history_law.specs.Words.{makes as makes_kind}
 use Rattle.mtapi_machine.specs.Answers as is
-use Rattle.mtapi_machine.proofs.Answered.{answered}
 use Rattle.history_law.proofs.SeatMoves.{kept_without}
 use Rattle.history_law.proofs.Ages.{SameFields, kind_move, listed_ages, Dead, dead_ages, dead_issue, dead_none, none_dead, live_listed}
 use Rattle.history_law.proofs.Answered.{true_false, on_test}
@@ -63,9 +62,6 @@ fresh_by _ s who _ _ _ e _ = true_false e refl
 
 issue_fresh : (k : ObjectKind) (s : State) (who : ℕ) (o : Op) (h : ℕ) → makes_kind k o ≡ true → Allows (row s who o (Handle h)) (Handle h) → is_fresh (objects_of k) s h ≡ true
 issue_fresh k s who o h e a = fresh_by k s who o h _ e (answered s who o (Handle h) a)
-
-is_this : (h : ℕ) (r : Reply) → is_handle h r ≡ true → r ≡ Handle h
-is_this h r e1 = grind (arith, nat_tests)
 
 -- an entry that issues a handle has the row of this reply, so what holds after that row holds after the entry
 pub issued_as : (k : ObjectKind) (h : ℕ) (s : State) (P : Op → State → Type 0) → ((who : ℕ) (o : Op) → makes_kind k o ≡ true → Allows (row s who o (Handle h)) (Handle h) → P o (after_row s (row s who o (Handle h)))) → (e : NodeEntry) → IsNext s e → issues k h e ≡ true → P e.op (next s e)

@@ -58,13 +58,7 @@ HasMarks None = Unit {0}
 HasMarks (Some y) = length y.attached ≡ 25
 
 pub marks_step : (who n : ℕ) (b : Bool) (o p : Option Segment) → Step who n b o p → HasMarks o → HasMarks p
-marks_step who n b _ _ (stays o) h = h
-marks_step who n b _ _ (made id cells) h = refl
-marks_step who n b _ _ (turned c y l) h = size_set y.attached who c ∙ h
-marks_step who n b _ _ (written cell value y) h = h
-marks_step who n b _ _ (gone y f) h = tt
-marks_step who n b _ _ (got y) h = size_set y.attached who true ∙ h
-marks_step who n b _ _ (back y f) h = size_set y.attached who false ∙ h
+marks_step who n b o p e1 e2 = grind (arith, nat_tests, size_set)
 
 apart : {i j : ℕ} → (i == j) ≡ false → i ≡ j → ⊥
 apart {i} {j} a e = true_false (eq-eqb i j e) a

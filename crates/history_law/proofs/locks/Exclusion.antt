@@ -44,34 +44,10 @@ abbrev sem_lock : ℕ → Lock (Unit {0}) Sem
 sem_lock top = record { Fit = Fit top; count = λ m x. total x.holdings; has = λ m w x. slice_index x.holdings w }
 
 taken : (top who : ℕ) (x : Sem) → who < 25 → sem_busy x ≡ false → Fit top x → LockStep (sem_lock top) who (Some x) (Some (sem_taken who x)) (λ m. true) (λ m. false)
-taken top who x l n v = record { fit = record { limit = v.limit; size = length-set x.holdings who _ ∙ v.size; most = room }; all = λ m. let e = more in omega arith; each = λ m w. grind (arith, nat_tests, set_read x.holdings who w (slice_index x.holdings who + 1) 0 inside) }
-  where
-    inside : who < length x.holdings
-    inside = let s : length x.holdings ≡ 25 = v.size in omega arith
-
-    more : total (slice_set x.holdings who (slice_index x.holdings who + 1)) ≡ total x.holdings + 1
-    more = total_more x.holdings who inside
-
-    room : total (slice_set x.holdings who (slice_index x.holdings who + 1)) ≤ top
-    room =
-        let t : total (slice_set x.holdings who (slice_index x.holdings who + 1)) ≡ total x.holdings + 1 = more in
-        let m : total x.holdings ≤ top = v.most in
-        let q : (total x.holdings == top) ≡ false = ap (λ (k : ℕ). total x.holdings == k) (sym v.limit) ∙ n in
-        let less : total x.holdings < top = grind (arith, nat_tests) in
-        omega arith
+taken top who x e1 e2 e3 = grind (arith, nat_tests, length-set, set_read, total_more)
 
 given_back : (top who : ℕ) (x : Sem) → who < 25 → (slice_index x.holdings who == 0) ≡ false → Fit top x → LockStep (sem_lock top) who (Some x) (Some (sem_given who x)) (λ m. false) (λ m. true)
-given_back top who x l n v =
-    record { fit = record { limit = v.limit; size = length-set x.holdings who _ ∙ v.size; most = let m : total x.holdings ≤ top = v.most in let e = less in omega arith }; all = λ m. let e = less in omega arith; each = λ m w. grind (arith, nat_tests, some, set_read x.holdings who w (slice_index x.holdings who - 1) 0 inside) }
-  where
-    some : 1 ≤ slice_index x.holdings who
-    some = grind (arith, nat_tests)
-
-    inside : who < length x.holdings
-    inside = let s : length x.holdings ≡ 25 = v.size in omega arith
-
-    less : total (slice_set x.holdings who (slice_index x.holdings who - 1)) + 1 ≡ total x.holdings
-    less = total_less x.holdings who inside some
+given_back top who x e1 e2 e3 = grind (arith, nat_tests, length-set, set_read, total_less)
 
 left : (top who : ℕ) (x : Sem) → nat_lt 0 (total x.holdings) ≡ false → LockStep (sem_lock top) who (Some x) None (λ m. false) (λ m. false)
 left top who x n = grind (arith, nat_tests, total_none)
@@ -100,13 +76,7 @@ module _ (top h : ℕ) (s : State) (who : ℕ) (k : who < 25) (o : OnceIn s.sems
   sem_step _ _ _ _ = step_same (sem_lock top) who _ fit
 
 sem_misses : (h : ℕ) (s : State) (who : ℕ) (o : Op) (r : Reply) (ms : List Move) → live_object s.sems h ≡ None → Answers s who o r ms → ((looks_at_sem h o && says_ok r) ≡ false) × ((unlocks_sem h o && says_ok r) ≡ false)
-sem_misses h s who _ _ _ n (is.refuses o x e) = (and-false _, and-false _)
-sem_misses h s who _ _ _ n (is.refuses_caller o x e) = (and-false _, and-false _)
-sem_misses h s who _ _ _ n (is.sem_early x v c b) = (and-false _, refl)
-sem_misses h s who _ _ _ n (is.sem_late x) = (and-false _, refl)
-sem_misses h s who _ _ _ n (is.takes_sem x last v c b) = (ap (λ (b : Bool). b && true) (missed s.sems h x.0 v n c.found), refl)
-sem_misses h s who _ _ _ n (is.gives_sem x v c) = (refl, ap (λ (b : Bool). b && true) (missed s.sems h x.0 v n c.found))
-sem_misses h s who _ _ _ n _ = (refl, refl)
+sem_misses h s who o r ms e1 e2 = grind (arith, nat_tests)
 
 make_sem : (top h : ℕ) (s : State) (who : ℕ) (o : Op) (ms : List Move) → makes_object kind.Sem o ≡ true → Answers s who o (Handle h) ms → limit_of o ≡ Some top → New (sem_lock top) h (after_moves ms s).sems
 make_sem top h s who _ _ e (is.creates_sem id limit j n f) i =

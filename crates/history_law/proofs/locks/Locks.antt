@@ -1,12 +1,11 @@
 -- Locks that seats get and give back: what each entry does to one, and so every list of entries. A kind of lock says what is counted of it.
-use Rattle.history_law.proofs.Names.{nat_tests, ◌≡◌, ℕ, ◌+◌, ◌<◌, ◌≤◌, Bool, true, false, List, [], ◌∷◌, ◌++◌, Option, Some, None, refl, sym, ap, subst, arith, zero, suc, ◌==◌, ◌&&◌, Listed, live_object, listed, issue, change, with_fields, gone, Handle, Terms, State, FieldsOf, objects_of, opening, seats, Move, after_moves, NodeEntry, IsNext, next, LegalFrom, Legal, after_from, after, Legal-front, Legal-rest, entries_that, some_entry, issues, by_seat, limit_of, MadeWith, ObjectKind, Op, fst_true, along, Answers, and-false}
+use Rattle.history_law.proofs.Names.{nat_tests, ◌≡◌, ℕ, ◌+◌, ◌<◌, ◌≤◌, Bool, true, false, List, [], ◌∷◌, ◌++◌, Option, Some, None, refl, sym, ap, subst, arith, zero, suc, ◌==◌, ◌&&◌, Listed, live_object, listed, issue, change, with_fields, gone, Handle, Terms, State, FieldsOf, objects_of, opening, seats, Move, after_moves, NodeEntry, IsNext, next, LegalFrom, Legal, after_from, after, Legal-front, Legal-rest, entries_that, some_entry, issues, by_seat, limit_of, MadeWith, ObjectKind, Op, fst_true, along, Answers, and-false, answered}
 use Rattle.history_law.specs.Words.{makes as makes_object}
 use Rattle.history_law.proofs.Accepted.{stands_after}
 use Rattle.history_law.proofs.lists.AtHandles.{at_unlisted, at_issue_here, at_issue_other, where_changed, where_retired}
 use Rattle.history_law.proofs.lists.Counts.{one_if, counts_along, counts_behind, passes}
 use Rattle.history_law.proofs.lists.Handles.{OnceIn, some_issued}
 use Rattle.history_law.proofs.Reuse.{terms_next, Listed1, listed_move, none_times, fresh_unlisted, issues_fresh, issued_as, none_listed}
-use Rattle.mtapi_machine.proofs.Answered.{answered}
 use Rattle.history_law.proofs.OnceIssued.{once_move, once_next, listed_next}
 
 -- what always holds of a lock, how often it is held in a mode, and how often by one seat
@@ -78,12 +77,7 @@ pub seats_next : (s : State) (e : NodeEntry) → seats s ≤ 25 → seats (next 
 seats_next s e n = subst (λ (t : Terms). t.settings.workers + t.callers ≤ 25) (sym (terms_next s.terms s e refl)) n
 
 pub seats_after : (terms : Terms) (L : List NodeEntry) → Legal terms L → seats (after terms L) ≤ 25
-seats_after terms L l =
-    let same : (after terms L).terms ≡ terms = (stands_after terms L).0 in
-    let w : terms.settings.workers ≤ 16 = l.fits.settings.workers.1 in
-    let d : terms.callers ≤ 9 = l.fits.callers in
-    let n : terms.settings.workers + terms.callers ≤ 25 = omega arith in
-    subst (λ (t : Terms). t.settings.workers + t.callers ≤ 25) (sym same) n
+seats_after terms L e1 = grind (arith, nat_tests, stands_after)
 
 -- Along the entries
 

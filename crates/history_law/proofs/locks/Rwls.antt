@@ -67,38 +67,11 @@ no_mode m = false
 
 -- a writer gets it
 write_step : (top who : ℕ) (x : Rwl) → Fit top x → rwl_held x ≡ false → LockStep (rwl_lock top) who (Some x) (Some (rwl_taken who true x)) (λ m. in_mode m true) no_mode
-write_step top who x f b = record {
-  fit = record { limit = f.limit; size = f.size; most = f.most; alone = λ e. no_mark x.readers (second_false (is_some x.writer) _ b) };
-  all = λ m. grind (arith, nat_tests);
-  each = λ m w. grind (arith, nat_tests);
-}
+write_step top who x e1 e2 = grind (arith, nat_tests, no_mark, second_false)
 
 -- a reader gets it
 read_step : (top who : ℕ) (x : Rwl) → Fit top x → who < 25 → marked who x.readers ≡ false → rwl_busy false x ≡ false → LockStep (rwl_lock top) who (Some x) (Some (rwl_taken who false x)) (λ m. in_mode m false) no_mode
-read_step top who x f l n b = record {
-  fit = record {
-    limit = f.limit;
-    size = length-set x.readers who true ∙ f.size;
-    most = room;
-    alone = λ e. true_false e (first_false (is_some x.writer) _ b);
-  };
-  all = λ m. grind (arith, nat_tests, more);
-  each = λ m w. grind (arith, nat_tests, set_read x.readers who w true false inside);
-}
-  where
-    inside : who < length x.readers
-    inside = let s : length x.readers ≡ 25 = f.size in omega arith
-
-    more : marks (slice_set x.readers who true) ≡ marks x.readers + 1
-    more = marks_more x.readers who inside n
-
-    room : marks (slice_set x.readers who true) ≤ top
-    room =
-        let m : marks x.readers ≤ top = f.most in
-        let e : marks (slice_set x.readers who true) ≡ marks x.readers + 1 = more in
-        let q : (marks x.readers == top) ≡ false = ap (λ (k : ℕ). marks x.readers == k) (sym f.limit) ∙ second_false (is_some x.writer) _ b in
-        let less : marks x.readers < top = grind (arith, nat_tests) in
-        omega arith
+read_step top who x e1 e2 e3 e4 = grind (arith, nat_tests, length-set, true_false, first_false, set_read, marks_more, second_false)
 
 pub get_step : (top who : ℕ) (writer : Bool) (x : Rwl) → Fit top x → who < 25 → (is_seat who x.writer || marked who x.readers) ≡ false → rwl_busy writer x ≡ false
     → LockStep (rwl_lock top) who (Some x) (Some (rwl_taken who writer x)) (λ m. in_mode m writer) no_mode
@@ -107,31 +80,11 @@ get_step top who false x f l n b = read_step top who x f l (second_false (is_sea
 
 -- it is given back
 pub give_step : (top who : ℕ) (writer : Bool) (x : Rwl) → Fit top x → cond writer (is_seat who x.writer) (marked who x.readers) ≡ true → LockStep (rwl_lock top) who (Some x) (Some (rwl_given who writer x)) no_mode (λ m. in_mode m writer)
-give_step top who true x f n = record {
-  fit = record { limit = f.limit; size = f.size; most = f.most; alone = λ e. absurd (true_false e refl) };
-  all = λ m. grind (arith, nat_tests);
-  each = λ m w. grind (arith, nat_tests);
-}
-give_step top who false x f n = record {
-  fit = record {
-    limit = f.limit;
-    size = length-set x.readers who false ∙ f.size;
-    most = let m : marks x.readers ≤ top = f.most in let e = less in omega arith;
-    alone = λ e. let z : marks x.readers ≡ 0 = f.alone e in let k = less in omega arith;
-  };
-  all = λ m. grind (arith, nat_tests, less);
-  each = λ m w. grind (arith, nat_tests, unset_read x.readers who w);
-}
-  where
-    less : marks (slice_set x.readers who false) + 1 ≡ marks x.readers
-    less = marks_less x.readers who n
+give_step top who writer x e1 e2 = grind (arith, nat_tests, true_false, length-set, unset_read, marks_less)
 
 -- it stops being live
 pub leave_step : (top who : ℕ) (x : Rwl) → rwl_held x ≡ false → LockStep (rwl_lock top) who (Some x) None no_mode no_mode
-leave_step top who x n = record { fit = tt; all = λ m. grind (arith, nat_tests, none); each = λ m w. grind (arith, nat_tests, unmarked x.readers w none) }
-  where
-    none : marks x.readers ≡ 0
-    none = no_mark x.readers (second_false (is_some x.writer) _ n)
+leave_step top who x e1 = grind (arith, nat_tests, unmarked, no_mark, second_false)
 
 -- a new lock is held by nobody
 new_marks : (n w : ℕ) → slice_index_or (replicate n false) w false ≡ false

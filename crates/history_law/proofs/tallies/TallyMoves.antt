@@ -66,13 +66,7 @@ module _ (S C : ℕ) where
   does_adds o x y args e1 e2 e3 = grind (arith, nat_tests)
 
   pub each_kept : (R : List ℤ → Type 0) (who : ℕ) (o : Op) → is_tally_lock o ≡ false → IsKept (Each R) who o
-  each_kept R who o n = record {
-    new = λ t k a. true_false a refl;
-    takes = λ w k t u i. i;
-    ends = λ e k t h m c d i. i;
-    notes = λ f t x d i a. i (does_adds o _ _ t.args n d a);
-    groups = λ d g t i. i;
-  }
+  each_kept R who o e1 = grind (arith, nat_tests)
 
   -- What a tally read that hasn't written yet
 
@@ -83,13 +77,7 @@ module _ (S C : ℕ) where
   does_read w o x y args e1 e2 e3 e4 e5 e6 = grind (arith, nat_tests)
 
   pub read_kept : (w : ℤ) (who : ℕ) (o : Op) → is_tally_read o ≡ false → is_tally_write o ≡ false → IsKept (HasRead w) who o
-  read_kept w who o m n = record {
-    new = λ t k a b c. true_false a refl;
-    takes = λ y z t u i a b c. i a b (unstarted_unended t u);
-    ends = λ e k t h l c d i a b u. true_false u refl;
-    notes = λ f t x d i a b c. does_read w o _ _ t.args m n d (λ y z. i y z c) a b;
-    groups = λ d g t i. i;
-  }
+  read_kept w who o e1 e2 = grind (arith, nat_tests)
 
   -- How it ends: completed exactly where it has written
 

@@ -7,7 +7,7 @@ use Rattle.history_law.proofs.Accepted.{all_after}
 use Rattle.history_law.proofs.Reuse.{fresh_unlisted}
 use Rattle.history_law.proofs.Ages.{live_listed}
 use Rattle.history_law.proofs.Held.{HasEnded, AllEnded}
-use Rattle.history_law.proofs.lists.Every.{Every, every_change, every_map, every_at, always}
+use Rattle.history_law.proofs.lists.Every.{Every, every_change, every_map, every_at, always, every_part}
 use Rattle.history_law.proofs.SeatMoves.{by_moves, by_made_moves, answer, is_tally_lock}
 use Rattle.mtapi_machine.specs.Answers as is
 use Rattle.mtapi_machine.specs.declared.replies.Reply.TheVariants as reply
@@ -15,7 +15,6 @@ use Rattle.history_law.proofs.TaskMoves.{every_moved}
 use Rattle.history_law.proofs.Others.{runs_over}
 use Rattle.mtapi_machine.specs.Answers.{HasTask}
 use Rattle.mtapi_values.specs.declared.kinds.Kind.TheVariants as kinds
-use Rattle.history_law.proofs.lists.Every.{every_part}
 use Rattle.history_law.proofs.locks.MutexSteps.{is_end_op}
 use Rattle.history_law.proofs.locks.Locks.{and-true}
 use Rattle.history_law.proofs.OnceIssued.{listed_next}

@@ -43,11 +43,7 @@ pub record Follows (x y : TallyNotes) : Type 0 where
   pub segment : has_both y ≡ true → y.segment ≡ x.segment
 
 pub does_follow : (o : Op) (x y : TallyNotes) → is_tally_lock o ≡ false → Does o x y → Follows x y
-does_follow o x y n (stays e) = record { before = λ b. ap has_both (sym e) ∙ b; mutex = λ b. ap (λ (z : TallyNotes). z.mutex) e; segment = λ b. ap (λ (z : TallyNotes). z.segment) e }
-does_follow o x y n (fails c z e) = record { before = λ b. true_false b (ap has_both e); mutex = λ b. true_false b (ap has_both e); segment = λ b. true_false b (ap has_both e) }
-does_follow o x y n (has a b l z e) = true_false l n
-does_follow o x y n (reads v l z e) = record { before = λ b. stage_some x 1 z refl; mutex = λ b. ap (λ (t : TallyNotes). t.mutex) e; segment = λ b. ap (λ (t : TallyNotes). t.segment) e }
-does_follow o x y n (writes l z e) = record { before = λ b. stage_some x 2 z refl; mutex = λ b. ap (λ (t : TallyNotes). t.mutex) e; segment = λ b. ap (λ (t : TallyNotes). t.segment) e }
+does_follow o x y e1 e2 = grind (arith, nat_tests)
 
 -- a tally that has both goes on having them, with any step
 pub record GoesOn (x y : TallyNotes) : Type 0 where
@@ -55,11 +51,7 @@ pub record GoesOn (x y : TallyNotes) : Type 0 where
   pub mutex : y.mutex ≡ x.mutex
 
 goes_on : (o : Op) (x y : TallyNotes) → has_both x ≡ true → Does o x y → GoesOn x y
-goes_on o x y b (stays e) = record { both = ap has_both e ∙ b; mutex = ap (λ (z : TallyNotes). z.mutex) e }
-goes_on o x y b (fails c z e) = true_false b (stage_none x z)
-goes_on o x y b (has c d l z e) = true_false b (stage_none x z)
-goes_on o x y b (reads v l z e) = record { both = ap has_both e; mutex = ap (λ (t : TallyNotes). t.mutex) e }
-goes_on o x y b (writes l z e) = record { both = ap has_both e; mutex = ap (λ (t : TallyNotes). t.mutex) e }
+goes_on o x y e1 e2 = grind (arith, nat_tests)
 
 module _ (n : ℕ) (ms : List (Listed Mutex)) (ss : List (Listed Segment)) where
   -- a task that runs nowhere
@@ -73,24 +65,13 @@ module _ (n : ℕ) (ms : List (Listed Mutex)) (ss : List (Listed Segment)) where
   runs_tied v k t u i = record { early = λ e. true_false e refl; tied = λ w r b. true_false b (i.early u); attends = λ w r b. true_false b (i.early u); kind = λ w r b. true_false b (i.early u) }
 
   pub noted_tied : (f : Notes → Notes) (t : Task) → Follows t.notes.tally (f t.notes).tally → Tied n ms ss t → Tied n ms ss (with_notes f t)
-  noted_tied f t k i = record {
-    early = λ u. false_from_ne_true (has_both (f t.notes).tally) (λ e. true_false (k.before e) (i.early u));
-    tied = λ w r b. let x = i.tied w r (k.before b) in (x.0, subst (λ (h : ℕ). Owns w (id_in t) (live_object ms h)) (sym (k.mutex b)) x.1);
-    attends = λ w r b. subst (λ (h : ℕ). IsAttached w (live_object ss h)) (sym (k.segment b)) (i.attends w r (k.before b));
-    kind = λ w r b. i.kind w r (k.before b);
-  }
+  noted_tied f t e1 e2 = grind (arith, nat_tests)
 
   abbrev pub Ties : State → Type 0
   Ties s = Every (Tied n ms ss) s.tasks
 
   pub ties_kept : (who : ℕ) (o : Op) → is_tally_lock o ≡ false → IsKept (Tied n ms ss) who o
-  ties_kept who o l = record {
-    new = λ t k. idle_tied (new_task t k) (λ i. refl) (λ w. refl);
-    takes = λ v z t u i. runs_tied v z t u i;
-    ends = λ e k t h m c d i. over_tied e k t;
-    notes = λ f t x d i. noted_tied f t (does_follow o _ _ l d) i;
-    groups = λ d g t i. record { early = i.early; tied = i.tied; attends = i.attends; kind = i.kind };
-  }
+  ties_kept who o e1 = grind (arith, nat_tests)
 
 -- At most one task runs on a worker
 
@@ -159,15 +140,4 @@ abbrev pub OnAt : ℕ → ℕ → ℕ → State → Type 0
 OnAt w h j s = FoundAs (On w h) s.tasks j
 
 pub on_stays : (w h i who : ℕ) (o : Op) → is_tally_end i o ≡ false → StaysLive (On w h) who i o
-on_stays w h i who o n = record {
-  takes = λ y z t u v. absurd (not_early w h t v u);
-  ends = λ e m r b c a v. absurd (by_end r.fields v c);
-  notes = λ f t x d v. let g : GoesOn t.notes.tally (f t.notes).tally = goes_on o _ _ v.both d in record { runs = v.runs; both = g.both; mutex = g.mutex ∙ v.mutex };
-  leaves = λ t u k v. not_over w h t v u;
-  frees = λ g t m u v. not_over w h t v u;
-  lets_go = λ g r m a v. (both_true r.live (is_unended r.fields) a (true_from_ne_false (is_unended r.fields) (not_over w h r.fields v)), record { runs = v.runs; both = v.both; mutex = v.mutex });
-}
-  where
-    by_end : (t : Task) → On w h t → EndsTally i o t → ⊥
-    by_end t v (inl y) = true_false y n
-    by_end t v (inr y) = true_false v.runs (y w)
+on_stays w h i who o e1 = grind (arith, nat_tests)
