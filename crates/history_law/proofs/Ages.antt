@@ -193,10 +193,7 @@ module _ {T : Type 0} (K : T → T → Type 0) where
 module _ {T : Type 0} where
   pub dead_issue : (h j : ℕ) (x : T) (l : List (Listed T)) → (j == h) ≡ false → Dead h l → Dead h (issue j x l)
   unfolding issue
-  dead_issue h j x [] n d = ((λ e. absurd (both e n)), tt)
-    where
-      both : {b : Bool} → b ≡ true → b ≡ false → ⊥
-      both e f = cc
+  dead_issue h j x [] n d = grind (arith, nat_tests)
   dead_issue h j x (r ∷ rs) n d = (d.0, dead_issue h j x rs n d.1)
 
   pub dead_none : (h : ℕ) (l : List (Listed T)) → Dead h l → is_some (live_object l h) ≡ false
@@ -206,11 +203,7 @@ module _ {T : Type 0} where
 
   pub none_dead : (h : ℕ) (l : List (Listed T)) → is_some (live_object l h) ≡ false → Dead h l
   none_dead h [] e = tt
-  none_dead h (r ∷ rs) e = at_head r h (λ a b. true_false (ap is_some (at_here r rs h a b)) e) (λ n. (not_live r.live _ n, none_dead h rs (sym (ap is_some (at_past r rs h n)) ∙ e)))
-    where
-      not_live : (a b : Bool) → (a && b) ≡ false → b ≡ true → a ≡ false
-      not_live true b i k = true_false k i
-      not_live false b i k = refl
+  none_dead h (r ∷ rs) e = grind (arith, nat_tests, none_dead h rs, at_head, true_false, at_here, at_past)
 
   -- what is live is listed
   pub live_listed : (h : ℕ) (l : List (Listed T)) → is_some (live_object l h) ≡ true → 1 ≤ listed h l

@@ -22,12 +22,7 @@ pub grows_end : (h : ℕ) (e : TaskEnd) (l m : List (Listed Task)) → Grows l m
 unfolding end_at
 grows_end h e [] m g i = absurd (cc)
 grows_end h e (r ∷ rs) [] g i = absurd g
-grows_end h e (r ∷ rs) (q ∷ qs) g i = by_handle q.handle g.0.handle (r.handle == h) refl (grows_end h e rs qs g.1) i
-  where
-    by_handle : (n : ℕ) → n ≡ r.handle → (b : Bool) → (r.handle == h) ≡ b → (end_at rs h ≡ Some e → end_at qs h ≡ Some e) →
-        cond b (end_in r.fields.state) (end_at rs h) ≡ Some e → cond (n == h) (end_in q.fields.state) (end_at qs h) ≡ Some e
-    by_handle n s true t rest k = ap (λ (x : ℕ). cond (x == h) (end_in q.fields.state) (end_at qs h)) s ∙ ap (λ (b : Bool). cond b (end_in q.fields.state) (end_at qs h)) t ∙ end_stays r.fields.state q.fields.state e g.0.over k
-    by_handle n s false t rest k = ap (λ (x : ℕ). cond (x == h) (end_in q.fields.state) (end_at qs h)) s ∙ ap (λ (b : Bool). cond b (end_in q.fields.state) (end_at qs h)) t ∙ rest k
+grows_end h e (r ∷ rs) (q ∷ qs) g i = grind (arith, nat_tests, grows_end h e rs qs g.1, end_at, end_in, end_stays)
 
 -- and it is listed at least as often
 pub grows_listed : (h : ℕ) (l m : List (Listed Task)) → Grows l m → listed h l ≤ listed h m

@@ -90,9 +90,6 @@ ended_each (r ∷ rs) (q ∷ qs) g d = (g.0.over d.0, ended_each rs qs g.1 d.1)
 pub held_keeps : (p : Phase) (m : List Bool) (l k : List (Listed Task)) → Held p m l → KeepsEach l k → Held p m k
 held_keeps p m l k v g = grind (arith, nat_tests, dead_each, ended_each)
 
-new_late : (p : Phase) → is_new p ≡ true → is_past_open p ≡ true → ⊥
-new_late p e1 e2 = grind (arith, nat_tests)
-
 open_late : (p : Phase) → is_open p ≡ true → is_past_open p ≡ true → ⊥
 open_late p e1 e2 = grind (arith, nat_tests)
 

@@ -35,23 +35,11 @@ sorted_insert e (f ∷ fs) s = grind (arith, nat_tests, sorted_insert e fs s.1, 
 sorted_endings : (g : ℕ) (l : List (ℕ × Task)) → Sorted (endings g l)
 unfolding endings
 sorted_endings g [] = tt
-sorted_endings g (t ∷ ts) = by_member (is_member g t.1) (end_of t.1.state) (sorted_endings g ts)
-  where
-    by_end : (x : Option (TaskEnd × ℕ)) → Sorted (endings g ts) → Sorted (insert_ended t.0 x (endings g ts))
-    by_end None s = s
-    by_end (Some y) s = sorted_insert (record { task = t.0; end = y.0; number = y.1 }) (endings g ts) s
-
-    by_member : (b : Bool) (x : Option (TaskEnd × ℕ)) → Sorted (endings g ts) → Sorted (cond b (insert_ended t.0 x (endings g ts)) (endings g ts))
-    by_member true x s = by_end x s
-    by_member false x s = s
+sorted_endings g (t ∷ ts) = grind (arith, nat_tests, sorted_endings g ts, is_member, end_of, insert_ended, sorted_insert)
 
 all_inserted : (P : Ending → Type 0) (e : Ending) (es : List Ending) → AllOf P (insert e es) → P e × AllOf P es
 all_inserted P e [] a = (a.0, tt)
-all_inserted P e (f ∷ fs) a = by_test (nat_lt e.number f.number) a (all_inserted P e fs)
-  where
-    by_test : (b : Bool) → AllOf P (cond b (e ∷ f ∷ fs) (f ∷ insert e fs)) → (AllOf P (insert e fs) → P e × AllOf P fs) → P e × AllOf P (f ∷ fs)
-    by_test true a k = (a.0, a.1)
-    by_test false a k = let r = k a.1 in (r.0, (a.0, r.1))
+all_inserted P e (f ∷ fs) a = grind (arith, nat_tests, all_inserted P e fs, nat_lt)
 
 -- What a Given had to find
 
@@ -129,11 +117,7 @@ record Left (g n : ℕ) (s : State) : Type 0 where
   all : AllFrom g n s.tasks
 
 noted_from : (g n who : ℕ) (f : Notes → Notes) (r : Listed Task) → Noted who f r.fields → From g n r → From g n (with_fields (with_notes f) r)
-noted_from g n who f r x k = by_group x.group
-  where
-    by_group : ((f r.fields.notes).group ≡ r.fields.notes.group) ⊎ ((f r.fields.notes).group ≡ None) → From g n (with_fields (with_notes f) r)
-    by_group (inl e) = λ i j p q. k i (ap (holds (λ h. h == g)) (sym e) ∙ j) p q
-    by_group (inr e) = λ i j p q. true_false j (ap (holds (λ h. h == g)) e)
+noted_from g n who f r x k = grind (arith, nat_tests, with_fields, with_notes, true_false)
 
 left_move : (g n who : ℕ) (o : Op) (s : State) (x : Move) → May s who o x → Left g n s → Left g n (apply x s)
 left_move g n who o s (starts_task h t) k v = record { next = v.next; all = from_issue g n h (new_task t s.starts) s.tasks refl v.all }
@@ -141,10 +125,7 @@ left_move g n who o s (runs_task h w z) k v = record { next = v.next; all = from
 left_move g n who o s (ends_task h e) k v = record { next = let l : n ≤ s.ends = v.next in omega arith; all = from_change g n h (ended e s.ends) s.tasks (λ r f u. over_from g n s.ends e r v.next) v.all }
 left_move g n who o s (ends_waiting p e) k v = record { next = let l : n ≤ s.ends = v.next in omega arith; all = from_ends g n _ e s.ends s.tasks v.next v.all }
 left_move g n who o s (withdraws h f c) k v = record { next = let l : n ≤ s.ends = v.next in omega arith; all = from_ends g n _ (Failed c) s.ends s.tasks v.next v.all }
-left_move g n who o s (notes h f) k v = record {
-  next = v.next;
-  all = from_change g n h (with_fields (with_notes f)) s.tasks (λ r e u. noted_from g n who f r (subst (λ (t : Task). Noted who f t) (some_same (sym k.1 ∙ e)) k.2) u) v.all;
-}
+left_move g n who o s (notes h f) k v = grind (arith, nat_tests, from_change, with_fields, with_notes, noted_from, some_same)
 left_move g n who o s (leaves h) k v = record { next = v.next; all = from_change g n h gone s.tasks (λ r e u i j p q. true_false i refl) v.all }
 left_move g n who o s (frees_members z) k v = record { next = v.next; all = from_all g n _ freed s.tasks (λ r i j p q. true_false i refl) v.all }
 left_move g n who o s (lets_members_go z) k v = record { next = v.next; all = from_all g n (is_member z) let_go s.tasks (λ r i j p q. true_false j refl) v.all }
@@ -193,12 +174,7 @@ grows_number : (h n : ℕ) (l k : List (Listed Task)) → Grows l k → number_a
 unfolding number_at
 grows_number h n [] k g i = absurd (cc)
 grows_number h n (r ∷ rs) [] g i = absurd g
-grows_number h n (r ∷ rs) (q ∷ qs) g i = by_handle q.handle g.0.handle (r.handle == h) refl (grows_number h n rs qs g.1) i
-  where
-    by_handle : (a : ℕ) → a ≡ r.handle → (b : Bool) → (r.handle == h) ≡ b → (number_at rs h ≡ Some n → number_at qs h ≡ Some n) →
-        cond b (number_in r.fields.state) (number_at rs h) ≡ Some n → cond (a == h) (number_in q.fields.state) (number_at qs h) ≡ Some n
-    by_handle a s true t rest k = ap (λ (x : ℕ). cond (x == h) (number_in q.fields.state) (number_at qs h)) s ∙ ap (λ (b : Bool). cond b (number_in q.fields.state) (number_at qs h)) t ∙ number_stays r.fields.state q.fields.state n g.0.over k
-    by_handle a s false t rest k = ap (λ (x : ℕ). cond (x == h) (number_in q.fields.state) (number_at qs h)) s ∙ ap (λ (b : Bool). cond b (number_in q.fields.state) (number_at qs h)) t ∙ rest k
+grows_number h n (r ∷ rs) (q ∷ qs) g i = grind (arith, nat_tests, grows_number h n rs qs g.1, number_at, number_in, number_stays)
 
 own_bit : (n : ℕ) (x : TaskState) → number_in x ≡ Some n → bit (is_number n x) ≡ 1
 own_bit n x e1 = grind (arith, nat_tests)

@@ -37,11 +37,7 @@ picks_took s e h n i = took_as s e.who e.op e.reply h _ (snd_true (is_pick e.op)
 -- a ready task of a queue is let begin by it
 ready_let : (s : State) (t : Task) (q : ℕ) → t.queue ≡ Some q → is_ready s t ≡ true → holds (lets q t (live_of s.tasks)) (live_object s.queues q) ≡ true
 unfolding is_ready
-ready_let s t q e h = by_queue t.queue e (snd_true (is_unstarted t) _ h)
-  where
-    by_queue : (o : Option ℕ) → o ≡ Some q → (is_none o || holds (λ h. holds (lets h t (live_of s.tasks)) (live_object s.queues h)) o) ≡ true → holds (lets q t (live_of s.tasks)) (live_object s.queues q) ≡ true
-    by_queue None e k = absurd (cc)
-    by_queue (Some j) e k = subst (λ (x : ℕ). holds (lets x t (live_of s.tasks)) (live_object s.queues x) ≡ true) (some_same e) k
+ready_let s t q e h = grind (arith, nat_tests, snd_true, is_unstarted, live_of, live_object, some_same)
 
 ordered_head : (q : ℕ) (t : Task) (l : List (ℕ × Task)) (o : Option Queue) → ((x : Queue) → o ≡ Some x → x.ordered ≡ true) → holds (lets q t l) o ≡ true → is_head q t l ≡ true
 ordered_head q t l None f h = absurd (cc)
@@ -56,26 +52,7 @@ ordered_head q t l (Some x) f h = by_ordered x.ordered (f x refl) (snd_true x.en
 ended_before : (h : ℕ) (F : Task → Type 0) (p : Task → Bool) (l : List (Listed Task)) → ((t : Task) → F t → is_unended t ≡ true → p t ≡ true) → Under h F l → DeadEnded l → any_live p (live_of l) ≡ false → 1 ≤ listed h l → IsSome (end_at l h)
 unfolding live_of listed end_at
 ended_before h F p [] g u d n k = absurd (omega arith)
-ended_before h F p (r ∷ rs) g u d n k = on_test (λ b. 1 ≤ cond b 1 0 + listed h rs → IsSome (cond b (end_in r.fields.state) (end_at rs h))) (r.handle == h)
-    (λ i k. by_state r.fields.state refl (u.0 i))
-    (λ i k. ended_before h F p rs g u.1 d.1 (rest r.live n) (omega arith)) k
-  where
-    rest_test : (b : Bool) → cond b true (any_live p (live_of rs)) ≡ false → any_live p (live_of rs) ≡ false
-    rest_test true e = absurd (cc)
-    rest_test false e = e
-
-    rest : (b : Bool) → any_live p (cond b ((r.handle, r.fields) ∷ live_of rs) (live_of rs)) ≡ false → any_live p (live_of rs) ≡ false
-    rest true e = rest_test (p r.fields) e
-    rest false e = e
-
-    here : (b : Bool) → r.live ≡ b → any_live p (cond b ((r.handle, r.fields) ∷ live_of rs) (live_of rs)) ≡ false → p r.fields ≡ true → is_unended r.fields ≡ true → ⊥
-    here true i e q m = true_false (ap (λ (b : Bool). cond b true (any_live p (live_of rs))) q) e
-    here false i e q m = true_false m (d.0 i)
-
-    by_state : (x : TaskState) → r.fields.state ≡ x → F r.fields → IsSome (end_in x)
-    by_state Scheduled i f = let m : is_unended r.fields ≡ true = ap (λ (y : TaskState). is_none (end_of y)) i in absurd (here r.live refl n (g r.fields f m) m)
-    by_state (Running w j) i f = let m : is_unended r.fields ≡ true = ap (λ (y : TaskState). is_none (end_of y)) i in absurd (here r.live refl n (g r.fields f m) m)
-    by_state (Ended e j) i f = refl
+ended_before h F p (r ∷ rs) g u d n k = grind (arith, nat_tests, ended_before h F p rs g u.1 d.1, on_test, end_in, end_at, any_live, live_of)
 
 -- What has ended isn't picked
 
@@ -84,12 +61,7 @@ unfolding end_at
 end_found l h t o e = read_found h (λ m. end_at m h) (λ (x : Task). end_in x.state) (λ r rs. refl) l t o e
 
 unstarted_none : (t : Task) → is_unstarted t ≡ true → end_in t.state ≡ None
-unstarted_none t h = by_state t.state h
-  where
-    by_state : (x : TaskState) → scheduled x ≡ true → end_in x ≡ None
-    by_state Scheduled e = refl
-    by_state (Running w k) e = refl
-    by_state (Ended e n) d = absurd (cc)
+unstarted_none t h = grind (arith, nat_tests, end_in)
 
 not_picked : (s : State) (z : NodeEntry) (h : ℕ) (e : TaskEnd) → OnceIn s.tasks → end_at s.tasks h ≡ Some e → IsNext s z → picks h z ≡ false
 not_picked s z h e o i n = false_from_ne_true (picks h z) (λ j.
@@ -118,13 +90,7 @@ put_queue q n (op.TaskEnqueue x args cores detached group) e b = ap (λ (y : New
 put_queue q n _ e b = true_false e refl
 
 ordered_issues : (q : ℕ) (e : NodeEntry) → makes_ordered q e ≡ true → issues kind.Queue q e ≡ true
-ordered_issues q e i =
-    let a : makes_kind kind.Queue e.op ≡ true = by_op e.op (fst_true (asks_ordered e.op) _ i) in
-    ap (λ (b : Bool). b && is_handle q e.reply) a ∙ snd_true (asks_ordered e.op) _ i
-  where
-    by_op : (o : Op) → asks_ordered o ≡ true → makes_kind kind.Queue o ≡ true
-    by_op (op.QueueCreate id job priority limit ordered retain) e = refl
-    by_op _ e = true_false e refl
+ordered_issues q e i = grind (arith, nat_tests, makes_kind, fst_true, asks_ordered, is_handle, snd_true)
 
 -- an ordered queue stays one
 abbrev IsOrdered : Queue → Type 0

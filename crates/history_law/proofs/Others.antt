@@ -12,16 +12,6 @@ use Rattle.history_law.proofs.Answered.{whether, true_false}
 
 -- The mark of a waiter
 
-waiter_other : (w who : ℕ) (o : Option ℕ) → who ≢ w → is_seat w o ≡ true → is_other who o ≡ false → ⊥
-waiter_other w who o e1 e2 e3 = grind (arith, nat_tests)
-
-ended_live : (r : Listed Task) (e : TaskEnd) (n : ℕ) → r.live ≡ true → r.fields.notes.detached ≡ false → (ended e n r).live ≡ true
-ended_live r e n a d = (λ i. a i && not (d i))
-
--- what another seat notes of a task leaves the waiter's mark
-noted_waits : (w who : ℕ) (f : Notes → Notes) (t : Task) → who ≢ w → Noted who f t → IsWaiter w t → IsWaiter w (with_notes f t)
-noted_waits w who f t e1 e2 e3 = grind (arith, nat_tests)
-
 -- a task in no group is a member of none
 no_member : (g : ℕ) (t : Task) → t.notes.group ≡ None → is_member g t ≡ false
 no_member g t e = ap (holds (λ h. h == g)) e
@@ -33,9 +23,6 @@ waits_stay w h who o e1 e2 = grind (arith, nat_tests)
 
 pub runs_scheduled : (w : ℕ) (t : Task) → is_unstarted t ≡ true → runs_on w t ≡ false
 runs_scheduled w t e1 = grind (arith, nat_tests)
-
-runs_apart : (w who : ℕ) (t : Task) → who ≢ w → runs_on who t ≡ true → runs_on w t ≡ false
-runs_apart w who t e1 e2 = grind (arith, nat_tests)
 
 pub runs_over : (w : ℕ) (t : Task) → is_unended t ≡ false → runs_on w t ≡ false
 runs_over w t e1 = grind (arith, nat_tests)
@@ -210,10 +197,6 @@ no_late_end terms L h e l i = ended_late h e (after terms L).tasks (time_after (
 
 abbrev Clean : Task → Type 0
 Clean t = is_unstarted t ≡ true → IsUntouched t
-
--- a task that runs has begun
-runs_begun : (w : ℕ) (t : Task) → runs_on w t ≡ true → is_unstarted t ≡ true → ⊥
-runs_begun w t a b = true_false a (runs_scheduled w t b)
 
 noted_clean : (who : ℕ) (f : Notes → Notes) (t : Task) → Noted who f t → Clean t → Clean (with_notes f t)
 noted_clean who f t e1 e2 = grind (arith, nat_tests)

@@ -88,10 +88,8 @@ queue_opened : (h : ℕ) (f : Queue → Queue) (o : Op) → is_quiet o ≡ true 
 queue_opened h f o e1 e2 x = grind (arith, nat_tests)
 
 calm_move : (o : Op) → is_quiet o ≡ true → is_special o ≡ false → (s : State) (m : Move) → IsMade s o m → IsCalm s → IsCalm (apply m s)
-calm_move o q n s (makes_action h a) e v =
-    record { pure = every_issue IsPure h a s.actions (made_pure a o q e.by) v.pure; on = v.on; goes = goes_all s.actions (issue h a s.actions) s.tasks (λ job k p. pure_more h a s.actions job k p) v.goes }
-calm_move o q n s (enables h) e v =
-    record { pure = every_change IsPure h (with_fields (with_enabled true)) s.actions (λ r d p. p) v.pure; on = v.on; goes = goes_all s.actions _ s.tasks (λ job k p. pure_enabled h s.actions job k p) v.goes }
+calm_move o q n s (makes_action h a) e v = grind (arith, nat_tests, every_issue, made_pure, goes_all, pure_more)
+calm_move o q n s (enables h) e v = grind (arith, nat_tests, every_change, with_fields, with_enabled, goes_all, pure_enabled)
 calm_move o q n s (withdraws h f c) e v = absurd (none_withdrawn h f o q e.by)
 calm_move o q n s (starts_task h t) e v = record { pure = v.pure; on = v.on; goes = every_issue (Goes s.actions) h _ s.tasks tt v.goes }
 calm_move o q n s (runs_task h w k) e v = true_false (pick_special o e.by) n
@@ -124,23 +122,11 @@ takes s w t a x y v e d m = record {
 
 -- a task that runs as this kind has the kind of an action of its job
 running : (actions : List (Listed Action)) (w : ℕ) (k : Kind) (t : Task) → Goes actions t → runs_as w k t ≡ true → HasPure actions t.job k
-running actions w k t g e = by_state t.state g e
-  where
-    by_state : (x : TaskState) → GoesIn actions t.job t.args x → holds (λ r. (r.0 == w) && (kind_number r.1 == kind_number k)) (runner x) ≡ true → HasPure actions t.job k
-    by_state Scheduled g e = true_false e refl
-    by_state (Running v j) g e = subst (HasPure actions t.job) (same_kind j k (eqb-true (kind_number j) (kind_number k) (snd_true (v == w) _ e))) g
-    by_state (Ended d n) g e = true_false e refl
+running actions w k t g e = grind (arith, nat_tests, kind_number, true_false, same_kind, eqb-true, snd_true)
 
 -- a task that ends as such a kind answers
 ends : (s : State) (t : ℕ) (x : Task) (d : Answered) → IsCalm s → live_object s.tasks t ≡ Some x → HasPure s.actions x.job d.kind → x.args ≡ d.args → IsAnswered d → IsCalm (apply (ends_task t (task_end d.end)) s)
-ends s t x d v e p same i = record {
-  pure = v.pure;
-  on = v.on;
-  goes = every_change (Goes s.actions) t (ended (task_end d.end) s.ends) s.tasks (λ r f g. over r (some_same (sym e ∙ f))) v.goes;
-}
-  where
-    over : (r : Listed Task) → x ≡ r.fields → IsPlain s.actions r.fields.job r.fields.args (task_end d.end)
-    over r f = (d.kind, subst (λ (z : Task). HasPure s.actions z.job d.kind) f p, ap task_end (i.answer ∙ ap (answer_of d.kind) (sym same ∙ ap (λ (z : Task). z.args) f)))
+ends s t x d v e p same i = grind (arith, nat_tests, every_change, task_end, some_same, answer_of)
 
 same_args : (xs ys : List ℤ) → pointwise int_eq xs ys ≡ true → xs ≡ ys
 same_args xs ys e = (slice_eq-Decides Decides-int_eq xs ys (pointwise int_eq xs ys) refl).0 e
@@ -186,11 +172,7 @@ calm_opening terms = record { pure = tt; on = tt; goes = tt }
 every_task : (P : Task → Type 0) (l : List (Listed Task)) (h : ℕ) (t : Task) → Every P l → task_at l h ≡ Some t → P t
 unfolding task_at
 every_task P [] h t v e = absurd (cc)
-every_task P (r ∷ rs) h t v e = by_handle (r.handle == h) (every_task P rs h t v.1) e
-  where
-    by_handle : (b : Bool) → (task_at rs h ≡ Some t → P t) → cond b (Some r.fields) (task_at rs h) ≡ Some t → P t
-    by_handle true rest d = subst P (some_same d) v.0
-    by_handle false rest d = rest d
+every_task P (r ∷ rs) h t v e = grind (arith, nat_tests, every_task P rs h t v.1, task_at, some_same)
 
 plain_end : (actions : List (Listed Action)) (job : ℕ) (args : List ℤ) (x : TaskState) (e : TaskEnd) → GoesIn actions job args x → end_in x ≡ Some e → IsPlain actions job args e
 plain_end actions job args x e e1 e2 = grind (arith, nat_tests)

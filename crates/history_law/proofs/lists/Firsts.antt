@@ -10,11 +10,7 @@ module _ {T : Type 0} where
   -- a head that has the handle has it alone
   pub head_alone : (r : Listed T) (rs : List (Listed T)) (h : ℕ) → OnceIn (r ∷ rs) → is_some (live_object rs h) ≡ true → (r.handle == h) ≡ false
   unfolding listed
-  head_alone r rs h o e = by_hand (r.handle == h) refl (o h) (live_listed h rs e)
-    where
-      by_hand : (b : Bool) → (r.handle == h) ≡ b → cond {A = ℕ} b 1 0 + listed h rs ≤ 1 → 1 ≤ listed h rs → b ≡ false
-      by_hand true i k l = absurd (omega arith)
-      by_hand false i k l = refl
+  head_alone r rs h o e = grind (arith, nat_tests, live_listed)
 
   first_there : (p : T → Bool) (l : List (Listed T)) (h : ℕ) → first_handle p (live_of l) ≡ Some h → is_some (live_object l h) ≡ true
   unfolding live_of

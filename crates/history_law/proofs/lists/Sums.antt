@@ -78,14 +78,7 @@ module _ {T : Type 0} where
       → option_map V (record_of (change j f l) h) ≡ option_map V (record_of l h)
   unfolding record_of change
   record_view V j h f [] k v = refl
-  record_view V j h f (r ∷ rs) k v = cond_both (r.live && (r.handle == j)) (f r ∷ rs) (r ∷ change j f rs) (λ m. option_map V (record_of m h) ≡ option_map V (record_of (r ∷ rs) h))
-      (λ c. ap (λ (z : ℕ). option_map V (cond (z == h) (Some (f r).fields) (record_of rs h))) (k r) ∙ by_head (r.handle == h)) (λ c. by_hand (r.handle == h) (record_view V j h f rs k v))
-    where
-      by_hand : (b : Bool) → option_map V (record_of (change j f rs) h) ≡ option_map V (record_of rs h) → option_map V (cond b (Some r.fields) (record_of (change j f rs) h)) ≡ option_map V (cond b (Some r.fields) (record_of rs h))
-      by_hand b e1 = grind (arith, nat_tests)
-
-      by_head : (b : Bool) → option_map V (cond b (Some (f r).fields) (record_of rs h)) ≡ option_map V (cond b (Some r.fields) (record_of rs h))
-      by_head b = grind (arith, nat_tests)
+  record_view V j h f (r ∷ rs) k v = grind (arith, nat_tests, record_view V j h f rs k v, cond_both, option_map, record_of)
 
 -- Cells
 

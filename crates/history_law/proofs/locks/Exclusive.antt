@@ -42,16 +42,7 @@ pub record Good (n : ℕ) (s : State) : Type 0 where
 -- a tally's mutex and segment after a step of another seat, or of a seat on which the task doesn't run
 tied_step : (n who : ℕ) (b : Bool) (l k : List (Listed Mutex)) (p q : List (Listed Segment)) (x y : ℕ → Bool) → ((j : ℕ) → Step who n b (live_object l j) (live_object k j) (x j) (y j)) → ((j : ℕ) → SegmentStep who n b (live_object p j) (live_object q j))
     → (t : Task) → ((b ≡ true) → runs_on who t ≡ false) → Tied n l p t → Tied n k q t
-tied_step n who b l k p q x y f g t a i = record {
-  early = i.early;
-  tied = λ w r c. let z = i.tied w r c in (z.0, by_step w r (owns_step who n w (id_in t) b _ _ _ _ (f t.notes.tally.mutex) z.0 z.1));
-  attends = λ w r c. by_step w r (attached_step who n w b _ _ (g t.notes.tally.segment) (i.tied w r c).0 (i.attends w r c));
-  kind = i.kind;
-}
-  where
-    by_step : {A : Type 0} (w : ℕ) → runs_on w t ≡ true → A ⊎ ((b ≡ true) × (w ≡ who)) → A
-    by_step w r (inl v) = v
-    by_step w r (inr v) = true_false (subst (λ (z : ℕ). runs_on z t ≡ true) v.1 r) (a v.0)
+tied_step n who b l k p q x y f g t a i = grind (arith, nat_tests, owns_step, id_in, attached_step, runs_on, true_false)
 
 -- after an end of a tally no task runs on its worker
 none_then : (s : State) (who t : ℕ) (x : Task) (e : TaskEnd) → AtMostOne who s → HasTask s who t x kinds.Tally → count_listed (runs_on who) (change t (ended e s.ends) s.tasks) ≡ 0
@@ -202,13 +193,7 @@ stays_on w h i s e n f v = on_test (λ b. (b && says_end e.reply) ≡ false → 
     (λ d k. by_moves (OnAt w h i) s e n (found_moved (On w h) e.who i e.op (on_stays w h i e.who e.op d)) v) f
 
 owned : (n w h i : ℕ) (s : State) → Good n s → OnAt w h i s → OwnedBy s h w
-owned n w h i s g v =
-    let t : Tied n s.mutexes s.segments v.0 = every_at (Tied n s.mutexes s.segments) s.tasks i v.0 g.ties v.1 in
-    by_mutex (id_in v.0) (live_object s.mutexes h) refl (subst (λ (j : ℕ). Owns w (id_in v.0) (live_object s.mutexes j)) v.2.mutex (t.tied w (on_runs w h v.0 v.2) v.2.both).1)
-  where
-    by_mutex : (id : ℕ) (o : Option Mutex) → live_object s.mutexes h ≡ o → Owns w id o → OwnedBy s h w
-    by_mutex id None e k = absurd k
-    by_mutex id (Some x) e k = (x, e, k.0)
+owned n w h i s g v = grind (arith, nat_tests, every_at, id_in, live_object, on_runs)
 
 same_mutex : (s : State) (w t h : ℕ) → HasMutex s t h → (a : ℕ) × OnAt w a t s → OnAt w h t s
 same_mutex s w t h m o = grind (arith, nat_tests, some_same)

@@ -60,14 +60,7 @@ HasId i y = y.id == i
 
 -- two workers that own a mutex of one id are one
 pub one_owner : (ms : List (Listed Mutex)) (i v w h k : ℕ) → count_listed (HasId i) ms ≤ 1 → Owns v i (live_object ms h) → Owns w i (live_object ms k) → v ≡ w
-one_owner ms i v w h k c a b = by_both (live_object ms h) (live_object ms k) refl refl a b
-  where
-    by_both : (o p : Option Mutex) → live_object ms h ≡ o → live_object ms k ≡ p → Owns v i o → Owns w i p → v ≡ w
-    by_both None p e f x y = absurd x
-    by_both (Some m) None e f x y = absurd y
-    by_both (Some m) (Some l) e f x y =
-        let same : m ≡ l = one_passes (HasId i) ms h k m l c e f (eq-eqb m.id i x.2) (eq-eqb l.id i y.2) in
-        some_same (sym x.0 ∙ (ap (λ (z : Mutex). z.owner) same ∙ y.0))
+one_owner ms i v w h k c a b = grind (arith, nat_tests, live_object, one_passes, eq-eqb, some_same)
 
 -- No two live mutexes have one id
 

@@ -62,9 +62,6 @@ module _ (S C : ℕ) where
   abbrev pub Each : (List ℤ → Type 0) → Task → Type 0
   Each R t = adds t.notes.tally t.args ≡ true → R t.args
 
-  pub does_adds : (o : Op) (x y : TallyNotes) (args : List ℤ) → is_tally_lock o ≡ false → Does o x y → adds y args ≡ true → adds x args ≡ true
-  does_adds o x y args e1 e2 e3 = grind (arith, nat_tests)
-
   pub each_kept : (R : List ℤ → Type 0) (who : ℕ) (o : Op) → is_tally_lock o ≡ false → IsKept (Each R) who o
   each_kept R who o e1 = grind (arith, nat_tests)
 
@@ -72,9 +69,6 @@ module _ (S C : ℕ) where
 
   abbrev pub HasRead : ℤ → Task → Type 0
   HasRead w t = adds t.notes.tally t.args ≡ true → (t.notes.tally.stage == 2) ≡ true → is_unended t ≡ true → t.notes.tally.kept ≡ w
-
-  does_read : (w : ℤ) (o : Op) (x y : TallyNotes) (args : List ℤ) → is_tally_read o ≡ false → is_tally_write o ≡ false → Does o x y → (adds x args ≡ true → (x.stage == 2) ≡ true → x.kept ≡ w) → adds y args ≡ true → (y.stage == 2) ≡ true → y.kept ≡ w
-  does_read w o x y args e1 e2 e3 e4 e5 e6 = grind (arith, nat_tests)
 
   pub read_kept : (w : ℤ) (who : ℕ) (o : Op) → is_tally_read o ≡ false → is_tally_write o ≡ false → IsKept (HasRead w) who o
   read_kept w who o e1 e2 = grind (arith, nat_tests)

@@ -30,43 +30,7 @@ pub record Tied (n : ℕ) (ms : List (Listed Mutex)) (ss : List (Listed Segment)
   pub attends : (w : ℕ) → runs_on w t ≡ true → has_both t.notes.tally ≡ true → IsAttached w (live_object ss t.notes.tally.segment)
   pub kind : (w : ℕ) → runs_on w t ≡ true → has_both t.notes.tally ≡ true → runs_as w kind.Tally t ≡ true
 
-pub stage_none : (x : TallyNotes) → (x.stage == 0) ≡ true → has_both x ≡ false
-stage_none x e = ap (λ (k : ℕ). not (k == 0) && not (k == 4)) (eqb-true x.stage 0 e)
-
-pub stage_some : (x : TallyNotes) (k : ℕ) → (x.stage == k) ≡ true → (not (k == 0) && not (k == 4)) ≡ true → has_both x ≡ true
-stage_some x k e n = ap (λ (j : ℕ). not (j == 0) && not (j == 4)) (eqb-true x.stage k e) ∙ n
-
--- what a step other than a `tally_lock` leaves
-pub record Follows (x y : TallyNotes) : Type 0 where
-  pub before : has_both y ≡ true → has_both x ≡ true
-  pub mutex : has_both y ≡ true → y.mutex ≡ x.mutex
-  pub segment : has_both y ≡ true → y.segment ≡ x.segment
-
-pub does_follow : (o : Op) (x y : TallyNotes) → is_tally_lock o ≡ false → Does o x y → Follows x y
-does_follow o x y e1 e2 = grind (arith, nat_tests)
-
--- a tally that has both goes on having them, with any step
-pub record GoesOn (x y : TallyNotes) : Type 0 where
-  pub both : has_both y ≡ true
-  pub mutex : y.mutex ≡ x.mutex
-
-goes_on : (o : Op) (x y : TallyNotes) → has_both x ≡ true → Does o x y → GoesOn x y
-goes_on o x y e1 e2 = grind (arith, nat_tests)
-
 module _ (n : ℕ) (ms : List (Listed Mutex)) (ss : List (Listed Segment)) where
-  -- a task that runs nowhere
-  idle_tied : (t : Task) → (is_unstarted t ≡ true → has_both t.notes.tally ≡ false) → ((w : ℕ) → runs_on w t ≡ false) → Tied n ms ss t
-  idle_tied t e f = record { early = e; tied = λ w r b. true_false r (f w); attends = λ w r b. true_false r (f w); kind = λ w r b. true_false r (f w) }
-
-  over_tied : (e : TaskEnd) (k : ℕ) (t : Task) → Tied n ms ss (with_state (Ended e k) t)
-  over_tied e k t = idle_tied (with_state (Ended e k) t) (λ i. true_false i refl) (λ w. refl)
-
-  runs_tied : (v : ℕ) (k : Kind) (t : Task) → is_unstarted t ≡ true → Tied n ms ss t → Tied n ms ss (with_state (Running v k) t)
-  runs_tied v k t u i = record { early = λ e. true_false e refl; tied = λ w r b. true_false b (i.early u); attends = λ w r b. true_false b (i.early u); kind = λ w r b. true_false b (i.early u) }
-
-  pub noted_tied : (f : Notes → Notes) (t : Task) → Follows t.notes.tally (f t.notes).tally → Tied n ms ss t → Tied n ms ss (with_notes f t)
-  noted_tied f t e1 e2 = grind (arith, nat_tests)
-
   abbrev pub Ties : State → Type 0
   Ties s = Every (Tied n ms ss) s.tasks
 
@@ -129,12 +93,6 @@ as_on w x e1 = grind (arith, nat_tests)
 
 pub on_runs : (w h : ℕ) (t : Task) → On w h t → runs_on w t ≡ true
 on_runs w h t i = as_on w t.state i.runs
-
-not_over : (w h : ℕ) (t : Task) → On w h t → is_unended t ≡ false → ⊥
-not_over w h t i e = true_false (on_runs w h t i) (runs_over w t e)
-
-not_early : (w h : ℕ) (t : Task) → On w h t → is_unstarted t ≡ true → ⊥
-not_early w h t i e = true_false (on_runs w h t i) (runs_scheduled w t e)
 
 abbrev pub OnAt : ℕ → ℕ → ℕ → State → Type 0
 OnAt w h j s = FoundAs (On w h) s.tasks j
