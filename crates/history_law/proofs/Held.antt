@@ -1,5 +1,5 @@
 -- What holds after every legal list of the tasks, the phase and the marks of stopped workers, and the changes that keep it.
-use Rattle.history_law.proofs.Names.{nat_tests, ◌≡◌, ℕ, ◌+◌, ◌≤◌, Bool, true, false, cond, List, [], ◌∷◌, ◌++◌, Some, refl, ◌∙◌, arith, ◌==◌, ◌&&◌, slice_set, cond_both, TaskEnd, all_marked, Phase, Listed, live_of, live_object, any_listed, any_live, change, issue, with_fields, gone, Task, is_unended, ended, end_each, is_new, is_open, is_past_open, fst_true, snd_true}
+use Rattle.history_law.proofs.Names.{nat_tests, ◌≡◌, ℕ, ◌+◌, Bool, true, false, cond, List, [], ◌∷◌, ◌++◌, Some, refl, ◌∙◌, arith, ◌==◌, ◌&&◌, slice_set, cond_both, TaskEnd, Phase, Listed, live_of, live_object, any_listed, any_live, change, issue, with_fields, gone, Task, is_unended, ended, end_each, is_open, is_past_open, fst_true, snd_true}
 use Rattle.history_law.proofs.lists.Found.{at_here, at_past}
 use Rattle.history_law.proofs.Answered.{true_false, none_first}
 
@@ -116,4 +116,3 @@ all_ended (r ∷ rs) e d = by_live r.live e d.0 (λ q. all_ended rs q d.1)
 
 pub held_stop : (p : Phase) (m : List Bool) (w : ℕ) (l : List (Listed Task)) → is_past_open p ≡ true → any_listed is_unended l ≡ false → Held p m l → Held p (slice_set m w true) l
 held_stop p m w l t n v = record { dead = v.dead; stopped = λ f. (t, all_ended l n v.dead) }
-

@@ -1,5 +1,5 @@
 -- The runs of an ordered queue.
-use Rattle.history_law.proofs.Names.{◌≡◌, ℕ, ◌+◌, ◌≤◌, ◌<◌, Bool, true, false, cond, List, [], ◌∷◌, ◌++◌, Option, Some, None, refl, sym, ◌∙◌, ap, subst, arith, ◌==◌, ◌&&◌, ◌||◌, not, nat_lt, is_none, IsSome, eqb-true, eq-eqb, false_from_ne_true, nat_tests, holds, TaskEnd, Listed, live_of, live_object, any_live, listed, Task, NewTask, TaskState, Scheduled, Running, Ended, scheduled, end_of, is_unstarted, is_unended, new_task, Queue, is_in, is_unended_in, is_head, lets, Terms, Op, Reply, Picked, State, opening, Move, starts_task, apply, is_ready, NodeEntry, IsNext, next, LegalFrom, Legal, after_from, after, StartsTask, end_in, end_at, Legal-front, Legal-rest, after-append, fst_true, snd_true, not_true, along, rest_keeps, after_grows, some_entry, is_handle, issues, asks_ordered, makes_ordered, puts_into, puts, is_picked, RunsInOrder, some_same, Answers}
+use Rattle.history_law.proofs.Names.{◌≡◌, ℕ, ◌+◌, ◌≤◌, ◌<◌, Bool, true, false, cond, List, [], ◌∷◌, ◌++◌, Option, Some, None, refl, sym, ◌∙◌, ap, subst, arith, ◌==◌, ◌&&◌, ◌||◌, not, nat_lt, IsSome, eqb-true, eq-eqb, false_from_ne_true, nat_tests, holds, TaskEnd, Listed, live_of, live_object, any_live, listed, Task, NewTask, is_unstarted, is_unended, new_task, Queue, is_in, is_unended_in, is_head, lets, Terms, Op, Reply, Picked, State, opening, Move, starts_task, apply, is_ready, NodeEntry, IsNext, next, LegalFrom, Legal, after_from, after, StartsTask, end_in, end_at, Legal-front, Legal-rest, after-append, fst_true, snd_true, not_true, along, rest_keeps, after_grows, some_entry, is_handle, issues, asks_ordered, makes_ordered, puts_into, puts, is_picked, RunsInOrder, some_same, Answers}
 use Rattle.mtapi_values.specs.declared.handles.ObjectKind.TheVariants as kind
 use Rattle.mtapi_machine.specs.declared.ops.Op.TheVariants as op
 use Rattle.history_law.specs.Words.{makes as makes_kind}

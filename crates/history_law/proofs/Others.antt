@@ -1,7 +1,7 @@
 -- What the entries of other seats leave to a seat.
-use Rattle.history_law.proofs.Names.{◌≡◌, ◌≢◌, ℕ, zero, suc, Bool, true, false, cond, List, [], ◌∷◌, Option, Some, None, ◌⊎◌, inl, inr, refl, sym, ◌∙◌, ap, subst, arith, ◌==◌, ◌&&◌, not, slice_set, nat_tests, TaskEnd, is_seat, is_other, marked, holds, Op, Reply, Failed, Terms, Listed, live_object, count_listed, change, with_fields, gone, is_member, in_no_group, freed, let_go, Task, Notes, with_notes, TaskState, Scheduled, Running, Ended, runner, runs_on, is_unstarted, is_unended, with_state, ended, new_task, entries_of, State, opening, NodeEntry, next, LegalFrom, Legal, after_from, after, end_in, end_at, moves_phase, is_release, is_late_end, IsWaiter, Waits, OnceListed, Work, RunsWith, IsUntouched, Others, WorkerKeeps, NoPhase, NoRelease, Move, phase_is, released, stops, starts_task, runs_task, ends_task, ends_waiting, withdraws, notes, leaves, frees_members, lets_members_go, apply, after_moves, fst_true, snd_true, not_true, rest_keeps, some_same, and-false, eq-eqb, Answers, IsNext}
+use Rattle.history_law.proofs.Names.{◌≡◌, ◌≢◌, ℕ, zero, suc, Bool, true, false, cond, List, [], ◌∷◌, Some, None, refl, sym, ◌∙◌, ap, subst, arith, ◌==◌, ◌&&◌, not, slice_set, nat_tests, TaskEnd, marked, holds, Op, Reply, Failed, Terms, Listed, live_object, count_listed, change, with_fields, gone, is_member, in_no_group, freed, let_go, Task, Notes, with_notes, TaskState, Scheduled, Running, Ended, runner, runs_on, is_unstarted, is_unended, with_state, ended, new_task, State, opening, NodeEntry, next, LegalFrom, Legal, after_from, after, end_in, end_at, moves_phase, is_release, is_late_end, IsWaiter, Waits, OnceListed, Work, RunsWith, IsUntouched, Others, WorkerKeeps, NoPhase, NoRelease, Move, phase_is, released, stops, starts_task, runs_task, ends_task, ends_waiting, withdraws, notes, leaves, frees_members, lets_members_go, apply, after_moves, fst_true, snd_true, not_true, rest_keeps, some_same, and-false, eq-eqb, Answers, IsNext}
 use Rattle.history_law.proofs.Reuse.{terms_next}
-use Rattle.history_law.proofs.SeatMoves.{SameWork, Noted, May, MayEnd, is_any_look, by_moves, answer, kept_along}
+use Rattle.history_law.proofs.SeatMoves.{Noted, May, MayEnd, is_any_look, by_moves, answer, kept_along}
 use Rattle.history_law.proofs.TaskMoves.{IsKept, every_moved, StaysLive, found_moved, same_found}
 use Rattle.mtapi_machine.specs.Answers as is
 use Rattle.history_law.proofs.Moves.{once_along, once_from}

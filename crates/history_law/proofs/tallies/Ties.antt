@@ -1,12 +1,12 @@
 -- A running tally that has its mutex owns it, and at most one task runs on a worker.
-use Rattle.history_law.proofs.Names.{nat_tests, ◌≡◌, ℕ, ◌+◌, ◌<◌, ◌≤◌, Bool, true, false, cond, List, [], ◌∷◌, Option, Some, None, inl, inr, refl, sym, ◌∙◌, ap, subst, arith, ◌==◌, ◌&&◌, not, eqb-true, false_from_ne_true, Kind, TaskEnd, holds, Op, Listed, live_of, live_object, any_listed, count_listed, with_fields, Mutex, tally_args, Task, Notes, TallyNotes, TaskState, Running, Ended, runner, runs_on, runs_as, kind_number, is_unstarted, is_unended, with_state, with_notes, ended, new_task, State, Move, runs_task, ends_task, apply, both_true, is_tally_end, mutex_in, and-false, IsAttached, Segment, true_from_ne_false}
+use Rattle.history_law.proofs.Names.{nat_tests, ◌≡◌, ℕ, ◌+◌, ◌<◌, ◌≤◌, Bool, true, false, cond, List, [], ◌∷◌, Option, Some, None, refl, sym, ◌∙◌, ap, subst, arith, ◌==◌, ◌&&◌, not, eqb-true, holds, Op, Listed, live_of, live_object, any_listed, count_listed, with_fields, Mutex, tally_args, Task, TallyNotes, TaskState, Running, runner, runs_on, runs_as, kind_number, is_unstarted, is_unended, with_state, ended, State, Move, runs_task, ends_task, apply, is_tally_end, mutex_in, and-false, IsAttached, Segment}
 use Rattle.mtapi_values.specs.declared.kinds.Kind.TheVariants as kind
-use Rattle.history_law.proofs.Answered.{true_false, whether}
+use Rattle.history_law.proofs.Answered.{whether}
 use Rattle.history_law.proofs.lists.Every.{Every}
 use Rattle.history_law.proofs.lists.Found.{FoundAs, count_changed}
 use Rattle.history_law.proofs.Held.{DeadEnded}
-use Rattle.history_law.proofs.SeatMoves.{May, Does, stays, fails, has, reads, writes, is_tally_lock, EndsTally}
-use Rattle.history_law.proofs.Others.{other_count, runs_scheduled, runs_over}
+use Rattle.history_law.proofs.SeatMoves.{May, is_tally_lock}
+use Rattle.history_law.proofs.Others.{other_count, runs_over}
 use Rattle.history_law.proofs.TaskMoves.{IsKept, StaysLive}
 
 -- the tally has its mutex and its segment: it has begun and hasn't failed
