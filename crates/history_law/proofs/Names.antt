@@ -13,7 +13,7 @@ pub use Rattle.std.specs.Ordering.{int_eq}
 pub use Rattle.std.specs.Prelude.{IsSome, is_none, is_some, length, nat_lt, not, option_map, pos, replicate, slice_index, slice_index_or, slice_set, ℤ, ◌&&◌, ◌+ℤ◌, ◌-◌, ◌==◌, ◌||◌}
 pub use Rattle.action_fn.specs.Answers.{Answered, IsAnswered, is_pure}
 pub use Rattle.handle_pool.specs.Issued.{Listed, any_listed, any_live, count_listed, gone, how_many, live_object, update, with_fields}
-pub use Rattle.history.specs.Histories.{entries_of, entry}
+pub use Rattle.history.specs.Histories.{entry}
 pub use Rattle.history_law.specs.Accepted.{EndsOnce, TasksEndOnce, accepted, accepted_by}
 pub use Rattle.history_law.specs.Affinity.{ObeysMasks, action_mask, task_mask}
 pub use Rattle.history_law.specs.Ends.{EndsAfterClose}
@@ -27,7 +27,7 @@ pub use Rattle.history_law.specs.Reuse.{NeverAgain, NotInBoth}
 pub use Rattle.history_law.specs.Seats.{AreUntouched, BySeats, EndsInTime, EntersBehindRelease, FinalsBehindStops, Free, HasMarks, Holds, IsUntouched, IsWaiter, KeepsEarly, KeepsOnce, KeepsPhase, KeepsRelease, KeepsStops, KeepsWaiter, NoClose, NoPhase, NoRelease, OnceListed, Others, RunsWith, Waits, Work, WorkerKeeps, closes, is_late_end, is_release, is_released, is_stop_of, moves_phase, says_ok, says_stop}
 pub use Rattle.history_law.specs.Served.{AsksOf, IsServed, Serves}
 pub use Rattle.history_law.specs.Tally.{HoldsTheSum, NamesOneMutex, adds_to, completed_in, is_completed, mutex_in, number_added, sum_of, writes_to}
-pub use Rattle.history_law.specs.TallyHolds.{IsAttached, IsOwned, TalliesHold, got_both}
+pub use Rattle.history_law.specs.TallyHolds.{IsAttached, TalliesHold, got_both}
 pub use Rattle.history_law.specs.Told.{TellsItsEnd, told_by}
 pub use Rattle.history_law.specs.Words.{entries_that, is_handle, is_live, issues, some_entry, times}
 pub use Rattle.history_law.specs.Worked.{OneTaskEnds}
@@ -38,7 +38,7 @@ pub use Rattle.mtapi_machine.proofs.EachKind.{at_opening, own_kind}
 pub use Rattle.mtapi_machine.proofs.Ends.{after_grows}
 pub use Rattle.mtapi_machine.proofs.Lines.{fits_of}
 pub use Rattle.mtapi_machine.proofs.Lists.{Legal-front, Legal-prefix, Legal-rest, after-append, after-one}
-pub use Rattle.mtapi_machine.proofs.Made.{both_true, found_holds, fst_true, not_false, not_true, row_made, snd_true, unstarted_unended}
+pub use Rattle.mtapi_machine.proofs.Made.{found_holds, fst_true, not_false, not_true, row_made, snd_true, unstarted_unended}
 pub use Rattle.mtapi_machine.proofs.Moves.{along, by_moves, rest_keeps}
 pub use Rattle.mtapi_machine.proofs.Replays.{legal_if}
 pub use Rattle.mtapi_machine.proofs.Worked.{one_task-legal}
@@ -64,7 +64,7 @@ pub use Rattle.mtapi_machine.specs.declared.terms.Terms.{Terms}
 pub use Rattle.mtapi_objects.specs.Actions.{Action, has_enabled_job, is_eligible, new_action, with_enabled}
 pub use Rattle.mtapi_objects.specs.Groups.{Ending, freed, in_no_group, insert, insert_ended, is_member, let_go}
 pub use Rattle.mtapi_objects.specs.Mutexes.{Mutex, locked_by, new_mutex, unlocked}
-pub use Rattle.mtapi_objects.specs.Queues.{Queue, is_head, is_in, is_shut_in, is_unended_in, lets, opened}
+pub use Rattle.mtapi_objects.specs.Queues.{Queue, is_head, is_in, is_shut_in, is_unended_in, lets}
 pub use Rattle.mtapi_objects.specs.Rwls.{Rwl, new_rwl, rwl_busy, rwl_given, rwl_held, rwl_taken}
 pub use Rattle.mtapi_objects.specs.Segments.{Segment, cell_of, new_segment, with_attached, with_cell}
 pub use Rattle.mtapi_objects.specs.Sems.{Sem, new_sem, sem_busy, sem_given, sem_taken, total}
