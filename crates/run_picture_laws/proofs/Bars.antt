@@ -183,9 +183,6 @@ module _ (w n seats : ℕ) where
   old_shown : (to : ℕ) (end : BarEnd) (o : Option Running) → ((r : Running) → o ≡ Some r → r.from < n) → here to end o ≡ []
   old_shown to end o e1 = grind (arith, nat_tests)
 
-  old_of : (who to : ℕ) (end : BarEnd) (o : Option Running) → ((r : Running) → o ≡ Some r → r.from < n) → filter (begins_at w n) (bar_of who to end o) ≡ []
-  old_of who to end o e1 = grind (arith, nat_tests)
-
   old_by : (who at : ℕ) (x : Work) (o : Option Running) → ((r : Running) → o ≡ Some r → r.from < n) → filter (begins_at w n) (bar_by who at x o) ≡ []
   old_by who at x o e1 = grind (arith, nat_tests)
 

@@ -15,9 +15,6 @@ abbrev count_in : Change → Option QueueLane → List ℕ
 count_in c None = []
 count_in c (Some l) = cond (is_changed c l) ((changed c l).count ∷ []) []
 
-changed_most : (c : Change) (l : QueueLane) (b : Bool) → is_changed c l ≡ b → top l.longest (cond b ((changed c l).count ∷ []) []) ≡ (cond b (changed c l) l).longest
-changed_most c l b e1 = grind (arith, nat_tests)
-
 lane_most : (c : Change) (o : Option QueueLane) → top (longest_in o) (count_in c o) ≡ longest_in (option_map (lane_after c) o)
 unfolding lane_after
 lane_most c o = grind (arith, nat_tests)

@@ -1,5 +1,5 @@
 -- What each entry does to the tasks that wait, beside what the picture reads in it.
-use Rattle.run_picture_laws.proofs.Names.{Answers, Bool, IsNext, Kind, List, Listed, Move, MrapiStatus, MtapiStatus, NewTask, None, Notes, OnceIn, Op, Queue, QueueHandle, Reply, Some, State, Task, TaskEnd, TaskState, Wait, [], after_moves, answered, ap, arith, asked_for, asked_of, at-update, cancel_requested, end_each, ended, ends_task, ends_unseen, false, fresh_unlisted, gone, holds, in_no_group, inl, inr, is_fresh, is_in, is_some, is_unstarted, issue, listed, live_listed, live_object, nat_tests, new_task, next, not, notes, record_at, record_of, refl, runs_as, scheduled, some_same, starts_task, subst, sym, tasks, true, true_false, wait_of, with_fields, with_notes, with_state, ℕ, ◌&&◌, ◌==◌, ◌∙◌, ◌∷◌, ◌≡◌, ◌≤◌, ◌⊎◌}
+use Rattle.run_picture_laws.proofs.Names.{Answers, Bool, IsNext, Kind, List, Listed, Move, MrapiStatus, MtapiStatus, NewTask, None, Notes, OnceIn, Op, Queue, QueueHandle, Reply, Some, State, Task, TaskEnd, Wait, [], after_moves, answered, ap, arith, asked_for, asked_of, at-update, cancel_requested, end_each, ended, ends_task, ends_unseen, false, fresh_unlisted, gone, holds, in_no_group, inl, inr, is_fresh, is_in, is_some, is_unstarted, issue, listed, live_listed, live_object, nat_tests, new_task, next, not, notes, record_at, record_of, refl, runs_as, scheduled, some_same, starts_task, subst, sym, tasks, true, true_false, wait_of, with_fields, with_notes, with_state, ℕ, ◌&&◌, ◌==◌, ◌∙◌, ◌∷◌, ◌≡◌, ◌≤◌, ◌⊎◌}
 use Rattle.mtapi_values.specs.declared.kinds.Kind.TheVariants as kinds
 use Rattle.mtapi_values.specs.declared.ends.TaskEnd.TheVariants as ends
 use Rattle.mtapi_values.specs.declared.statuses.MtapiStatus.TheVariants as m
@@ -63,9 +63,6 @@ module _ (s : State) (who : ℕ) (once : OnceIn s.tasks) where
   -- what is left doesn't wait
   left_idle : (o : Op) (t : ℕ) (x : Task) (l : List (Listed Task)) → live_object s.tasks t ≡ Some x → is_unstarted x ≡ false → SameEach s.tasks l → Moved s o (wait.Leaves t) l
   left_idle o t x l e u a = leaves_of o t l (untouched_goes (ends_unseen o ≡ false) (λ r. r.handle == t) s.tasks [] l (apart t x s.tasks once e u) a)
-
-  idle_state : (t : Task) (x : TaskState) → t.state ≡ x → scheduled x ≡ false → is_unstarted t ≡ false
-  idle_state t x e f = ap scheduled e ∙ f
 
   noted_same_at : (t : ℕ) (f : Notes → Notes) → SameEach s.tasks (after_moves (notes t f ∷ []) s).tasks
   noted_same_at t f = change_same t (with_fields (with_notes f)) s.tasks (λ r a e. noted_same f r)

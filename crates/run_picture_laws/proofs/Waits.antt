@@ -402,11 +402,7 @@ counts_right calm w l [] a = (omega arith, λ c. refl)
 counts_right calm w l (r ∷ rs) a = let n = counts_right calm w l rs a.1 in (by_test (r.live && is_waiting_in l.queue r.fields) refl n.0, λ c. by_both c (n.1 c))
   where
     turned : (x y z : Bool) → (x && (y && z)) ≡ ((x && z) && y)
-    turned true true true = refl
-    turned true true false = refl
-    turned true false true = refl
-    turned true false false = refl
-    turned false y z = refl
+    turned x y z = grind (arith, nat_tests)
 
     same : (r.live && is_waiting_in l.queue r.fields) ≡ (waits r && is_in l.queue r.fields)
     same = turned r.live (is_in l.queue r.fields) (is_unstarted r.fields)
