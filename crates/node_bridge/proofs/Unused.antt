@@ -1,5 +1,5 @@
 -- A worker's seat that has made no entry is at rest.
-use Rattle.node_bridge.proofs.Names.{◌≡◌, ℕ, ◌<◌, ◌==◌, Bool, true, false, cond, List, [], ◌∷◌, ◌++◌, refl, ◌∙◌, ap, arith, nat_tests, entry, entries_of, Kind, ActionHandle, opening, NodeEntry, work_stays, entries-append, job_of, pure_kinds, all_cores, images, opening_entries, image, UnusedWorkersRest}
+use Rattle.node_bridge.proofs.Names.{◌≡◌, ℕ, ◌<◌, ◌==◌, Bool, false, cond, List, [], ◌∷◌, ◌++◌, refl, ◌∙◌, ap, arith, nat_tests, entry, entries_of, Kind, ActionHandle, opening, NodeEntry, work_stays, entries-append, job_of, pure_kinds, all_cores, images, opening_entries, image, UnusedWorkersRest}
 use Rattle.mtapi_machine.specs.declared.ops.Op.TheVariants as op
 use Rattle.mtapi_machine.specs.declared.replies.Reply.TheVariants as reply
 use Rattle.node_bridge.specs.Image.{creates}
@@ -9,8 +9,7 @@ apart : (w who : ℕ) → w < who → (who == w) ≡ false
 apart w who l = grind (arith, nat_tests)
 
 none_of : (b : Bool) (x : NodeEntry) (l : List NodeEntry) → b ≡ false → l ≡ [] → cond b (x ∷ l) l ≡ []
-none_of true x l e r = absurd (cc)
-none_of false x l e r = r
+none_of b x l e1 e2 = grind (arith, nat_tests)
 
 no_creates : (w who : ℕ) (ks : List Kind) (hs : List ActionHandle) → (who == w) ≡ false → entries_of w (creates who ks hs) ≡ []
 no_creates w who [] hs e = refl
