@@ -1,5 +1,6 @@
 -- A handle that was written is read as the same.
-use Rattle.journal_text.proofs.Names.{◌≡◌, ℕ, ◌+◌, ◌*◌, ◌/◌, ◌%◌, ◌<◌, ◌≤◌, ◌^◌, List, [], ◌∷◌, ◌++◌, length, drop, Bool, true, false, eqb, Option, Some, None, refl, ap, ◌∙◌, arith, inl, inr, codes, nat_lt, find, before_first, after_first, position_or_len, list_all, is_ascii_digit, nat_le, decimal, cases_Bool, leb-true, eqb-true, ne_eqb, and_parts, digits_decimal, ObjectKind, Action, Layout, One, Two, object_number, named_kind, number, number_within, own, number_written, within_written, kind_letter, kind_lettered, kind_numbered, object_kinds, handle_led, handle_of, handle_named, handle_text, named_text, generation, slot, length_push, cond_both, subst, sym, append_assoc, drop-append_seam, take-append_seam}
+use Rattle.std.proofs.lemmas.Bool.Decides.{nat_tests}
+use Rattle.journal_text.proofs.Names.{◌≡◌, ℕ, ◌+◌, ◌*◌, ◌/◌, ◌%◌, ◌<◌, ◌≤◌, ◌^◌, List, [], ◌∷◌, ◌++◌, length, drop, Bool, true, false, eqb, Option, Some, None, refl, ap, ◌∙◌, arith, codes, nat_lt, find, before_first, after_first, position_or_len, list_all, is_ascii_digit, nat_le, decimal, leb-true, eqb-true, ne_eqb, and_parts, digits_decimal, ObjectKind, Layout, object_number, named_kind, number, number_within, own, number_written, within_written, kind_letter, kind_lettered, kind_numbered, object_kinds, handle_led, handle_of, handle_named, handle_text, named_text, generation, slot, length_push, cond_both, subst, sym, append_assoc, drop-append_seam, take-append_seam}
 
 pub dash_no_handle : handle_of (codes "-") ≡ None
 unfolding handle_of number
@@ -14,13 +15,11 @@ pub digit_high : (b : ℕ) → is_ascii_digit b ≡ true → 48 ≤ b
 digit_high b h = leb-true 48 b (and_parts (nat_le 48 b) (nat_le b 57) h).0
 
 no_letter : (b : ℕ) → b ≤ 57 → kind_lettered b ≡ None
-no_letter b h =
-    rw (ne_eqb 97 b (λ (e : 97 ≡ b). omega arith), ne_eqb 116 b (λ (e : 116 ≡ b). omega arith), ne_eqb 103 b (λ (e : 103 ≡ b). omega arith), ne_eqb 113 b (λ (e : 113 ≡ b). omega arith), ne_eqb 109 b (λ (e : 109 ≡ b). omega arith), ne_eqb 115 b (λ (e : 115 ≡ b). omega arith), ne_eqb 114 b (λ (e : 114 ≡ b). omega arith), ne_eqb 104 b (λ (e : 104 ≡ b). omega arith)) refl
+no_letter b e1 = grind (arith, nat_tests)
 
 digits_number : (text : List ℕ) → list_all is_ascii_digit text ≡ true → handle_of text ≡ number text
 unfolding handle_of number
-digits_number [] h = refl
-digits_number (b ∷ bs) h = ap (λ o. handle_led o bs (b ∷ bs)) (no_letter b (digit_low b (and_parts (is_ascii_digit b) (list_all is_ascii_digit bs) h).0))
+digits_number text e1 = grind (arith, nat_tests)
 
 decimal_again : (h : ℕ) → h < 2 ^ 64 → handle_of (decimal h) ≡ Some h
 decimal_again h f = digits_number (decimal h) (digits_decimal own h f) ∙ number_written h f
@@ -28,8 +27,7 @@ decimal_again h f = digits_number (decimal h) (digits_decimal own h f) ∙ numbe
 -- ---- handles behind a letter
 
 letter_again : (k : ObjectKind) → kind_lettered (kind_letter k) ≡ Some k
-letter_again Action = refl
-letter_again _ = refl
+letter_again k = grind (arith, nat_tests)
 
 abbrev is_dot : ℕ → Bool
 is_dot b = eqb b 46
@@ -39,9 +37,7 @@ no_dot b h = ne_eqb b 46 (λ (e : b ≡ 46). omega (arith, digit_high b h))
 
 dot_place : (ds xs : List ℕ) → list_all is_ascii_digit ds ≡ true → position_or_len is_dot (ds ++ 46 ∷ xs) ≡ length ds
 dot_place [] xs h = refl
-dot_place (d ∷ ds) xs h =
-    let both = and_parts (is_ascii_digit d) (list_all is_ascii_digit ds) h in
-    rw (no_dot d both.0, dot_place ds xs both.1) (omega arith)
+dot_place (d ∷ ds) xs h = grind (arith, nat_tests, dot_place ds xs, and_parts, no_dot)
 
 drop_front : (ds xs : List ℕ) (x n : ℕ) → n ≡ length ds + 1 → drop n (ds ++ x ∷ xs) ≡ xs
 drop_front ds xs x n e =
@@ -100,9 +96,4 @@ kind_again h (Some k) f e =
 
 pub handle_again : (l : Layout) (h : ℕ) → h < 2 ^ 64 → handle_of (handle_text l h) ≡ Some h
 unfolding handle_text
-handle_again One h f = decimal_again h f
-handle_again Two h f =
-    elim (cases_Bool (nat_lt 0 (generation h))) [
-      | inl t ↦ rw t (kind_again h (kind_numbered (named_kind h)) f refl)
-      | inr t ↦ rw t (decimal_again h f)
-    ]
+handle_again l h e1 = grind (arith, nat_tests, decimal_again, nat_lt, kind_again, kind_numbered, named_kind)

@@ -1,4 +1,5 @@
 -- A head line that was written is read as the same.
+use Rattle.std.proofs.lemmas.Bool.Decides.{nat_tests}
 use Rattle.journal_text.proofs.Names.{◌≡◌, ℕ, ◌<◌, ◌≤◌, ◌^◌, List, [], ◌∷◌, ◌++◌, map, Bool, true, false, cond, ◌&&◌, eqb, Some, None, refl, sym, ap, ◌∙◌, arith, codes, nat_lt, unwrap_or, list_all, after_first, bytes_eq, decimal, and_from, le-leb, NodeSettings, AreNodeSettings, Layout, number, number_within, within_written, Head, version, setting_text, first_texts, last_texts, head_text, number_behind, numbers_behind, with_setting, usual_settings, settings_from, head_from, has_callers, head_in, or_else, head_of, HeadFits}
 use Rattle.journal_text.proofs.Plain.{is_plain, is_above, between_words, joined_above, decimal_plain, all_append}
 use Rattle.journal_text.proofs.LinesAgain.{bytes_same}
@@ -15,8 +16,7 @@ title_none = refl
 
 version_none : (l : Layout) → number_behind (version l) ≡ 0
 unfolding number_behind number number_within
-version_none Layout.One = refl
-version_none Layout.Two = refl
+version_none l = grind (arith, nat_tests)
 
 -- the words of the head line
 abbrev head_words : Head → List (List ℕ)
@@ -29,18 +29,7 @@ cons : {x y : ℕ} {xs ys : List ℕ} → x ≡ y → xs ≡ ys → x ∷ xs ≡
 cons {y = y} {xs = xs} a b = ap (λ t. t ∷ xs) a ∙ ap (λ t. y ∷ t) b
 
 numbers_again : (h : Head) → HeadFits h → map number_behind (head_words h) ≡ setting_numbers h.settings h.callers
-numbers_again h f =
-    let s = h.settings in
-    let workers = keyed (setting_text (codes "workers=") s.workers) s.workers refl (omega (arith, f.settings.workers.1)) in
-    let callers = keyed (setting_text (codes "callers=") h.callers) h.callers refl (omega (arith, f.few)) in
-    let tasks = keyed (setting_text (codes "tasks=") s.tasks) s.tasks refl (omega (arith, f.settings.tasks.1)) in
-    let actions = keyed (setting_text (codes "actions=") s.actions) s.actions refl (omega (arith, f.settings.actions.1)) in
-    let groups = keyed (setting_text (codes "groups=") s.groups) s.groups refl (omega (arith, f.settings.groups.1)) in
-    let queues = keyed (setting_text (codes "queues=") s.queues) s.queues refl (omega (arith, f.settings.queues.1)) in
-    let objects = keyed (setting_text (codes "objects=") s.objects) s.objects refl (omega (arith, f.settings.objects.1)) in
-    let priorities = keyed (setting_text (codes "priorities=") s.priorities) s.priorities refl (omega (arith, f.settings.priorities.1)) in
-    let generations = keyed (setting_text (codes "generations=") s.generations) s.generations refl (omega (arith, f.settings.generations.1)) in
-    cons title_none (cons (version_none h.layout) (cons workers (cons callers (cons tasks (cons actions (cons groups (cons queues (cons objects (cons priorities (cons generations refl))))))))))
+numbers_again h e1 = grind (arith, nat_tests, keyed, setting_text, cons, title_none, version_none)
 
 -- a setting takes a value in its range
 set : (v : ℕ) (s : NodeSettings) → 1 ≤ v → (v ≤ 16 → with_setting 1 v s ≡ record s { workers = v })
@@ -49,16 +38,7 @@ set : (v : ℕ) (s : NodeSettings) → 1 ≤ v → (v ≤ 16 → with_setting 1 
     × (v ≤ 256 → with_setting 6 v s ≡ record s { objects = v }) × (v ≤ 8 → with_setting 7 v s ≡ record s { priorities = v })
     × (v ≤ 4294967295 → with_setting 8 v s ≡ record s { generations = v })
 unfolding with_setting
-set v s a = (
-  λ b. rw (le-leb 1 v a, le-leb v 16 b) refl,
-  λ b. rw (le-leb 1 v a, le-leb v 65536 b) refl,
-  λ b. rw (le-leb 1 v a, le-leb v 1024 b) refl,
-  λ b. rw (le-leb 1 v a, le-leb v 1024 b) refl,
-  λ b. rw (le-leb 1 v a, le-leb v 256 b) refl,
-  λ b. rw (le-leb 1 v a, le-leb v 256 b) refl,
-  λ b. rw (le-leb 1 v a, le-leb v 8 b) refl,
-  λ b. rw (le-leb 1 v a, le-leb v 4294967295 b) refl,
-)
+set v s e1 = grind (arith, nat_tests)
 
 settings_again : (s : NodeSettings) (callers : ℕ) → AreNodeSettings s → settings_from (setting_numbers s callers) ≡ s
 unfolding settings_from
@@ -79,8 +59,7 @@ setting_plain : (key : List ℕ) (n : ℕ) → is_plain key ≡ true → n < 2 ^
 setting_plain key n k f = all_append (λ b. nat_lt 32 b) key (decimal n) k (decimal_plain n (omega arith))
 
 version_plain : (l : Layout) → is_plain (version l) ≡ true
-version_plain Layout.One = refl
-version_plain Layout.Two = refl
+version_plain l = grind (arith, nat_tests)
 
 words_plain : (h : Head) → HeadFits h → list_all is_plain (head_words h) ≡ true
 words_plain h f =
@@ -118,8 +97,7 @@ unfolding head_in
 in_again h f = ap (λ x. cond (has_callers x && bytes_eq (head_text x) (head_text h)) (Some x) None) (from_again h f) ∙ if_head h (head_text h) f refl
 
 and_false : (a b : Bool) → b ≡ false → (a && b) ≡ false
-and_false true b h = h
-and_false false b h = refl
+and_false a b e1 = grind (arith, nat_tests)
 
 other_text : (x h : Head) → x.layout ≡ Layout.One → h.layout ≡ Layout.Two → bytes_eq (head_text x) (head_text h) ≡ false
 unfolding head_text

@@ -1,5 +1,6 @@
 -- A journal that was written is read as the same.
-use Rattle.journal_text.proofs.Names.{◌≡◌, ℕ, ◌+◌, List, [], ◌∷◌, ◌++◌, Result, Ok, Err, refl, sym, ap, ◌∙◌, append_assoc, length, arith, Vec, IfOk, AllByRecursion, AreNodeSettings, append-nil, NodeEntry, KeptEntries, Journal, between, Head, head_text, entry_text, head_for, entry_lines, lines_text, journal_text, in_line, with_kept, line_adds, entries_from, no_entries, journal_from, journal_of, ◌>>=◌, HeadFits, EntryFits, EntriesFit, AllPartsFit, HasPlace, JournalFits, IsWritable}
+use Rattle.std.proofs.lemmas.Bool.Decides.{nat_tests}
+use Rattle.journal_text.proofs.Names.{◌≡◌, ℕ, ◌+◌, List, [], ◌∷◌, ◌++◌, Result, Ok, refl, sym, ap, ◌∙◌, append_assoc, length, arith, Vec, IfOk, AllByRecursion, AreNodeSettings, append-nil, NodeEntry, KeptEntries, Journal, between, Head, head_text, entry_text, head_for, entry_lines, lines_text, journal_text, in_line, with_kept, line_adds, entries_from, no_entries, journal_from, journal_of, ◌>>=◌, HeadFits, EntryFits, EntriesFit, AllPartsFit, HasPlace, JournalFits, IsWritable}
 use Rattle.journal_text.proofs.Reading.{with_entries}
 use Rattle.journal_text.proofs.Steps.{step_is, lines_are}
 use Rattle.journal_text.proofs.Plain.{between_line}
@@ -40,10 +41,7 @@ unfolding entries_from
 entries_again head line kept [] [] g f = ap (λ k. Ok k) (all_none kept)
 entries_again head line kept [] (n ∷ ns) g f = absurd f
 entries_again head line kept (e ∷ es) [] g f = absurd f
-entries_again head line kept (e ∷ es) (n ∷ ns) g f =
-    first_again head line kept e n (entry_lines head es ns) g f.0
-    ∙ entries_again head (line + 1) (with_kept kept (e, n)) es ns g f.1
-    ∙ ap (λ k. Ok k) (all_more kept e n es ns)
+entries_again head line kept (e ∷ es) (n ∷ ns) g f = grind (arith, nat_tests, entries_again head (line + 1) (with_kept kept (e, n)) es ns g f.1, first_again, entry_lines, with_kept, all_more)
 
 -- ---- lines
 
@@ -51,9 +49,7 @@ lines_again : (head : Head) (es : List NodeEntry) (ns : List ℕ) → HeadFits h
 lines_again head [] [] g f = refl
 lines_again head [] (n ∷ ns) g f = absurd f
 lines_again head (e ∷ es) [] g f = absurd f
-lines_again head (e ∷ es) (n ∷ ns) g f =
-    between_line (entry_text head e n) (lines_text (entry_lines head es ns)) (entry_above head e n g f.0)
-    ∙ ap (λ l. entry_text head e n ∷ l) (lines_again head es ns g f.1)
+lines_again head (e ∷ es) (n ∷ ns) g f = grind (arith, nat_tests, lines_again head es ns g f.1, between_line, entry_text, lines_text, entry_lines, entry_above)
 
 whole_again : (head : Head) (es : List NodeEntry) (ns : List ℕ) → HeadFits head → EntriesFit head es ns → journal_from (head_text head ∷ ended_lines head es ns) ≡ Ok (with_entries head (record { entries = es; skipped = ns }))
 whole_again head es ns g f =
@@ -81,11 +77,7 @@ entries_fit head (e ∷ es) [] same parts places = absurd cc
 entries_fit head (e ∷ es) (n ∷ ns) same parts places = (record { place = places.0; parts = parts.0 }, entries_fit head es ns (omega (arith, same)) parts.1 places.1)
 
 writable_fits : (j : Journal) → AreNodeSettings j.settings → length j.entries.skipped ≡ length j.entries.entries → AllPartsFit j.entries.entries j.entries.skipped → IsWritable j → JournalFits j
-writable_fits j settings same parts w = record {
-  head = record { settings = settings; some = w.some; few = w.few };
-  entries = entries_fit (head_for j) j.entries.entries j.entries.skipped same parts w.places;
-}
+writable_fits j e1 e2 e3 e4 = grind (arith, nat_tests, entries_fit, head_for)
 
 pub again_from : {E : Type 0} (j : Journal) (r : Result (Vec ℕ) E) → IfOk r (λ t. t.items ≡ journal_text j) → AreNodeSettings j.settings → length j.entries.skipped ≡ length j.entries.entries → IfOk r (λ t. AllPartsFit j.entries.entries j.entries.skipped) → IsWritable j → IfOk r (λ t. journal_of t.items ≡ Ok j)
-again_from j (Ok v) e settings same parts w = ap journal_of e ∙ text_again j (writable_fits j settings same parts w)
-again_from j (Err x) e settings same parts w = tt
+again_from j r e1 e2 e3 e4 e5 = grind (arith, nat_tests, journal_of, text_again, writable_fits)

@@ -1,4 +1,5 @@
 -- A line that was written is read as the same entry.
+use Rattle.std.proofs.lemmas.Bool.Decides.{nat_tests}
 use Rattle.journal_text.proofs.Names.{◌≡◌, ℕ, ◌+◌, ◌-◌, ◌<◌, ◌^◌, List, [], ◌∷◌, ◌++◌, true, cond, eqb, Some, refl, ap, ◌∙◌, arith, inl, inr, codes, nat_lt, drop, AllByRecursion, list_all, join_with_byte, bytes_eq, decimal, and_from, cases_Bool, lt-ltb, ltb-false, bytes_eq-Decides, Layout, NodeEntry, IsHonest, Op, Reply, number_within, number_written, within_written, Head, values_words, values_onto, op_row, op_spelled, op_of, reply_row, reply_spelled, reply_of, seat_text, op_texts, reply_texts, skipped_texts, entry_texts, entry_text, seat_of, op_from, reply_from, skipped_from, entry_by, entry_from, has_words, is_seated, if_spelled, entry_of, ValueFits, EntryFits, HeadFits}
 use Rattle.number_text.specs.Lists.{◌>>=◌}
 use Rattle.journal_text.proofs.OpsAgain.{op_word_again, op_shapes, op_again, reply_word_again, reply_shapes, reply_again}
@@ -48,11 +49,7 @@ reply_from_again l r ws f =
 
 skipped_again : (n : ℕ) → n < 2 ^ 64 → skipped_from (skipped_texts n) ≡ Some n
 unfolding skipped_from
-skipped_again n f =
-    elim (cases_Bool (nat_lt 0 n)) [
-      | inl t ↦ rw t (number_written n f)
-      | inr t ↦ let none = ltb-false 0 n t in let z : 0 ≡ n = omega arith in rw t (ap Some z)
-    ]
+skipped_again n e1 = grind (arith, nat_tests, nat_lt, number_written, ltb-false)
 
 -- ---- entries
 
@@ -68,18 +65,10 @@ entry_from_again head e n g f =
     ∙ ap (λ r. r >>= λ m. Some (record { who = e.who; op = e.op; reply = e.reply }, m)) (skipped_again n f.parts.number)
 
 seat_plain : (workers who : ℕ) → who < 2 ^ 64 → is_plain (seat_text workers who) ≡ true
-seat_plain workers who f =
-    elim (cases_Bool (nat_lt who workers)) [
-      | inl t ↦ rw t (decimal_plain who f)
-      | inr t ↦ rw t (decimal_plain (who - workers) (omega arith))
-    ]
+seat_plain workers who e1 = grind (arith, nat_tests, nat_lt, decimal_plain)
 
 skipped_plain : (n : ℕ) → n < 2 ^ 64 → list_all is_plain (skipped_texts n) ≡ true
-skipped_plain n f =
-    elim (cases_Bool (nat_lt 0 n)) [
-      | inl t ↦ rw t (and_from _ _ (decimal_plain n f) refl)
-      | inr t ↦ rw t refl
-    ]
+skipped_plain n e1 = grind (arith, nat_tests, nat_lt, and_from, decimal_plain)
 
 entry_plain : (head : Head) (e : NodeEntry) (n : ℕ) → HeadFits head → EntryFits head e n → list_all is_plain (seat_text head.settings.workers e.who ∷ entry_texts head.layout e n) ≡ true
 entry_plain head e n g f =

@@ -1,40 +1,31 @@
 -- An op or a reply that was spelled is the one that is read.
-use Rattle.journal_text.proofs.Names.{◌≡◌, map, Some, None, refl, sym, ap, option_map, Answered, IsAnswered, IsHonest, Op, Reply, OpWord, ReplyWord, op_row, op_word_of, op_spelled, node_op, task_op, queue_op, work_op, lock_op, segment_op, op_of, or_op, finished_of, reply_row, reply_word_of, reply_spelled, reply_of}
+use Rattle.std.proofs.lemmas.Bool.Decides.{nat_tests}
+use Rattle.journal_text.proofs.Names.{arith, ◌≡◌, map, Some, sym, ap, Answered, IsAnswered, IsHonest, Op, Reply, OpWord, ReplyWord, op_row, op_word_of, op_spelled, node_op, task_op, queue_op, work_op, lock_op, segment_op, op_of, finished_of, reply_row, reply_word_of, reply_spelled, reply_of}
 use Rattle.journal_text.proofs.ValuesAgain.{shape_of}
 
 pub op_word_again : (w : OpWord) → op_word_of (op_row w).0 ≡ Some w
 unfolding op_word_of op_row
-op_word_again OpWord.Initialize = refl
-op_word_again _ = refl
+op_word_again w = grind (arith, nat_tests)
 
 pub op_shapes : (o : Op) → (op_row (op_spelled o).0).1 ≡ map shape_of (op_spelled o).1
 unfolding op_row op_spelled
-op_shapes Op.Initialize = refl
-op_shapes _ = refl
+op_shapes o = grind (arith, nat_tests)
 
 finished_again : (d : Answered) → IsAnswered d → finished_of d.kind d.args ≡ Some d
 finished_again d h = rw h.pure (ap (λ e. Some (record { kind = d.kind; args = d.args; end = e })) (sym h.answer))
 
 pub op_again : (o : Op) → IsHonest o → op_of (op_spelled o).0 (op_spelled o).1 ≡ Some o
 unfolding op_of op_spelled node_op task_op queue_op work_op lock_op segment_op
-op_again (Op.Finish task done) h = ap (λ d. or_op (option_map (Op.Finish task) d) None) (finished_again done h)
-op_again (Op.TaskStart job args priority cores detached None) h = refl
-op_again (Op.TaskStart job args priority cores detached (Some g)) h = refl
-op_again (Op.TaskEnqueue queue args cores detached None) h = refl
-op_again (Op.TaskEnqueue queue args cores detached (Some g)) h = refl
-op_again _ h = refl
+op_again o e1 = grind (arith, nat_tests)
 
 pub reply_word_again : (w : ReplyWord) → reply_word_of (reply_row w).0 ≡ Some w
 unfolding reply_word_of reply_row
-reply_word_again ReplyWord.Ok = refl
-reply_word_again _ = refl
+reply_word_again w = grind (arith, nat_tests)
 
 pub reply_shapes : (r : Reply) → (reply_row (reply_spelled r).0).1 ≡ map shape_of (reply_spelled r).1
 unfolding reply_row reply_spelled
-reply_shapes Reply.Ok = refl
-reply_shapes _ = refl
+reply_shapes r = grind (arith, nat_tests)
 
 pub reply_again : (r : Reply) → reply_of (reply_spelled r).0 (reply_spelled r).1 ≡ Some r
 unfolding reply_of reply_spelled
-reply_again Reply.Ok = refl
-reply_again _ = refl
+reply_again r = grind (arith, nat_tests)

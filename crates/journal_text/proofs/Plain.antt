@@ -1,5 +1,6 @@
 -- Words that are written have no space, and lines no line feed.
-use Rattle.journal_text.proofs.Names.{◌≡◌, ℕ, ℤ, pos, negsuc, ◌<◌, ◌≤◌, ◌^◌, List, [], ◌∷◌, ◌++◌, map, Bool, true, false, eqb, Option, Some, None, refl, ap, ◌∙◌, arith, inl, inr, suc, nat_lt, FitsSigned, AllByRecursion, list_all, join_with_byte, is_ascii_digit, w64, decimal, signed_decimal, and_parts, and_from, lt-ltb, ltb-true, ne_eqb, eq-eqb, cases_Bool, digits_decimal, All-from_recursion, slice_split_at, slice_split_none, TaskEnd, ObjectKind, Action, Layout, One, Two, Kind, MtapiStatus, MrapiStatus, kind_word, named_kind, mtapi_name, mrapi_name, between, own, Status, Value, OpWord, ReplyWord, kind_letter, kind_numbered, named_text, handle_text, generation, slot, value_words, values_words, args_text, op_row, reply_row, ValueFits, AreArgs}
+use Rattle.std.proofs.lemmas.Bool.Decides.{nat_tests}
+use Rattle.journal_text.proofs.Names.{◌≡◌, ℕ, ℤ, ◌<◌, ◌≤◌, ◌^◌, List, [], ◌∷◌, ◌++◌, map, Bool, true, false, eqb, Option, Some, None, refl, ap, ◌∙◌, arith, nat_lt, FitsSigned, AllByRecursion, list_all, join_with_byte, is_ascii_digit, w64, decimal, signed_decimal, and_parts, and_from, lt-ltb, ltb-true, ne_eqb, eq-eqb, digits_decimal, All-from_recursion, slice_split_at, slice_split_none, TaskEnd, ObjectKind, Layout, Kind, MtapiStatus, MrapiStatus, kind_word, named_kind, mtapi_name, mrapi_name, between, own, Status, Value, OpWord, ReplyWord, kind_letter, kind_numbered, named_text, handle_text, value_words, values_words, args_text, op_row, reply_row, ValueFits, AreArgs}
 use Rattle.journal_text.proofs.HandlesAgain.{digit_high, generation_fits, mod_less}
 
 -- each byte is above this one
@@ -37,9 +38,7 @@ lower (b ∷ bs) h = let both = and_parts (nat_lt 32 b) (is_plain bs) h in let a
 pub joined_above : (words : List (List ℕ)) → list_all is_plain words ≡ true → is_above 10 (join_with_byte 32 words) ≡ true
 joined_above [] h = refl
 joined_above (w ∷ []) h = lower w (and_parts (is_plain w) true h).0
-joined_above (w ∷ next ∷ words) h =
-    let both = and_parts (is_plain w) (list_all is_plain (next ∷ words)) h in
-    all_append (λ b. nat_lt 10 b) w (32 ∷ join_with_byte 32 (next ∷ words)) (lower w both.0) (joined_above (next ∷ words) both.1)
+joined_above (w ∷ next ∷ words) h = grind (arith, nat_tests, joined_above (next ∷ words), and_parts, all_append, nat_lt, join_with_byte, lower)
 
 commas_plain : (words : List (List ℕ)) → AllByRecursion (λ w. is_plain w ≡ true) words → is_plain (join_with_byte 44 words) ≡ true
 commas_plain [] h = refl
@@ -56,8 +55,7 @@ pub decimal_plain : (n : ℕ) → n < 2 ^ 64 → is_plain (decimal n) ≡ true
 decimal_plain n lt = digits_plain (decimal n) (digits_decimal own n lt)
 
 whole_plain : (z : ℤ) → FitsSigned w64 z → is_plain (signed_decimal z) ≡ true
-whole_plain (pos n) f = decimal_plain n (omega (arith, f.sfits))
-whole_plain (negsuc n) f = decimal_plain (suc n) (omega (arith, f.sfits))
+whole_plain z e1 = grind (arith, nat_tests, decimal_plain)
 
 wholes_plain : (zs : List ℤ) → AllByRecursion (FitsSigned w64) zs → AllByRecursion (λ w. is_plain w ≡ true) (map signed_decimal zs)
 wholes_plain [] h = tt
@@ -70,48 +68,33 @@ args_plain (z ∷ zs) f = commas_plain (map signed_decimal (z ∷ zs)) (wholes_p
 -- ---- names
 
 kind_plain : (k : Kind) → is_plain (kind_word k) ≡ true
-kind_plain Kind.Add = refl
-kind_plain _ = refl
+kind_plain k = grind (arith, nat_tests)
 
 mtapi_plain : (s : MtapiStatus) → is_plain (mtapi_name s) ≡ true
-mtapi_plain MtapiStatus.Success = refl
-mtapi_plain _ = refl
+mtapi_plain s = grind (arith, nat_tests)
 
 mrapi_plain : (s : MrapiStatus) → is_plain (mrapi_name s) ≡ true
-mrapi_plain MrapiStatus.Success = refl
-mrapi_plain _ = refl
+mrapi_plain s = grind (arith, nat_tests)
 
 pub op_plain : (w : OpWord) → is_plain (op_row w).0 ≡ true
 unfolding op_row
-op_plain OpWord.Initialize = refl
-op_plain _ = refl
+op_plain w = grind (arith, nat_tests)
 
 pub reply_plain : (w : ReplyWord) → is_plain (reply_row w).0 ≡ true
 unfolding reply_row
-reply_plain ReplyWord.Ok = refl
-reply_plain _ = refl
+reply_plain w = grind (arith, nat_tests)
 
 -- ---- handles
 
 letter_plain : (k : ObjectKind) → nat_lt 32 (kind_letter k) ≡ true
-letter_plain Action = refl
-letter_plain _ = refl
+letter_plain k = grind (arith, nat_tests)
 
 named_plain : (o : Option ObjectKind) (h : ℕ) → h < 2 ^ 64 → is_plain (named_text o h) ≡ true
-named_plain None h f = decimal_plain h f
-named_plain (Some k) h f =
-    let few = generation_fits h f in
-    let low = mod_less h (2 ^ 24) (omega arith) in
-    and_from _ _ (letter_plain k) (all_append (λ b. nat_lt 32 b) (decimal (generation h)) (46 ∷ decimal (slot h)) (decimal_plain (generation h) (omega arith)) (decimal_plain (slot h) (omega arith)))
+named_plain o h e1 = grind (arith, nat_tests, decimal_plain, generation_fits, mod_less, and_from, letter_plain, all_append)
 
 handle_plain : (l : Layout) (h : ℕ) → h < 2 ^ 64 → is_plain (handle_text l h) ≡ true
 unfolding handle_text
-handle_plain One h f = decimal_plain h f
-handle_plain Two h f =
-    elim (cases_Bool (nat_lt 0 (generation h))) [
-      | inl t ↦ rw t (named_plain (kind_numbered (named_kind h)) h f)
-      | inr t ↦ rw t (decimal_plain h f)
-    ]
+handle_plain l h e1 = grind (arith, nat_tests, decimal_plain, nat_lt, named_plain, kind_numbered, named_kind)
 
 -- ---- values
 

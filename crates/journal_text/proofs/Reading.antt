@@ -1,5 +1,6 @@
 -- A text that is read is the text of the journal that it gives.
-use Rattle.journal_text.proofs.Names.{◌≡◌, ℕ, ◌+◌, List, [], ◌∷◌, ◌++◌, length, true, ◌&&◌, Option, Some, None, Result, Ok, Err, refl, sym, ap, ◌∙◌, arith, append_assoc, join_with_byte, bytes_eq, and_parts, cond_some, append-nil, join_with_byte-slice_split, bytes_eq-Decides, Layout, NodeEntry, KeptEntries, Journal, between, bind_some, Head, TextError, head_text, head_of, head_in, head_from, numbers_behind, has_callers, or_else, entry_text, entry_of, entry_from, if_spelled, has_words, is_seated, entry_lines, lines_text, journal_text, in_line, with_kept, line_adds, at_end, entries_from, no_entries, journal_from, journal_of, ◌>>=◌}
+use Rattle.std.proofs.lemmas.Bool.Decides.{nat_tests}
+use Rattle.journal_text.proofs.Names.{◌≡◌, ℕ, ◌+◌, List, [], ◌∷◌, ◌++◌, length, true, ◌&&◌, Option, Some, Result, Ok, refl, sym, ap, ◌∙◌, arith, append_assoc, join_with_byte, bytes_eq, and_parts, cond_some, append-nil, join_with_byte-slice_split, bytes_eq-Decides, Layout, NodeEntry, KeptEntries, Journal, between, bind_some, Head, TextError, head_text, head_of, head_in, head_from, numbers_behind, has_callers, or_else, entry_text, entry_of, entry_from, if_spelled, has_words, is_seated, entry_lines, lines_text, journal_text, in_line, with_kept, line_adds, at_end, entries_from, no_entries, journal_from, journal_of, ◌>>=◌}
 
 -- ---- steps that may fail
 
@@ -7,12 +8,10 @@ pub bytes_are : (a b : List ℕ) → bytes_eq a b ≡ true → a ≡ b
 bytes_are a b h = (bytes_eq-Decides a b).0 h
 
 pub ok_parts : {A B : Type 0} (r : Result A TextError) (f : A → Result B TextError) (y : B) → (r >>= f) ≡ Ok y → (x : A) × (r ≡ Ok x) × (f x ≡ Ok y)
-ok_parts (Ok x) f y h = (x, refl, h)
-ok_parts (Err e) f y h = absurd cc
+ok_parts r f y e1 = grind (arith, nat_tests)
 
 pub in_line_some : {A : Type 0} (line : ℕ) (o : Option A) (x : A) → in_line line o ≡ Ok x → o ≡ Some x
-in_line_some line None x h = absurd cc
-in_line_some line (Some y) x h = let e : y ≡ x = cc in rw e refl
+in_line_some line o x e1 = grind (arith, nat_tests)
 
 -- ---- lines
 
@@ -34,8 +33,7 @@ head_in_spelled l line h e =
     rw (← c.1) (bytes_are (head_text x) line t.1)
 
 or_else_spelled : (line : List ℕ) (h : Head) (a b : Option Head) → ((x : Head) → a ≡ Some x → head_text x ≡ line) → ((x : Head) → b ≡ Some x → head_text x ≡ line) → or_else a b ≡ Some h → head_text h ≡ line
-or_else_spelled line h (Some x) b f g e = f h e
-or_else_spelled line h None b f g e = g h e
+or_else_spelled line h a b e1 e2 e3 = grind (arith, nat_tests)
 
 -- what was read as a head is the head's line
 pub head_spelled : (line : List ℕ) (h : Head) → head_of line ≡ Some h → head_text h ≡ line
@@ -72,8 +70,7 @@ kept_more : (head : Head) (k : KeptEntries) (x : NodeEntry × ℕ) → IsBeside 
 kept_more head k x h = ap lines_text (entry_lines_append head k.entries k.skipped x.0 x.1 h) ∙ lines_append (entry_lines head k.entries k.skipped) (entry_text head x.0 x.1 ∷ [])
 
 pub at_end_is : {A : Type 0} (x y : A) (last : List ℕ) → at_end x last ≡ Ok y → (x ≡ y) × (last ≡ [])
-at_end_is x y [] h = (cc, refl)
-at_end_is x y (b ∷ bs) h = absurd cc
+at_end_is x y last e1 = grind (arith, nat_tests)
 
 -- the entries that were read are those whose lines these are
 pub entries_spelled : (head : Head) (line : ℕ) (kept k : KeptEntries) (text : List ℕ) (texts : List (List ℕ)) → IsBeside kept → entries_from head line kept (text ∷ texts) ≡ Ok k → kept_text head k ≡ kept_text head kept ++ join_with_byte 10 (text ∷ texts)

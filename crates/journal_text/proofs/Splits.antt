@@ -1,32 +1,17 @@
 -- Each input has one first part and one rest.
-use Rattle.journal_text.proofs.Names.{◌≡◌, ◌⊎◌, ℕ, zero, suc, ◌+◌, ◌<◌, ◌≤◌, true, false, List, [], ◌++◌, length, take, drop, sym, ap, subst, ◌∙◌, inl, inr, arith, length-append, length-take-le, take-append-drop, append-nil, drop_of_length-le, cases_order, take-append_seam, drop-append_seam, begins_journal, IsSplit, OfParts, cases_Bool}
+use Rattle.std.proofs.lemmas.Bool.Decides.{nat_tests}
+use Rattle.journal_text.proofs.Names.{◌≡◌, ◌⊎◌, ℕ, zero, suc, ◌+◌, ◌<◌, ◌≤◌, true, false, List, ◌++◌, length, take, drop, sym, ap, ◌∙◌, inl, inr, arith, length-append, length-take-le, take-append-drop, append-nil, drop_of_length-le, cases_order, take-append_seam, drop-append_seam, begins_journal, IsSplit, OfParts, cases_Bool}
 
 -- A split at a place: past the last byte, or at the first journal
 
 pub split_at : (bytes : List ℕ) (n : ℕ) → n ≤ length bytes → (n ≡ length bytes) ⊎ (begins_journal bytes n ≡ true) → ((m : ℕ) → m < n → begins_journal bytes m ≡ false)
     → IsSplit bytes (take n bytes) (drop n bytes)
-split_at bytes n within begins first = record {
-  whole = sym (take-append-drop n bytes);
-  begins = by begins;
-  first = λ m less. first m (subst (λ (k : ℕ). m < k) long less);
-}
-  where
-    long : length (take n bytes) ≡ n
-    long = length-take-le n bytes within
-
-    by : (n ≡ length bytes) ⊎ (begins_journal bytes n ≡ true) → (drop n bytes ≡ []) ⊎ (begins_journal bytes (length (take n bytes)) ≡ true)
-    by (inl end) = inl (drop_of_length-le bytes (omega (arith, end)))
-    by (inr here) = inr (subst (λ (k : ℕ). begins_journal bytes k ≡ true) (sym long) here)
+split_at bytes n e1 e2 e3 = grind (arith, nat_tests, take-append-drop, length-take-le, begins_journal, drop_of_length-le)
 
 -- There is one
 
 pub none_below : (bytes : List ℕ) (n : ℕ) → ((m : ℕ) → m < n → begins_journal bytes m ≡ false) → begins_journal bytes n ≡ false → (m : ℕ) → m < n + 1 → begins_journal bytes m ≡ false
-none_below bytes n first none m less = at (cases_order m n)
-  where
-    at : (m ≡ n) ⊎ ((m < n) ⊎ (n < m)) → begins_journal bytes m ≡ false
-    at (inl same) = subst (λ (k : ℕ). begins_journal bytes k ≡ false) (sym same) none
-    at (inr (inl before)) = first m before
-    at (inr (inr behind)) = absurd (omega (arith, less, behind))
+none_below bytes n e1 e2 m e3 = grind (arith, nat_tests)
 
 parts_at : (bytes : List ℕ) (n : ℕ) → IsSplit bytes (take n bytes) (drop n bytes) → OfParts bytes (λ front rest. Unit {0})
 parts_at bytes n s = record { front = take n bytes; rest = drop n bytes; split = s; holds = tt }
@@ -45,14 +30,7 @@ some_split bytes = seek bytes (length bytes) 0 (omega arith) (λ m less. absurd 
 -- and no other
 
 not_shorter : (bytes front rest front' rest' : List ℕ) → IsSplit bytes front rest → IsSplit bytes front' rest' → length front < length front' → ⊥
-not_shorter bytes front rest front' rest' s s' less = by s.begins
-  where
-    by : (rest ≡ []) ⊎ (begins_journal bytes (length front) ≡ true) → ⊥
-    by (inl none) =
-        let whole : length bytes ≡ length front = ap (λ (xs : List ℕ). length xs) (s.whole ∙ ap (λ (xs : List ℕ). front ++ xs) none ∙ append-nil front) in
-        let part : length bytes ≡ length front' + length rest' = ap (λ (xs : List ℕ). length xs) s'.whole ∙ length-append front' rest' in
-        omega (arith, whole, part, less)
-    by (inr here) = let both = sym here ∙ s'.first (length front) less in cc
+not_shorter bytes front rest front' rest' e1 e2 e3 = grind (arith, nat_tests, begins_journal, append-nil, length-append)
 
 pub same_split : (bytes front rest front' rest' : List ℕ) → IsSplit bytes front rest → IsSplit bytes front' rest' → (front ≡ front') × (rest ≡ rest')
 same_split bytes front rest front' rest' s s' = by (cases_order (length front) (length front'))

@@ -1,5 +1,6 @@
 -- A journal's lines, read one after the other.
-use Rattle.journal_text.proofs.Names.{◌≡◌, ℕ, ◌+◌, List, [], ◌∷◌, eqb, Result, Ok, Err, refl, sym, ap, ◌∙◌, inl, inr, onto_first, cases_Bool, KeptEntries, between, Head, TextError, head_of, in_line, line_adds, at_end, entries_from, no_entries, no_line, journal_from, journal_of, FailsAs, ◌>>=◌}
+use Rattle.std.proofs.lemmas.Bool.Decides.{nat_tests}
+use Rattle.journal_text.proofs.Names.{arith, ◌≡◌, ℕ, ◌+◌, List, [], ◌∷◌, eqb, Result, Ok, Err, refl, sym, ap, ◌∙◌, inl, inr, onto_first, cases_Bool, KeptEntries, between, Head, TextError, head_of, in_line, line_adds, at_end, entries_from, no_entries, no_line, journal_from, journal_of, FailsAs, ◌>>=◌}
 use Rattle.journal_text.proofs.Reading.{with_entries}
 
 onto_some : (x : ℕ) (parts : List (List ℕ)) → (n : List ℕ) × (ns : List (List ℕ)) × (onto_first x parts ≡ n ∷ ns)
@@ -30,9 +31,7 @@ pub entries_more : (head : Head) (line : ℕ) (kept more : KeptEntries) (lines :
 entries_more head line kept more lines text rest total h e a = sym (first_is head line kept lines text rest (Ok more) e a) ∙ h
 
 fails_on : {A B : Type 0} (e : TextError) (a : Result A TextError) (b : Result B TextError) → ((x : TextError) → a ≡ Err x → b ≡ Err x) → FailsAs e a → FailsAs e b
-fails_on TextError.Memory a b f h = tt
-fails_on (TextError.BadLine line) a b f h = f (TextError.BadLine line) h
-fails_on TextError.PartialEnd a b f h = f TextError.PartialEnd h
+fails_on e a b e1 e2 = grind (arith, nat_tests)
 
 pub entries_fail : (error : TextError) (head : Head) (line : ℕ) (kept : KeptEntries) (lines : List (List ℕ)) (text rest : List ℕ) (total : Result KeptEntries TextError) → entries_from head line kept lines ≡ total → lines ≡ text ∷ between 10 rest → FailsAs error (line_adds head line kept text) → FailsAs error total
 entries_fail error head line kept lines text rest total h e f =
@@ -71,6 +70,4 @@ pub journal_read : (bytes text rest : List ℕ) (head : Head) (kept : KeptEntrie
 journal_read bytes text rest head kept e a b = journal_is bytes text rest (Ok head) e a ∙ entries_are head (between 10 rest) (Ok kept) b
 
 pub fails_from : {A : Type 0} (e : TextError) (r : Result A TextError) → r ≡ Err e → FailsAs e r
-fails_from TextError.Memory r h = tt
-fails_from (TextError.BadLine line) r h = h
-fails_from TextError.PartialEnd r h = h
+fails_from e r e1 = grind (arith, nat_tests)

@@ -1,5 +1,6 @@
 -- A value that was written is read as the same.
-use Rattle.journal_text.proofs.Names.{◌≡◌, ℕ, ℤ, ◌<◌, ◌^◌, List, [], ◌∷◌, ◌++◌, map, true, false, Option, Some, None, refl, sym, ap, ◌∙◌, arith, inl, inr, append_assoc, codes, option_map, AllByRecursion, bytes_eq, cases_Bool, append-nil, TaskEnd, Layout, MrapiStatus, kind_named, mtapi_name, mrapi_name, kind_finds_each, mtapi_finds_each, mrapi_finds_each, whole, list_of, list_text, number_written, within_written, whole_written, list_written, Status, Shape, Value, handle_text, handle_of, value_words, values_words, args_text, args_of, group_of, status_of, status_from, mtapi_of, mrapi_of, completed_of, failed_of, end_of, end_value, word_value, value_of, values_onto, one, ValueFits, AreArgs}
+use Rattle.std.proofs.lemmas.Bool.Decides.{nat_tests}
+use Rattle.journal_text.proofs.Names.{◌≡◌, ℕ, ℤ, ◌<◌, ◌^◌, List, [], ◌∷◌, ◌++◌, map, true, false, Option, Some, None, refl, sym, ap, ◌∙◌, arith, append_assoc, codes, option_map, AllByRecursion, bytes_eq, append-nil, TaskEnd, Layout, MrapiStatus, kind_named, mtapi_name, mrapi_name, kind_finds_each, mtapi_finds_each, mrapi_finds_each, whole, list_of, list_text, number_written, within_written, whole_written, list_written, Status, Shape, Value, handle_text, handle_of, value_words, values_words, args_text, args_of, group_of, status_of, status_from, mtapi_of, mrapi_of, completed_of, failed_of, end_of, end_value, word_value, value_of, values_onto, one, ValueFits, AreArgs}
 use Rattle.number_text.specs.Lists.{◌>>=◌}
 use Rattle.number_text.specs.Lists as lists
 use Rattle.journal_text.proofs.HandlesAgain.{handle_again, dash_no_handle}
@@ -24,27 +25,15 @@ dash_no_list = refl
 
 pub args_again : (zs : List ℤ) → AreArgs zs → args_of (args_text zs) ≡ Some zs
 unfolding args_of
-args_again [] f = refl
-args_again (z ∷ zs) f =
-    let written = list_written (z ∷ zs) (omega arith) f.few f.fit in
-    elim (cases_Bool (bytes_eq (list_text (z ∷ zs)) (codes "-"))) [
-      | inl t ↦ absurd (let same = bytes_are (list_text (z ∷ zs)) (codes "-") t in let none = ap list_of same ∙ dash_no_list in let both = sym written ∙ none in cc)
-      | inr other ↦ rw other written
-    ]
+args_again zs e1 = grind (arith, nat_tests, list_written, bytes_eq, list_text, bytes_are, list_of, dash_no_list)
 
 group_again : (l : Layout) (h : ℕ) → h < 2 ^ 64 → group_of (handle_text l h) ≡ Some (Some h)
 unfolding group_of
-group_again l h f =
-    let written = handle_again l h f in
-    elim (cases_Bool (bytes_eq (handle_text l h) (codes "-"))) [
-      | inl t ↦ absurd (let same = bytes_are (handle_text l h) (codes "-") t in let none = ap handle_of same ∙ dash_no_handle in let both = sym written ∙ none in cc)
-      | inr other ↦ rw other (ap (option_map Some) written)
-    ]
+group_again l h e1 = grind (arith, nat_tests, handle_again, bytes_eq, handle_text, bytes_are, handle_of, dash_no_handle)
 
 no_mtapi : (s : MrapiStatus) → mtapi_of (mrapi_name s) ≡ None
 unfolding mtapi_of
-no_mtapi MrapiStatus.Success = refl
-no_mtapi _ = refl
+no_mtapi s = grind (arith, nat_tests)
 
 status_again : (s : _) → status_of (mrapi_name s) ≡ Some (Status.Mrapi s)
 unfolding status_of mrapi_of
