@@ -1,5 +1,5 @@
 -- What is kept of the live endpoints and the rings in reserve, after each change.
-use Rattle.mcapi_msg.proofs.Names.{◌==◌, Bool, true, false, cond, ◌≡◌, ℕ, ◌<◌, ◌≤◌, List, [], ◌∷◌, ◌++◌, length, Some, None, replicate, refl, sym, ap, subst, ◌∙◌, inl, inr, arith, length-append, cases_eq, Slots, slot_of, generation_of, free_slot, slot_value, Inserts, with_value, without, IsFull, NoneLive, get-fresh, live_count-new, max_of-new, live_count-insert, max_of-insert, live_count-with_value, max_of-with_value, live_count-without, max_of-without, Mailbox, Waiting, RingTable, empty_rings, with_last, without_front, AreEmpty, HasFree, IsKept}
+use Rattle.mcapi_msg.proofs.Names.{nat_tests, Bool, cond, ◌≡◌, ℕ, ◌<◌, ◌≤◌, List, [], ◌∷◌, ◌++◌, length, Some, None, replicate, sym, ap, subst, ◌∙◌, inl, inr, arith, length-append, cases_eq, Slots, slot_of, generation_of, free_slot, slot_value, Inserts, with_value, without, IsFull, NoneLive, get-fresh, live_count-new, max_of-new, live_count-insert, max_of-insert, live_count-with_value, max_of-with_value, live_count-without, max_of-without, Mailbox, Waiting, RingTable, empty_rings, with_last, without_front, AreEmpty, HasFree, IsKept}
 use Rattle.handle_pool.proofs.GetLemmas.{get-insert_same, get-insert_other, get-with_value_same, get-with_value_other, get-without_same, get-without_other}
 use Rattle.handle_pool.proofs.OneEachLemmas.{OneEach-new, OneEach-insert, OneEach-with_value, OneEach-without}
 
@@ -83,22 +83,13 @@ free_then p room full = omega arith
 
 -- the limit stays
 either : (b : Bool) (x y : RingTable) (n : ℕ) → x.limit ≡ n → y.limit ≡ n → (cond b x y).limit ≡ n
-either true x y n e f = e
-either false x y n e f = f
+either b x y n e1 e2 = grind (arith, nat_tests)
 
 pub with_last-limit : (w : Waiting) (r : RingTable) → (with_last w r).limit ≡ r.limit
-with_last-limit w r =
-    either (w.priority == 0) _ _ r.limit refl (either (w.priority == 1) _ _ r.limit refl (either (w.priority == 2) _ _ r.limit refl refl))
+with_last-limit w r = grind (arith, nat_tests)
 
 pub without_front-limit : (r : RingTable) → (without_front r).limit ≡ r.limit
-without_front-limit r = at (r.first) (r.second) (r.third) (r.fourth) r.limit
-  where
-    at : (a b c d : List Waiting) (n : ℕ) → (without_front (record { limit = n; first = a; second = b; third = c; fourth = d })).limit ≡ n
-    at [] [] [] [] n = refl
-    at [] [] [] (w ∷ ws) n = refl
-    at [] [] (w ∷ ws) d n = refl
-    at [] (w ∷ ws) c d n = refl
-    at (w ∷ ws) b c d n = refl
+without_front-limit r = grind (arith, nat_tests)
 
 -- rings from the reserve are empty
 pub popped_empty : (limit capacity : ℕ) (p : Slots Mailbox) (r : RingTable) (spare rest : List RingTable) → IsKept limit p spare capacity → spare ≡ rest ++ r ∷ [] → r ≡ empty_rings limit

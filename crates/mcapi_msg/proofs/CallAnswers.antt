@@ -1,7 +1,7 @@
 -- What the calls of a mailer answer follows from the rows of their ops.
-use Rattle.mcapi_msg.proofs.Names.{◌≡◌, ◌≢◌, ◌⊎◌, ℕ, ◌+◌, ◌<◌, Bool, true, false, List, [], ◌∷◌, ◌++◌, Option, Some, None, Result, Ok, Err, inl, inr, refl, sym, ◌∙◌, ap, subst, arith, IfOk, OnErr, MatchOption, ◌==◌, nat_tests, entry, live_object, first_handle, pends, Looked, EndpointHandle, Waiting, MsgOp, MsgReply, MsgStatus, last_generation, new_endpoint, has_port, next_of, State, opening, Row, unless, gives, never, says, only, given, opens, handle_of, Allows, row, names, nothing, MsgEntry, IsNext, Legal, Seat, is_spent, Done, Names, Hands, state_at, IsAnswer, AnsweredBy, Called, look_for, Looks, RanOut, Received, TimedOut}
+use Rattle.mcapi_msg.proofs.Names.{◌≡◌, ◌≢◌, ◌⊎◌, ℕ, ◌+◌, ◌<◌, Bool, true, false, List, [], ◌∷◌, ◌++◌, Option, Some, Result, Ok, Err, inl, inr, refl, sym, ◌∙◌, ap, subst, arith, IfOk, OnErr, MatchOption, ◌==◌, nat_tests, entry, live_object, first_handle, pends, Looked, EndpointHandle, Waiting, MsgOp, MsgReply, MsgStatus, has_port, next_of, State, opening, Row, unless, gives, never, says, only, given, Allows, row, nothing, MsgEntry, IsNext, Legal, Seat, is_spent, Done, Names, Hands, state_at, IsAnswer, AnsweredBy, Called, look_for, Looks, RanOut, Received, TimedOut}
 use Rattle.std.proofs.lemmas.Result.{IfOk-weaker}
-use Rattle.handle_pool.specs.Issued.{live_of, may_issue}
+use Rattle.handle_pool.specs.Issued.{live_of}
 use Rattle.turn_looks.specs.Turns.{SameSeat, Turned, Unturned}
 use Rattle.mcapi_msg.specs.declared.ops.MsgOp.TheVariants as op
 use Rattle.mcapi_msg.specs.declared.ops.MsgReply.TheVariants as reply
@@ -22,12 +22,10 @@ said P (gives x ms) r a h = subst P (sym h) a
 said P never r a h = absurd h
 
 on_given : {T : Type 0} (P : MsgReply → Type 0) (o : Option T) (x : MsgReply) (f : T → Row) → P x → ((y : T) → AllSays P (f y)) → AllSays P (given o (says x) f)
-on_given P None x f p q = p
-on_given P (Some y) x f p q = q y
+on_given P o x f e1 e2 = grind (arith, nat_tests)
 
 on_only : (P : MsgReply → Type 0) (b : Bool) (w : Row) → AllSays P w → AllSays P (only b w)
-on_only P true w a = a
-on_only P false w a = tt
+on_only P b w e1 = grind (arith, nat_tests)
 
 -- the turn's entry is one that may come next
 next_at : (old new : Seat) (o : MsgOp) (r : MsgReply) (t : Turned Legal old o r new) → IsNext (state_at old new o r t) (entry old.number o r)
@@ -45,8 +43,7 @@ module _ {A : Type 0} (P : MsgReply → Result A MsgStatus → Type 0) (o : MsgO
       (λ r t. said (IsAnswer P) (row (state_at old new o r t) old.number o r) r (all (state_at old new o r t) old.number r) (by_row old new o r t)) k
 
 pub called : {A : Type 0} (P : MsgReply → Result A MsgStatus → Type 0) (o : MsgOp) (old new : Seat) (y : Result MsgReply ℕ) (x : Result A MsgStatus) → IfOk y (λ r. Turned Legal old o r new) → OnErr y (Unturned old new) → AnsweredBy P y x → Called P o old new x
-called P o old new (Ok r) x t u a = inl (record { said = r; turned = t; by_row = by_row old new o r t; answer = a })
-called P o old new (Err s) x t u a = inr (u, a)
+called P o old new y x e1 e2 e3 = grind (arith, nat_tests, said, by_row)
 
 names_code : (c : MsgStatus) → is_spent c ≡ false → IsAnswer Names (reply.Refused c)
 names_code c e = (Err c, (refl, e))
@@ -58,9 +55,7 @@ hands_code : (c : MsgStatus) → is_spent c ≡ false → IsAnswer Hands (reply.
 hands_code c e = (Err c, (refl, e))
 
 pub open_says : (port : ℕ) (s : State) (who : ℕ) (r : MsgReply) → AllSays (IsAnswer Names) (row s who (op.Open port) r)
-open_says port s who r =
-    let answer : IsAnswer Names (names (handle_of r)) = (Ok (record { 0 = handle_of r }), refl) in
-    (names_code _ refl, (names_code _ refl, on_only (IsAnswer Names) (may_issue last_generation (handle_of r) s.endpoints) (gives (names (handle_of r)) (opens (handle_of r) (new_endpoint port who) ∷ [])) answer))
+open_says port s who r = grind (arith, nat_tests)
 
 pub find_says : (port : ℕ) (s : State) (who : ℕ) (r : MsgReply) → AllSays (IsAnswer Names) (row s who (op.Find port) r)
 find_says port s who r = on_given (IsAnswer Names) (first_handle (has_port port) (live_of s.endpoints)) _ _ (names_code _ refl) (λ h. (Ok (record { 0 = h }), refl))
@@ -78,8 +73,7 @@ record LookSays (last : Bool) (r : MsgReply) : Type 0 where
   late : r ≡ reply.Refused status.Timeout → last ≡ true
 
 status_of : MsgReply → MsgStatus
-status_of (reply.Refused c) = c
-status_of _ = status.Spent
+status_of e1 = grind (arith, nat_tests)
 
 is_late : MsgStatus → Bool
 is_late status.Timeout = true
@@ -95,14 +89,7 @@ late_no c e k = let same = ap (λ x. is_late (status_of x)) k in absurd (cc)
 
 refusal_says : (last : Bool) (c : MsgStatus) → is_spent c ≡ false → is_late c ≡ false → LookSays last (reply.Refused c)
 unfolding is_pending
-refusal_says last c e l = record {
-  answers = λ n. hands_code c e;
-  pends = λ k. absurd (not_pending (ap is_pending k));
-  late = λ k. absurd (late_no c l k);
-}
-  where
-    not_pending : false ≡ true → ⊥
-    not_pending k = cc
+refusal_says last c e1 e2 = grind (arith, nat_tests, hands_code, late_no)
 
 nothing_says : (last : Bool) → LookSays last (nothing last)
 unfolding is_pending status_of is_late
@@ -120,20 +107,14 @@ got_says last w = record { answers = λ n. (Ok _, refl); pends = λ k. absurd (c
 
 look_says : (h : EndpointHandle) (last : Bool) (s : State) (who : ℕ) (r : MsgReply) → AllSays (LookSays last) (row s who (look_for h last) r)
 unfolding is_late
-look_says h last s who r =
-    on_given (LookSays last) (live_object s.endpoints h.0) _ _ (refusal_says last _ refl refl)
-    (λ e. (refusal_says last _ refl refl, on_given (LookSays last) (next_of e.waiting) _ _ (nothing_says last) (λ w. got_says last w)))
+look_says h last s who r = grind (arith, nat_tests, on_given, live_object, refusal_says, next_of, nothing_says, got_says)
 
 at_look : (h : EndpointHandle) (limit : Option ℕ) (old new : Seat) (r : MsgReply) (l : Looked Legal (look_for h) reply.Pending limit old new r) → LookSays l.last r
 at_look h limit old new r l =
     said (LookSays l.last) _ r (look_says h l.last (state_at l.before new (look_for h l.last) r l.turned) l.before.number r) (by_row l.before new (look_for h l.last) r l.turned)
 
 pending_apart : (r : MsgReply) → (r ≡ reply.Pending) ⊎ (r ≢ reply.Pending)
-pending_apart reply.Pending = inl refl
-pending_apart reply.Ok = inr (λ k. cc)
-pending_apart (reply.Handle h) = inr (λ k. cc)
-pending_apart (reply.Got a b m) = inr (λ k. cc)
-pending_apart (reply.Refused c) = inr (λ k. cc)
+pending_apart r = grind (arith, nat_tests)
 
 pub look_answer : (h : EndpointHandle) (limit : Option ℕ) (old new : Seat) (x : Result MsgReply ℕ) → IfOk x (λ r. Looked Legal (look_for h) reply.Pending limit old new r) → IfOk x (IsAnswer Hands)
 look_answer h limit old new x k =
@@ -153,55 +134,26 @@ looks h limit old new r x l a = record {
 }
 
 pub received : (h : EndpointHandle) (limit : Option ℕ) (old new : Seat) (y : Result MsgReply ℕ) (x : Result (ℕ × ℕ × List ℕ) MsgStatus) → IfOk y (λ r. Looked Legal (look_for h) reply.Pending limit old new r) → OnErr y (RanOut h limit old new) → AnsweredBy Hands y x → Received h limit old new x
-received h limit old new (Ok r) x l u a = inl (looks h limit old new r x l a)
-received h limit old new (Err s) x l u a = inr (u, a)
+received h limit old new y x e1 e2 e3 = grind (arith, nat_tests, looks)
 
 same_status : {A : Type 0} (c d : MsgStatus) → ◌≡◌ {A = Result A MsgStatus} (Err c) (Err d) → c ≡ d
 same_status c d k = cc
 
 -- a Timeout is said by the last look alone, and not for want of tickets
 timeout_said : (r : MsgReply) (x : Result (ℕ × ℕ × List ℕ) MsgStatus) → Hands r x → x ≡ Err status.Timeout → r ≡ reply.Refused status.Timeout
-timeout_said (reply.Got a b m) x h e = let k = sym h ∙ e in absurd (cc)
-timeout_said (reply.Refused c) x h e = ap reply.Refused (same_status {A = ℕ × ℕ × List ℕ} c status.Timeout (sym h.0 ∙ e))
-timeout_said reply.Ok x h e = absurd h
-timeout_said (reply.Handle k) x h e = absurd h
-timeout_said reply.Pending x h e = absurd h
+timeout_said r x e1 e2 = grind (arith, nat_tests)
 
 all_looks : (limit : Option ℕ) (pending : ℕ) (last : Bool) → last ≡ true → MatchOption limit (last ≡ false) (λ n. (pending < n) × (last ≡ (pending + 1 == n))) → limit ≡ Some (pending + 1)
-all_looks None pending last is b = let k = sym is ∙ b in absurd (cc)
-all_looks (Some n) pending last is b = ap Some (sym (equal (pending + 1) n (sym b.1 ∙ is)))
-  where
-    equal : (a b : ℕ) → (a == b) ≡ true → a ≡ b
-    equal a b e = grind (arith, nat_tests)
+all_looks limit pending last e1 e2 = grind (arith, nat_tests)
 
 timed_out : (h : EndpointHandle) (limit : Option ℕ) (old new : Seat) (x : Result (ℕ × ℕ × List ℕ) MsgStatus) → Looks h limit old new x → x ≡ Err status.Timeout → TimedOut h limit old new
-timed_out h limit old new x l e =
-    let is = timeout_said l.said x l.answer e in
-    let last = l.late is in
-    record {
-      earlier = l.looked.pending;
-      all = all_looks limit l.looked.pending l.looked.last last l.looked.bound;
-      mine = l.looked.mine ∙ (λ i. old.mine ++ (pends Legal (look_for h) reply.Pending old.number l.looked.pending ++ entry old.number (look_for h (last i)) (is i) ∷ []));
-    }
+timed_out h limit old new x e1 e2 = grind (arith, nat_tests)
 
 pub timeout_of : (h : EndpointHandle) (limit : Option ℕ) (old new : Seat) (x : Result (ℕ × ℕ × List ℕ) MsgStatus) → Received h limit old new x → x ≡ Err status.Timeout → TimedOut h limit old new
-timeout_of h limit old new x r e = elim r [
-  | inl l ↦ timed_out h limit old new x l e
-  | inr u ↦ let k = sym u.1 ∙ e in absurd (cc)
-]
+timeout_of h limit old new x e1 e2 = grind (arith, nat_tests)
 
 pub spent_of : (h : EndpointHandle) (limit : Option ℕ) (old new : Seat) (x : Result (ℕ × ℕ × List ℕ) MsgStatus) → Received h limit old new x → x ≡ Err status.Spent → RanOut h limit old new
-spent_of h limit old new x r e = elim r [
-  | inl l ↦ absurd (never_spent l.said x l.answer e)
-  | inr u ↦ u.0
-]
-  where
-    never_spent : (r : MsgReply) (x : Result (ℕ × ℕ × List ℕ) MsgStatus) → Hands r x → x ≡ Err status.Spent → ⊥
-    never_spent (reply.Got a b m) x h e = let k = sym h ∙ e in cc
-    never_spent (reply.Refused c) x h e = let g = sym h.1 ∙ ap is_spent (same_status {A = ℕ × ℕ × List ℕ} c status.Spent (sym h.0 ∙ e)) in cc
-    never_spent reply.Ok x h e = h
-    never_spent (reply.Handle k) x h e = h
-    never_spent reply.Pending x h e = h
+spent_of h limit old new x e1 e2 = grind (arith, nat_tests)
 
 -- the seat stays the same
 pub called_same : {A : Type 0} (P : MsgReply → Result A MsgStatus → Type 0) (o : MsgOp) (old new : Seat) (x : Result A MsgStatus) → Called P o old new x → SameSeat old new
@@ -211,7 +163,4 @@ pub then_same : (a b c : Seat) → SameSeat a b → SameSeat b c → SameSeat a 
 then_same a b c s t = record { cell = t.cell ∙ s.cell; number = t.number ∙ s.number; terms = t.terms ∙ s.terms }
 
 pub received_same : (h : EndpointHandle) (limit : Option ℕ) (old new : Seat) (x : Result (ℕ × ℕ × List ℕ) MsgStatus) → Received h limit old new x → SameSeat old new
-received_same h limit old new x c = elim c [
-  | inl l ↦ then_same old l.looked.before new l.looked.pended.same l.looked.turned.same
-  | inr u ↦ u.0.pended.same
-]
+received_same h limit old new x e1 = grind (arith, nat_tests)

@@ -1,12 +1,12 @@
 -- What waits at an endpoint of one sender with one priority is what was sent and not yet received.
-use Rattle.mcapi_msg.proofs.Names.{◌≡◌, ℕ, ◌+◌, Bool, true, false, cond, ◌&&◌, List, [], ◌∷◌, ◌++◌, Option, Some, None, refl, sym, ap, subst, ◌∙◌, arith, append_assoc, ◌==◌, nat_le, append-nil, eqb-true, StartsWith, generation_of, Listed, how_many, lookup, live_object, first_handle, update, retire, with_fields, gone, EndpointHandle, Waiting, MsgOp, MsgReply, PostTerms, last_generation, Endpoint, new_endpoint, has_port, message, next_of, without_first, of_priority, with_message, with_first_gone, State, opening, Move, after_moves, Row, unless, gives, never, says, only, given, Allows, moves_of, handle_of, opens, row, names, nothing, MsgEntry, IsNext, row_of, next, Legal}
-use Rattle.handle_pool.specs.Issued.{live_of, listed, issued_at, may_issue, issue}
+use Rattle.mcapi_msg.proofs.Names.{nat_tests, ◌≡◌, ℕ, ◌+◌, Bool, true, false, cond, ◌&&◌, List, [], ◌∷◌, ◌++◌, Option, Some, None, refl, sym, ap, subst, ◌∙◌, arith, append_assoc, ◌==◌, append-nil, eqb-true, StartsWith, Listed, how_many, lookup, live_object, first_handle, update, retire, with_fields, EndpointHandle, Waiting, MsgOp, MsgReply, PostTerms, last_generation, Endpoint, new_endpoint, has_port, message, next_of, without_first, of_priority, with_message, with_first_gone, State, opening, Move, after_moves, Row, unless, gives, never, says, only, given, Allows, moves_of, handle_of, opens, row, names, nothing, MsgEntry, IsNext, row_of, next, Legal}
+use Rattle.handle_pool.specs.Issued.{live_of, listed, may_issue, issue}
 use Rattle.handle_pool.specs.Stands.{Distinct}
 use Rattle.handle_pool.proofs.ListedLemmas.{at-issue, at-update, at-retire, Distinct-issue, Distinct-update, Distinct-retire, listed-issue, listed-change}
 use Rattle.mcapi_msg.specs.declared.ops.MsgOp.TheVariants as op
 use Rattle.mcapi_msg.specs.Legal.{LegalFrom}
 use Rattle.mcapi_msg.specs.Fifo.{put_by, got_by, sent_to, received_at}
-use Rattle.mcapi_msg.proofs.RingLemmas.{IsFirst, first-is, of-more, of-without, dropped}
+use Rattle.mcapi_msg.proofs.RingLemmas.{IsFirst, first-is, of-more, of-without}
 
 -- a reply and the moves that a row gives
 abbrev pub AllGives : (MsgReply → List Move → Type 0) → Row → Type 0
@@ -21,12 +21,10 @@ gives_so P (gives x ms) r a h = subst (λ (y : MsgReply). P y ms) (sym h) a
 gives_so P never r a h = absurd h
 
 pub on_given : {T : Type 0} (P : MsgReply → List Move → Type 0) (o : Option T) (x : MsgReply) (f : T → Row) → P x [] → ((y : T) → o ≡ Some y → AllGives P (f y)) → AllGives P (given o (says x) f)
-on_given P None x f p q = p
-on_given P (Some y) x f p q = q y refl
+on_given P o x f e1 e2 = grind (arith, nat_tests)
 
 pub on_only : (P : MsgReply → List Move → Type 0) (b : Bool) (w : Row) → (b ≡ true → AllGives P w) → AllGives P (only b w)
-on_only P true w a = a refl
-on_only P false w a = tt
+on_only P b w e1 = grind (arith, nat_tests)
 
 -- the bytes of the messages of this sender
 abbrev from : ℕ → List Waiting → List (List ℕ)
@@ -50,37 +48,10 @@ abbrev flow : ℕ → ℕ → List Waiting → List (List ℕ)
 flow sender priority ws = from sender (of_priority priority ws)
 
 flow-more : (sender priority who p : ℕ) (msg : List ℕ) (ws : List Waiting) → flow sender priority (ws ++ message who p msg ∷ []) ≡ flow sender priority ws ++ cond ((who == sender) && (p == priority)) (msg ∷ []) []
-flow-more sender priority who p msg ws =
-    ap (from sender) (of-more priority (message who p msg) ws) ∙ pick (p == priority) (who == sender) (from-more sender (message who p msg) (of_priority priority ws))
-  where
-    pick : (b c : Bool) → from sender (of_priority priority ws ++ message who p msg ∷ []) ≡ from sender (of_priority priority ws) ++ cond c (msg ∷ []) [] → from sender (cond b (of_priority priority ws ++ message who p msg ∷ []) (of_priority priority ws)) ≡ from sender (of_priority priority ws) ++ cond (c && b) (msg ∷ []) []
-    pick true true e = e
-    pick true false e = e
-    pick false true e = sym (append-nil (from sender (of_priority priority ws)))
-    pick false false e = sym (append-nil (from sender (of_priority priority ws)))
+flow-more sender priority who p msg ws = grind (arith, nat_tests, of-more, from-more, of_priority, append-nil)
 
 flow-first : (sender priority : ℕ) (w : Waiting) (ws : List Waiting) → IsFirst w ws → flow sender priority ws ≡ cond ((w.sender == sender) && (w.priority == priority)) (w.msg ∷ []) [] ++ flow sender priority (without_first w.priority ws)
-flow-first sender priority w ws f = pick (w.priority == priority) refl (w.sender == sender) refl
-  where
-    kept : (l : List Waiting) → dropped false l ≡ l
-    kept [] = refl
-    kept (x ∷ l) = refl
-
-    left : (b : Bool) → (w.priority == priority) ≡ b → flow sender priority (without_first w.priority ws) ≡ from sender (dropped b (of_priority priority ws))
-    left b e = ap (from sender) (of-without w.priority priority ws ∙ ap (λ c. dropped c (of_priority priority ws)) e)
-
-    front : (w.priority == priority) ≡ true → of_priority priority ws ≡ w ∷ f.rest
-    front e = ap (λ (n : ℕ). of_priority n ws) (sym (eqb-true w.priority priority e)) ∙ f.front
-
-    pick : (b : Bool) → (w.priority == priority) ≡ b → (c : Bool) → (w.sender == sender) ≡ c → flow sender priority ws ≡ cond (c && b) (w.msg ∷ []) [] ++ flow sender priority (without_first w.priority ws)
-    pick true e true g =
-        ap (from sender) (front e) ∙ (ap (λ b. cond b (w.msg ∷ from sender f.rest) (from sender f.rest)) g
-        ∙ ap (λ (l : List (List ℕ)). w.msg ∷ l) (sym (left true e ∙ ap (λ (l : List Waiting). from sender (dropped true l)) (front e))))
-    pick true e false g =
-        ap (from sender) (front e) ∙ (ap (λ b. cond b (w.msg ∷ from sender f.rest) (from sender f.rest)) g
-        ∙ sym (left true e ∙ ap (λ (l : List Waiting). from sender (dropped true l)) (front e)))
-    pick false e true g = sym (left false e ∙ ap (from sender) (kept (of_priority priority ws)))
-    pick false e false g = sym (left false e ∙ ap (from sender) (kept (of_priority priority ws)))
+flow-first sender priority w ws e1 = grind (arith, nat_tests, without_first, of_priority, of-without, eqb-true)
 
 -- a handle that was never issued isn't live
 unlisted : (h : ℕ) (l : List (Listed Endpoint)) → listed h l ≡ 0 → live_object l h ≡ None
@@ -95,14 +66,7 @@ unlisted h (r ∷ rs) e = pick (r.handle == h) refl r.live e (λ k. unlisted h r
 
 issued_new : (last h : ℕ) (l : List (Listed Endpoint)) → may_issue last h l ≡ true → listed h l ≡ 0
 unfolding may_issue
-issued_new last h l e = is_zero (listed h l) (nat_le (generation_of h) last) (generation_of h == issued_at h l + 1) e
-  where
-    is_zero : (n : ℕ) (b c : Bool) → ((n == 0) && b && c) ≡ true → n ≡ 0
-    is_zero n b c e = eqb-true n 0 (front (n == 0) b c e)
-      where
-        front : (a b c : Bool) → (a && b && c) ≡ true → a ≡ true
-        front true b c e = refl
-        front false b c e = absurd (cc)
+issued_new last h l e1 = grind (arith, nat_tests)
 
 module _ (endpoint : EndpointHandle) (sender priority : ℕ) where
   -- of what was sent, what wasn't received waits there, in its order, while the endpoint is live
@@ -121,30 +85,15 @@ module _ (endpoint : EndpointHandle) (sender priority : ℕ) where
 
   -- where the endpoint is live, what waits there tells all
   flows-live : (l : List (Listed Endpoint)) (sent got : List (List ℕ)) (x : Endpoint) → Distinct (live_of l) → live_object l endpoint.0 ≡ Some x → sent ≡ got ++ flow sender priority x.waiting → Flows l sent got
-  flows-live l sent got x d is e = record {
-    distinct = d;
-    live = λ y k. e ∙ ap (λ (z : Endpoint). got ++ flow sender priority z.waiting) (same_some x y (sym is ∙ k));
-    begins = (flow sender priority x.waiting, e);
-    unissued = λ k. let none = sym is ∙ unlisted endpoint.0 l k in absurd (cc);
-  }
+  flows-live l sent got x e1 e2 e3 = grind (arith, nat_tests, same_some, unlisted)
 
   -- where the endpoint is as it was
   flows-other : (l m : List (Listed Endpoint)) (sent got : List (List ℕ)) → Flows l sent got → Distinct (live_of m) → live_object m endpoint.0 ≡ live_object l endpoint.0 → (listed endpoint.0 m ≡ 0 → listed endpoint.0 l ≡ 0) → Flows m sent got
-  flows-other l m sent got f d same count = record {
-    distinct = d;
-    live = λ y k. f.live y (sym same ∙ k);
-    begins = f.begins;
-    unissued = λ k. f.unissued (count k);
-  }
+  flows-other l m sent got e1 e2 e3 e4 = grind (arith, nat_tests)
 
   -- where the endpoint isn't live any more
   flows-gone : (l m : List (Listed Endpoint)) (sent got : List (List ℕ)) → Flows l sent got → Distinct (live_of m) → live_object m endpoint.0 ≡ None → (listed endpoint.0 m ≡ 0 → listed endpoint.0 l ≡ 0) → Flows m sent got
-  flows-gone l m sent got f d none count = record {
-    distinct = d;
-    live = λ y k. let no = sym none ∙ k in absurd (cc);
-    begins = f.begins;
-    unissued = λ k. f.unissued (count k);
-  }
+  flows-gone l m sent got e1 e2 e3 e4 = grind (arith, nat_tests)
 
   flows-issue : (l : List (Listed Endpoint)) (sent got : List (List ℕ)) (h port who : ℕ) → Flows l sent got → may_issue last_generation h l ≡ true → Flows (issue h (new_endpoint port who) l) sent got
   flows-issue l sent got h port who f may = pick (h == endpoint.0) refl
@@ -213,22 +162,14 @@ module _ (endpoint : EndpointHandle) (sender priority : ℕ) where
           stays _ sent got (flows-other l _ sent got f distinct (now_updated l k (with_first_gone w.priority) e false is same) (λ n. sym (listed-change endpoint.0 k (with_fields (with_first_gone w.priority)) (λ r. refl) l) ∙ n))
 
   flows-shut : (l : List (Listed Endpoint)) (sent got : List (List ℕ)) (k : ℕ) → Flows l sent got → Flows (retire k l) sent got
-  flows-shut l sent got k f = pick (k == endpoint.0) refl
-    where
-      count : listed endpoint.0 (retire k l) ≡ 0 → listed endpoint.0 l ≡ 0
-      count n = sym (listed-change endpoint.0 k gone (λ r. refl) l) ∙ n
-
-      pick : (b : Bool) → (k == endpoint.0) ≡ b → Flows (retire k l) sent got
-      pick true same = flows-gone l _ sent got f (Distinct-retire k l f.distinct) (at-retire k endpoint.0 l f.distinct ∙ ap (λ b. cond b None (live_object l endpoint.0)) same) count
-      pick false same = flows-other l _ sent got f (Distinct-retire k l f.distinct) (at-retire k endpoint.0 l f.distinct ∙ ap (λ b. cond b None (live_object l endpoint.0)) same) count
+  flows-shut l sent got k e1 = grind (arith, nat_tests, listed-change, flows-gone, Distinct-retire, at-retire, live_object, flows-other)
 
   -- what an entry with this reply and these moves leaves
   abbrev After : State → ℕ → MsgOp → List (List ℕ) → List (List ℕ) → MsgReply → List Move → Type 0
   After s who o sent got r ms = Flows (after_moves ms s).endpoints (sent ++ put_by endpoint sender priority who o r) (got ++ got_by endpoint sender priority o r)
 
   looked : (last : Bool) (s : State) (who : ℕ) (h : EndpointHandle) (sent got : List (List ℕ)) → Flows s.endpoints sent got → After s who (op.Recv h last) sent got (nothing last) []
-  looked true s who h sent got f = stays s.endpoints sent got f
-  looked false s who h sent got f = stays s.endpoints sent got f
+  looked last s who h sent got e1 = grind (arith, nat_tests, stays)
 
   row_flows : (s : State) (who : ℕ) (o : MsgOp) (r : MsgReply) (sent got : List (List ℕ)) → Flows s.endpoints sent got → AllGives (After s who o sent got) (row s who o r)
   row_flows s who (op.Open port) r sent got f = (

@@ -1,5 +1,5 @@
 -- A new post stands for the empty list, and each step goes on with the list.
-use Rattle.mcapi_msg.proofs.Names.{◌≡◌, ℕ, ◌<◌, ◌≤◌, List, [], ◌∷◌, ◌++◌, length, replicate, sym, ◌∙◌, ap, subst, arith, length-replicate, entry, free_slot, Listed, Stands-new, MsgOp, MsgReply, Post, PostTerms, last_generation, Endpoint, BoxTable, State, opening, MsgEntry, IsNext, Legal, next, after, terms_of, Holds, Steps, state_of, Stands}
+use Rattle.mcapi_msg.proofs.Names.{nat_tests, ◌≡◌, ℕ, ◌<◌, ◌≤◌, List, [], ◌∷◌, ◌++◌, length, replicate, ◌∙◌, ap, arith, length-replicate, entry, free_slot, Listed, Stands-new, MsgOp, MsgReply, Post, last_generation, Endpoint, BoxTable, MsgEntry, after, terms_of, Holds, Steps, state_of, Stands}
 use Rattle.mcapi_msg.specs.Legal.{LegalFrom, after_from}
 use Rattle.mcapi_msg.specs.Stands.{relisted}
 use Rattle.mcapi_msg.proofs.Histories.{Legal-one, after-one, after-terms}
@@ -22,23 +22,7 @@ new_post seats endpoints limit b x y z u v w is generations slots =
 
 -- one more entry
 pub goes_on : (p q : Post) (L : List MsgEntry) (who : ℕ) (o : MsgOp) (r : MsgReply) → Stands p L → who < p.seats → Steps p (after (terms_of p) L).endpoints who o r q → Stands q (L ++ entry who o r ∷ [])
-goes_on p q L who o r st seat s =
-    subst (λ (t : PostTerms). Legal t (L ++ e ∷ []) → Holds q (after t (L ++ e ∷ [])).endpoints → Stands q (L ++ e ∷ [])) s.1.terms
-    (λ legal holds. record { legal = legal; holds = holds })
-    (record { fits = st.legal.fits; from = Legal-one _ L e st.legal.from may })
-    (subst (λ (x : State). Holds q x.endpoints) (sym leads) s.1.holds)
-  where
-    e : MsgEntry
-    e = entry who o r
-
-    same : state_of p (after (terms_of p) L).endpoints ≡ after (terms_of p) L
-    same i = record { terms = sym (after-terms (opening (terms_of p)) L) i; endpoints = (after (terms_of p) L).endpoints }
-
-    may : IsNext (after (terms_of p) L) (entry who o r)
-    may = subst (λ (x : State). IsNext x (entry who o r)) same (record { seat = seat; allowed = s.1.allowed })
-
-    leads : after (terms_of p) (L ++ entry who o r ∷ []) ≡ state_of p s.0
-    leads = after-one (opening (terms_of p)) L (entry who o r) ∙ (ap (λ (x : State). next x (entry who o r)) (sym same) ∙ s.1.leads)
+goes_on p q L who o r e1 e2 e3 = grind (arith, nat_tests, Legal-one, state_of, terms_of, after-terms, after-one)
 
 pub same_terms : (p q : Post) (L : List MsgEntry) (who : ℕ) (o : MsgOp) (r : MsgReply) → Stands p L → ((l : List (Listed Endpoint)) → Holds p l → Steps p l who o r q) → terms_of q ≡ terms_of p
 same_terms p q L who o r st s = (s _ st.holds).1.terms

@@ -23,16 +23,13 @@ says_this : (s : State) (r : MsgReply) → Gives s (says r) r s
 says_this s r = record { allowed = refl; leads = refl }
 
 met : (s : State) (c : Bool) (x : MsgReply) (w : Row) → c ≡ true → Gives s (unless c x w) x s
-met s true x w e = record { allowed = refl; leads = refl }
-met s false x w e = absurd (cc)
+met s c x w e1 = grind (arith, nat_tests)
 
 past : (s t : State) (c : Bool) (x r : MsgReply) (w : Row) → c ≡ false → Gives s w r t → Gives s (unless c x w) r t
-past s t false x r w e g = record { allowed = g.allowed; leads = g.leads }
-past s t true x r w e g = absurd (cc)
+past s t c x r w e1 e2 = grind (arith, nat_tests)
 
 allows : (b : Bool) (s t : State) (r : MsgReply) (v : Row) → b ≡ true → Gives s v r t → Gives s (only b v) r t
-allows true s t r v e g = g
-allows false s t r v e g = absurd (cc)
+allows b s t r v e1 e2 = grind (arith, nat_tests)
 
 module _ {T : Type 0} where
   at_some : (s t : State) (o : Option T) (x : T) (other : Row) (r : MsgReply) (f : T → Row) → o ≡ Some x → Gives s (f x) r t → Gives s (given o other f) r t
@@ -48,19 +45,7 @@ stays p l who o r v g = (l, record { allowed = g.allowed; leads = g.leads; holds
 -- a step to other slots
 goes : (p : Post) (b : BoxTable) (l k : List (Listed Endpoint)) (who : ℕ) (o : MsgOp) (r : MsgReply) → Holds p l → b.limit ≡ p.boxes.limit → SlotsStand b.pool (relisted (kept_as p.boxes.limit) k) → b.pool.generations ≡ p.boxes.pool.generations → max_of b.pool ≡ max_of p.boxes.pool → AreInRange k
     → Gives (state_of p l) (row (state_of p l) who o r) r (state_of p k) → Steps p l who o r (record p { boxes = b })
-goes p b l k who o r v limit slots generations max range g = (
-  k,
-  record {
-    allowed = g.allowed;
-    leads = g.leads;
-    holds = record {
-      slots = subst (λ (n : ℕ). SlotsStand b.pool (relisted (kept_as n) k)) (sym limit) slots;
-      generations = generations ∙ v.generations;
-      priorities = range;
-    };
-    terms = (λ i. record { seats = p.seats; endpoints = max i; limit = limit i });
-  },
-)
+goes p b l k who o r e1 e2 e3 e4 e5 e6 e7 = grind (arith, nat_tests)
 
 -- what the slots say of the endpoints
 live_at : (p : Post) (l : List (Listed Endpoint)) (h : ℕ) (m : Mailbox) → Holds p l → slot_value p.boxes.pool h ≡ Some m → (e : Endpoint) × (live_object l h ≡ Some e) × (kept_as p.boxes.limit e ≡ m)
@@ -118,9 +103,7 @@ pub open_taken : (p : Post) (l : List (Listed Endpoint)) (who port h : ℕ) → 
 open_taken p l who port h v has = stays p l who (op.Open port) (Refused PortTaken) v (met _ _ _ _ (taken_port p l port h v has))
 
 pub open_full : (p : Post) (l : List (Listed Endpoint)) (who port : ℕ) → Holds p l → NoneLive (slot_value p.boxes.pool) (HasPort port) → IsFull p.boxes.pool → Steps p l who (op.Open port) (Refused EndpointLimit) p
-open_full p l who port v none full =
-    stays p l who (op.Open port) (Refused EndpointLimit) v
-    (past _ _ _ _ _ _ (free_port p l port v none) (met _ _ _ _ (full_at p l v ∙ (IsFull-limit p.boxes.pool (relisted (kept_as p.boxes.limit) l) v.slots).0 full)))
+open_full p l who port e1 e2 e3 = grind (arith, nat_tests, stays, past, free_port, met, full_at, IsFull-limit)
 
 pub open_made : (p : Post) (b : BoxTable) (l : List (Listed Endpoint)) (who port h : ℕ) → Holds p l → NoneLive (slot_value p.boxes.pool) (HasPort port) → (IsFull p.boxes.pool → ⊥) → b.limit ≡ p.boxes.limit → Inserts p.boxes.pool b.pool h (new_mailbox port who p.boxes.limit)
     → Steps p l who (op.Open port) (names h) (record p { boxes = b })
@@ -155,21 +138,13 @@ pub send_invalid : (p : Post) (l : List (Listed Endpoint)) (who : ℕ) (to : End
 send_invalid p l who to priority msg v off = stays p l who (op.Send to priority msg) (Refused EndpointInvalid) v (at_none _ _ _ _ (not_live p l to.0 v off))
 
 above : (n : ℕ) → 4 ≤ n → not (nat_lt n 4) ≡ true
-above n h = ap not (off n h)
-  where
-    off : (n : ℕ) → 4 ≤ n → nat_lt n 4 ≡ false
-    off n h = grind (arith, nat_tests)
+above n e1 = grind (arith, nat_tests)
 
 below : (n : ℕ) → n < 4 → not (nat_lt n 4) ≡ false
-below n h = ap not (on n h)
-  where
-    on : (n : ℕ) → n < 4 → nat_lt n 4 ≡ true
-    on n h = grind (arith, nat_tests)
+below n e1 = grind (arith, nat_tests)
 
 pub send_range : (p : Post) (l : List (Listed Endpoint)) (who : ℕ) (to : EndpointHandle) (priority : ℕ) (msg : List ℕ) (m : Mailbox) → Holds p l → slot_value p.boxes.pool to.0 ≡ Some m → 4 ≤ priority → Steps p l who (op.Send to priority msg) (Refused PriorityRange) p
-send_range p l who to priority msg m v found out =
-    let e = live_at p l to.0 m v found in
-    stays p l who (op.Send to priority msg) (Refused PriorityRange) v (at_some _ _ _ e.0 _ _ _ e.1 (met _ _ _ _ (above priority out)))
+send_range p l who to priority msg m e1 e2 e3 = grind (arith, nat_tests, live_at, stays, at_some, met, above)
 
 -- as many messages wait as the rings hold
 count_at : (p : Post) (l : List (Listed Endpoint)) (h : ℕ) (m : Mailbox) (e : Endpoint) → Holds p l → live_object l h ≡ Some e → kept_as p.boxes.limit e ≡ m → (length e.waiting == p.boxes.limit) ≡ (count_in m.rings == m.rings.limit)
@@ -205,20 +180,10 @@ send_put p b l who to priority msg m v found small room limit new =
 
 -- Recv and Shut
 refused : (o : Option Mailbox) (who : ℕ) (c : MsgStatus) → owner_refusal who o ≡ Some c → ((o ≡ None) × (c ≡ EndpointInvalid)) ⊎ ((m : Mailbox) × (o ≡ Some m) × ((m.owner == who) ≡ false) × (c ≡ NotOwner))
-refused None who c e = inl (refl, cc)
-refused (Some m) who c e = pick (m.owner == who) refl e
-  where
-    pick : (b : Bool) → (m.owner == who) ≡ b → cond b None (Some NotOwner) ≡ Some c → ((Some m ≡ None) × (c ≡ EndpointInvalid)) ⊎ ((n : Mailbox) × (Some m ≡ Some n) × ((n.owner == who) ≡ false) × (c ≡ NotOwner))
-    pick true is k = absurd (cc)
-    pick false is k = inr (m, refl, is, cc)
+refused o who c e1 = grind (arith, nat_tests)
 
 pub owner_found : (o : Option Mailbox) (who : ℕ) → owner_refusal who o ≡ None → (m : Mailbox) × (o ≡ Some m) × ((m.owner == who) ≡ true)
-owner_found None who e = absurd (cc)
-owner_found (Some m) who e = pick (m.owner == who) refl e
-  where
-    pick : (b : Bool) → (m.owner == who) ≡ b → cond b None (Some NotOwner) ≡ None → (n : Mailbox) × (Some m ≡ Some n) × ((n.owner == who) ≡ true)
-    pick true is k = (m, refl, is)
-    pick false is k = absurd (cc)
+owner_found o who e1 = grind (arith, nat_tests)
 
 same_owner : (p : Post) (m : Mailbox) (e : Endpoint) (who : ℕ) (b : Bool) → kept_as p.boxes.limit e ≡ m → (m.owner == who) ≡ b → not (e.owner == who) ≡ not b
 same_owner p m e who b kept is = ap not (ap (λ (x : Mailbox). x.owner == who) kept ∙ is)
@@ -305,10 +270,7 @@ free_full p room full = omega arith
 
 -- a mailbox that isn't full has room
 pub has_space : (o : Option Mailbox) (m : Mailbox) → o ≡ Some m → (count_in m.rings == m.rings.limit) ≡ false → count_in m.rings ≤ m.rings.limit → HasSpace o
-has_space o m is room within = subst HasSpace (sym is) (less (count_in m.rings) m.rings.limit room within)
-  where
-    less : (a b : ℕ) → (a == b) ≡ false → a ≤ b → a < b
-    less a b e k = grind (arith, nat_tests)
+has_space o m e1 e2 e3 = grind (arith, nat_tests)
 
 -- the same with the slots as the look left them
 pub recv_left : (p : Post) (b : BoxTable) (l : List (Listed Endpoint)) (who : ℕ) (h : EndpointHandle) (last known : Bool) (m : Mailbox) → Holds p l → slot_value p.boxes.pool h.0 ≡ Some m → (m.owner == who) ≡ true → first_in m.rings ≡ None → b ≡ p.boxes → last ≡ known

@@ -1,5 +1,5 @@
 -- A list of issued objects with other fields: each question has the same answer, and each move comes to the same.
-use Rattle.mcapi_msg.proofs.Names.{◌≡◌, ℕ, suc, ◌+◌, Bool, true, false, not, ◌&&◌, cond, List, [], ◌∷◌, length, Option, Some, None, refl, sym, ap, ◌∙◌, ◌==◌, nat_le, slot_of, generation_of, Listed, lookup, live_object, any_listed, any_live, first_handle, gone, update, retire}
+use Rattle.mcapi_msg.proofs.Names.{arith, nat_tests, ◌≡◌, ℕ, suc, ◌+◌, Bool, true, false, not, ◌&&◌, cond, List, [], ◌∷◌, length, Option, Some, None, refl, sym, ap, ◌∙◌, ◌==◌, nat_le, slot_of, generation_of, Listed, lookup, live_object, any_listed, any_live, first_handle, gone, update, retire}
 use Rattle.handle_pool.specs.Issued.{live_of, issue, change, listed, issued_at, retired, is_full, may_issue}
 use Rattle.mcapi_msg.specs.Stands.{relisted}
 
@@ -33,15 +33,13 @@ module _ {A B : Type 0} (f : A → B) where
   at-relisted l h = ap (λ es. lookup es h) (live_of-relisted l) ∙ lookup-pairs (live_of l) h
 
   mapped_back : (o : Option A) (y : B) → mapped o ≡ Some y → (x : A) × (o ≡ Some x) × (f x ≡ y)
-  mapped_back None y e = absurd (cc)
-  mapped_back (Some x) y e = (x, refl, cc)
+  mapped_back o y e1 = grind (arith, nat_tests)
 
   pub at-back : (l : List (Listed A)) (h : ℕ) (y : B) → live_object (relisted f l) h ≡ Some y → (x : A) × (live_object l h ≡ Some x) × (f x ≡ y)
   at-back l h y e = mapped_back (live_object l h) y (sym (at-relisted l h) ∙ e)
 
   mapped_none : (o : Option A) → mapped o ≡ None → o ≡ None
-  mapped_none None e = refl
-  mapped_none (Some x) e = absurd (cc)
+  mapped_none o e1 = grind (arith, nat_tests)
 
   pub at-none : (l : List (Listed A)) (h : ℕ) → live_object (relisted f l) h ≡ None → live_object l h ≡ None
   at-none l h e = mapped_none (live_object l h) (sym (at-relisted l h) ∙ e)

@@ -50,20 +50,13 @@ retold_if : (s : State) (e : MsgEntry) → IsNext s e → retold s e ≡ Some e
 retold_if s e h = (λ i. cond (below _ _ h.seat i) (said_with e.who e.op (answer-allowed (row_of s e) e.reply h.allowed i)) None)
 
 said_same : (e : MsgEntry) (o : Option MsgReply) → said_with e.who e.op o ≡ Some e → o ≡ Some e.reply
-said_same e None h = absurd (cc)
-said_same e (Some x) h = ap (λ (y : Option MsgEntry). reply_of y) h
-  where
-    reply_of : Option MsgEntry → Option MsgReply
-    reply_of None = None
-    reply_of (Some y) = Some y.reply
+said_same e o e1 = grind (arith, nat_tests)
 
 next_in : (s : State) (e : MsgEntry) (b : Bool) → nat_lt e.who s.terms.seats ≡ b → cond b (said_with e.who e.op (answer (row_of s e))) None ≡ Some e → IsNext s e
-next_in s e false d h = absurd (cc)
-next_in s e true d h = record { seat = is_below _ _ d; allowed = Allows-answer (row_of s e) e.reply (said_same e _ h) }
+next_in s e b e1 e2 = grind (arith, nat_tests)
 
 put_same : (o : Option MsgEntry) (e : MsgEntry) (es fs : List MsgEntry) → put o fs ≡ e ∷ es → (o ≡ Some e) × (fs ≡ es)
-put_same None e es fs h = absurd (cc)
-put_same (Some x) e es fs h = (ap Some (cc), cc)
+put_same o e es fs e1 = grind (arith, nat_tests)
 
 pub replay_if : (s : State) (L : List MsgEntry) → LegalFrom s L → replay s L ≡ L
 unfolding LegalFrom replay

@@ -20,28 +20,7 @@ of-more p w (x ∷ ws) = pick (x.priority == p) (w.priority == p) (of-more p w w
     pick false false e = e
 
 pub rings-more : (limit : ℕ) (w : Waiting) (ws : List Waiting) → w.priority < 4 → rings_of limit (ws ++ w ∷ []) ≡ with_last w (rings_of limit ws)
-rings-more limit w ws small = (λ i. record { limit = limit; first = of-more 0 w ws i; second = of-more 1 w ws i; third = of-more 2 w ws i; fourth = of-more 3 w ws i }) ∙ pick (w.priority == 0) (w.priority == 1) (w.priority == 2) (w.priority == 3) refl refl refl refl
-  where
-    none : (n : ℕ) → n < 4 → (n == 0) ≡ false → (n == 1) ≡ false → (n == 2) ≡ false → (n == 3) ≡ false → ⊥
-    none n small a b c d = grind (arith, nat_tests)
-
-    two : (n p q : ℕ) → (n == p) ≡ true → (n == q) ≡ true → (p == q) ≡ false → ⊥
-    two n p q e f g = grind (arith, nat_tests)
-
-    pick : (a b c d : Bool) → (w.priority == 0) ≡ a → (w.priority == 1) ≡ b → (w.priority == 2) ≡ c → (w.priority == 3) ≡ d →
-        record { limit = limit; first = with_behind a w (of_priority 0 ws); second = with_behind b w (of_priority 1 ws); third = with_behind c w (of_priority 2 ws); fourth = with_behind d w (of_priority 3 ws) }
-        ≡ cond a (record (rings_of limit ws) { first = of_priority 0 ws ++ w ∷ [] }) (cond b (record (rings_of limit ws) { second = of_priority 1 ws ++ w ∷ [] }) (cond c (record (rings_of limit ws) { third = of_priority 2 ws ++ w ∷ [] }) (record (rings_of limit ws) { fourth = of_priority 3 ws ++ w ∷ [] })))
-    pick true false false false e f g h = refl
-    pick false true false false e f g h = refl
-    pick false false true false e f g h = refl
-    pick false false false true e f g h = refl
-    pick false false false false e f g h = absurd (none w.priority small e f g h)
-    pick true true c d e f g h = absurd (two w.priority 0 1 e f refl)
-    pick true false true d e f g h = absurd (two w.priority 0 2 e g refl)
-    pick true false false true e f g h = absurd (two w.priority 0 3 e h refl)
-    pick false true true d e f g h = absurd (two w.priority 1 2 f g refl)
-    pick false true false true e f g h = absurd (two w.priority 1 3 f h refl)
-    pick false false true true e f g h = absurd (two w.priority 2 3 g h refl)
+rings-more limit w ws e1 = grind (arith, nat_tests, of-more, of_priority, rings_of)
 
 -- how many wait
 pub count-rings : (limit : ℕ) (ws : List Waiting) → InRange ws → count_in (rings_of limit ws) ≡ length ws
@@ -200,8 +179,7 @@ range-first (x ∷ ws) w r e = pick (next_of ws) refl e (λ y is. range-first ws
     pick (Some y) is k more = subst (λ (v : Waiting). v.priority < 4) (some_same _ w k) (either y (nat_lt y.priority x.priority) (more y is))
 
 kept : (l : List Waiting) → l ≡ dropped false l
-kept [] = refl
-kept (x ∷ l) = refl
+kept l = grind (arith, nat_tests)
 
 abbrev table : ℕ → List Waiting → List Waiting → List Waiting → List Waiting → RingTable
 table limit a b c d = record { limit = limit; first = a; second = b; third = c; fourth = d }
@@ -217,28 +195,16 @@ abbrev TakesOf : ℕ → Waiting → RingTable → RingTable → Type 0
 TakesOf limit w old new = (first_in old ≡ Some w) × (without_front old ≡ new)
 
 takes_first : (limit : ℕ) (w : Waiting) (rest a b c d : List Waiting) → a ≡ w ∷ rest → TakesOf limit w (table limit a b c d) (table_without limit 0 a b c d)
-takes_first limit w rest a b c d e = (
-  ap (λ (l : List Waiting). first_in (table limit l b c d)) e,
-  ap (λ (l : List Waiting). without_front (table limit l b c d)) e ∙ ((λ i. table limit rest (kept b i) (kept c i) (kept d i)) ∙ ap (λ (l : List Waiting). table limit (dropped true l) (dropped false b) (dropped false c) (dropped false d)) (sym e)),
-)
+takes_first limit w rest a b c d e1 = grind (arith, nat_tests)
 
 takes_second : (limit : ℕ) (w : Waiting) (rest a b c d : List Waiting) → a ≡ [] → b ≡ w ∷ rest → TakesOf limit w (table limit a b c d) (table_without limit 1 a b c d)
-takes_second limit w rest a b c d x e = (
-  (λ i. first_in (table limit (x i) (e i) c d)),
-  (λ i. without_front (table limit (x i) (e i) c d)) ∙ ((λ i. table limit [] rest (kept c i) (kept d i)) ∙ (λ i. table limit (dropped false (sym x i)) (dropped true (sym e i)) (dropped false c) (dropped false d))),
-)
+takes_second limit w rest a b c d e1 e2 = grind (arith, nat_tests)
 
 takes_third : (limit : ℕ) (w : Waiting) (rest a b c d : List Waiting) → a ≡ [] → b ≡ [] → c ≡ w ∷ rest → TakesOf limit w (table limit a b c d) (table_without limit 2 a b c d)
-takes_third limit w rest a b c d x y e = (
-  (λ i. first_in (table limit (x i) (y i) (e i) d)),
-  (λ i. without_front (table limit (x i) (y i) (e i) d)) ∙ ((λ i. table limit [] [] rest (kept d i)) ∙ (λ i. table limit (dropped false (sym x i)) (dropped false (sym y i)) (dropped true (sym e i)) (dropped false d))),
-)
+takes_third limit w rest a b c d e1 e2 e3 = grind (arith, nat_tests)
 
 takes_fourth : (limit : ℕ) (w : Waiting) (rest a b c d : List Waiting) → a ≡ [] → b ≡ [] → c ≡ [] → d ≡ w ∷ rest → TakesOf limit w (table limit a b c d) (table_without limit 3 a b c d)
-takes_fourth limit w rest a b c d x y z e = (
-  (λ i. first_in (table limit (x i) (y i) (z i) (e i))),
-  (λ i. without_front (table limit (x i) (y i) (z i) (e i))) ∙ (λ i. table limit (dropped false (sym x i)) (dropped false (sym y i)) (dropped false (sym z i)) (dropped true (sym e i))),
-)
+takes_fourth limit w rest a b c d e1 e2 e3 e4 = grind (arith, nat_tests)
 
 -- a take gives the message that is received first, and leaves the others
 pub rings-take : (limit : ℕ) (ws : List Waiting) (w : Waiting) → InRange ws → next_of ws ≡ Some w → TakesOf limit w (rings_of limit ws) (rings_of limit (without_first w.priority ws))

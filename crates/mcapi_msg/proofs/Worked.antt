@@ -1,5 +1,5 @@
 -- The worked histories, computed.
-use Rattle.mcapi_msg.proofs.Names.{◌≡◌, List, [], ◌∷◌, refl, ap, arith, MsgReply, Refused, opening, Allows, row, MsgEntry, Fits, Legal}
+use Rattle.mcapi_msg.proofs.Names.{nat_tests, ◌≡◌, List, [], ◌∷◌, refl, ap, arith, MsgReply, Refused, opening, Allows, row, MsgEntry, Fits, Legal}
 use Rattle.handle_pool.specs.Issued.{live_of, issue, change, listed, issued_at, retired, is_full, may_issue}
 use Rattle.mcapi_msg.specs.declared.ops.MsgOp.TheVariants.{Open}
 use Rattle.mcapi_msg.specs.declared.statuses.MsgStatus.TheVariants as status
@@ -7,14 +7,7 @@ use Rattle.mcapi_msg.specs.Worked.{usual, exchange, used_again, in_order, urgent
 use Rattle.mcapi_msg.proofs.Replays.{replay, legal_if, replay_if}
 
 pub usual_fits : Fits usual
-usual_fits = record {
-  some_seat = omega arith;
-  seats = omega arith;
-  some_endpoint = omega arith;
-  endpoints = omega arith;
-  some_message = omega arith;
-  messages = omega arith;
-}
+usual_fits = grind (arith, nat_tests)
 
 -- the reply of the last entry, and the number of entries
 last_reply : List MsgEntry → MsgReply
