@@ -35,9 +35,6 @@ gives_silent z e1 = grind (arith, nat_tests)
 only_silent : (c : Bool) {v : Row} {x : Reply} → Silent v x → Silent (only c v) x
 only_silent c e1 = grind (arith, nat_tests)
 
-live_silent : {T : Type 0} (o : Option T) (f : T → Row) (x : Reply) → ((t : T) → Silent (f t) x) → Silent (live o never f) x
-live_silent o f x e1 = grind (arith, nat_tests)
-
 live_alone : {T : Type 0} (o : Option T) (n : Row) (f g : T → Row) (x y : Reply) → ((t : T) → Alone (f t) (g t) x y) → Alone (live o n f) (live o n g) x y
 live_alone o n f g x y e1 = grind (arith, nat_tests, same_alone)
 

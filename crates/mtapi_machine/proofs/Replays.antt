@@ -21,10 +21,6 @@ answer-allowed never r h = absurd h
 finish_same : (t u : TaskHandle) (d e : Answered) → Finish t d ≡ Finish u e → d ≡ e
 finish_same t u d e h = cc
 
-corrected_same : (op : Op) → IsHonest op → corrected op ≡ op
-corrected_same (Finish t d) h = λ i. Finish t (record d { end = sym h.answer i })
-corrected_same _ h = refl
-
 both : (a b : Bool) → a ≡ true → b ≡ true → (a && b) ≡ true
 both a b h k = (λ i. h i && k i)
 

@@ -1,5 +1,5 @@
 -- The counts of a state, over its moves and over entries.
-use Rattle.mtapi_renaming.proofs.Names.{nat_tests, ◌≡◌, ℕ, ◌+◌, ◌<◌, Bool, true, ◌&&◌, List, [], None, refl, sym, ◌∙◌, ap, arith, ◌==◌, not, slice_set, ObjectKind, names_kind, Listed, live_of, may_issue, issue, listed, with_fields, gone, Action, with_enabled, Task, NewTask, new_task, Running, is_unstarted, is_unended, ended, with_state, with_notes, is_member, freed, let_go, Phase, Terms, Op, Reply, State, Objects, FieldsOf, objects_of, opening, actions, tasks, Move, Sort, Fields, all_of, phase_is, released, stops, makes_action, enables, withdraws, starts_task, runs_task, ends_task, ends_waiting, notes, leaves, frees_members, lets_members_go, makes, alters, removes, is_fresh, apply, moves_of, after_row, row, NodeEntry, after, IsMade, MakesAction, StartsTask, WithdrawsAction, makes_kind, fst_true, snd_true, row_made, moves_keep, along, own_kind, at_opening, OnEach, each_so, each_with, made_kind, live_in, is_full_of, is_fresh_of, made_in, most_of, is_next_of, MakesNone, is_live_of, live_object, is_some, length, is_full}
+use Rattle.mtapi_renaming.proofs.Names.{nat_tests, ◌≡◌, ℕ, ◌+◌, ◌<◌, Bool, true, ◌&&◌, List, [], None, refl, sym, ◌∙◌, ap, arith, ◌==◌, not, slice_set, ObjectKind, Listed, live_of, issue, listed, with_fields, gone, Action, with_enabled, Task, NewTask, new_task, Running, is_unstarted, is_unended, ended, with_state, with_notes, is_member, freed, let_go, Phase, Terms, Op, Reply, State, Objects, FieldsOf, objects_of, opening, actions, tasks, Move, Fields, all_of, phase_is, released, stops, makes_action, enables, withdraws, starts_task, runs_task, ends_task, ends_waiting, notes, leaves, frees_members, lets_members_go, makes, alters, removes, is_fresh, apply, moves_of, after_row, row, NodeEntry, after, IsMade, MakesAction, StartsTask, WithdrawsAction, fst_true, snd_true, row_made, moves_keep, along, own_kind, at_opening, OnEach, each_so, each_with, made_kind, live_in, is_full_of, is_fresh_of, made_in, most_of, is_next_of, MakesNone, is_live_of, live_object, is_some, length, is_full}
 use Rattle.mtapi_values.specs.declared.handles.ObjectKind.TheVariants as kind
 use Rattle.mtapi_machine.specs.declared.ops.Op.TheVariants as op
 use Rattle.mtapi_renaming.proofs.Handles.{KeepsHandle, keeps-fields, keeps-gone, keeps-ended, keeps-freed, keeps-let_go, SameHandles, handles-same, handles-change, handles-change_all, handles-ends, issued_at-same, length-same}
@@ -97,9 +97,6 @@ no_action a o i j = grind (arith, nat_tests)
 
 no_task : (t : NewTask) (o : Op) → made_kind o ≡ None → StartsTask t o → ⊥
 no_task t o i j = grind (arith, nat_tests)
-
-no_sort : (t : Sort) (o : Op) → made_kind o ≡ None → makes_kind t o ≡ true → ⊥
-no_sort t o i j = grind (arith, nat_tests)
 
 pub by_none : (s : State) (o : Op) (m : Move) → made_kind o ≡ None → IsMade s o m → MakesNothing m
 by_none s o m i j = grind (arith, nat_tests)

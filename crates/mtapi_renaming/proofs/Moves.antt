@@ -1,5 +1,5 @@
 -- Each move of a state is, in the renamed state, the same move with the other handles, and leaves what the renaming has.
-use Rattle.mtapi_renaming.proofs.Names.{arith, nat_tests, ◌≡◌, ℕ, ◌+◌, Bool, true, ◌&&◌, List, [], ◌∷◌, refl, sym, ◌∙◌, ap, not, slice_set, option_map, Kind, TaskEnd, Failed, MtapiStatus, Listed, live_of, change, issue, update, retire, gone, with_fields, change-inside, update-inside, retire-inside, issue-inside, Action, with_enabled, has_worker, Task, NewTask, Notes, new_task, is_unstarted, is_unended, ended, with_state, with_notes, is_member, freed, let_go, Phase, State, workers, end_tasks, Move, Sort, Groups, Queues, Mutexes, Sems, Rwls, Segments, Fields, all_of, phase_is, released, stops, makes_action, enables, withdraws, starts_task, runs_task, ends_task, ends_waiting, notes, leaves, frees_members, lets_members_go, makes, alters, removes, apply, after_moves, Renaming, Room, renamed_list, renamed_task, renamed_notes, renamed, HasNotes, HasTask, NoHandle, HasEach, Fits}
+use Rattle.mtapi_renaming.proofs.Names.{arith, nat_tests, ◌≡◌, ℕ, ◌+◌, Bool, true, ◌&&◌, List, [], ◌∷◌, refl, sym, ◌∙◌, ap, not, slice_set, option_map, Kind, TaskEnd, Failed, MtapiStatus, Listed, live_of, change, issue, update, retire, gone, with_fields, change-inside, update-inside, retire-inside, issue-inside, Action, with_enabled, has_worker, Task, NewTask, Notes, is_unstarted, is_unended, ended, with_notes, is_member, freed, let_go, Phase, State, workers, end_tasks, Move, Sort, Groups, Queues, Mutexes, Sems, Rwls, Segments, Fields, all_of, phase_is, released, stops, makes_action, enables, withdraws, starts_task, runs_task, ends_task, ends_waiting, notes, leaves, frees_members, lets_members_go, makes, alters, removes, apply, after_moves, Renaming, Room, renamed_list, renamed_task, renamed_notes, renamed, HasNotes, HasTask, NoHandle, HasEach, Fits}
 use Rattle.mtapi_values.specs.declared.handles.ObjectKind.TheVariants as kind
 use Rattle.handle_pool.specs.Inside.{turned as turned_one}
 use Rattle.mtapi_renaming.proofs.Lists.{apart, same_count, change_all-renamed, has-change, has-change_all}

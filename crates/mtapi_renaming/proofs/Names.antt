@@ -24,7 +24,7 @@ pub use Rattle.mtapi_machine.proofs.Moves.{along, by_moves, moves_keep, rest_kee
 pub use Rattle.mtapi_machine.proofs.Replays.{answer-allowed}
 pub use Rattle.mtapi_machine.specs.GroupRows.{gives_end, gives_first, verdict}
 pub use Rattle.mtapi_machine.specs.KeyedRows.{Keyed, alters_one, creates_keyed, deletes, found, gets, keyed_mutexes, keyed_queues, keyed_rwls, keyed_segments, keyed_sems, looks_one, mrapi_unless}
-pub use Rattle.mtapi_machine.specs.Laws.{IsMade, MakesAction, StartsTask, WithdrawsAction, makes_kind}
+pub use Rattle.mtapi_machine.specs.Laws.{IsMade, MakesAction, StartsTask, WithdrawsAction}
 pub use Rattle.mtapi_machine.specs.Legal.{IsHonest, IsNext, NodeEntry, after, next, row_of}
 pub use Rattle.mtapi_machine.specs.Moves.{Fields, Groups, Move, Mutexes, Queues, Rwls, Segments, Sems, Sort, after_moves, all_of, alters, apply, enables, ends_task, ends_waiting, frees_members, is_fresh, is_served, leaves, lets_members_go, makes, makes_action, notes, phase_is, released, removes, runs_task, starts_task, stops, withdraws}
 pub use Rattle.mtapi_machine.specs.QueueRows.{new_queue}
@@ -63,7 +63,7 @@ pub use Rattle.mtapi_renaming.specs.Renaming.{Has, IsOneToOne, Renaming, with_pa
 pub use Rattle.mtapi_renaming.specs.Verdicts.{IsJudged, is_answer, is_honest, may_come, same_act, same_end, same_reply}
 pub use Rattle.mtapi_renaming.specs.Worked.{WorkedLasts, WorkedRefusals, WorkedRenaming, WorkedVerdicts}
 pub use Rattle.mtapi_values.specs.Conditions.{holds}
-pub use Rattle.mtapi_values.specs.Layouts.{names_kind, object_number}
+pub use Rattle.mtapi_values.specs.Layouts.{object_number}
 pub use Rattle.mtapi_values.specs.Statuses.{mrapi_number, mtapi_number}
 pub use Rattle.mtapi_values.specs.declared.ends.TaskEnd.{TaskEnd}
 pub use Rattle.mtapi_values.specs.declared.ends.TaskEnd.TheVariants.{Cancelled, Failed}

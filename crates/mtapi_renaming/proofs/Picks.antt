@@ -7,10 +7,6 @@ use Rattle.mtapi_renaming.proofs.Comes.{if_there}
 record OnlyTakes (own : Reply → Row) : Type 0 where
   takes : (t : TaskHandle) (a : ActionHandle) (k : Kind) (args : List ℤ) (r : Reply) → Allows (own (Picked t a k args)) (Picked t a k args) → Allows (own r) r → takes_task op.Pick r ≡ true
 
--- a reply that takes no task is another one
-other_reply : (t : TaskHandle) (a : ActionHandle) (k : Kind) (args : List ℤ) (y : Reply) → takes_task op.Pick y ≡ false → Picked t a k args ≡ y → ⊥
-other_reply t a k args y e i = grind arith
-
 unless_takes : {b : Bool} {y : Reply} {own : Reply → Row} → takes_task op.Pick y ≡ false → OnlyTakes own → OnlyTakes (λ r. unless b y (own r))
 unless_takes i j = grind (arith, nat_tests)
 

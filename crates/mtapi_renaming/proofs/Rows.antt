@@ -1,8 +1,7 @@
 -- The ways in which a row is made up: where its parts are alike in the renamed state, so is the whole.
-use Rattle.mtapi_renaming.proofs.Names.{arith, nat_tests, ◌≡◌, ◌↔◌, ℕ, Bool, true, false, List, [], ◌∷◌, Option, Some, None, refl, sym, ◌∙◌, ap, subst, ◌==◌, option_map, ObjectKind, TaskHandle, ActionHandle, MrapiStatus, TaskEnd, Kind, Listed, live_of, live_object, any_listed, first_handle, Action, Task, Reply, Handle, Given, Picked, State, actions, tasks, Move, Sort, Groups, Fields, all_of, Row, unless, gives, never, Allows, after_row, says, not_yet, only, live, on, chosen, Keyed, mrapi_unless, found, gets, alters_one, looks_one, deletes, Renaming, Has, IsOneToOne, Room, renamed_task, renamed, HasTask, NoHandle, Fits, renamed_answer}
+use Rattle.mtapi_renaming.proofs.Names.{arith, nat_tests, ◌≡◌, ◌↔◌, ℕ, Bool, true, false, List, [], ◌∷◌, Option, Some, None, refl, sym, ◌∙◌, ap, subst, ◌==◌, option_map, ObjectKind, MrapiStatus, Listed, live_of, live_object, any_listed, first_handle, Action, Task, Reply, Handle, Given, Picked, State, actions, tasks, Move, Sort, Groups, Fields, all_of, Row, unless, gives, never, Allows, after_row, says, not_yet, only, live, on, chosen, Keyed, mrapi_unless, found, gets, alters_one, looks_one, deletes, Renaming, Has, Room, renamed_task, renamed, HasTask, NoHandle, Fits, renamed_answer}
 use Rattle.std.specs.Prelude.{cond}
 use Rattle.mtapi_values.specs.declared.handles.ObjectKind.TheVariants as kind
-use Rattle.mtapi_renaming.proofs.Equality.{task_in, action_in}
 use Rattle.mtapi_renaming.proofs.Lists.{found-renamed, found-has, first-has, same_any, same_first}
 use Rattle.mtapi_renaming.proofs.Moves.{MovesRename, no_move, one_move, sort-list, sort-has, alters-renames, removes-renames}
 
@@ -29,28 +28,6 @@ plain-same g k y i = grind (arith, nat_tests)
 
 plain-has : (g : Renaming) (k : Option ObjectKind) (y : Reply) → is_plain y ≡ true → HasAnswer g k y
 plain-has g k y i = grind (arith, nat_tests)
-
-pub no_plain : (y z : Reply) → is_plain y ≡ true → z ≡ y → is_plain z ≡ false → ⊥
-no_plain y z p e f = let t : is_plain z ≡ true = subst (λ (w : Reply). is_plain w ≡ true) (sym e) p in absurd (cc)
-
--- no two replies become the same one
-plain_one : (g : Renaming) (k : Option ObjectKind) (y r : Reply) → is_plain y ≡ true → renamed_answer g k r ≡ y → r ≡ y
-plain_one g k y r i j = grind (arith, nat_tests)
-
-handle_one : (g : Renaming) → IsOneToOne g → (k : ObjectKind) (h : ℕ) (r : Reply) → Has g k h → renamed_answer g (Some k) r ≡ Handle (g k h) → r ≡ Handle h
-handle_one g i k h r j l = grind (arith, nat_tests)
-
-given_one : (g : Renaming) → IsOneToOne g → (k : Option ObjectKind) (t : TaskHandle) (end : TaskEnd) (r : Reply) → Has g kind.Task t.0 → renamed_answer g k r ≡ renamed_answer g k (Given t end) → r ≡ Given t end
-unfolding task_in
-given_one g i k t end r j l = grind (arith, nat_tests)
-
-picked_one : (g : Renaming) → IsOneToOne g → (k : Option ObjectKind) (t : TaskHandle) (a : ActionHandle) (x : Kind) (args : List _) (r : Reply) → Has g kind.Task t.0 → Has g kind.Action a.0 →
-    renamed_answer g k r ≡ renamed_answer g k (Picked t a x args) → r ≡ Picked t a x args
-unfolding task_in action_in
-picked_one g i k t a x args r j l m = grind (arith, nat_tests)
-
-reply_one : (g : Renaming) → IsOneToOne g → (k : Option ObjectKind) (y r : Reply) → HasAnswer g k y → renamed_answer g k r ≡ renamed_answer g k y → r ≡ y
-reply_one g i k y r j l = grind (arith, nat_tests)
 
 pub sort-invalid : (t : Sort) → is_plain (all_of t).invalid ≡ true
 sort-invalid Groups = refl

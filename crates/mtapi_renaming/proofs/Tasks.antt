@@ -1,5 +1,5 @@
 -- What is read of a task, and what its list becomes, once its handles are others.
-use Rattle.mtapi_renaming.proofs.Names.{nat_tests, ◌≡◌, ℕ, ◌+◌, Bool, ◌&&◌, cond, List, [], ◌∷◌, Option, refl, ap, ◌==◌, nat_lt, option_map, option_or, IfSome, ObjectKind, TaskEnd, holds, Listed, live_of, inside, Action, some_below, is_eligible, has_worker, Task, is_unended, end_of, ended, end_each, is_member, is_unended_member, Ending, insert, insert_ended, endings, fault_of, first_fault, is_in, is_unended_in, is_head, Renaming, Has, IsOneToOne, renamed_list, renamed_task, HasTask, NoHandle, HasEach, arith}
+use Rattle.mtapi_renaming.proofs.Names.{nat_tests, ◌≡◌, ℕ, ◌+◌, Bool, ◌&&◌, cond, List, [], ◌∷◌, Option, refl, ap, ◌==◌, option_map, option_or, IfSome, ObjectKind, TaskEnd, holds, Listed, live_of, inside, Action, some_below, is_eligible, has_worker, Task, is_unended, end_of, ended, end_each, is_member, is_unended_member, Ending, insert, insert_ended, endings, fault_of, first_fault, is_in, is_unended_in, is_head, Renaming, Has, IsOneToOne, renamed_list, renamed_task, HasTask, NoHandle, HasEach, arith}
 use Rattle.mtapi_values.specs.declared.handles.ObjectKind.TheVariants as kind
 use Rattle.handle_pool.specs.Inside.{turned as turned_one}
 use Rattle.mtapi_renaming.proofs.Lists.{same_any}

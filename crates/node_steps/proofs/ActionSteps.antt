@@ -68,10 +68,6 @@ enable_steps n q l who j a v up e new =
     (record { actions = holds_changed _ _ n.board.actions l.actions a.0 (with_enabled true) v.actions; tasks = v.tasks; groups = v.groups; queues = v.queues; resources = v.resources })
     refl (omega arith) tt)
 
--- an action that isn't live doesn't change
-job_absent : (o : Option Action) (c : MtapiStatus) → job_of o ≡ Err c → (o ≡ None) × (m.ErrActionInvalid ≡ c)
-job_absent o c e1 = grind (arith, nat_tests)
-
 pub action_absent : (n : Node) (l : Lists) (who : ℕ) (o : Op) (a : ActionHandle) (c : MtapiStatus) (f : Action → Action) → Live n l → job_of (slot_value n.board.actions a.0) ≡ Err c → IsHonest o → (live_object l.actions a.0 ≡ None → Gives (state_of n l) (row (state_of n l) who o (reply.Mtapi m.ErrActionInvalid)) (reply.Mtapi m.ErrActionInvalid) (state_of n l)) → Steps n l who o (reply.Mtapi c) (record n { board = record n.board { actions = changed n.board.actions a.0 f } })
 action_absent n l who o a c f e1 e2 e3 e4 = grind (arith, nat_tests)
 

@@ -2,7 +2,6 @@
 use Rattle.node_steps.proofs.Names.{◌≡◌, ◌≢◌, ℕ, ◌<◌, Bool, true, false, cond, List, [], ◌∷◌, Option, Some, None, refl, sym, ◌∙◌, ap, subst, inl, inr, arith, ◌==◌, ◌&&◌, ◌||◌, nat_lt, eqb_tells, nat_tests, TaskEnd, Slots, slot_value, with_value, without, NoneLive, Listed, live_of, lookup, live_object, any_live, any_listed, change, change_all, with_fields, gone, Distinct, any-none, any-live, has_handle, without_handle, Task, end_of, is_unended, with_notes, Ending, is_member, is_unended_member, insert, insert_ended, endings, freed, let_go, in_no_group, without_group, Members, no_members, RisesBy, AreKeyed, membership, members_in, end_in, BoardTable, IsBoard, is_ended_member, end_at, ending_of, endings_of, Each, frees, lets_go, has-self, or-right, unended-so, unended-member, ended-member, Holds}
 use Rattle.std.proofs.lemmas.Bool.{false≢true}
 use Rattle.handle_pool.specs.Stands.{Stands as SlotsStand}
-use Rattle.task_core.specs.Records.{number_in}
 use Rattle.task_board.proofs.KeyedLemmas.{keyed-same, keyed-leave}
 use Rattle.task_board.proofs.EachLemmas.{none-unended-left, none-left-in}
 use Rattle.node_steps.proofs.Moves.{found, holds_update, holds_change_and_remove}
@@ -98,9 +97,6 @@ pub holds_all_let_go : (size turns g : ℕ) (hs : List ℕ) (old new : Slots Tas
 holds_all_let_go size turns g = each-holds (is_member g) lets_go let_go size turns (λ q l h t s e passes. holds_let_go size turns q l h t s e) (λ r. and_false (r.live && is_unended r.fields) false refl)
 
 -- The order of ends
-
-key-task : (g : ℕ) (t : Task) → end_in g (membership (Some t)) ≡ cond (is_member g t) (number_in (end_of t.state)) None
-key-task g t = grind (arith, nat_tests)
 
 without-absent : (h : ℕ) (hs : List ℕ) → has_handle h hs ≡ false → without_handle h hs ≡ hs
 without-absent h [] off = refl

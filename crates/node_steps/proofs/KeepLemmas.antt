@@ -1,10 +1,9 @@
 -- What a board keeps is what the machine's state says.
-use Rattle.node_steps.proofs.Names.{nat_tests, ◌≡◌, ◌↔◌, ℕ, zero, suc, ◌^◌, ◌<◌, Bool, true, List, [], ◌∷◌, Option, Some, None, slice_get, refl, sym, ◌∙◌, ap, subst, arith, ◌&&◌, ◌==◌, is_none, map, holds, TaskHandle, TaskEnd, Slot, slot_of, slot_value, used_at, live_of, live_object, same_tests, list_at, has_handle, Task, TaskState, end_of, is_unstarted, is_unended, runs_on, Ending, is_member, is_unended_member, endings, is_unended_in, HeldQueue, Members, RisesBy, membership, members_in, start_in, end_at, ending_of, endings_of, Seen, seen, seen_in, InOrder, begins_in, BoardTable, IsBoard, running_on, some_same, seen-as, unstarted-seen, seen-live, takes-from, takes-to, has-self, or-right, order-index, Member, member-from, ended-so, unended-so, can_take, Node, Lists, Live, state_of, ListsByStart, Keeps}
+use Rattle.node_steps.proofs.Names.{nat_tests, ◌≡◌, ◌↔◌, ℕ, zero, suc, ◌^◌, ◌<◌, Bool, true, List, [], ◌∷◌, Option, Some, None, slice_get, refl, sym, ◌∙◌, ap, subst, arith, ◌&&◌, ◌==◌, map, holds, TaskHandle, TaskEnd, Slot, slot_of, slot_value, used_at, live_of, live_object, same_tests, list_at, has_handle, Task, end_of, is_unstarted, is_unended, runs_on, Ending, is_member, is_unended_member, endings, is_unended_in, HeldQueue, Members, RisesBy, membership, members_in, start_in, end_at, ending_of, endings_of, Seen, seen, seen_in, InOrder, begins_in, BoardTable, IsBoard, running_on, some_same, seen-as, unstarted-seen, seen-live, takes-from, takes-to, has-self, or-right, order-index, Member, member-from, ended-so, unended-so, can_take, Node, Lists, Live, state_of, ListsByStart, Keeps}
 use Rattle.std.proofs.lemmas.Option.{slice_get_within}
 use Rattle.handle_pool.proofs.WalkLemmas.{used_at-live, live-used_at}
 use Rattle.linked_places.proofs.NextLemmas.{index-has}
 use Rattle.ready_index.specs.Marks.{mark_at, is_for_at}
-use Rattle.task_core.specs.Records.{number_in}
 use Rattle.task_board.proofs.MarkLemmas.{same-number, number-same}
 use Rattle.task_board.proofs.RunningLemmas.{runs-seen, self}
 use Rattle.task_board.proofs.MemberLemmas.{end-tells}
@@ -31,10 +30,6 @@ rises-index key (x ∷ xs) zero zero h k a b o less e f c d = absurd (omega arit
 rises-index key (x ∷ xs) zero (suc j) h k a b o less e f c d = o.0 k a b (index-has k j xs f) (ap key (some_same e) ∙ c) d
 rises-index key (x ∷ xs) (suc i) zero h k a b o less e f c d = absurd (omega arith)
 rises-index key (x ∷ xs) (suc i) (suc j) h k a b o less e f c d = rises-index key xs i j h k a b o.1 (omega arith) e f c d
-
--- the number of a member that hasn't ended is that of its start
-none-number : (x : TaskState) → is_none (end_of x) ≡ true → number_in (end_of x) ≡ None
-none-number x e1 = grind (arith, nat_tests)
 
 unended-number : (g : ℕ) (t : Task) → is_member g t ≡ true → is_unended t ≡ true → start_in g (membership (Some t)) ≡ Some t.start
 unended-number g t e1 e2 = grind (arith, nat_tests)

@@ -43,9 +43,6 @@ unended-seen t Scheduled e u = record { s = _; is = ap (seen_as t) e; queue = re
 unended-seen t (Running w k) e u = record { s = _; is = ap (seen_as t) e; queue = refl; start = refl }
 unended-seen t (Ended y n) e u = false≢true (sym (ap (λ (z : TaskState). is_none (end_of z)) e) ∙ u)
 
-seen-unended : (t : Task) (x : TaskState) (s : Seen) → t.state ≡ x → seen (Some t) ≡ Some s → is_unended t ≡ true
-seen-unended t x s e1 e2 = grind (arith, nat_tests)
-
 pub is_in-named : (q : ℕ) (o : Option ℕ) → holds (λ h. h == q) o ≡ true → o ≡ Some q
 is_in-named q o e1 = grind (arith, nat_tests)
 

@@ -1,5 +1,5 @@
 -- A worker that wants one task and one action takes these wherever it may.
-use Rattle.node_steps.proofs.Names.{nat_tests, ◌≡◌, ℕ, ◌<◌, Bool, true, false, not, cond, List, [], ◌∷◌, Option, Some, None, refl, sym, ◌∙◌, ap, arith, ◌&&◌, nat_lt, ℤ, ActionHandle, TaskHandle, Kind, slot_value, live_object, any_listed, Action, is_eligible, Task, runs_on, Reply, State, workers, is_new, is_stop, actions, Row, unless, gives, never, only, live, chosen, Allows, is_ready, has_better, IsBoard, Choice, NoneBetter, IsChoice, IsBest, Node, MayPick, IsToward, Lists, Live, state_of}
+use Rattle.node_steps.proofs.Names.{nat_tests, ◌≡◌, ℕ, ◌<◌, Bool, true, false, not, List, [], ◌∷◌, Option, Some, None, refl, sym, ◌∙◌, ap, arith, ◌&&◌, nat_lt, ℤ, ActionHandle, TaskHandle, Kind, slot_value, live_object, any_listed, Action, is_eligible, Task, runs_on, Reply, State, workers, is_new, is_stop, actions, Row, unless, gives, never, only, live, chosen, Allows, is_ready, has_better, IsBoard, Choice, NoneBetter, IsChoice, IsBest, Node, MayPick, IsToward, Lists, Live, state_of}
 use Rattle.mtapi_values.specs.declared.statuses.MtapiStatus.TheVariants as m
 use Rattle.mtapi_machine.specs.declared.replies.Reply.TheVariants as reply
 use Rattle.mtapi_machine.specs.Moves.{runs_task as begins_task}
@@ -26,21 +26,12 @@ pub record CanPick (s : State) (w : ℕ) (t : TaskHandle) (a : ActionHandle) (k 
 past_one : (c : Bool) (x r : Reply) (w : Row) → (r ≡ x → ⊥) → Allows (unless c x w) r → (c ≡ false) × Allows w r
 past_one c x r w e1 e2 = grind (arith, nat_tests)
 
-past_else : (b : Bool) (u v : Row) (r : Reply) → (Allows u r → ⊥) → Allows (cond b u v) r → (b ≡ false) × Allows v r
-past_else b u v r e1 e2 = grind (arith, nat_tests)
-
 module _ (s : State) (w : ℕ) (t : TaskHandle) (a : ActionHandle) (k : Kind) (args : List ℤ) where
   abbrev told : Reply
   told = reply.Picked t a k args
 
   no_status : told ≡ reply.Mtapi m.ErrParameter → ⊥
   no_status e = cc
-
-  no_idle : told ≡ reply.Idle → ⊥
-  no_idle e = cc
-
-  no_stop : told ≡ reply.Stop → ⊥
-  no_stop e = cc
 
   abbrev tests : Task → Action → Bool
   tests x y = is_ready s x && is_eligible (workers s) w x.job x.cores y && not (has_better s w x.priority)

@@ -88,9 +88,6 @@ module _ (n : Node) (l : Lists) (who : ℕ) (t : TaskHandle) (v : Live n l) (w :
 
 -- Ending a watch
 
-watch_refused : (who : ℕ) (x : Task) (c : MtapiStatus) (f : Option MtapiStatus) → first (watch_end_refusals who x) ≡ f → unless_refused f (watch_end x) ≡ Err c → first (watch_end_refusals who x) ≡ Some c
-watch_refused who x c f e1 e2 = grind (arith, nat_tests)
-
 watch_told : (who : ℕ) (x : Task) (e : TaskEnd) (f : Option MtapiStatus) → first (watch_end_refusals who x) ≡ f → unless_refused f (watch_end x) ≡ Ok e → (first (watch_end_refusals who x) ≡ None) × (e ≡ watch_end x)
 watch_told who x e f e1 e2 = grind (arith, nat_tests)
 

@@ -1,6 +1,6 @@
 -- What parse says, and lists of numbers as loops read them.
 use Rattle.std.proofs.lemmas.Bool.Decides.{nat_tests}
-use Rattle.std.proofs.Common.{◌≡◌, ℕ, ℤ, ◌+◌, ◌^◌, ◌<◌, ◌≤◌, List, [], ◌∷◌, ◌++◌, Bool, true, false, cond, ◌&&◌, ◌||◌, not, ◌==◌, ◌⊎◌, length, get_or, drop, Option, Some, None, refl, sym, ap, ◌∙◌, arith, append_assoc, ltb, leb, pos, neg_ℤ, ◌-ℤ◌, ◌-◌, nat_le, nat_lt, ◌*◌, ◌%◌, lit<, add-one, suc, drop-cons}
+use Rattle.std.proofs.Common.{◌≡◌, ℕ, ℤ, ◌+◌, ◌^◌, ◌<◌, ◌≤◌, List, [], ◌∷◌, ◌++◌, Bool, true, false, cond, ◌&&◌, not, ◌==◌, ◌⊎◌, length, get_or, drop, Option, Some, None, refl, sym, ap, ◌∙◌, arith, append_assoc, ltb, leb, pos, neg_ℤ, ◌-ℤ◌, ◌-◌, nat_le, ◌*◌, ◌%◌, lit<, add-one, suc, drop-cons}
 use Rattle.std.specs.List.{list_all}
 use Rattle.std.specs.Char.{is_ascii_digit, digit_value}
 use Rattle.std.specs.Str.Parse.{digits_value, digits_value_after}
@@ -47,9 +47,6 @@ read_more n i text o lt h e =
     let k = rw (drop-cons text i 0 lt) at e in
     rw (add-one i) (sym (more n (get_or text i 0) (drop (suc i) text) h) ∙ k)
 
-pub read_stop : (n i : ℕ) (text : List ℕ) (o : Option ℕ) → i < length text → is_ascii_digit (get_or text i 0) ≡ false → read_from n (drop i text) ≡ o → None ≡ o
-read_stop n i text o e1 e2 e3 = grind (arith, nat_tests, drop-cons)
-
 pub read_over : (n i : ℕ) (text : List ℕ) (o : Option ℕ) → i < length text → is_ascii_digit (get_or text i 0) ≡ true → 2 ^ 64 ≤ n * 10 + (get_or text i 0 - 48) → read_from n (drop i text) ≡ o → None ≡ o
 read_over n i text o lt h le e = sym (large _ (drop (i + 1) text) le) ∙ read_more n i text o lt h e
 
@@ -63,14 +60,6 @@ not_begun a l c t x e1 = grind (arith, nat_tests)
 
 begun : {X : Type 0} (a l c t : Bool) (x : X) (o : Option X) → (a && c) ≡ true → o ≡ cond (l && t) (Some x) None → o ≡ cond ((a && l && c) && t) (Some x) None
 begun a l c t x o e1 e2 = grind (arith, nat_tests)
-
-pub number_begun : (text : List ℕ) (o : Option ℕ) → (nat_lt 0 (length text) && ((length text == 1) || not (slice_index text 0 == 48))) ≡ true → o ≡ read_from 0 text → o ≡ number text
-unfolding number
-number_begun text o h e = begun _ (list_all is_ascii_digit text) _ _ _ o h e
-
-pub number_unbegun : (text : List ℕ) → (nat_lt 0 (length text) && ((length text == 1) || not (slice_index text 0 == 48))) ≡ false → None ≡ number text
-unfolding number
-number_unbegun text h = not_begun _ (list_all is_ascii_digit text) _ _ _ h
 
 -- ---- numbers of i64
 
@@ -95,27 +84,9 @@ pub plain_none : (text : List ℕ) → None ≡ number text → none_at ≡ cond
 unfolding number
 plain_none text e1 = grind (arith, nat_tests)
 
-negative_fits : (n : ℕ) → n ≤ 2 ^ 63 → FitsSigned w64 (neg_ℤ (pos n))
-negative_fits n e1 = grind (arith, nat_tests)
-
-fits_negative : (n : ℕ) → FitsSigned w64 (neg_ℤ (pos n)) → n ≤ 2 ^ 63
-fits_negative n e1 = grind (arith, nat_tests)
-
-zero_minus : (n : ℕ) → pos 0 -ℤ pos n ≡ neg_ℤ (pos n)
-zero_minus n = grind (arith, nat_tests)
-
-negated : (n : ℕ) (r : Option ℤ) → SomeIff r (FitsSigned w64 (pos 0 -ℤ pos n)) (pos 0 -ℤ pos n) → r ≡ cond (leb n (2 ^ 63)) (Some (neg_ℤ (pos n))) None
-negated n r e1 = grind (arith, nat_tests)
-
 -- what a minus with these digits is
 abbrev pub negative_of : List ℕ → Option ℤ
 negative_of ds = cond (is_decimal ds && not (slice_index ds 0 == 48) && leb (digits_value 10 ds) (2 ^ 63)) (Some (neg_ℤ (pos (digits_value 10 ds)))) None
-
-no_fit : (d z : Bool) (x : ℤ) → none_at ≡ cond (d && z && false) (Some x) None
-no_fit d z x = grind (arith, nat_tests)
-
-no_case : (d t : Bool) (x : ℤ) → none_at ≡ cond (d && false && t) (Some x) None
-no_case d t x = grind (arith, nat_tests)
 
 pub negative_some : (ds : List ℕ) (n : ℕ) (r : Option ℤ) → (slice_index ds 0 == 48) ≡ false → Some n ≡ number ds → SomeIff r (FitsSigned w64 (pos 0 -ℤ pos n)) (pos 0 -ℤ pos n) → r ≡ negative_of ds
 unfolding number

@@ -24,9 +24,6 @@ dead-queue p q f g = ap (λ (o : Option HeldQueue). put p q (option_map f o)) g
 
 -- Handles that were given
 
-used-not_free : (generation other : ℕ) (x : HeldQueue) → used_slot generation x ≡ free_slot other → ⊥
-used-not_free generation other x e1 = grind (arith, nat_tests)
-
 -- the live handle's slot before
 was-live : (p : Slots HeldQueue) (h : ℕ) (x : HeldQueue) → slot_value p h ≡ Some x → (s : Slot HeldQueue) × (slice_get p.slots (slot_of h) ≡ Some s) × (s.generation ≡ generation_of h)
 was-live p h x g = let s = used_at_live (slice_get p.slots (slot_of h)) (generation_of h) x g in (s.0, s.1, s.2)

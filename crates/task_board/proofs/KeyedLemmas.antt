@@ -193,10 +193,6 @@ numbered key hs old = record { listed = λ h a e u. old.listed h a e; is_seen = 
 are-keyed : (key : ℕ → Option ℕ) (hs : List ℕ) → ListsBy (λ n. n) (λ n. Unit {0}) key hs → AreKeyed key hs
 are-keyed key hs new = record { listed = λ h a e. new.listed h a e tt; has_key = λ h e. let a = new.is_seen h e in (a.0, a.1); rises = new.ordered }
 
--- nothing has a number
-pub keyed-none : (key : ℕ → Option ℕ) → ((h : ℕ) → key h ≡ None) → AreKeyed key []
-keyed-none key none = record { listed = λ h a e. absurd (cc (none h)); has_key = λ h e. absurd (cc); rises = tt }
-
 -- the same numbers
 pub keyed-same : (key after : ℕ → Option ℕ) (hs : List ℕ) → ((h : ℕ) → after h ≡ key h) → AreKeyed key hs → AreKeyed after hs
 keyed-same key after hs same old = subst (λ (f : ℕ → Option ℕ). AreKeyed f hs) (sym (λ i h. same h i)) old

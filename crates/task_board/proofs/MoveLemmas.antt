@@ -1,6 +1,5 @@
 -- What is seen after each move of the tasks, and what the move keeps of a board.
-use Rattle.task_board.proofs.Names.{ListsBy, ◌≡◌, ◌≢◌, ℕ, zero, suc, ◌<◌, ◌≤◌, Bool, true, false, cond, List, [], ◌∷◌, ◌++◌, length, length-set, Option, Some, None, set, slice_get, refl, sym, ◌∙◌, ap, subst, inl, inr, arith, ◌==◌, ◌||◌, is_some, option_map, cases_eq, nat_tests, get_or-set_same, get_or-set_other, TaskEnd, TaskHandle, first, Slots, slot_of, generation_of, used_slot, slot_after, slot_value, max_of, Inserts, with_value, without, put, changed, get-with_value_same, get-with_value_other, get-insert_same, get-insert_other, get-without_same, get-without_other, list_at, has_handle, without_handle, stands_at, index-has, Mark, mark_at, is_for_at, Action, Task, TaskState, Ended, is_unended, Notes, with_state, with_notes, with_waiter, task_look_refusals, after_asked, waiter_after, TaskTable, ended_in, looked_in, Seen, seen_as, seen, seen_in, InOrder, begins_in, AreQueued, AreByJob, BoardTable, IsBoard, IsMarkOf, Marked, AreWaiting, AreRunning, AreRanked, AreStarted, running_on, GroupTable, members_in, AreMembers}
-use Rattle.task_board.specs.Seen.{Takes}
+use Rattle.task_board.proofs.Names.{ListsBy, ◌≡◌, ◌≢◌, ℕ, zero, suc, ◌<◌, Bool, true, false, cond, List, [], ◌∷◌, ◌++◌, length, length-set, Option, Some, None, set, slice_get, refl, sym, ◌∙◌, ap, subst, inl, inr, arith, ◌==◌, ◌||◌, is_some, option_map, cases_eq, nat_tests, get_or-set_same, get_or-set_other, TaskEnd, TaskHandle, first, Slots, slot_of, generation_of, used_slot, slot_after, slot_value, max_of, Inserts, with_value, without, put, changed, get-with_value_same, get-with_value_other, get-insert_same, get-insert_other, get-without_same, get-without_other, list_at, has_handle, without_handle, stands_at, index-has, Mark, mark_at, is_for_at, Action, Task, TaskState, Ended, is_unended, Notes, with_state, with_notes, with_waiter, task_look_refusals, after_asked, waiter_after, TaskTable, ended_in, looked_in, Seen, seen_as, seen, seen_in, InOrder, begins_in, AreQueued, AreByJob, BoardTable, IsBoard, IsMarkOf, Marked, AreWaiting, AreRunning, AreRanked, AreStarted, running_on, GroupTable, members_in, AreMembers}
 use Rattle.task_board.proofs.SeenLemmas.{some_same, seen-live}
 pub use Rattle.task_board.proofs.KeyedLemmas.{Put, put-by, put-same, has-self}
 use Rattle.task_board.proofs.KeyedLemmas.{lists-push, lists-leave, lists-aside}
@@ -153,10 +152,6 @@ mark-here marks place m less = get_or-set_same marks place m None less
 mark-away : (marks : List (Option Mark)) (place other : ℕ) (m : Option Mark) → other ≢ place → mark_at (set marks place m) other ≡ mark_at marks other
 mark-away marks place other m d = get_or-set_other marks place other m None d
 
--- the same task may be taken where its queue lets it begin as before
-takes-as : (actions : Slots Action) (lets now : Option ℕ → Bool) (w : ℕ) (s : Seen) → now s.queue ≡ lets s.queue → Takes actions lets w s → Takes actions now w s
-takes-as actions lets now w s e k = record { waits = k.waits; queue = e ∙ k.queue; core = k.core; action = k.action }
-
 -- the move lets no other handle begin, and keeps none from it
 unfoldable pub Steady : (ℕ → Option ℕ → Bool) → (ℕ → Option ℕ → Bool) → (ℕ → Option Seen) → ℕ → Type 0
 Steady lets now at h = (k : ℕ) (s : Seen) → k ≢ h → at k ≡ Some s → s.on ≡ None → now k s.queue ≡ lets k s.queue
@@ -175,9 +170,6 @@ marked-again actions lets now at h marks m steady one less right old = marked-pu
 
 pub ranked-put : (at after : ℕ → Option Seen) (h : ℕ) (x : Option Seen) (n : ℕ) → Put at h x after → ((s : Seen) → x ≡ Some s → s.priority < n) → AreRanked at n → AreRanked after n
 ranked-put at after h x n e1 e2 e3 = grind (arith, nat_tests)
-
-pub started-put : (at after : ℕ → Option Seen) (h : ℕ) (x : Option Seen) (m n : ℕ) → Put at h x after → ((s : Seen) → x ≡ Some s → s.start < n) → m ≤ n → AreStarted at m → AreStarted after n
-started-put at after h x m n e1 e2 e3 e4 = grind (arith, nat_tests)
 
 -- the waiting tasks
 

@@ -1,5 +1,5 @@
 -- What a board keeps where a member leaves its group.
-use Rattle.task_board.proofs.Names.{nat_tests, arith, ◌≡◌, ℕ, Bool, true, false, not, cond, List, [], ◌∷◌, Option, Some, None, Result, Ok, Err, IsSome, slice_get, refl, sym, ◌∙◌, ap, subst, inl, inr, IfSome, ◌==◌, is_none, eqb_tells, TaskEnd, GroupHandle, MtapiStatus, ErrGroupLimit, get-insert_before, Slots, slot_value, with_value, without, max_of, changed, has_handle, Task, TaskState, Ended, end_of, is_unended, is_member, number_in, without_group, TaskTable, IsLiveAnd, detached_in, Members, GroupTable, LiveAreUsed, Creates, delete_reply, no_members, rest_of, first_ended, first_unended, without_first, without_first_unended, seen, seen_in, without_members, Membership, membership, members_in, AreMembers, BoardTable, IsBoard, Leaves}
+use Rattle.task_board.proofs.Names.{nat_tests, arith, ◌≡◌, ℕ, Bool, true, false, not, cond, List, [], ◌∷◌, Option, Some, None, Result, Ok, Err, IsSome, slice_get, refl, sym, ◌∙◌, ap, subst, IfSome, is_none, TaskEnd, GroupHandle, MtapiStatus, ErrGroupLimit, get-insert_before, Slots, slot_value, with_value, without, max_of, changed, has_handle, Task, TaskState, Ended, end_of, is_unended, is_member, number_in, without_group, TaskTable, IsLiveAnd, detached_in, Members, GroupTable, LiveAreUsed, Creates, delete_reply, no_members, rest_of, first_ended, first_unended, without_first, without_first_unended, seen, seen_in, without_members, Membership, membership, members_in, AreMembers, BoardTable, IsBoard, Leaves}
 use Rattle.std.specs.Prelude.{OnOk}
 use Rattle.task_core.specs.Records.{end_in as end_told}
 use Rattle.task_board.specs.GroupMoves.{Takes}
@@ -39,9 +39,6 @@ pub record Member (p : Slots Task) (g h : ℕ) (e : Option ℕ) : Type 0 where
   pub group : t.notes.group ≡ Some g
   pub member : is_member g t ≡ true
   pub end : number_in (end_of t.state) ≡ e
-
-test-self : (g : ℕ) → (g == g) ≡ true
-test-self g = elim (eqb_tells g g) [ inl same ↦ same.0 | inr apart ↦ absurd (apart.1 refl) ]
 
 pub member-from : (p : Slots Task) (g h : ℕ) (e : Membership) → members_in p h ≡ Some e → e.group ≡ g → Member p g h e.end
 member-from p g h e e1 e2 = grind (arith, nat_tests)

@@ -1,5 +1,5 @@
 -- Marks made anew for the waiting tasks of one job.
-use Rattle.task_board.proofs.Names.{nat_tests, ◌≡◌, ◌≢◌, ◌⊎◌, ℕ, zero, suc, ◌<◌, ◌+◌, Bool, true, List, [], ◌∷◌, length, length-set, Option, Some, None, set, slice_get, sym, ◌∙◌, ap, subst, inl, inr, arith, ◌==◌, cases_eq, get_or-set_same, get_or-set_other, slice_get_within, Kind, Slots, slot_of, slot_value, max_of, Inserts, changed, put, with_value, without, slot_of-live, get-with_value_same, get-with_value_other, get-insert_same, get-insert_before, get-insert_other, get-without_same, get-without_other, option_map, has_handle, has-index, index-has, Mark, ReadyMarks, mark_at, is_for_at, Action, has_enabled_job, new_action, with_enabled, SomeLive, runs_job_on, IsUnion, Passes, Task, Seen, seen_in, AreSeen, IsMarkOf, Marked, IsFresh, IsFreshFor, StandsBefore, Remarked}
+use Rattle.task_board.proofs.Names.{nat_tests, ◌≡◌, ◌≢◌, ◌⊎◌, ℕ, zero, suc, ◌<◌, ◌+◌, Bool, true, List, [], ◌∷◌, length, length-set, Option, Some, None, set, slice_get, sym, ◌∙◌, ap, subst, inl, inr, arith, ◌==◌, cases_eq, get_or-set_same, get_or-set_other, slice_get_within, Kind, Slots, slot_of, slot_value, max_of, Inserts, changed, put, with_value, without, slot_of-live, get-with_value_same, get-with_value_other, get-insert_same, get-insert_before, get-insert_other, get-without_same, get-without_other, option_map, has_handle, has-index, index-has, Mark, ReadyMarks, mark_at, is_for_at, Action, has_enabled_job, new_action, with_enabled, runs_job_on, IsUnion, Task, Seen, seen_in, AreSeen, IsMarkOf, Marked, IsFresh, IsFreshFor, StandsBefore, Remarked}
 use Rattle.task_board.specs.Seen.{Takes}
 use Rattle.task_board.proofs.SeenLemmas.{some_same, seen-live}
 use Rattle.task_board.proofs.MarkLemmas.{and_left, and_right, same-number}
@@ -91,12 +91,6 @@ same-without p h job x e1 e2 = grind (arith, nat_tests, cases_eq, some_same, slo
 runs-job : (job w : ℕ) (a : Action) → runs_job_on job w a ≡ true → a.job ≡ job
 runs-job job w a r = same-number a.job job (and_right a.enabled (a.job == job) (and_left (has_enabled_job job a) _ r))
 
-takes-there : (job : ℕ) (old new : Slots Action) (lets now : Option ℕ → Bool) (w : ℕ) (s : Seen) → SameBut job old new → (s.job ≡ job → ⊥) → now s.queue ≡ lets s.queue → Takes old lets w s → Takes new now w s
-takes-there job old new lets now w s e1 e2 e3 e4 = grind (arith, nat_tests)
-
-takes-back : (job : ℕ) (old new : Slots Action) (lets now : Option ℕ → Bool) (w : ℕ) (s : Seen) → SameBut job old new → (s.job ≡ job → ⊥) → now s.queue ≡ lets s.queue → Takes new now w s → Takes old lets w s
-takes-back job old new lets now w s e1 e2 e3 e4 = grind (arith, nat_tests)
-
 -- the same workers may take the task
 pub record TakenBy (old new : Slots Action) (lets now : Option ℕ → Bool) (s : Seen) : Type 0 where
   pub there : (w : ℕ) → Takes old lets w s → Takes new now w s
@@ -147,10 +141,6 @@ marked-anew old new lets now p job hs was after others done m = record {
         done.fresh i.0 h s (slice_get_within hs i.0 h i.1) i.1 e j
 
 -- The same cores
-
--- a worker that had an action of the job has one, where the actions cover the cores that they covered
-runs-over : (job mask w : ℕ) (old new : Slots Action) → IsUnion old job mask → IsUnion new job mask → SomeLive (slot_value old) (Passes (runs_job_on job w)) → SomeLive (slot_value new) (Passes (runs_job_on job w))
-runs-over job mask w old new e1 e2 e3 = grind (arith, nat_tests)
 
 takes-over : (job mask : ℕ) (old new : Slots Action) (lets : Option ℕ → Bool) (w : ℕ) (s : Seen) → SameBut job old new → IsUnion old job mask → IsUnion new job mask → Takes old lets w s → Takes new lets w s
 takes-over job mask old new lets w s e1 e2 e3 e4 = grind (arith, nat_tests)

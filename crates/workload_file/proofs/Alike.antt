@@ -53,9 +53,6 @@ comment_adds r line n text plain = plain_adds r line (replicate n 32 ++ 35 ∷ t
 
 -- ---- spaces
 
-onto_append : (x : ℕ) (ps qs : List (List ℕ)) → 1 ≤ length ps → onto_first x (ps ++ qs) ≡ onto_first x ps ++ qs
-onto_append x ps qs e1 = grind (arith, nat_tests)
-
 cut_append : (ends : Bool) (x : ℕ) (ps qs : List (List ℕ)) → 1 ≤ length ps → cond ends ([] ∷ (ps ++ qs)) (onto_first x (ps ++ qs)) ≡ cond ends ([] ∷ ps) (onto_first x ps) ++ qs
 cut_append ends x ps qs e1 = grind (arith, nat_tests)
 

@@ -30,9 +30,6 @@ none_some x e = cc
 pub at_line_ok : {A : Type 0} (line : ℕ) (x : Result A Cause) (y : A) → at_line line x ≡ Ok y → x ≡ Ok y
 at_line_ok line x y e1 = grind (arith, nat_tests)
 
-unless_ok : {A : Type 0} (o : Option Cause) (x y : A) → unless o x ≡ Ok y → (o ≡ None) × (x ≡ y)
-unless_ok o x y e1 = grind (arith, nat_tests)
-
 cond_none : (b : Bool) (c : Cause) (o : Option Cause) → cond b (Some c) o ≡ None → (b ≡ false) × (o ≡ None)
 cond_none b c o e1 = grind (arith, nat_tests)
 
@@ -44,9 +41,6 @@ is_sound given.Bad = false
 is_sound given.Missing = false
 is_sound given.Unbound = false
 is_sound _ = true
-
-one_sound : (v : Value) → is_bad v ≡ false → is_missing v ≡ false → names_nothing v ≡ false → is_sound v ≡ true
-one_sound v e1 e2 e3 = grind (arith, nat_tests)
 
 all_sound : (vs : List Value) → list_any is_bad vs ≡ false → list_any is_missing vs ≡ false → list_any names_nothing vs ≡ false → list_all is_sound vs ≡ true
 all_sound [] b m u = refl

@@ -75,9 +75,6 @@ printable_lacks text h = All-from_recursion (λ (b : ℕ). eqb b 10 ≡ false) t
 
 -- ---- the words of a line
 
-onto_inner : (b : ℕ) (parts : List (List ℕ)) → is_inner b ≡ true → list_all (λ w. list_all is_inner w) parts ≡ true → list_all (λ w. list_all is_inner w) (onto_first b parts) ≡ true
-onto_inner b parts e1 e2 = grind (arith, nat_tests)
-
 -- one byte more, which ends a piece or stands before the first one
 one_more : (b : ℕ) (parts : List (List ℕ)) (ends : Bool) → (ends ≡ false → is_inner b ≡ true) → list_all (λ w. list_all is_inner w) parts ≡ true → list_all (λ w. list_all is_inner w) (cond ends ([] ∷ parts) (onto_first b parts)) ≡ true
 one_more b parts ends e1 e2 = grind (arith, nat_tests)
