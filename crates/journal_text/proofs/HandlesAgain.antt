@@ -8,14 +8,8 @@ dash_no_handle = refl
 
 -- ---- decimal numbers
 
-digit_low : (b : ℕ) → is_ascii_digit b ≡ true → b ≤ 57
-digit_low b h = leb-true b 57 (and_parts (nat_le 48 b) (nat_le b 57) h).1
-
 pub digit_high : (b : ℕ) → is_ascii_digit b ≡ true → 48 ≤ b
 digit_high b h = leb-true 48 b (and_parts (nat_le 48 b) (nat_le b 57) h).0
-
-no_letter : (b : ℕ) → b ≤ 57 → kind_lettered b ≡ None
-no_letter b e1 = grind (arith, nat_tests)
 
 digits_number : (text : List ℕ) → list_all is_ascii_digit text ≡ true → handle_of text ≡ number text
 unfolding handle_of number

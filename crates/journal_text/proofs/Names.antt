@@ -1,5 +1,4 @@
 -- The names that the proofs of this crate cite, passed on from one place. Declares nothing.
-pub use Rattle.action_fn.specs.Answers.{Answered, IsAnswered}
 pub use Rattle.journal_text.specs.Fits.{AllPartsFit, AreArgs, EntriesFit, EntryFits, HasPlace, HeadFits, IsWritable, JournalFits, ValueFits}
 pub use Rattle.journal_text.specs.Handles.{generation, handle_led, kind_letter, kind_lettered, kind_numbered, named_text, object_kinds, slot}
 pub use Rattle.journal_text.specs.Heads.{first_texts, has_callers, last_texts, or_else, setting_text, usual_settings, version}

@@ -1,5 +1,5 @@
 -- What the calls of a mailer answer follows from the rows of their ops.
-use Rattle.mcapi_msg.proofs.Names.{◌≡◌, ◌≢◌, ◌⊎◌, ℕ, ◌+◌, ◌<◌, Bool, true, false, List, [], ◌∷◌, ◌++◌, Option, Some, Result, Ok, Err, inl, inr, refl, sym, ◌∙◌, ap, subst, arith, IfOk, OnErr, MatchOption, ◌==◌, nat_tests, entry, live_object, first_handle, pends, Looked, EndpointHandle, Waiting, MsgOp, MsgReply, MsgStatus, has_port, next_of, State, opening, Row, unless, gives, never, says, only, given, Allows, row, nothing, MsgEntry, IsNext, Legal, Seat, is_spent, Done, Names, Hands, state_at, IsAnswer, AnsweredBy, Called, look_for, Looks, RanOut, Received, TimedOut}
+use Rattle.mcapi_msg.proofs.Names.{◌≡◌, ◌≢◌, ◌⊎◌, ℕ, ◌+◌, Bool, true, false, List, [], ◌∷◌, ◌++◌, Option, Result, Ok, Err, inl, inr, refl, sym, ◌∙◌, ap, subst, arith, IfOk, OnErr, nat_tests, entry, live_object, first_handle, pends, Looked, EndpointHandle, Waiting, MsgOp, MsgReply, MsgStatus, has_port, next_of, State, opening, Row, unless, gives, never, says, only, given, Allows, row, nothing, MsgEntry, IsNext, Legal, Seat, is_spent, Done, Names, Hands, state_at, IsAnswer, AnsweredBy, Called, look_for, Looks, RanOut, Received, TimedOut}
 use Rattle.std.proofs.lemmas.Result.{IfOk-weaker}
 use Rattle.handle_pool.specs.Issued.{live_of}
 use Rattle.turn_looks.specs.Turns.{SameSeat, Turned, Unturned}
@@ -138,16 +138,6 @@ received h limit old new y x e1 e2 e3 = grind (arith, nat_tests, looks)
 
 same_status : {A : Type 0} (c d : MsgStatus) → ◌≡◌ {A = Result A MsgStatus} (Err c) (Err d) → c ≡ d
 same_status c d k = cc
-
--- a Timeout is said by the last look alone, and not for want of tickets
-timeout_said : (r : MsgReply) (x : Result (ℕ × ℕ × List ℕ) MsgStatus) → Hands r x → x ≡ Err status.Timeout → r ≡ reply.Refused status.Timeout
-timeout_said r x e1 e2 = grind (arith, nat_tests)
-
-all_looks : (limit : Option ℕ) (pending : ℕ) (last : Bool) → last ≡ true → MatchOption limit (last ≡ false) (λ n. (pending < n) × (last ≡ (pending + 1 == n))) → limit ≡ Some (pending + 1)
-all_looks limit pending last e1 e2 = grind (arith, nat_tests)
-
-timed_out : (h : EndpointHandle) (limit : Option ℕ) (old new : Seat) (x : Result (ℕ × ℕ × List ℕ) MsgStatus) → Looks h limit old new x → x ≡ Err status.Timeout → TimedOut h limit old new
-timed_out h limit old new x e1 e2 = grind (arith, nat_tests)
 
 pub timeout_of : (h : EndpointHandle) (limit : Option ℕ) (old new : Seat) (x : Result (ℕ × ℕ × List ℕ) MsgStatus) → Received h limit old new x → x ≡ Err status.Timeout → TimedOut h limit old new
 timeout_of h limit old new x e1 e2 = grind (arith, nat_tests)

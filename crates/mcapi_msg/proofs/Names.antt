@@ -27,5 +27,5 @@ pub use Rattle.std.proofs.lemmas.Bool.{cases_eq, eq-eqb, eqb-true}
 pub use Rattle.std.proofs.lemmas.Bool.Decides.{nat_tests}
 pub use Rattle.std.proofs.lemmas.List.{append-nil, length-replicate}
 pub use Rattle.std.specs.Option.{option_copied_mut}
-pub use Rattle.std.specs.Prelude.{IfOk, MatchOption, OnErr, nat_le, nat_lt, option_copied, ◌==◌}
+pub use Rattle.std.specs.Prelude.{IfOk, OnErr, nat_le, nat_lt, option_copied, ◌==◌}
 pub use Rattle.turn_looks.specs.Looks.{Looked, pends}
