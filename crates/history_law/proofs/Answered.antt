@@ -1,5 +1,5 @@
--- Tests, and what follows where they hold and where they don't.
-use Rattle.history_law.proofs.Names.{nat_tests, arith, ◌≡◌, Bool, true, false, cond, Some, None, refl, ◌||◌}
+-- What holds after an entry whose reply passes a test.
+use Rattle.history_law.proofs.Names.{nat_tests, arith, ◌≡◌, Bool, true, false, cond, List, [], Option, Some, None, refl, sym, ◌∙◌, ap, subst, ◌||◌, Reply, Move, Row, unless, gives, never, Allows, live, moves_of, AllGives}
 
 pub true_false : {A : Type 0} {b : Bool} → b ≡ true → b ≡ false → A
 true_false e f = absurd (cc)
@@ -27,3 +27,35 @@ second_false a b e1 = grind (arith, nat_tests)
 pub none_first : (a b : Bool) → cond a true b ≡ false → (a ≡ false) × (b ≡ false)
 none_first true b e = true_false refl e
 none_first false b e = (refl, e)
+
+pub gives_cond : (Q : Reply → List Move → Type 0) (b : Bool) (v w : Row) → (b ≡ true → AllGives Q v) → (b ≡ false → AllGives Q w) → AllGives Q (cond b v w)
+gives_cond Q true v w g h = g refl
+gives_cond Q false v w g h = h refl
+
+module _ (p : Reply → Bool) where
+  -- no refusal of the row passes
+  abbrev pub NoRefusal : Row → Type 0
+  NoRefusal (unless b x w) = (p x ≡ false) × NoRefusal w
+  NoRefusal (gives x ms) = Unit {0}
+  NoRefusal never = Unit {0}
+
+  pub answered_by : (P : Reply → List Move → Type 0) (w : Row) (r : Reply) → p r ≡ true → NoRefusal w → AllGives (λ x ms. p x ≡ true → P x ms) w → Allows w r → P r (moves_of w)
+  answered_by P (unless true x w) r i n g a = true_false (ap p (sym a) ∙ i) n.0
+  answered_by P (unless false x w) r i n g a = answered_by P w r i n.1 (g refl) a
+  answered_by P (gives x ms) r i n g a = subst (λ (y : Reply). P y ms) (sym a) (g (ap p (sym a) ∙ i))
+  answered_by P never r i n g a = absurd a
+
+  pub answered : (P : List Move → Type 0) (w : Row) (r : Reply) → p r ≡ true → NoRefusal w → AllGives (λ x ms. p x ≡ true → P ms) w → Allows w r → P (moves_of w)
+  answered P w r i n g a = answered_by (λ x ms. P ms) w r i n g a
+
+  pub no_live : {T : Type 0} (x : Option T) (v : Row) (w : T → Row) → NoRefusal v → ((t : T) → NoRefusal (w t)) → NoRefusal (live x v w)
+  no_live None v w g h = g
+  no_live (Some t) v w g h = h t
+
+  pub no_cond : (b : Bool) (v w : Row) → NoRefusal v → NoRefusal w → NoRefusal (cond b v w)
+  no_cond true v w g h = g
+  no_cond false v w g h = h
+
+  -- a reply that doesn't pass comes with no move
+  abbrev pub Quiet : Reply → List Move → Type 0
+  Quiet r ms = p r ≡ false → ms ≡ []

@@ -28,3 +28,6 @@ pub mod Sorts
 pub mod Quiet
 pub mod WorkerTurns
 pub mod Causes
+pub mod RowReplies
+pub mod RowRest
+pub mod Unmoved

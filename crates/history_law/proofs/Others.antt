@@ -2,7 +2,8 @@
 use Rattle.history_law.proofs.Names.{◌≡◌, ◌≢◌, ℕ, zero, suc, Bool, true, false, cond, List, [], ◌∷◌, Some, None, refl, sym, ◌∙◌, ap, subst, arith, ◌==◌, ◌&&◌, not, slice_set, nat_tests, TaskEnd, marked, holds, Op, Reply, Failed, Terms, Listed, live_object, count_listed, change, with_fields, gone, is_member, in_no_group, freed, let_go, Task, Notes, with_notes, TaskState, Scheduled, Running, Ended, runner, runs_on, is_unstarted, is_unended, with_state, ended, new_task, State, opening, NodeEntry, next, LegalFrom, Legal, after_from, after, end_in, end_at, moves_phase, is_release, is_late_end, IsWaiter, Waits, OnceListed, Work, RunsWith, IsUntouched, Others, WorkerKeeps, NoPhase, NoRelease, Move, phase_is, released, stops, starts_task, runs_task, ends_task, ends_waiting, withdraws, notes, leaves, frees_members, lets_members_go, apply, after_moves, fst_true, snd_true, not_true, rest_keeps, some_same, and-false, eq-eqb, Answers, IsNext}
 use Rattle.history_law.proofs.Reuse.{terms_next}
 use Rattle.history_law.proofs.SeatMoves.{Noted, May, MayEnd, is_any_look, by_moves, answer, kept_along}
-use Rattle.history_law.proofs.TaskMoves.{IsKept, every_moved, StaysLive, found_moved, same_found}
+pub use Rattle.history_law.proofs.TaskMoves.{same_found}
+use Rattle.history_law.proofs.TaskMoves.{IsKept, every_moved, StaysLive, found_moved}
 use Rattle.mtapi_machine.specs.Answers as is
 use Rattle.history_law.proofs.Moves.{once_along, once_from}
 use Rattle.history_law.proofs.lists.Members.{AllOf, IsEnding, all_endings}
@@ -172,7 +173,7 @@ pub record InTime (t : Task) : Type 0 where
 time_kept : (who : ℕ) (o : Op) → IsKept InTime who o
 time_kept who o = grind (arith, nat_tests)
 
-time_after : (s : State) (L : List NodeEntry) → LegalFrom s L → Every InTime s.tasks → Every InTime (after_from s L).tasks
+pub time_after : (s : State) (L : List NodeEntry) → LegalFrom s L → Every InTime s.tasks → Every InTime (after_from s L).tasks
 time_after s L l v = kept_along (λ t. Every InTime t.tasks) (λ t e i. by_moves (λ u. Every InTime u.tasks) t e i (every_moved InTime e.who e.op (time_kept e.who e.op))) s L l v
 
 -- so does the end in the first record under a handle

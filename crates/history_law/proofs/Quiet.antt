@@ -1,5 +1,5 @@
 -- In a quiet history a task ends as the kind of an action of its job answers.
-use Rattle.history_law.proofs.Names.{nat_tests, arith, ◌≡◌, ℕ, Bool, true, false, List, [], ◌∷◌, Some, refl, sym, ◌∙◌, ap, ◌&&◌, nat_lt, int_eq, pointwise, eqb-true, Decides-int_eq, slice_eq-Decides, in_mask, Kind, TaskEnd, Cancelled, is_pure, answer_of, Answered, IsAnswered, Listed, live_object, issue, change, with_fields, gone, Action, with_enabled, has_enabled_job, is_eligible, Task, TaskState, Scheduled, Running, Ended, runs_as, kind_number, is_unstarted, with_state, with_notes, is_member, freed, let_go, Queue, is_shut_in, Op, Reply, Terms, State, opening, workers, Move, Queues, makes_action, enables, withdraws, starts_task, runs_task, ends_task, ends_waiting, notes, leaves, frees_members, lets_members_go, makes, alters, removes, apply, after_moves, task_end, NodeEntry, IsNext, IsHonest, next, LegalFrom, after_from, IsMade, MakesAction, WithdrawsAction, EndsTask, AltersObject, is_pick, ends_many, makes_kind, end_in, some_same, fst_true, snd_true, by_moves, is_quiet, AreQuiet, HasPure, task_at, IsPlain, QuietTasksEndPlainly, ℤ, Answers}
+use Rattle.history_law.proofs.Names.{nat_tests, arith, ◌≡◌, ℕ, Bool, true, false, List, [], ◌∷◌, Some, refl, sym, ◌∙◌, ap, ◌&&◌, nat_lt, int_eq, pointwise, eqb-true, Decides-int_eq, slice_eq-Decides, in_mask, Kind, TaskEnd, Cancelled, is_pure, answer_of, Answered, IsAnswered, Listed, live_object, issue, change, with_fields, gone, Action, with_enabled, has_enabled_job, is_eligible, Task, TaskState, Scheduled, Running, Ended, runs_as, kind_number, is_unstarted, with_state, with_notes, is_member, freed, let_go, Queue, is_shut_in, Op, Reply, Terms, State, opening, workers, Move, Queues, makes_action, enables, withdraws, starts_task, runs_task, ends_task, ends_waiting, notes, leaves, frees_members, lets_members_go, makes, alters, removes, apply, after_moves, task_end, NodeEntry, IsNext, IsHonest, next, LegalFrom, after_from, IsMade, MakesAction, WithdrawsAction, EndsTask, AltersObject, is_pick, ends_many, makes_kind, end_in, some_same, fst_true, snd_true, by_moves, is_quiet, AreQuiet, HasPure, task_at, IsPlain, QuietTasksEndPlainly, ℤ, Answers, not, not_false}
 use Rattle.mtapi_values.specs.declared.kinds.Kind.TheVariants as kind
 use Rattle.mtapi_machine.specs.declared.ops.Op.TheVariants as op
 use Rattle.history_law.proofs.Answered.{true_false, whether}
@@ -132,8 +132,8 @@ same_args : (xs ys : List ℤ) → pointwise int_eq xs ys ≡ true → xs ≡ ys
 same_args xs ys e = (slice_eq-Decides Decides-int_eq xs ys (pointwise int_eq xs ys) refl).0 e
 
 -- no task runs as another kind
-none_impure : (s : State) (who t : ℕ) (k : Kind) (x : Task) → IsCalm s → is_pure k ≡ false → HasTask s who t x k → ⊥
-none_impure s who t k x v n h = true_false (running s.actions who k x (every_at (Goes s.actions) s.tasks t x v.goes h.found) h.runs).pure n
+pub none_impure : (s : State) (who t : ℕ) (k : Kind) (x : Task) → IsCalm s → is_pure k ≡ false → live_object s.tasks t ≡ Some x → not (runs_as who k x) ≡ false → ⊥
+none_impure s who t k x v n e m = true_false (running s.actions who k x (every_at (Goes s.actions) s.tasks t x v.goes e) (not_false _ m)).pure n
 
 none_shut : (queues : List (Listed Queue)) (t : Task) → Every IsOn queues → is_shut_in queues t ≡ false
 none_shut queues t e1 = grind (arith, nat_tests, live_object, every_at)
@@ -151,12 +151,12 @@ by_answer s who _ _ _ i v n (is.idles a) = v
 by_answer s who _ _ _ i v n (is.stops_worker a b c) = v
 by_answer s who _ _ _ i v n (is.picks t a x y b c e d j k l) = takes s who t.0 a.0 x y v e d k
 by_answer s who _ _ _ i v n (is.finishes t d x k u) = grind (arith, nat_tests, ends, running, every_at, same_args, snd_true)
-by_answer s who _ _ _ i v n (is.ends_watch t x k u) = absurd (none_impure s who t.0 kind.Watch x v refl k)
-by_answer s who _ _ _ i v n (is.tally_ends_failed t x k f) = absurd (none_impure s who t.0 kind.Tally x v refl k)
-by_answer s who _ _ _ i v n (is.tally_ends t x y z k f d a b) = absurd (none_impure s who t.0 kind.Tally x v refl k)
+by_answer s who _ _ _ i v n (is.ends_watch t x k u) = absurd (none_impure s who t.0 kind.Watch x v refl k.found (ap not k.runs))
+by_answer s who _ _ _ i v n (is.tally_ends_failed t x k f) = absurd (none_impure s who t.0 kind.Tally x v refl k.found (ap not k.runs))
+by_answer s who _ _ _ i v n (is.tally_ends t x y z k f d a b) = absurd (none_impure s who t.0 kind.Tally x v refl k.found (ap not k.runs))
 by_answer s who _ _ _ i v n _ = true_false n refl
 
-calm_next : (s : State) (e : NodeEntry) → IsNext s e → is_quiet e.op ≡ true → IsCalm s → IsCalm (next s e)
+pub calm_next : (s : State) (e : NodeEntry) → IsNext s e → is_quiet e.op ≡ true → IsCalm s → IsCalm (next s e)
 calm_next s e i q v = whether (is_special e.op) (λ n. by_answer s e.who e.op e.reply _ i.honest v n (answer s e i)) (λ n. by_moves IsCalm s e (λ t m a c. calm_move e.op q n t m a c) v)
 
 pub calm_along : (s : State) (L : List NodeEntry) → LegalFrom s L → AreQuiet L → IsCalm s → IsCalm (after_from s L)

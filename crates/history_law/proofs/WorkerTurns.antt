@@ -1,11 +1,13 @@
 -- What a worker's pick and finish do to its task.
-use Rattle.history_law.proofs.Names.{row, ◌≡◌, ℕ, ◌<◌, Bool, true, false, cond, List, Some, refl, sym, ◌∙◌, ap, subst, arith, ◌==◌, ◌&&◌, int_eq, pointwise, entry, holds, Kind, TaskEnd, Answered, eq-eqb, Decides-int_eq, slice_eq-Decides, Reply, Ok, Picked, Idle, Stop, live_object, count_listed, any_listed, change, with_fields, Task, TaskState, Running, runner, runs_on, runs_as, kind_number, is_unstarted, with_state, no_tally, ended, State, workers, tasks, changed, Allows, task_end, IsNext, next, at-update, Work, RunsWith, Holds, Free, IsUntouched, and-false, ℤ, Answers, Move, Op, after_moves, moves_of, nat_tests, row}
+use Rattle.history_law.proofs.Names.{row, ◌≡◌, ℕ, ◌<◌, Bool, true, false, cond, List, Some, refl, sym, ◌∙◌, ap, subst, arith, ◌==◌, ◌&&◌, int_eq, pointwise, entry, holds, Kind, TaskEnd, Answered, eq-eqb, Decides-int_eq, slice_eq-Decides, Reply, Ok, Picked, Idle, Stop, live_object, count_listed, any_listed, change, with_fields, Task, TaskState, Running, runner, runs_on, runs_as, kind_number, is_unstarted, with_state, no_tally, ended, State, workers, tasks, changed, Allows, task_end, IsNext, next, at-update, Work, RunsWith, Holds, Free, IsUntouched, and-false, ℤ, Answers, Move, Op, after_moves, moves_of, nat_tests, row, Row, unless, says, live, Mtapi, not, nat_lt, Option, None}
 use Rattle.history_law.proofs.Others.{runs_scheduled}
 use Rattle.mtapi_machine.specs.declared.ops.Op.TheVariants as op
 use Rattle.history_law.proofs.lists.Found.{count_changed, count_none}
 use Rattle.history_law.proofs.Answered.{true_false}
 use Rattle.history_law.proofs.SeatMoves.{answer, ready_unstarted}
 use Rattle.mtapi_machine.specs.Answers as is
+use Rattle.history_law.proofs.RowRest.{Goes, pass, goes_then, small_not}
+use Rattle.mtapi_values.specs.declared.statuses.MtapiStatus.TheVariants as m
 
 -- each task that hasn't begun is untouched
 abbrev pub Untouched : State → Type 0
@@ -74,6 +76,21 @@ ends_free s w h x v e n =
 
 pub same_list : (xs ys : List ℤ) → ys ≡ xs → pointwise int_eq xs ys ≡ true
 same_list xs ys e = (slice_eq-Decides Decides-int_eq xs ys (pointwise int_eq xs ys) refl).1 (sym e)
+
+-- the row of the live object
+found_goes : (s : State) (x : Option Task) (t : Task) (i : Row) (r : Reply) (f : Task → Row) → x ≡ Some t → Allows (live x i f) r → Goes s (live x i f) r (f t)
+found_goes s (Some y) t i r f e a = subst (λ (z : Task). Goes s (f y) r (f z)) (same e) (record { allowed = a; leads = refl })
+  where
+    same : Some y ≡ Some t → y ≡ t
+    same e = cc
+found_goes s None t i r f e a = absurd (cc)
+
+-- the row's ways to the live task that the worker has
+pub own_goes : (s : State) (w h : ℕ) (x : Work) (v : Holds s w h x) (r : Reply) (f : Task → Row) → w < workers s → Allows (unless (not (nat_lt w (workers s))) (Mtapi m.ErrParameter) (live (live_object s.tasks h) (says tasks.invalid) f)) r
+    → Goes s (unless (not (nat_lt w (workers s))) (Mtapi m.ErrParameter) (live (live_object s.tasks h) (says tasks.invalid) f)) r (f v.task)
+own_goes s w h x v r f l a =
+    let g1 = pass (not (nat_lt w (workers s))) (Mtapi m.ErrParameter) r (live (live_object s.tasks h) (says tasks.invalid) f) s (small_not w (workers s) l) a in
+    goes_then s _ _ _ r g1 (found_goes s (live_object s.tasks h) v.task (says tasks.invalid) r f v.found g1.allowed)
 
 pub record Finished (r : Reply) (w : ℕ) (u : State) : Type 0 where
   pub reply : r ≡ Ok

@@ -1,5 +1,5 @@
 -- At most one seat holds a mutex.
-use Rattle.history_law.proofs.Names.{◌≡◌, ℕ, ◌+◌, ◌<◌, ◌≤◌, Bool, true, false, cond, List, [], ◌∷◌, ◌++◌, Some, None, inl, inr, refl, sym, ◌∙◌, ap, subst, arith, ◌==◌, ◌&&◌, nat_lt, length, TaskHandle, Terms, Op, Reply, Listed, live_of, live_object, count_listed, change, with_fields, eqb-true, nat_tests, Task, Adds, runs_on, runs_as, with_notes, with_tally, tally_failed, tally_has, ended, Mutex, locked_by, with_attached, State, opening, workers, Move, Mutexes, Segments, alters, notes, after_moves, NodeEntry, IsNext, next, LegalFrom, Legal, after_from, after, Legal-rest, after-append, after-one, at-update, some_same, entries_that, by_seat, gets_mutex, gives_mutex, says_end, is_tally_end, ends_tally, HasMutex, tally_got, HoldsByLooks, HoldsByTally, HoldsMutex, MutexesKeepTo, mutex_in, and-false, Answers, IsAttached, Legal-prefix, Segment, TaskEnd}
+use Rattle.history_law.proofs.Names.{◌≡◌, ℕ, ◌+◌, ◌<◌, ◌≤◌, Bool, true, false, cond, List, [], ◌∷◌, ◌++◌, Some, None, inl, inr, refl, sym, ◌∙◌, ap, subst, arith, ◌==◌, ◌&&◌, nat_lt, length, TaskHandle, Terms, Op, Reply, Listed, live_of, live_object, count_listed, change, with_fields, eqb-true, nat_tests, Task, Adds, runs_on, runs_as, with_notes, with_tally, tally_failed, tally_has, ended, Mutex, locked_by, with_attached, State, opening, workers, Move, Mutexes, Segments, alters, notes, after_moves, NodeEntry, IsNext, next, LegalFrom, Legal, after_from, after, Legal-rest, after-append, after-one, at-update, some_same, entries_that, by_seat, gets_mutex, gives_mutex, says_end, is_tally_end, ends_tally, HasMutex, tally_got, HoldsByLooks, HoldsByTally, HoldsMutex, MutexesKeepTo, mutex_in, and-false, Answers, IsAttached, Legal-prefix, Segment, TaskEnd, answered, Allows, row, after_row}
 use Rattle.mtapi_values.specs.declared.kinds.Kind.TheVariants as kinds
 use Rattle.mtapi_values.specs.declared.handles.ObjectKind.TheVariants as kind
 use Rattle.mtapi_machine.specs.declared.ops.Op.TheVariants as op
@@ -20,7 +20,7 @@ use Rattle.history_law.proofs.lists.Firsts.{first_at}
 use Rattle.history_law.proofs.TaskMoves.{every_moved, found_moved}
 use Rattle.history_law.proofs.tallies.Ties.{Owns, id_in, Tied, Ties, ties_kept, AtMostOne, one_move, none_runs, On, OnAt, on_stays, on_runs, as_on}
 use Rattle.history_law.proofs.locks.Mutexes.{Step, Free, free_step, owns_step, share, share_step, share_owner}
-use Rattle.history_law.proofs.locks.MutexSteps.{is_ending, mutex_by}
+use Rattle.history_law.proofs.locks.MutexSteps.{is_ending, is_end_op, mutex_by}
 use Rattle.history_law.proofs.locks.Attached.{Step as SegmentStep, HasMarks, marks_step, attached_step, mark_here, segment_by}
 use Rattle.mtapi_machine.specs.Answers as is
 use Rattle.mtapi_machine.specs.Answers.{HasTask, HasBoth}
@@ -52,12 +52,12 @@ none_then s who t x e one k =
     let m : count_listed (runs_on who) s.tasks ≤ 1 = one in
     omega arith
 
-end_count : (s : State) (who : ℕ) (o : Op) (r : Reply) (ms : List Move) → AtMostOne who s → is_ending o r ≡ true → Answers s who o r ms → count_listed (runs_on who) (after_moves ms s).tasks ≡ 0
-end_count s who _ _ _ one i (is.tally_ends_failed t x k f) = none_then s who t.0 x _ one k
-end_count s who _ _ _ one i (is.tally_ends t x y z k f d a b) = none_then s who t.0 x _ one k
-end_count s who _ _ _ one i _ = true_false i refl
+end_counts : (s : State) (who : ℕ) (o : Op) (r : Reply) (ms : List Move) → AtMostOne who s → is_ending o r ≡ true → Answers s who o r ms → count_listed (runs_on who) (after_moves ms s).tasks ≡ 0
+end_counts s who _ _ _ one i (is.tally_ends_failed t x k f) = none_then s who t.0 x _ one k
+end_counts s who _ _ _ one i (is.tally_ends t x y z k f d a b) = none_then s who t.0 x _ one k
+end_counts s who _ _ _ one i _ = true_false i refl
 
-one_runner : (v w : ℕ) (t : Task) → runs_on v t ≡ true → runs_on w t ≡ true → v ≡ w
+pub one_runner : (v w : ℕ) (t : Task) → runs_on v t ≡ true → runs_on w t ≡ true → v ≡ w
 one_runner v w t e1 e2 = grind (arith, nat_tests)
 
 less_of : (w n : ℕ) → nat_lt w n ≡ true → w < n
@@ -133,7 +133,7 @@ ties_next n s e i g = whether (is_tally_lock e.op) (λ l. lock_ties n s e.who g 
     (λ l. every_map (Tied n s.mutexes s.segments) (λ t. (is_ending e.op e.reply ≡ true) → runs_on e.who t ≡ false) (Tied n (next s e).mutexes (next s e).segments) (next s e).tasks
     (λ t v a. tied_step n e.who (is_ending e.op e.reply) _ _ _ _ (λ j. gets_mutex j e) (λ j. gives_mutex j e) (λ j. step_next n s e j i g) (λ j. segment_next n s e j i g) t a v)
     (by_moves (Ties n s.mutexes s.segments) s e i (every_moved (Tied n s.mutexes s.segments) e.who e.op (ties_kept n s.mutexes s.segments e.who e.op l)) g.ties)
-    (every_if (is_ending e.op e.reply) (λ t. runs_on e.who t ≡ false) (next s e).tasks (λ k. none_runs e.who (next s e).tasks (held_next s e g.held).dead (end_count s e.who e.op e.reply _ (g.one e.who) k (answer s e i)))))
+    (every_if (is_ending e.op e.reply) (λ t. runs_on e.who t ≡ false) (next s e).tasks (λ k. none_runs e.who (next s e).tasks (held_next s e g.held).dead (end_counts s e.who e.op e.reply _ (g.one e.who) k (answer s e i)))))
 
 pub good_next : (n : ℕ) (s : State) (e : NodeEntry) → IsNext s e → Good n s → Good n (next s e)
 good_next n s e i g = record {
@@ -222,3 +222,18 @@ mutexes_keep_to terms es legal L R h cut =
       each = λ w. let c = counted terms h w L l in omega arith;
       one = λ v w a b. one_owner (after terms L) h v w (holder terms h v L l a) (holder terms h w L l b);
     }
+
+-- The end of a tally, and an answer that is no end, by the row
+
+pub end_count : (s : State) (who : ℕ) (t : TaskHandle) (r : Reply) → AtMostOne who s → says_end r ≡ true → Allows (row s who (op.TallyEnd t) r) r → count_listed (runs_on who) (after_row s (row s who (op.TallyEnd t) r)).tasks ≡ 0
+end_count s who t r one i a = end_counts s who (op.TallyEnd t) r _ one (ap (λ (b : Bool). b && true) i) (answered s who (op.TallyEnd t) r a)
+
+quiet_by : (s : State) (who : ℕ) (o : Op) (r : Reply) (ms : List Move) → is_end_op o ≡ true → says_end r ≡ false → Answers s who o r ms → after_moves ms s ≡ s
+quiet_by s who _ _ _ e i (is.refuses o x z) = refl
+quiet_by s who _ _ _ e i (is.refuses_caller o x z) = refl
+quiet_by s who _ _ _ e i (is.tally_ends_failed t x k f) = true_false refl i
+quiet_by s who _ _ _ e i (is.tally_ends t x y z k f d a b) = true_false refl i
+quiet_by s who _ _ _ e i _ = true_false e refl
+
+pub quiet_end : (s : State) (who : ℕ) (t : TaskHandle) (r : Reply) → says_end r ≡ false → Allows (row s who (op.TallyEnd t) r) r → after_row s (row s who (op.TallyEnd t) r) ≡ s
+quiet_end s who t r i a = quiet_by s who (op.TallyEnd t) r _ refl i (answered s who (op.TallyEnd t) r a)

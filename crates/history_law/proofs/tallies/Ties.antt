@@ -7,7 +7,7 @@ use Rattle.history_law.proofs.lists.Found.{FoundAs, count_changed}
 use Rattle.history_law.proofs.Held.{DeadEnded}
 use Rattle.history_law.proofs.SeatMoves.{May, is_tally_lock}
 use Rattle.history_law.proofs.Others.{other_count, runs_over}
-use Rattle.history_law.proofs.TaskMoves.{IsKept, StaysLive}
+use Rattle.history_law.proofs.TaskMoves.{IsKept, StaysLive, found_moved}
 
 -- the tally has its mutex and its segment: it has begun and hasn't failed
 abbrev pub has_both : TallyNotes → Bool
@@ -99,3 +99,6 @@ OnAt w h j s = FoundAs (On w h) s.tasks j
 
 pub on_stays : (w h i who : ℕ) (o : Op) → is_tally_end i o ≡ false → StaysLive (On w h) who i o
 on_stays w h i who o e1 = grind (arith, nat_tests)
+
+pub on_move : (w h i who : ℕ) (o : Op) → is_tally_end i o ≡ false → (s : State) (x : Move) → May s who o x → OnAt w h i s → OnAt w h i (apply x s)
+on_move w h i who o n s x k v = found_moved (On w h) who i o (on_stays w h i who o n) s x k v
