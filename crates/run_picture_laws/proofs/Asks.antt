@@ -142,7 +142,7 @@ waits_shown terms L ns p h c i l e =
     let here : slice_get lanes i ≡ Some l = ap (λ z. slice_get z i) (sym known) ∙ e in
     let size : length lanes ≡ length (take most_lanes (map mutex_seen (after terms L).mutexes)) = sym (length-map lanes lane_seen) ∙ ap length (lanes_seen terms L ns h) in
     let few : i < most_lanes = omega (arith, size, length_take most_lanes (map mutex_seen (after terms L).mutexes), slice_get_within lanes i l here) in
-    let same : l.longest_wait ≡ top 0 (waits_for i (opening terms) L ns) = ap wait_in (sym here) ∙ waits_along terms [] L 0 first ns i few h (along_opening terms) in
+    let same : l.longest_wait ≡ top 0 (waits_for i (opening terms) L ns) = ap wait_in (sym here) ∙ waits_along terms [] L 0 first ns i few h (along_opening terms h.fits.settings.workers.1) in
     subst (λ n. IsGreatest n (waits_for i (opening terms) L ns)) (sym same) (top_greatest (waits_for i (opening terms) L ns))
   where
     length_take : {X : Type 0} (k : ℕ) (xs : List X) → length (take k xs) ≤ k

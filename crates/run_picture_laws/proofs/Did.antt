@@ -94,7 +94,7 @@ module _ (n who : ℕ) (s : State) (named : Option ℕ) where
     outside : nat_lt who (workers s) ≡ false → nat_lt who n ≡ false
     outside b = subst (λ (z : ℕ). nat_lt who z ≡ false) w b
 
-    by : (o : Op) (r : Reply) (ms : List Move) → OnceIn s.mutexes → Ties n s.mutexes s → AtMostOne who s → Names s who named → Answers s who o r ms → D o r ms
+    by : (o : Op) (r : Reply) (ms : List Move) → OnceIn s.mutexes → Ties n s.mutexes s.segments s → AtMostOne who s → Names s who named → Answers s who o r ms → D o r ms
     by _ _ _ o v one k (is.refuses p c z) = still (refused_quiet p c) refl
     by _ _ _ o v one k (is.refuses_caller p c z) = still (caller_quiet p c) refl
     by _ _ _ o v one k (is.creates_mutex id recursive h e f) = makes h id recursive refl (fresh_unlisted kind.Mutex s h f) refl
@@ -110,11 +110,11 @@ module _ (n who : ℕ) (s : State) (named : Option ℕ) where
     by _ _ _ o v one k (is.tally_ends_failed t x g e) = tally_failed (ends_all named t x.notes.tally.verdict) (none_has t x one g.found g.runs e) (inside g.inside) refl
     by _ _ _ o v one k (is.tally_ends t x y z g e d f h) =
         let b : has_both x.notes.tally ≡ true = ending_has x.notes.tally.stage _ e d in
-        let owned : Owns who (id_in x) (Some z) = subst (Owns who (id_in x)) h (((every_at (Tied n s.mutexes) s.tasks t.0 x v g.found).tied who (as_on who x.state g.runs) b).1) in
+        let owned : Owns who (id_in x) (Some z) = subst (Owns who (id_in x)) h (((every_at (Tied n s.mutexes s.segments) s.tasks t.0 x v g.found).tied who (as_on who x.state g.runs) b).1) in
         tally_frees x.notes.tally.mutex t.0 z (ends_all named t (tally_verdict x)) h owned.0 owned.1 (inside g.inside) (x, g.found, record { runs = g.runs; both = b; mutex = refl }) refl
     by _ _ _ o v one k _ = still refl refl
 
 -- so each entry does
-pub mutex_did : (n : ℕ) (s : State) (who : ℕ) (named : Option ℕ) (o : Op) (r : Reply) → workers s ≡ n → OnceIn s.mutexes → Ties n s.mutexes s → AtMostOne who s → Names s who named → Allows (row s who o r) r
+pub mutex_did : (n : ℕ) (s : State) (who : ℕ) (named : Option ℕ) (o : Op) (r : Reply) → workers s ≡ n → OnceIn s.mutexes → Ties n s.mutexes s.segments s → AtMostOne who s → Names s who named → Allows (row s who o r) r
     → Did n s who (lock_of named o r) (after_row s (row s who o r)).mutexes (after_row s (row s who o r)).tasks
 mutex_did n s who named o r w once v one k a = by n who s named w o r _ once v one k (answered s who o r a)

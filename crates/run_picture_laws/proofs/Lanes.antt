@@ -45,8 +45,8 @@ stands_next n s e named i k g = record {
   held = held_did n s e.who (lock_of named e.op e.reply) (next s e).tasks (tallies_stay s e.who e.op e.reply named i) (next s e).mutexes g.good.once (g.good.one e.who) (entry_did n s e named i k g) g.held;
 }
 
-stands_opening : (terms : Terms) → Stands terms.settings.workers (opening terms)
-stands_opening terms = record { good = good_opening terms; ids = λ i. omega arith; held = tt }
+stands_opening : (terms : Terms) → terms.settings.workers ≤ 16 → Stands terms.settings.workers (opening terms)
+stands_opening terms few = record { good = good_opening terms few; ids = λ i. omega arith; held = tt }
 
 -- what the picture knows of a seat names its tally's mutex
 names_of : (s : State) (w : ℕ) (m : Option ℕ) (x : Option Running) → RowIs s.tasks w m x → Names s w m
@@ -124,9 +124,9 @@ pub record Along (terms : Terms) (P : List NodeEntry) (t : Locks) : Type 0 where
   pub stands : Stands terms.settings.workers (after terms P)
   pub seen : Seen (after terms P) t.lanes
 
-pub along_opening : (terms : Terms) → Along terms [] (no_locks (seats_of terms))
+pub along_opening : (terms : Terms) → terms.settings.workers ≤ 16 → Along terms [] (no_locks (seats_of terms))
 unfolding named_after after_from
-along_opening terms = record { named = refl; stands = stands_opening terms; seen = refl }
+along_opening terms few = record { named = refl; stands = stands_opening terms few; seen = refl }
 
 pub names_at : (terms : Terms) (P es : List NodeEntry) (e : NodeEntry) (t : Locks) → Legal terms (P ++ e ∷ es) → Along terms P t → Names (after terms P) e.who (get_or t.named e.who None)
 unfolding LegalFrom
@@ -161,7 +161,7 @@ lanes_along terms P (e ∷ es) at t ns h a =
     (lanes_along terms (P ++ e ∷ []) es (at + 1) (locks_after at e (first_of ns) t) (rest_of ns) (subst (λ (L : List NodeEntry). Legal terms L) (sym same) h) (along_next terms P es e at (first_of ns) t h a))
 
 pub lanes_seen : (terms : Terms) (L : List NodeEntry) (ns : List ℕ) → Legal terms L → Seen (after terms L) (known_after 0 (no_locks (seats_of terms)) L ns).lanes
-lanes_seen terms L ns h = lanes_along terms [] L 0 (no_locks (seats_of terms)) ns h (along_opening terms)
+lanes_seen terms L ns h = lanes_along terms [] L 0 (no_locks (seats_of terms)) ns h (along_opening terms h.fits.settings.workers.1)
 
 pub pictures_show_mutexes : (terms : Terms) (L : List NodeEntry) (ns : List ℕ) (p : Picture) → Legal terms L → IsPicture (seats_of terms) L ns p → LanesAreMutexes terms L p.mutexes.items
 pictures_show_mutexes terms L ns p h i = ap (map lane_seen) (i.mutexes ∙ lanes_known 0 (no_locks (seats_of terms)) L ns) ∙ lanes_seen terms L ns h
