@@ -1,5 +1,6 @@
 -- When a list of seats has all of a cell's, for who closes it.
-use Rattle.turn_cell.proofs.Names.{◌≡◌, ℕ, zero, suc, ◌+◌, ◌-◌, ◌<◌, ◌≤◌, ◌==◌, ◌⊎◌, inl, inr, List, [], ◌∷◌, ◌++◌, map, take, drop, refl, ap, ◌∙◌, subst, arith, dite, ℕ_discrete, TableId, total, one_if, all_of, SeatView, fresh_seat, fresh_seats, numbered, IsComplete}
+use Rattle.std.proofs.lemmas.Bool.Decides.{nat_tests}
+use Rattle.turn_cell.proofs.Names.{◌≡◌, ℕ, zero, suc, ◌+◌, ◌-◌, ◌<◌, ◌≤◌, ◌==◌, ◌⊎◌, inl, inr, List, [], ◌∷◌, ◌++◌, map, take, drop, refl, ap, ◌∙◌, subst, arith, TableId, total, one_if, all_of, SeatView, fresh_seat, fresh_seats, numbered, IsComplete}
 use Rattle.std.specs.List.{AllZip}
 use Rattle.turn_cell.proofs.Counting.{one_same, total-append}
 
@@ -26,9 +27,7 @@ module _ {T P Q : Type 0} where
 
 fresh_has : (T P Q : Type 0) (t : T) (z : TableId) (from n k : ℕ) → from < suc k → k < from + n → 0 < numbered {P = P} {Q = Q} k (fresh_seats t z from n)
 fresh_has T P Q t z from zero k low high = absurd (omega arith)
-fresh_has T P Q t z from (suc n) k low high = dite (ℕ_discrete from k)
-    (λ e. let one = one_same from k e in omega arith)
-    (λ ne. let rest = fresh_has T P Q t z (suc from) n k (omega arith) (omega arith) in omega arith)
+fresh_has T P Q t z from (suc n) k low high = grind (arith, nat_tests, fresh_has T P Q t z (suc from) n k, one_same)
 
 -- the seats that a cell begins with
 pub complete_fresh : (T P Q : Type 0) (t : T) (z : TableId) (n : ℕ) → IsComplete n (fresh_seats {P = P} {Q = Q} t z 0 n)
@@ -70,9 +69,7 @@ module _ {T P Q : Type 0} where
 
 pub fresh_in : (T P Q : Type 0) (t : T) (z : TableId) (from n k : ℕ) → from ≤ k → k < from + n → Has {P = P} {Q = Q} (fresh_seats t z from n) (fresh_seat t z k)
 fresh_in T P Q t z from zero k low high = absurd (omega arith)
-fresh_in T P Q t z from (suc n) k low high = dite (ℕ_discrete from k)
-    (λ e. inl (ap (λ (j : ℕ). fresh_seat t z j) e))
-    (λ ne. inr (fresh_in T P Q t z (suc from) n k (omega arith) (omega arith)))
+fresh_in T P Q t z from (suc n) k low high = grind (arith, nat_tests, fresh_in T P Q t z (suc from) n k, fresh_seat)
 
 -- the first m of the seats from k on, and those behind them
 pub fresh-take : (T P Q : Type 0) (t : T) (z : TableId) (k m c : ℕ) → m ≤ c → take m (fresh_seats {P = P} {Q = Q} t z k c) ≡ fresh_seats t z k m
@@ -85,6 +82,4 @@ pub fresh-drop : (T P Q : Type 0) (t : T) (z : TableId) (k m c : ℕ) → m ≤ 
 fresh-drop T P Q t z k zero zero l = refl
 fresh-drop T P Q t z k zero (suc c) l = let e : k ≡ k + 0 = omega arith in let f : suc c ≡ suc c - 0 = omega arith in λ i. fresh_seats t z (e i) (f i)
 fresh-drop T P Q t z k (suc m) zero l = absurd (omega arith)
-fresh-drop T P Q t z k (suc m) (suc c) l =
-    let e : suc k + m ≡ k + suc m = omega arith in let f : c - m ≡ suc c - suc m = omega arith in
-    fresh-drop T P Q t z (suc k) m c (omega arith) ∙ (λ i. fresh_seats t z (e i) (f i))
+fresh-drop T P Q t z k (suc m) (suc c) l = grind (arith, nat_tests, fresh-drop T P Q t z (suc k) m c, fresh_seats)

@@ -1,5 +1,6 @@
 -- All seats in one, and what the table then holds.
-use Rattle.turn_cell.proofs.Names.{◌≡◌, ◌≢◌, ℕ, suc, ◌<◌, ◌==◌, inl, inr, ⊎_elim, List, [], ◌∷◌, ◌++◌, length, set, sym, refl, ap, ◌∙◌, subst, arith, Option, Some, dite, ℕ_discrete, none, some, some-injective, get_elem?, State, Me, Final, Seen, TableId, at_set, Entry, Part, StartsWith, entries_of, total, all_of, one_if, SeatView, IsComplete, IsSeatOf, view_of, IsPartOf, within, is_idle, Gathers, holds_turn, has_number, has_turn, count, Fits, Invariant}
+use Rattle.std.proofs.lemmas.Bool.Decides.{nat_tests}
+use Rattle.turn_cell.proofs.Names.{◌≡◌, ◌≢◌, ℕ, suc, ◌<◌, ◌==◌, inl, inr, ⊎_elim, List, [], ◌∷◌, ◌++◌, length, set, sym, refl, ap, ◌∙◌, subst, arith, Option, Some, dite, ℕ_discrete, none, some, some-injective, get_elem?, State, Me, Final, Seen, TableId, at_set, Entry, Part, entries_of, total, all_of, one_if, SeatView, IsComplete, IsSeatOf, view_of, IsPartOf, within, is_idle, Gathers, holds_turn, has_number, has_turn, count, Fits, Invariant}
 use mathlib.Core.Option.{Option as Maybe}
 use Rattle.turn_cell.proofs.Counting.{one_same, total-set, total-append, two_of_total}
 
@@ -93,9 +94,7 @@ module _ {O T P Q : Type 0} (terms_of : O → T) (seat_count : T → ℕ) (legal
 
   of_seat : (t : T) (h : List (Entry P Q)) (n : ℕ) (v : List D) (f : SeatView T P Q) → all_of (F t h n) v → within v f → IsSeatOf t h f
   of_seat t h n [] f a w = absurd w
-  of_seat t h n (p ∷ v) f a w = ⊎_elim
-      (λ (s : IsPartOf f p). record { terms = sym s.1 ∙ a.0.terms; seen = subst (λ (l : List (Entry P Q)). StartsWith h l) s.2 a.0.seen; mine = ap (λ (k : ℕ). entries_of k h) (sym s.0) ∙ (a.0.mine ∙ s.3) })
-      (λ (r : within v f). of_seat t h n v f a.1 r) w
+  of_seat t h n (p ∷ v) f a w = grind (arith, nat_tests, of_seat t h n v f a.1, entries_of)
 
   pub record Ended (t : T) (seats : List (SeatView T P Q)) (y : Option O) : Type 0 where
     pub object : O

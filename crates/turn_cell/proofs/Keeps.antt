@@ -1,4 +1,5 @@
 -- Each step keeps the rule.
+use Rattle.std.proofs.lemmas.Bool.Decides.{nat_tests}
 use Rattle.turn_cell.proofs.Names.{◌≡◌, ◌≢◌, ℕ, ◌+◌, ◌%◌, ◌^◌, ◌<◌, ◌≤◌, ◌==◌, inl, inr, ⊎_elim, Bool, true, false, List, [], ◌∷◌, ◌++◌, length, set, get_or, sym, refl, ap, ◌∙◌, subst, arith, Option, Some, length-append, dite, ℕ_discrete, none, some, get_elem?, State, Me, Act, keeps, takes, gives, step, Valid, homes_after, carried_after, Allows, at_set, set_again, Entry, Part, Idle, Waits, Holds, StartsWith, starts_self, starts_longer, own_more, other_more, total, all_of, one_if, waits_or_holds, holds_turn, has_number, has_ticket, has_turn, count, after_draw, after_take, after_pass, part_entry, Fits, Invariant, drew, Took, looked, passed}
 use Rattle.std.proofs.lemmas.Bool.{eqb-true}
 use mathlib.Core.Option.{Option as Maybe}
@@ -133,10 +134,7 @@ module _ {O T P Q : Type 0} (terms_of : O → T) (seat_count : T → ℕ) (legal
 
   draw_either : (t : T) (s : S) (r : K t s) (id : ℕ) (p : D) (first : ℕ) → get_elem? s.views id ≡ some (p ∷ []) → p.stage ≡ Idle → first < 2 ^ 62 → (b : Bool) → (r.tickets == first) ≡ b
       → K t record { words = length r.history ∷ either b (first + 1) r.tickets ∷ []; homes = s.homes; views = set s.views id (after_draw p r.tickets b ∷ []) }
-  draw_either t s r id p first at idle below true is =
-      let e : r.tickets ≡ first = eqb-true r.tickets first is in
-      subst (λ (n : ℕ). K t record { words = length r.history ∷ (n + 1) ∷ []; homes = s.homes; views = set s.views id (after_draw p r.tickets true ∷ []) }) e (draw_new t s r id p at idle (omega arith))
-  draw_either t s r id p first at idle below false is = draw_none t s r id p at idle
+  draw_either t s r id p first e1 e2 e3 b e4 = grind (arith, nat_tests, eqb-true, after_draw, draw_new, draw_none)
 
   draws_at : (t : T) (slots id first : ℕ) (p : D) → p.stage ≡ Idle → first < 2 ^ 62
       → Allows (K t) slots id (p ∷ [], []) 1 (λ n. either (n == first) (first + 1) n) (drew terms_of seat_count legal stands (step slots 1 first (first + 1) none) (p ∷ [], []))
@@ -152,9 +150,7 @@ module _ {O T P Q : Type 0} (terms_of : O → T) (seat_count : T → ℕ) (legal
       subst (λ (m : Me (Option O) (List D)). Allows (K t) slots id m 1 (λ n. either (n == first) (first + 1) n) (drew terms_of seat_count legal stands (step slots 1 first (first + 1) none) m)) (sym is) (draws_at t slots id first p idle below)
 
   turns_below : (h : ℕ) (st : Stage) → holds_turn h st ≤ waits_or_holds h st
-  turns_below h Idle = omega arith
-  turns_below h (Waits k) = omega arith
-  turns_below h (Holds k) = omega arith
+  turns_below h st = grind (arith, nat_tests)
 
   -- who waits for its turn, which has come, finds that no one holds it
   nobody_holds : (views : List (List D)) (id : ℕ) (p : D) (h k : ℕ) → get_elem? views id ≡ some (p ∷ []) → p.stage ≡ Waits k → h ≡ k → count (has_ticket h) views ≤ 1
@@ -203,8 +199,7 @@ module _ {O T P Q : Type 0} (terms_of : O → T) (seat_count : T → ℕ) (legal
       }
 
   stay_keeps : (t : T) (s : S) (r : K t s) (id : ℕ) (v : List D) → get_elem? s.views id ≡ some v → K t record { words = length r.history ∷ r.tickets ∷ []; homes = s.homes; views = set s.views id v }
-  stay_keeps t s r id v at = subst (λ (vs : List (List D)). K t record { words = length r.history ∷ r.tickets ∷ []; homes = s.homes; views = vs }) (sym (set_again s.views id v at))
-      record { history = r.history; tickets = r.tickets; words = refl; order = r.order; most = r.most; lawful = r.lawful; place = r.place; each = r.each; numbers = r.numbers; turns = r.turns; in_line = r.in_line }
+  stay_keeps t s r id v e1 = grind (arith, nat_tests, set_again)
 
   looks_at : (t : T) (slots id : ℕ) (p : D) (k : ℕ) → p.stage ≡ Waits k
       → Allows (K t) slots id (p ∷ [], []) 0 (λ n. n) (looked terms_of seat_count legal stands (step slots 0 0 0 none) (p ∷ [], []))
@@ -255,15 +250,7 @@ module _ {O T P Q : Type 0} (terms_of : O → T) (seat_count : T → ℕ) (legal
 
   -- another seat, at one entry more
   others_pass : (t : T) (h : List E) (n : ℕ) (e : E) (p x : D) → e.who ≡ p.number → has_ticket (length h) p ≡ 1 → F t h n x → x.number ≢ p.number → (has_ticket (length h) p ≡ 1 → has_ticket (length h) x ≡ 0) → F t (h ++ e ∷ []) n x
-  others_pass t h n e p x who turn f ne not_this = record {
-    terms = f.terms;
-    number = f.number;
-    seen = starts_longer h x.seen (e ∷ []) f.seen;
-    mine = other_more x.number h e (λ is. ne (sym is ∙ who)) ∙ f.mine;
-    seen_mine = f.seen_mine;
-    shown = f.shown;
-    holds = λ k is. let zero_here = not_this turn in let one : has_ticket (length h) x ≡ 1 = ap (waits_or_holds (length h)) is ∙ one_same k (length h) (f.holds k is).1 in absurd (omega arith);
-  }
+  others_pass t h n e p x e1 e2 e3 e4 e5 = grind (arith, nat_tests, starts_longer, other_more, has_ticket, waits_or_holds, one_same)
 
   pass_keeps : (t : T) (s : S) (r : K t s) (id : ℕ) (p : D) (k : ℕ) (op : P) (reply : Q) (o : O) → ((x : O) (l : List E) → stands x l → legal (terms_of x) l)
       → get_elem? s.views id ≡ some (p ∷ []) → p.stage ≡ Holds k → terms_of o ≡ p.terms → stands o (p.seen ++ part_entry p op reply ∷ [])

@@ -1,5 +1,6 @@
 -- What one part becomes.
-use Rattle.turn_cell.proofs.Names.{◌≡◌, ◌≢◌, ℕ, ◌==◌, true, false, List, [], ◌∷◌, ◌++◌, sym, refl, ap, ◌∙◌, subst, eq-eqb, ne_eqb, Me, rest, TableId, SeatView, view_of, first_or, after_draw, first_of, rest_of, Part, Idle}
+use Rattle.std.proofs.lemmas.Bool.Decides.{nat_tests}
+use Rattle.turn_cell.proofs.Names.{arith, ◌≡◌, ◌≢◌, ℕ, ◌==◌, true, false, List, [], ◌∷◌, ◌++◌, sym, refl, ap, subst, eq-eqb, ne_eqb, Me, rest, TableId, SeatView, view_of, first_or, after_draw, first_of, rest_of, Part, Idle}
 
 pub one_slot : {S : Type 0} (c : List (ℕ × S)) (k : ℕ) (y : S) → c ≡ (k, y) ∷ [] → c ≡ (k, y) ∷ rest c
 one_slot {S} c k y e = subst (λ (c : List (ℕ × S)). c ≡ (k, y) ∷ rest c) (sym e) refl
@@ -25,11 +26,7 @@ module _ {T P Q : Type 0} where
   -- a fact about a seat, as its parts have it
   pub carried : {O : Type 0} (F : SeatView T P Q → SeatView T P Q → Type 0) (d : T) (z z' : TableId) (now : SeatView T P Q) (me me' : Me O (List (Part T P Q))) (p q : Part T P Q) → me ≡ (p ∷ [], []) → view_of d z me.0 ≡ now → me' ≡ (q ∷ [], [])
       → F (view_of d z (p ∷ [])) (view_of d z' (q ∷ [])) → F now (view_of d z' me'.0)
-  carried {O} F d z z' now me me' p q is view is' f =
-      let before : view_of d z (p ∷ []) ≡ now = ap (λ (m : Me O (List (Part T P Q))). view_of d z m.0) (sym is) ∙ view in
-      let after : view_of d z' (q ∷ []) ≡ view_of d z' me'.0 = ap (λ (m : Me O (List (Part T P Q))). view_of d z' m.0) (sym is') in
-      let G : SeatView T P Q × SeatView T P Q → Type 0 = λ x. F x.0 x.1 in
-      subst G (λ i. (before i, after i)) f
+  carried F d z z' now me me' p q e1 e2 e3 e4 = grind (arith, nat_tests, view_of)
 
   pub first_rest : (v : List (Part T P Q)) → first_of v ++ rest_of v ≡ v
   first_rest [] = refl

@@ -1,23 +1,19 @@
 -- The table at the start, and the seats that it is cut into.
-use Rattle.turn_cell.proofs.Names.{◌≡◌, ℕ, zero, suc, ◌+◌, ◌-◌, ◌<◌, ◌≤◌, inl, List, [], ◌∷◌, ◌++◌, sym, refl, ap, ◌∙◌, subst, arith, Some, dite, ℕ_discrete, some, some-injective, some-ne-none, get_elem?, Me, opening, TableId, Entry, Part, total, all_of, SeatView, fresh_seat, fresh_seats, view_of, has_number, has_ticket, fresh_part, fresh_parts, first_of, rest_of, Fits, Invariant}
+use Rattle.std.proofs.lemmas.Bool.Decides.{nat_tests}
+use Rattle.turn_cell.proofs.Names.{◌≡◌, ℕ, zero, suc, ◌+◌, ◌-◌, ◌<◌, ◌≤◌, inl, List, [], ◌∷◌, ◌++◌, refl, ap, ◌∙◌, subst, arith, Some, dite, ℕ_discrete, some, get_elem?, Me, opening, TableId, Entry, Part, total, all_of, SeatView, fresh_seat, fresh_seats, view_of, has_number, has_ticket, fresh_part, fresh_parts, first_of, rest_of, Fits, Invariant}
 use Rattle.turn_cell.proofs.Counting.{one_same, one_other}
 
 module _ {T P Q : Type 0} where
   pub fresh_cut : (t : T) (k m : ℕ) → 0 < m → (first_of (fresh_parts {P = P} {Q = Q} t k m) ≡ fresh_part t k ∷ []) × (rest_of (fresh_parts {P = P} {Q = Q} t k m) ≡ fresh_parts t (k + 1) (m - 1))
-  fresh_cut t k zero h = absurd (omega arith)
-  fresh_cut t k (suc m) h = let a : suc k ≡ k + 1 = omega arith in let b : m ≡ suc m - 1 = omega arith in (refl, λ i. fresh_parts t (a i) (b i))
+  fresh_cut t k m e1 = grind (arith, nat_tests)
 
   pub seats_more : (t : T) (z : TableId) (k n : ℕ) → fresh_seats {P = P} {Q = Q} t z k (n + 1) ≡ fresh_seats t z k n ++ fresh_seat t z (k + n) ∷ []
   seats_more t z k zero = let a : k ≡ k + 0 = omega arith in ap (λ (j : ℕ). fresh_seat t z j ∷ []) a
-  seats_more t z k (suc n) = let a : suc n + 1 ≡ suc (n + 1) = omega arith in let b : suc k + n ≡ k + suc n = omega arith in
-      ap (λ (j : ℕ). fresh_seats t z k j) a ∙ (ap (λ (l : List (SeatView T P Q)). fresh_seat t z k ∷ l) (seats_more t z (suc k) n) ∙ ap (λ (j : ℕ). fresh_seat t z k ∷ (fresh_seats t z (suc k) n ++ fresh_seat t z j ∷ [])) b)
+  seats_more t z k (suc n) = grind (arith, nat_tests, seats_more t z (suc k) n, fresh_seats, fresh_seat)
 
   -- one seat more
   pub one_more : {O : Type 0} (d t : T) (z z' : TableId) (k : ℕ) (m : Me O (List (Part T P Q))) (l l' : List (SeatView T P Q)) → m ≡ (fresh_part t k ∷ [], []) → z' ≡ z → l ≡ fresh_seats t z 0 k → l' ≡ l ++ view_of d z' m.0 ∷ [] → l' ≡ fresh_seats t z 0 (k + 1)
-  one_more {O} d t z z' k m l l' is same before after =
-      let view : view_of d z' m.0 ≡ fresh_seat t z k = λ i. view_of d (same i) (is i).0 in
-      let plus : 0 + k ≡ k = omega arith in
-      after ∙ (λ i. before i ++ view i ∷ []) ∙ sym (seats_more t z 0 k ∙ ap (λ (j : ℕ). fresh_seats t z 0 k ++ fresh_seat t z j ∷ []) plus)
+  one_more d t z z' k m l l' e1 e2 e3 e4 = grind (arith, nat_tests, view_of, fresh_seat, seats_more, fresh_seats)
 
   pub first_part : {O : Type 0} (t : T) (k n : ℕ) (m m' : Me O (List (Part T P Q))) → k < n → m ≡ (fresh_parts t k (n - k), []) → m' ≡ (first_of m.0, m.1) → m' ≡ (fresh_part t k ∷ [], [])
   first_part {O} t k n m m' below is now = let cut = fresh_cut t k (n - k) (omega arith) in now ∙ (ap (λ (m : Me O (List (Part T P Q))). (first_of m.0, m.1)) is ∙ (λ i. (cut.0 i, [])))
@@ -50,8 +46,7 @@ module _ {O T P Q : Type 0} (terms_of : O → T) (seat_count : T → ℕ) (legal
   fresh_fits t k (suc m) h = (record { terms = refl; number = omega arith; seen = ([], refl); mine = refl; seen_mine = refl; shown = omega arith; holds = λ j e. cc }, fresh_fits t (suc k) m (omega arith))
 
   only : (x : List (Part T P Q)) (i : ℕ) (v : List (Part T P Q)) → get_elem? (x ∷ []) i ≡ some v → x ≡ v
-  only x zero v e = some-injective x v e
-  only x (suc i) v e = absurd (some-ne-none v (sym e))
+  only x i v e1 = grind (arith, nat_tests)
 
   pub opens : (t : T) (o : O) → terms_of o ≡ t → stands o [] → legal t [] → Invariant terms_of seat_count legal stands t (opening (0 ∷ 0 ∷ []) (Some o ∷ []) (fresh_parts t 0 (seat_count t)))
   opens t o is stood lawful =

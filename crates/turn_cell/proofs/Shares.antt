@@ -1,4 +1,5 @@
 -- Steps that change which seat has a part, and the one where each part sees the history.
+use Rattle.std.proofs.lemmas.Bool.Decides.{nat_tests}
 use Rattle.turn_cell.proofs.Names.{◌≡◌, ◌≢◌, ℕ, ◌+◌, ◌<◌, inl, inr, ⊎_elim, List, [], ◌∷◌, ◌++◌, map, length, set, get_or, sym, refl, ap, ◌∙◌, subst, arith, Option, Some, none, some, get_elem?, State, Me, Act, keeps, step, Valid, homes_after, carried_after, Allows, Splits, Joins, at_set, at_snoc, set_else, Entry, Part, starts_self, total, all_of, has_number, has_ticket, has_turn, count, first_of, rest_of, having_seen, Fits, Invariant, Knows, observed}
 use Rattle.turn_cell.proofs.Counting.{total-set, total-append}
 
@@ -125,16 +126,4 @@ module _ {O T P Q : Type 0} (terms_of : O → T) (seat_count : T → ℕ) (legal
 
   pub meets : (pa pb : D) (ma mb mt mj ml ma' mb' : Me (Option O) (List D)) → ma ≡ (pa ∷ [], []) → mb ≡ (pb ∷ [], []) → mt ≡ (mb.0, []) → mj ≡ (ma.0 ++ mt.0, ma.1)
       → ((h : List E) × (ml ≡ (map (having_seen h) mj.0, mj.1)) × all_of (Knows terms_of seat_count legal stands h) mj.0) → ma' ≡ (first_of ml.0, ml.1) → mb' ≡ (rest_of ml.0, []) → Met pa pb ma' mb'
-  meets pa pb ma mb mt mj ml ma' mb' a_is b_is t_is j_is g first second =
-      let m : Me (Option O) (List D) = (pa ∷ pb ∷ [], []) in
-      let joined : mj ≡ m = j_is ∙ (λ i. ((a_is i).0 ++ (t_is i).0, (a_is i).1)) ∙ (λ i. (pa ∷ (b_is i).0, [])) in
-      let h : List E = g.0 in
-      let loaded : ml ≡ (map (having_seen h) m.0, m.1) = g.1 ∙ ap (λ (m : Me (Option O) (List D)). (map (having_seen h) m.0, m.1)) joined in
-      let known : all_of (Knows terms_of seat_count legal stands h) m.0 = subst (λ (m : Me (Option O) (List D)). all_of (Knows terms_of seat_count legal stands h) m.0) joined g.2 in
-      record {
-        history = h;
-        one = first ∙ ap (λ (m : Me (Option O) (List D)). (first_of m.0, m.1)) loaded;
-        two = second ∙ ap (λ (m : Me (Option O) (List D)). (rest_of m.0, [])) loaded;
-        first_knows = known.0;
-        second_knows = known.1.0;
-      }
+  meets pa pb ma mb mt mj ml ma' mb' e1 e2 e3 e4 e5 e6 e7 = grind (arith, nat_tests)
