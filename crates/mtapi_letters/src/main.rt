@@ -1,5 +1,5 @@
-//! Counts how often each letter stands in a text on standard input, in parts, by the workers of a node. The number of workers may be given;
-//! it is 4 else.
+//! A parallel histogram: the workers of a node count how often each letter stands in the parts of a text on standard input, and the counts
+//! are added up. The number of workers may be given; it is 4 else.
 #![tactic(auto)]
 
 use byte_io::{StdSource, read_all};
