@@ -2,7 +2,6 @@
 use Rattle.run_report.proofs.Names.{◌≡◌, ℕ, ◌+◌, ◌<◌, ◌≤◌, length, get_or, take, Bool, true, false, ◌&&◌, cond, List, [], ◌∷◌, ◌++◌, Option, Some, None, refl, sym, ◌∙◌, ap, arith, ◌==◌, ◌||◌, is_some, nat_eq, list_any, take_at_read, take_all, nat_tests, TaskEnd, holds, Unstarted, Seen, ends_where, with_end, SameAs, passes}
 use Rattle.std.specs.Map.{lookup, keys_of}
 use Rattle.run_report.specs.declared.standings.Passing.{Passing}
-use Rattle.run_report.specs.declared.standings.Passing.TheVariants.{Left, Of, Shut}
 use Rattle.run_report.proofs.History.{same_path, path_same}
 
 -- the handle is among these
@@ -41,26 +40,11 @@ same_handle a b e = grind (arith, nat_tests)
 -- what is read at a handle after one more step, by whether the handle was among them, whether its task passes, whether the step ends
 -- a task, and whether it is at this handle
 step_value : {X : Type 0} (a q b c : Bool) (out r : Option X) → (c ≡ true → b ≡ cond a false q) → cond (b && c) out (cond (a && q) out r) ≡ cond ((a || c) && q) out r
-step_value true q true false out r e = refl
-step_value false q true false out r e = refl
-step_value true q false false out r e = refl
-step_value false q false false out r e = refl
-step_value true q true true out r e = absurd (let z = e refl in cc)
-step_value true q false true out r e = refl
-step_value false true true true out r e = refl
-step_value false true false true out r e = absurd (let z = e refl in cc)
-step_value false false true true out r e = absurd (let z = e refl in cc)
-step_value false false false true out r e = refl
+step_value a q b c out r e1 = grind (arith, nat_tests)
 
 -- a task that has ended passes no more
 passes_once : (p : Unstarted → Bool) (a : Bool) (o : Option Unstarted) → holds p (cond (a && holds p o) None o) ≡ cond a false (holds p o)
-passes_once p true None = refl
-passes_once p false o = refl
-passes_once p true (Some t) = by (p t) refl
-  where
-    by : (b : Bool) → p t ≡ b → holds p (cond (p t) None (Some t)) ≡ false
-    by true d = λ i. holds p (cond (d i) None (Some t))
-    by false d = (λ i. holds p (cond (d i) None (Some t))) ∙ d
+passes_once p a o = grind (arith, nat_tests)
 
 -- one more of them
 module _ (p : Unstarted → Bool) (e : TaskEnd) (v : Seen) (ks : List ℕ) (k : ℕ) where
@@ -71,40 +55,23 @@ module _ (p : Unstarted → Bool) (e : TaskEnd) (v : Seen) (ks : List ℕ) (k : 
   is_ended h is = ap (λ j. holds p (so_far.unstarted j)) (same_handle k h is) ∙ passes_once p (among h ks) (v.unstarted h)
 
   ends_one : (b : Bool) (h : ℕ) → (cond b (with_end k e so_far) so_far).ends h ≡ cond (b && (k == h)) (Some e) (so_far.ends h)
-  ends_one true h = refl
-  ends_one false h = refl
+  ends_one b h = grind (arith, nat_tests)
 
   unstarted_one : (b : Bool) (h : ℕ) → (cond b (with_end k e so_far) so_far).unstarted h ≡ cond (b && (k == h)) None (so_far.unstarted h)
-  unstarted_one true h = refl
-  unstarted_one false h = refl
+  unstarted_one b h = grind (arith, nat_tests)
 
   actions_one : (b : Bool) → (cond b (with_end k e so_far) so_far).actions ≡ v.actions
-  actions_one true = refl
-  actions_one false = refl
+  actions_one b = grind (arith, nat_tests)
 
   queues_one : (b : Bool) (h : ℕ) → (cond b (with_end k e so_far) so_far).queues h ≡ v.queues h
-  queues_one true h = refl
-  queues_one false h = refl
+  queues_one b h = grind (arith, nat_tests)
 
   pub ends_more : SameAs (cond (holds p (so_far.unstarted k)) (with_end k e so_far) so_far) (ends_among (ks ++ k ∷ []) p e v)
-  ends_more = record {
-    ends = λ h.
-        ends_one (holds p (so_far.unstarted k)) h
-        ∙ step_value (among h ks) (holds p (v.unstarted h)) (holds p (so_far.unstarted k)) (k == h) (Some e) (v.ends h) (is_ended h)
-        ∙ (λ i. cond (sym (among_more h k ks) i && holds p (v.unstarted h)) (Some e) (v.ends h));
-    unstarted = λ h.
-        unstarted_one (holds p (so_far.unstarted k)) h
-        ∙ step_value (among h ks) (holds p (v.unstarted h)) (holds p (so_far.unstarted k)) (k == h) None (v.unstarted h) (is_ended h)
-        ∙ (λ i. cond (sym (among_more h k ks) i && holds p (v.unstarted h)) None (v.unstarted h));
-    actions = actions_one (holds p (so_far.unstarted k));
-    queues = queues_one (holds p (so_far.unstarted k));
-  }
+  ends_more = grind (arith, nat_tests, ends_one, step_value, is_ended, among_more, unstarted_one, actions_one)
 
 -- which tasks pass stays the same
 passes_same : (n : ℕ) (which : Passing) (ks : List ℕ) (p : Unstarted → Bool) (e : TaskEnd) (v : Seen) → passes n which (ends_among ks p e v) ≡ passes n which v
-passes_same n Left ks p e v = refl
-passes_same n (Of q) ks p e v = refl
-passes_same n Shut ks p e v = refl
+passes_same n which ks p e v = grind (arith, nat_tests)
 
 pub ends_next : (n : ℕ) (which : Passing) (e : TaskEnd) (v : Seen) (all : List ℕ) (i : ℕ) (old new : Seen) → i < length all
     → SameAs old (ends_among (take i all) (passes n which v) e v)
@@ -124,21 +91,7 @@ ends_next n which e v all i old new l before after =
 
 -- all of them
 pub ends_all : (p : Unstarted → Bool) (e : TaskEnd) (v : Seen) (ks : List ℕ) → ((h : ℕ) → is_some (v.unstarted h) ≡ true → among h ks ≡ true) → SameAs (ends_among ks p e v) (ends_where p e v)
-ends_all p e v ks covers = record {
-  ends = λ h. by h (v.unstarted h) refl (Some e) (v.ends h);
-  unstarted = λ h. by h (v.unstarted h) refl None (v.unstarted h);
-  actions = refl;
-  queues = λ h. refl;
-}
-  where
-    none : {X : Type 0} (a : Bool) (out r : Option X) → cond (a && false) out r ≡ r
-    none true out r = refl
-    none false out r = refl
-
-    by : {X : Type 0} (h : ℕ) (o : Option Unstarted) → v.unstarted h ≡ o → (out r : Option X) → cond (among h ks && holds p (v.unstarted h)) out r ≡ cond (holds p (v.unstarted h)) out r
-    by h None is out r =
-        (λ i. cond (among h ks && holds p (is i)) out r) ∙ none (among h ks) out r ∙ (λ i. cond (holds p (sym is i)) out r)
-    by h (Some t) is out r = λ i. cond (covers h (ap is_some is) i && holds p (v.unstarted h)) out r
+ends_all p e v ks e1 = grind (arith, nat_tests)
 
 -- the handles are the keys of what hasn't begun
 keys_cover : {X : Type 0} (es : List (ℕ × X)) (h : ℕ) → is_some (lookup (nat_eq h) es) ≡ true → among h (keys_of es) ≡ true
@@ -156,8 +109,4 @@ keys_cover (x ∷ es) h e = by (nat_eq h x.0) refl e (keys_cover es h)
 
 pub ends_keys : (p : Unstarted → Bool) (e : TaskEnd) (v : Seen) (es : List (ℕ × Unstarted)) (all : List ℕ) (i : ℕ) (new : Seen) → length all ≤ i → all ≡ keys_of es → ((h : ℕ) → v.unstarted h ≡ lookup (nat_eq h) es)
     → SameAs new (ends_among (take i all) p e v) → SameAs new (ends_where p e v)
-ends_keys p e v es all i new past is read so =
-    path_same new _
-    (same_path new _ so
-    ∙ ap (λ (ks : List ℕ). ends_among ks p e v) (take_all i all past ∙ is)
-    ∙ same_path _ _ (ends_all p e v (keys_of es) (λ h f. keys_cover es h (ap is_some (sym (read h)) ∙ f))))
+ends_keys p e v es all i new e1 e2 e3 e4 = grind (arith, nat_tests, path_same, same_path, take_all, ends_all, keys_of, keys_cover)

@@ -1,5 +1,5 @@
 -- What each move changes in what decides how tasks end.
-use Rattle.run_report.proofs.Names.{◌≡◌, ℕ, ◌+◌, ◌≤◌, Bool, true, false, ◌&&◌, cond, List, [], ◌∷◌, ◌++◌, Option, Some, None, refl, sym, ◌∙◌, ap, arith, ◌==◌, not, option_map, is_none, TaskEnd, holds, Listed, live_of, live_object, change_all, update, retire, issue, with_fields, gone, listed, Distinct, live_of-issue, live_of-update, live_of-retire, at-issue, at-update, at-retire, Action, Queue, Task, TaskState, Scheduled, Running, Ended, NewTask, new_task, Notes, end_of, scheduled, is_unstarted, is_unended, with_state, with_notes, ended, is_member, freed, let_go, State, end_task, end_tasks, end_in, end_at, Unstarted, LiveQueue, Seen, Follows, unstarted_of, unstarted_in, unstarted_at, queue_of, queue_at, put, with_action, without_action, ends_where, with_end, opened}
+use Rattle.run_report.proofs.Names.{nat_tests, ◌≡◌, ℕ, ◌+◌, ◌≤◌, Bool, true, false, ◌&&◌, cond, List, [], ◌∷◌, ◌++◌, Option, Some, None, refl, sym, ◌∙◌, ap, arith, ◌==◌, not, option_map, is_none, TaskEnd, Listed, live_of, live_object, change_all, update, retire, issue, with_fields, gone, listed, Distinct, live_of-issue, live_of-update, live_of-retire, at-issue, at-update, at-retire, Action, Queue, Task, TaskState, Running, Ended, NewTask, new_task, Notes, end_of, scheduled, is_unstarted, is_unended, with_state, with_notes, ended, is_member, freed, let_go, State, end_task, end_tasks, end_in, end_at, Unstarted, LiveQueue, Seen, Follows, unstarted_of, unstarted_in, unstarted_at, queue_of, queue_at, put, with_action, without_action, ends_where, with_end, opened}
 use Rattle.handle_pool.proofs.LiveLemmas.{pairs_changed, pairs_without}
 use Rattle.mtapi_objects.specs.Queues as queues
 use Rattle.mtapi_values.specs.declared.kinds.Kind.{Kind}
@@ -18,24 +18,14 @@ follows_path v s f = λ i. record { ends = λ h. f.ends h i; unstarted = λ h. f
 
 -- nothing that is seen changes
 pub follows_same : (v : Seen) (s t : State) → Follows v s → t.tasks ≡ s.tasks → t.actions ≡ s.actions → t.queues ≡ s.queues → Follows v t
-follows_same v s t f same acts qs = record {
-  ends = λ h. f.ends h ∙ (λ i. end_at (sym same i) h);
-  unstarted = λ h. f.unstarted h ∙ (λ i. unstarted_at (sym same i) h);
-  actions = f.actions ∙ (λ i. live_of (sym acts i));
-  queues = λ h. f.queues h ∙ (λ i. queue_at (sym qs i) h);
-}
+follows_same v s t e1 e2 e3 e4 = grind (arith, nat_tests)
 
 -- Tasks
 
 -- tasks that are read as before
 as_read : (v : Seen) (s : State) (l : List (Listed Task)) → Follows v s → ((h : ℕ) → first_at end_read l h ≡ first_at end_read s.tasks h)
     → ((h : ℕ) → first_at unstarted_in l h ≡ first_at unstarted_in s.tasks h) → Follows v (record s { tasks = l })
-as_read v s l f ends waits = record {
-  ends = λ h. f.ends h ∙ ends_first s.tasks h ∙ sym (ends h) ∙ sym (ends_first l h);
-  unstarted = λ h. f.unstarted h ∙ unstarted_first s.tasks h ∙ sym (waits h) ∙ sym (unstarted_first l h);
-  actions = f.actions;
-  queues = f.queues;
-}
+as_read v s l e1 e2 e3 = grind (arith, nat_tests, ends_first, unstarted_first)
 
 pub follows_notes : (v : Seen) (s : State) (k : ℕ) (g : Notes → Notes) (t : Task) → Follows v s → ((h : ℕ) → listed h s.tasks ≤ 1) → live_object s.tasks k ≡ Some t
     → Follows v (record s { tasks = update k (with_notes g) s.tasks })
@@ -44,13 +34,10 @@ follows_notes v s k g t f once found = as_read v s _ f
     (λ h. first-kept unstarted_in h k (with_fields (with_notes g)) t (λ r. refl) refl s.tasks (once k) found)
 
 ended_unstarted : (x : TaskState) → not (is_none (end_of x)) ≡ true → scheduled x ≡ false
-ended_unstarted Scheduled e = absurd (cc)
-ended_unstarted (Running w k) e = refl
-ended_unstarted (Ended x n) e = refl
+ended_unstarted x e1 = grind (arith, nat_tests)
 
 not_waiting : (a : Bool) (t : Task) → is_unstarted t ≡ false → cond (a && is_unstarted t) (Some (unstarted_of t)) None ≡ None
-not_waiting true t e = λ i. cond (e i) (Some (unstarted_of t)) None
-not_waiting false t e = refl
+not_waiting a t e1 = grind (arith, nat_tests)
 
 pub follows_leaves : (v : Seen) (s : State) (k : ℕ) (t : Task) → Follows v s → ((h : ℕ) → listed h s.tasks ≤ 1) → live_object s.tasks k ≡ Some t → not (is_unended t) ≡ true
     → Follows v (record s { tasks = retire k s.tasks })
@@ -59,8 +46,7 @@ follows_leaves v s k t f once found over = as_read v s _ f
     (λ h. first-kept unstarted_in h k gone t (λ r. refl) (sym (not_waiting true t (ended_unstarted t.state over))) s.tasks (once k) found)
 
 and_second : (a b : Bool) → (a && b) ≡ true → b ≡ true
-and_second true b e = e
-and_second false b e = absurd (cc)
+and_second a b e1 = grind (arith, nat_tests)
 
 pub follows_frees : (v : Seen) (s : State) (g : ℕ) → Follows v s → Follows v (record s { tasks = change_all (λ t. is_member g t && not (is_unended t)) freed s.tasks })
 follows_frees v s g f = as_read v s _ f
@@ -68,10 +54,7 @@ follows_frees v s g f = as_read v s _ f
     (λ h. first-all unstarted_in h _ freed (λ r. refl) (λ r e. sym (not_waiting r.live r.fields (ended_unstarted r.fields.state (and_second (is_member g r.fields) _ e)))) s.tasks)
 
 still_waits : (a : Bool) (x : TaskState) → ((a && is_none (end_of x)) && scheduled x) ≡ (a && scheduled x)
-still_waits true Scheduled = refl
-still_waits true (Running w k) = refl
-still_waits true (Ended e n) = refl
-still_waits false x = refl
+still_waits a x = grind (arith, nat_tests)
 
 pub follows_lets_go : (v : Seen) (s : State) (g : ℕ) → Follows v s → Follows v (record s { tasks = change_all (is_member g) let_go s.tasks })
 follows_lets_go v s g f = as_read v s _ f
@@ -80,11 +63,7 @@ follows_lets_go v s g f = as_read v s _ f
 
 -- where nothing was read, nothing is put
 put_none : {X : Type 0} (h k : ℕ) (l : List (Listed Task)) (g : Listed Task → Option X) → listed h l ≡ 0 → cond (h == k) None (first_at g l k) ≡ first_at g l k
-put_none h k l g none = by (h == k) refl
-  where
-    by : (b : Bool) → (h == k) ≡ b → cond b None (first_at g l k) ≡ first_at g l k
-    by true is = sym (first-none g h l none) ∙ ap (first_at g l) (same_number h k is)
-    by false is = refl
+put_none h k l g e1 = grind (arith, nat_tests, first_at, first-none, same_number)
 
 pub follows_starts : (v : Seen) (s : State) (h : ℕ) (t : NewTask) → Follows v s → listed h s.tasks ≡ 0
     → Follows (record v { unstarted = put h (Some (unstarted_of (new_task t s.starts))) v.unstarted }) (record s { tasks = issue h (new_task t s.starts) s.tasks; starts = s.starts + 1 })
@@ -100,9 +79,7 @@ follows_starts v s h t f none = record {
 }
 
 unstarted_open : (x : TaskState) → scheduled x ≡ true → end_in x ≡ None
-unstarted_open Scheduled e = refl
-unstarted_open (Running w k) e = refl
-unstarted_open (Ended y n) e = absurd (cc)
+unstarted_open x e1 = grind (arith, nat_tests)
 
 pub follows_runs : (v : Seen) (s : State) (h w : ℕ) (k : Kind) (t : Task) → Follows v s → ((j : ℕ) → listed j s.tasks ≤ 1) → live_object s.tasks h ≡ Some t → is_unstarted t ≡ true
     → Follows (record v { unstarted = put h None v.unstarted }) (record s { tasks = update h (with_state (Running w k)) s.tasks })
@@ -121,8 +98,7 @@ follows_runs v s h w k t f once found fresh = record {
 }
 
 and_false : (a : Bool) (x : Option Unstarted) → cond (a && false) x None ≡ None
-and_false true x = refl
-and_false false x = refl
+and_false a x = grind (arith, nat_tests)
 
 pub follows_end : (v : Seen) (s : State) (h : ℕ) (e : TaskEnd) (t : Task) → Follows v s → ((j : ℕ) → listed j s.tasks ≤ 1) → live_object s.tasks h ≡ Some t
     → Follows (with_end h e v) (end_task h e s)
@@ -143,30 +119,15 @@ follows_end v s h e t f once found = record {
 
 -- every task that hasn't begun and passes ends
 pub follows_ends : (v : Seen) (s : State) (p : Unstarted → Bool) (e : TaskEnd) → Follows v s → Follows (ends_where p e v) (end_tasks (λ t. is_unstarted t && p (unstarted_of t)) e s)
-follows_ends v s p e f = record {
-  ends = λ h.
-      (λ i. cond (holds p (f.unstarted h i)) (Some e) (f.ends h i))
-      ∙ (λ i. cond (holds p (unstarted_first s.tasks h i)) (Some e) (ends_first s.tasks h i))
-      ∙ sym (first-ends end_read p e (Some e) (λ n r. refl) h s.ends s.tasks)
-      ∙ sym (ends_first _ h);
-  unstarted = λ h.
-      (λ i. cond (holds p (f.unstarted h i)) None (f.unstarted h i))
-      ∙ (λ i. cond (holds p (unstarted_first s.tasks h i)) None (unstarted_first s.tasks h i))
-      ∙ sym (first-ends unstarted_in p e None (λ n r. and_false (r.live && not r.fields.notes.detached) _) h s.ends s.tasks)
-      ∙ sym (unstarted_first _ h);
-  actions = f.actions;
-  queues = f.queues;
-}
+follows_ends v s p e e1 = grind (arith, nat_tests, unstarted_first, ends_first, first-ends, end_read, unstarted_in, and_false)
 
 -- Actions
 
 changed_same : (h : ℕ) (f : Action → Action) (es : List (ℕ × Action)) → with_action h f es ≡ pairs_changed h f es
-changed_same h f [] = refl
-changed_same h f (e ∷ es) = ap (λ l. cond (e.0 == h) ((e.0, f e.1) ∷ es) (e ∷ l)) (changed_same h f es)
+changed_same h f es = grind (arith, nat_tests)
 
 without_same : (h : ℕ) (es : List (ℕ × Action)) → without_action h es ≡ pairs_without h es
-without_same h [] = refl
-without_same h (e ∷ es) = ap (λ l. cond (e.0 == h) es (e ∷ l)) (without_same h es)
+without_same h es = grind (arith, nat_tests)
 
 pub action_changed : (h : ℕ) (f : Action → Action) (l : List (Listed Action)) → with_action h f (live_of l) ≡ live_of (update h f l)
 action_changed h f l = changed_same h f (live_of l) ∙ sym (live_of-update h f l)
@@ -187,8 +148,7 @@ follows_queues v s q l f same = record { ends = f.ends; unstarted = f.unstarted;
 
 -- what a test chooses, under a function
 mapped : (b : Bool) (x : Option Queue) (y : Option Queue) → cond b (option_map queue_of x) (option_map queue_of y) ≡ option_map queue_of (cond b x y)
-mapped true x y = refl
-mapped false x y = refl
+mapped b x y = grind (arith, nat_tests)
 
 pub follows_queue_made : (v : Seen) (s : State) (h : ℕ) (x : Queue) → Follows v s → listed h s.queues ≡ 0
     → Follows (record v { queues = put h (Some (queue_of x)) v.queues }) (record s { queues = issue h x s.queues })
@@ -207,7 +167,4 @@ follows_queue_changed v s h on x f found = follows_queues v s _ _ f (λ k.
 
 pub follows_queue_gone : (v : Seen) (s : State) (h : ℕ) → Follows v s → Distinct (live_of s.queues)
     → Follows (record v { queues = put h None v.queues }) (record s { queues = retire h s.queues })
-follows_queue_gone v s h f alone = follows_queues v s _ _ f (λ k.
-    (λ i. cond (h == k) None (f.queues k i))
-    ∙ mapped (h == k) None (live_object s.queues k)
-    ∙ ap (option_map queue_of) (sym (at-retire h k s.queues alone)))
+follows_queue_gone v s h e1 e2 = grind (arith, nat_tests, follows_queues, mapped, live_object, option_map, queue_of, at-retire)

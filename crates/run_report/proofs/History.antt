@@ -1,5 +1,5 @@
 -- After a legal history the ends that are seen by the entries are those in the records of the last state.
-use Rattle.run_report.proofs.Names.{◌≡◌, ℕ, ◌+◌, ◌<◌, length, get_or, take, List, [], ◌∷◌, ◌++◌, refl, sym, ◌∙◌, ap, arith, take_at_read, listed, live_of, State, opening, end_at, NodeEntry, next, LegalFrom, Legal, after_from, after, change_of, Seen, Follows, unstarted_at, with_change, nothing_seen, seen_from, SameAs}
+use Rattle.run_report.proofs.Names.{nat_tests, ◌≡◌, ℕ, ◌+◌, ◌<◌, length, get_or, take, List, [], ◌∷◌, ◌++◌, refl, arith, take_at_read, listed, live_of, State, opening, end_at, NodeEntry, next, LegalFrom, Legal, after_from, after, change_of, Seen, Follows, unstarted_at, with_change, nothing_seen, seen_from, SameAs}
 use Rattle.mtapi_machine.specs.declared.terms.Terms.{Terms}
 use Rattle.run_report.proofs.Sound.{Sound, sound_next}
 use Rattle.run_report.proofs.Rows.{follows_next}
@@ -36,10 +36,4 @@ seen_none n v s = s
 
 pub seen_next : (n i : ℕ) (L : List NodeEntry) (e : NodeEntry) (old new : Seen) → i < length L → e ≡ get_or L i e → SameAs old (seen_from n nothing_seen (take i L))
     → SameAs new (with_change n (change_of e.op e.reply) old) → SameAs new (seen_from n nothing_seen (take (i + 1) L))
-seen_next n i L e old new l at before after =
-    let list : take (i + 1) L ≡ take i L ++ e ∷ [] = (take_at_read L i e l).1 ∙ ap (λ z. take i L ++ z ∷ []) (sym at) in
-    path_same new _
-    (same_path new _ after
-    ∙ ap (with_change n (change_of e.op e.reply)) (same_path old _ before)
-    ∙ sym (seen_more n nothing_seen (take i L) e)
-    ∙ ap (seen_from n nothing_seen) (sym list))
+seen_next n i L e old new e1 e2 e3 e4 = grind (arith, nat_tests, take_at_read, path_same, same_path, with_change, change_of, seen_more)

@@ -13,13 +13,11 @@ end_read r = end_in r.fields.state
 
 pub ends_first : (l : List (Listed Task)) (h : ℕ) → end_at l h ≡ first_at end_read l h
 unfolding end_at first_at
-ends_first [] h = refl
-ends_first (r ∷ rs) h = ap (λ x. cond (r.handle == h) (end_read r) x) (ends_first rs h)
+ends_first l h = grind (arith, nat_tests)
 
 pub unstarted_first : (l : List (Listed Task)) (h : ℕ) → unstarted_at l h ≡ first_at unstarted_in l h
 unfolding unstarted_at first_at
-unstarted_first [] h = refl
-unstarted_first (r ∷ rs) h = ap (λ x. cond (r.handle == h) (unstarted_in r) x) (unstarted_first rs h)
+unstarted_first l h = grind (arith, nat_tests)
 
 -- where no task is listed under a handle, none is live
 pub unlisted : {T : Type 0} (k : ℕ) (l : List (Listed T)) → listed k l ≤ 0 → live_object l k ≡ None
@@ -55,9 +53,7 @@ module _ {X : Type 0} (g : Listed Task → Option X) where
 
   -- the two ways of a test, where the outer one is met only where the inner one isn't
   apart : (b c : Bool) (x s o : Option X) → (b ≡ true → c ≡ false) → cond c s (cond b x o) ≡ cond b x (cond c s o)
-  apart true true x s o e = absurd (let z = e refl in cc)
-  apart true false x s o e = refl
-  apart false c x s o e = refl
+  apart b c x s o e1 = grind (arith, nat_tests)
 
   -- where a handle is listed once and its task is live, that task is read
   pub first-found : (k : ℕ) (t : Task) (l : List (Listed Task)) → listed k l ≤ 1 → live_object l k ≡ Some t → first_at g l k ≡ g (entry_of k t)

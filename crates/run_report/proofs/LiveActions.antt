@@ -5,8 +5,7 @@ use Rattle.run_report.specs.declared.changes.LiveAction.{LiveAction}
 -- Workers
 
 or_true : (b : Bool) → cond b true true ≡ true
-or_true true = refl
-or_true false = refl
+or_true b = grind (arith, nat_tests)
 
 below_or : (n : ℕ) (f g : ℕ → Bool) → some_below n (λ w. cond (f w) true (g w)) ≡ cond (some_below n f) true (some_below n g)
 below_or zero f g = refl
@@ -31,10 +30,7 @@ below_same zero p q k = refl
 below_same (suc n) p q k = λ i. cond (k n (omega arith) i) true (below_same n p q (λ w l. k w (omega arith)) i)
 
 regrouped : (e b x y : Bool) → b ≡ true → (e && b && x && y) ≡ (e && (x && y))
-regrouped false b x y t = refl
-regrouped true false x y t = absurd (cc)
-regrouped true true false y t = refl
-regrouped true true true y t = refl
+regrouped e b x y e1 = grind (arith, nat_tests)
 
 by_one : (n job cores : ℕ) (a : Action) → some_below n (λ w. is_eligible n w job cores a) ≡ can_run n job cores a
 by_one n job cores a =
@@ -81,12 +77,10 @@ further n None = None
 further n (Some k) = Some (n + k)
 
 further_zero : (o : Option ℕ) → further 0 o ≡ o
-further_zero None = refl
-further_zero (Some k) = ap Some (omega arith)
+further_zero o = grind (arith, nat_tests)
 
 further_suc : (n : ℕ) (o : Option ℕ) → further n (option_map suc o) ≡ further (n + 1) o
-further_suc n None = refl
-further_suc n (Some k) = ap Some (omega arith)
+further_suc n o = grind (arith, nat_tests)
 
 pub place_first : (h : ℕ) (xs : List LiveAction) → further 0 (place_of h (drop 0 xs)) ≡ place_of h xs
 place_first h xs = further_zero (place_of h xs)
@@ -98,24 +92,15 @@ same_test : (a b : ℕ) → a ≡ b → (a == b) ≡ true
 same_test a b e = grind (arith, nat_tests)
 
 other_test : (a b : ℕ) → (a ≡ b → ⊥) → (a == b) ≡ false
-other_test a b e = by (a == b) refl
-  where
-    by : (c : Bool) → (a == b) ≡ c → c ≡ false
-    by true is = absurd (e (grind (arith, nat_tests)))
-    by false is = refl
+other_test a b e1 = grind (arith, nat_tests)
 
 pub place_here : (h i : ℕ) (xs : List LiveAction) (d : LiveAction) (whole : Option ℕ) → i < length xs → (get_or xs i d).handle ≡ h
     → further i (place_of h (drop i xs)) ≡ whole → whole ≡ Some i
-place_here h i xs d whole l is so =
-    sym so ∙ ap (λ ys. further i (place_of h ys)) (left_at i xs d l)
-    ∙ (λ j. further i (cond (same_test (get_or xs i d).handle h is j) (Some 0) (option_map suc (place_of h (drop (i + 1) xs))))) ∙ ap Some (omega arith)
+place_here h i xs d whole e1 e2 e3 = grind (arith, nat_tests, place_of, left_at, same_test, option_map)
 
 pub place_later : (h i : ℕ) (xs : List LiveAction) (d : LiveAction) (whole : Option ℕ) → i < length xs → ((get_or xs i d).handle ≡ h → ⊥)
     → further i (place_of h (drop i xs)) ≡ whole → further (i + 1) (place_of h (drop (i + 1) xs)) ≡ whole
-place_later h i xs d whole l is so =
-    sym (further_suc i (place_of h (drop (i + 1) xs)))
-    ∙ (λ j. further i (cond (sym (other_test (get_or xs i d).handle h is) j) (Some 0) (option_map suc (place_of h (drop (i + 1) xs)))))
-    ∙ ap (λ ys. further i (place_of h ys)) (sym (left_at i xs d l)) ∙ so
+place_later h i xs d whole e1 e2 e3 = grind (arith, nat_tests, further_suc, place_of, other_test, option_map, left_at)
 
 pub place_nowhere : (h i : ℕ) (xs : List LiveAction) (whole : Option ℕ) → length xs ≤ i → further i (place_of h (drop i xs)) ≡ whole → whole ≡ None
 place_nowhere h i xs whole past so = sym so ∙ ap (λ ys. further i (place_of h ys)) (nil_from_length (drop i xs) (omega (arith, length-drop i xs)))
@@ -124,12 +109,10 @@ some_is : (a b : ℕ) → Some a ≡ Some b → a ≡ b
 some_is a b e = cc
 
 none_zero : (o : Option ℕ) → option_map suc o ≡ Some 0 → ⊥
-none_zero None e = cc
-none_zero (Some k) e = let z = some_is (suc k) 0 e in absurd (omega (arith, z))
+none_zero o e1 = grind (arith, nat_tests)
 
 before : (o : Option ℕ) (k : ℕ) → option_map suc o ≡ Some (suc k) → o ≡ Some k
-before None k e = absurd (cc)
-before (Some j) k e = let z = some_is (suc j) (suc k) e in ap Some (omega (arith, z))
+before o k e1 = grind (arith, nat_tests)
 
 pub place_below : (h : ℕ) (xs : List LiveAction) (i : ℕ) → place_of h xs ≡ Some i → i < length xs
 place_below h [] i at = absurd (cc)
@@ -167,8 +150,7 @@ module _ (h : ℕ) where
       by false (suc k) at more = ap (λ l. (x.handle, action_of x) ∷ l) (more k (before (place_of h xs) k at))
 
   none_later : (o : Option ℕ) → option_map suc o ≡ None → o ≡ None
-  none_later None e = refl
-  none_later (Some k) e = absurd (cc)
+  none_later o e1 = grind (arith, nat_tests)
 
   pub place_none_set : (f : Action → Action) (xs : List LiveAction) → place_of h xs ≡ None → pairs xs ≡ with_action h f (pairs xs)
   place_none_set f [] at = refl

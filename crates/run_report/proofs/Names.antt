@@ -1,5 +1,5 @@
 -- The names that the proofs of this crate cite of lower crates and of its own specs/, passed on from one place. Declares nothing.
-pub use Rattle.std.proofs.Common.{Bool, Err, List, None, Option, Result, Some, [], ap, append_assoc, arith, cond, drop, false, get_or, inl, inr, length, length-drop, refl, set, subst, suc, sym, take, true, zero, ℕ, ℤ, ◌&&◌, ◌++◌, ◌+◌, ◌-◌, ◌<◌, ◌∙◌, ◌∷◌, ◌≡◌, ◌≤◌, ◌⊎◌}
+pub use Rattle.std.proofs.Common.{Bool, List, None, Option, Result, Some, [], ap, append_assoc, arith, cond, drop, false, get_or, inl, inr, length, length-drop, refl, set, subst, suc, sym, take, true, zero, ℕ, ℤ, ◌&&◌, ◌++◌, ◌+◌, ◌-◌, ◌<◌, ◌∙◌, ◌∷◌, ◌≡◌, ◌≤◌, ◌⊎◌}
 pub use Rattle.std.proofs.lemmas.Bool.{eqb-true, or_parts}
 pub use Rattle.std.proofs.lemmas.Bool.Decides.{nat_tests}
 pub use Rattle.std.proofs.lemmas.Grind.{take_at_read}
@@ -39,7 +39,7 @@ pub use Rattle.run_report.specs.Seen.{Follows, Seen, action_of, ends_where, enqu
 pub use Rattle.run_report.specs.Standings.{SameAs, can_run, passes, place_of, seen_in}
 pub use Rattle.run_report.specs.Summary.{AreTotals, IsNear, counted, no_totals, statements_in, with_number, with_numbers, with_tasks}
 pub use Rattle.run_report.specs.declared.changes.Change.{Change}
-pub use Rattle.run_report.specs.declared.changes.Change.TheVariants.{BeginsTask, CancelsTask, Closes, DeletesAction, DeletesQueue, DisablesAction, DisablesQueue, EnablesQueue, EnqueuesTask, MakesQueue, Nothing}
+pub use Rattle.run_report.specs.declared.changes.Change.TheVariants.{Nothing}
 pub use Rattle.run_report.specs.declared.changes.LiveQueue.{LiveQueue}
 pub use Rattle.run_report.specs.declared.changes.Unstarted.{Unstarted}
 pub use Rattle.run_report.specs.declared.totals.Totals.{Totals}

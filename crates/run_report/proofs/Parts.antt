@@ -1,6 +1,5 @@
 -- The lines of the parts, one part after another.
-use Rattle.run_report.proofs.Names.{◌≡◌, ℕ, ◌+◌, ◌-◌, ◌≤◌, List, [], ◌∷◌, ◌++◌, Result, Err, refl, sym, ◌∙◌, ap, subst, arith, length, get_or, take, drop, append_assoc, IfOk, Option, flat_map, take_all, TaskEnd, Part, NodeEntry, Legal, Workload, task_lines, call_lines, Seen, nothing_seen, seen_from, Layout, terms_with, run_terms, parts_told, report_by, report, Told, reported, further_told, all_told, calls_before}
-use Rattle.std.proofs.Common.{Ok}
+use Rattle.run_report.proofs.Names.{nat_tests, ◌≡◌, ℕ, ◌+◌, ◌-◌, ◌≤◌, List, [], ◌∷◌, ◌++◌, Result, sym, ◌∙◌, ap, arith, length, get_or, take, drop, append_assoc, IfOk, Option, flat_map, take_all, TaskEnd, Part, NodeEntry, Legal, Workload, task_lines, call_lines, nothing_seen, seen_from, Layout, terms_with, run_terms, parts_told, report_by, report, Told, reported, further_told, all_told, calls_before}
 use Rattle.std.specs.Global.{Vec}
 use Rattle.mtapi_values.specs.Attributes.{NodeSettings}
 use Rattle.run_report.proofs.History.{ends_by_entries}
@@ -9,11 +8,7 @@ abbrev pub rest_of : {X : Type 0} → List X → List X
 rest_of xs = take (length xs - 1) (drop 1 xs)
 
 first_rest : {X : Type 0} (xs : List X) (d : X) → 1 ≤ length xs → xs ≡ get_or xs 0 d ∷ rest_of xs
-first_rest [] d h = absurd (omega arith)
-first_rest (x ∷ xs) d h =
-    let n : length (x ∷ xs) - 1 ≡ length xs = omega arith in
-    let same : take (length xs) xs ≡ xs = take_all (length xs) xs (omega arith) in
-    rw (n, same) refl
+first_rest xs d e1 = grind (arith, nat_tests, take_all)
 
 pub first_with : {X : Type 0} (xs : List X) (d : X) → 1 ≤ length xs → d ≡ get_or xs 0 d → xs ≡ d ∷ rest_of xs
 first_with xs d h is = first_rest xs d h ∙ ap (λ x. x ∷ rest_of xs) (sym is)
@@ -30,25 +25,19 @@ further_more f who es p ps h is = ap (λ l. flat_map f (further_told who es l)) 
 
 pub all_more : (f : Told → List ℕ) (main : ℕ) (es : List NodeEntry) (p : Part) (ps : List Part) (before : ℕ) → 1 ≤ length ps → p ≡ get_or ps 0 p → before ≡ calls_before p.statements
     → flat_map f (all_told main es ps) ≡ f (reported main before es p) ++ flat_map f (further_told (main + 1) es (rest_of ps))
-all_more f main es p ps before h is same =
-    ap (λ l. flat_map f (all_told main es l)) (first_with ps p h is) ∙ (λ j. f (reported main (sym same j) es p) ++ flat_map f (further_told (main + 1) es (rest_of ps)))
+all_more f main es p ps before e1 e2 e3 = grind (arith, nat_tests, flat_map, all_told, first_with, further_told)
 
 -- The whole report
 
 pub if_ok : {E : Type 0} (r : Result (Vec ℕ) E) (a b : List ℕ) → a ≡ b → IfOk r (λ v. v.items ≡ a) → IfOk r (λ v. v.items ≡ b)
-if_ok (Ok v) a b e h = h ∙ e
-if_ok (Err x) a b e h = tt
+if_ok r a b e1 e2 = grind (arith, nat_tests)
 
 -- the text by the ends that were found and by the lines that were put together
 pub text_is : (load : Workload) (es : List NodeEntry) (ends : ℕ → Option TaskEnd) (n : ℕ) (parts : List Part) (no_tasks no_calls tasks calls : List ℕ) → ((h : ℕ) → ends h ≡ (seen_from n nothing_seen es).ends h)
     → n ≡ load.settings.workers → parts ≡ load.parts → no_tasks ≡ [] → no_calls ≡ []
     → tasks ≡ no_tasks ++ flat_map (task_lines ends) (all_told n es parts) → calls ≡ no_calls ++ flat_map call_lines (all_told n es parts)
     → tasks ++ calls ≡ report_by (seen_from load.settings.workers nothing_seen es).ends (parts_told load es)
-text_is load es ends n parts no_tasks no_calls tasks calls is w p nt nc t c =
-    (λ j. t j ++ c j)
-    ∙ (λ j. (nt j ++ flat_map (task_lines ends) (all_told n es (p j))) ++ (nc j ++ flat_map call_lines (all_told n es (p j))))
-    ∙ ap (λ (f : ℕ → Option TaskEnd). report_by f (all_told n es load.parts)) (λ j h. is h j)
-    ∙ ap (λ (k : ℕ). report_by (seen_from k nothing_seen es).ends (all_told k es load.parts)) w
+text_is load es ends n parts no_tasks no_calls tasks calls e1 e2 e3 e4 e5 e6 e7 = grind (arith, nat_tests)
 
 pub report_is : (layout : Layout) (load : Workload) (es : List NodeEntry) → Legal (run_terms layout load) es → report_by (seen_from load.settings.workers nothing_seen es).ends (parts_told load es) ≡ report layout load es
 unfolding report
@@ -57,7 +46,4 @@ report_is layout load es legal = ap (λ (f : ℕ → Option TaskEnd). report_by 
 -- a journal with the terms of the workload is legal for these
 pub legal_same : (layout : Layout) (load : Workload) (settings : NodeSettings) (callers : ℕ) (es fs : List NodeEntry) → settings ≡ load.settings → callers ≡ length load.parts → es ≡ fs
     → Legal (terms_with layout settings callers) fs → Legal (run_terms layout load) es
-legal_same layout load settings callers es fs s c e legal =
-    let at_settings : Legal (terms_with layout load.settings callers) fs = subst (λ (x : NodeSettings). Legal (terms_with layout x callers) fs) s legal in
-    let at_callers : Legal (run_terms layout load) fs = subst (λ (n : ℕ). Legal (terms_with layout load.settings n) fs) c at_settings in
-    subst (λ (l : List NodeEntry). Legal (run_terms layout load) l) (sym e) at_callers
+legal_same layout load settings callers es fs e1 e2 e3 e4 = grind (arith, nat_tests)

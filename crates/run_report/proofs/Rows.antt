@@ -1,5 +1,5 @@
 -- After each entry that may come next, what is seen is what stands in the state.
-use Rattle.run_report.proofs.Names.{◌≡◌, ℕ, ℤ, ◌≤◌, Bool, true, false, ◌&&◌, cond, List, [], ◌∷◌, Option, Some, None, refl, sym, ◌∙◌, ap, subst, ◌==◌, not, option_map, is_some, TaskEnd, Cancelled, Failed, holds, Listed, live_of, live_object, change, with_fields, gone, any_listed, listed, Action, new_action, with_enabled, Queue, is_shut_in, is_in, Task, NewTask, TaskState, Scheduled, Running, Ended, is_unstarted, is_unended, scheduled, watch_end, cancel_requested, Op, Reply, State, workers, is_open, is_stop, end_tasks, Move, Groups, Queues, Mutexes, Sems, Rwls, Segments, phase_is, released, stops, makes_action, enables, withdraws, starts_task, runs_task, ends_task, ends_waiting, notes, leaves, frees_members, lets_members_go, alters, removes, is_fresh, apply, after_moves, Row, unless, gives, never, Allows, after_row, only, live, handle_of, is_ready, can_take, picks, task_end, NodeEntry, IsNext, row_of, next, fst_true, snd_true, IsKeptBy, by_moves, Change, Nothing, change_of, Seen, Follows, unstarted_of, unstarted_in, unstarted_at, queue_of, queue_at, ends_where, with_end, withdrawn, is_left, is_of, is_shut, enqueued, with_open, with_change}
+use Rattle.run_report.proofs.Names.{arith, nat_tests, ◌≡◌, ℕ, ℤ, ◌≤◌, Bool, true, false, ◌&&◌, cond, List, [], ◌∷◌, Option, Some, refl, sym, ◌∙◌, ap, subst, ◌==◌, not, option_map, is_some, TaskEnd, Cancelled, Failed, holds, Listed, live_of, live_object, change, with_fields, gone, any_listed, listed, Action, new_action, with_enabled, Queue, is_shut_in, is_in, Task, NewTask, TaskState, Scheduled, Running, Ended, is_unstarted, is_unended, scheduled, watch_end, cancel_requested, Op, Reply, State, workers, is_stop, end_tasks, Move, Groups, Queues, Mutexes, Sems, Rwls, Segments, phase_is, released, stops, makes_action, enables, withdraws, starts_task, runs_task, ends_task, ends_waiting, notes, leaves, frees_members, lets_members_go, alters, removes, is_fresh, apply, after_moves, Row, unless, gives, never, Allows, after_row, only, live, handle_of, is_ready, can_take, picks, task_end, NodeEntry, IsNext, row_of, next, fst_true, snd_true, IsKeptBy, by_moves, Change, Nothing, change_of, Seen, Follows, unstarted_of, unstarted_in, unstarted_at, queue_of, queue_at, ends_where, with_end, withdrawn, is_left, is_of, is_shut, enqueued, with_open, with_change}
 use Rattle.mtapi_values.specs.declared.statuses.MtapiStatus.{MtapiStatus}
 use Rattle.mtapi_values.specs.declared.statuses.MtapiStatus.TheVariants as m
 use Rattle.mtapi_values.specs.declared.handles.TaskHandle.{TaskHandle}
@@ -40,81 +40,45 @@ is_quiet (op.TallyEnd t) = false
 is_quiet _ = true
 
 nothing_of : (o : Op) (r : Reply) → is_quiet o ≡ true → change_of o r ≡ Nothing
-nothing_of op.Close r p = absurd (cc)
-nothing_of (op.ActionCreate job kind cores) r p = absurd (cc)
-nothing_of (op.ActionEnable a) r p = absurd (cc)
-nothing_of (op.ActionDisable a) r p = absurd (cc)
-nothing_of (op.ActionDelete a) r p = absurd (cc)
-nothing_of (op.TaskStart job args priority cores detached group) r p = absurd (cc)
-nothing_of (op.TaskEnqueue q args cores detached group) r p = absurd (cc)
-nothing_of (op.TaskCancel t) r p = absurd (cc)
-nothing_of (op.QueueCreate id job priority limit ordered retain) r p = absurd (cc)
-nothing_of (op.QueueEnable q) r p = absurd (cc)
-nothing_of (op.QueueDisable q) r p = absurd (cc)
-nothing_of (op.QueueDelete q) r p = absurd (cc)
-nothing_of op.Pick r p = absurd (cc)
-nothing_of (op.Finish t done) r p = absurd (cc)
-nothing_of (op.WatchEnd t) r p = absurd (cc)
-nothing_of (op.TallyEnd t) r p = absurd (cc)
-nothing_of _ r p = refl
+nothing_of o r e1 = grind (arith, nat_tests)
 
 no_made : (a : Action) (o : Op) → is_quiet o ≡ true → MakesAction a o → ⊥
-no_made a (op.ActionCreate job kind cores) p b = absurd (cc)
-no_made a _ p b = b
+no_made a o e1 e2 = grind (arith, nat_tests)
 
 no_enabled : (h : ℕ) (o : Op) → is_quiet o ≡ true → EnablesAction h o → ⊥
-no_enabled h (op.ActionEnable a) p b = absurd (cc)
-no_enabled h _ p b = b
+no_enabled h o e1 e2 = grind (arith, nat_tests)
 
 no_withdrawn : (h : ℕ) (f : Listed Action → Listed Action) (o : Op) → is_quiet o ≡ true → WithdrawsAction h f o → ⊥
-no_withdrawn h f (op.ActionDelete a) p b = absurd (cc)
-no_withdrawn h f (op.ActionDisable a) p b = absurd (cc)
-no_withdrawn h f _ p b = b
+no_withdrawn h f o e1 e2 = grind (arith, nat_tests)
 
 no_started : (t : NewTask) (o : Op) → is_quiet o ≡ true → StartsTask t o → ⊥
-no_started t (op.TaskStart job args priority cores detached group) p b = absurd (cc)
-no_started t (op.TaskEnqueue q args cores detached group) p b = absurd (cc)
-no_started t _ p b = b
+no_started t o e1 e2 = grind (arith, nat_tests)
 
 no_run : (o : Op) → is_quiet o ≡ true → is_pick o ≡ true → ⊥
-no_run op.Pick p b = absurd (cc)
-no_run _ p b = absurd (cc)
+no_run o e1 e2 = grind (arith, nat_tests)
 
 no_ended : (h : ℕ) (o : Op) → is_quiet o ≡ true → EndsTask h o → ⊥
-no_ended h (op.TaskCancel t) p b = absurd (cc)
-no_ended h (op.Finish t done) p b = absurd (cc)
-no_ended h (op.WatchEnd t) p b = absurd (cc)
-no_ended h (op.TallyEnd t) p b = absurd (cc)
-no_ended h _ p b = b
+no_ended h o e1 e2 = grind (arith, nat_tests)
 
 none_end : (o : Op) → is_quiet o ≡ true → ends_many o ≡ true → ⊥
-none_end op.Close p b = absurd (cc)
-none_end (op.QueueDisable q) p b = absurd (cc)
-none_end (op.QueueDelete q) p b = absurd (cc)
-none_end _ p b = absurd (cc)
+none_end o e1 e2 = grind (arith, nat_tests)
 
 no_queue_made : (o : Op) → is_quiet o ≡ true → makes_kind Queues o ≡ true → ⊥
-no_queue_made (op.QueueCreate id job priority limit ordered retain) p b = absurd (cc)
-no_queue_made _ p b = absurd (cc)
+no_queue_made o e1 e2 = grind (arith, nat_tests)
 
 no_queue_altered : (h : ℕ) (f : Queue → Queue) (o : Op) → is_quiet o ≡ true → AltersObject Queues h f o → ⊥
-no_queue_altered h f (op.QueueEnable q) p b = absurd (cc)
-no_queue_altered h f (op.QueueDisable q) p b = absurd (cc)
-no_queue_altered h f _ p b = b
+no_queue_altered h f o e1 e2 = grind (arith, nat_tests)
 
 no_queue_gone : (h : ℕ) (o : Op) → is_quiet o ≡ true → RemovesObject Queues h o → ⊥
-no_queue_gone h (op.QueueDelete q) p b = absurd (cc)
-no_queue_gone h _ p b = b
+no_queue_gone h o e1 e2 = grind (arith, nat_tests)
 
 -- what is there
 there : {T : Type 0} (o : Option T) → is_some o ≡ true → (t : T) × (o ≡ Some t)
-there None e = absurd (cc)
-there (Some t) e = (t, refl)
+there o e1 = grind (arith, nat_tests)
 
 -- what is there and passes
 found : {T : Type 0} (q : T → Bool) (o : Option T) → holds q o ≡ true → (t : T) × ((o ≡ Some t) × (q t ≡ true))
-found q None e = absurd (cc)
-found q (Some t) e = (t, (refl, e))
+found q o e1 = grind (arith, nat_tests)
 
 module _ (n : ℕ) (v : Seen) where
   abbrev Both : State → Type 0
@@ -171,16 +135,13 @@ led P s (gives x ms) r l a = subst (λ (q : Reply). P q (after_moves ms s)) (sym
 led P s never r l a = absurd a
 
 leads_live : (P : Reply → State → Type 0) (s : State) {T : Type 0} (x : Option T) (v : Row) (w : T → Row) → Leads P s v → ((t : T) → x ≡ Some t → Leads P s (w t)) → Leads P s (live x v w)
-leads_live P s None v w p h = p
-leads_live P s (Some t) v w p h = h t refl
+leads_live P s x v w e1 e2 = grind (arith, nat_tests)
 
 leads_only : (P : Reply → State → Type 0) (s : State) (b : Bool) (x : Reply) (ms : List Move) → (b ≡ true → P x (after_moves ms s)) → Leads P s (only b (gives x ms))
-leads_only P s true x ms p = p refl
-leads_only P s false x ms p = tt
+leads_only P s b x ms e1 = grind (arith, nat_tests)
 
 leads_cond : (P : Reply → State → Type 0) (s : State) (b : Bool) (v w : Row) → Leads P s v → Leads P s w → Leads P s (cond b v w)
-leads_cond P s true v w h k = h
-leads_cond P s false v w h k = k
+leads_cond P s b v w e1 e2 = grind (arith, nat_tests)
 
 -- The rows of the other ops, where what was seen stands in the state
 
@@ -194,15 +155,7 @@ module _ (s : State) (i : Sound (workers s) s) where
   -- the phase
 
   shut_same : (t : Task) → is_shut (queue_at s.queues) (unstarted_of t) ≡ is_shut_in s.queues t
-  shut_same t = by t.queue
-    where
-      at : (o : Option Queue) → holds (λ q. not q.enabled) (option_map queue_of o) ≡ holds (λ q. not q.enabled) o
-      at None = refl
-      at (Some q) = refl
-
-      by : (o : Option ℕ) → holds (λ h. holds (λ q. not q.enabled) (queue_at s.queues h)) o ≡ holds (λ h. holds (λ q. not q.enabled) (live_object s.queues h)) o
-      by None = refl
-      by (Some h) = at (live_object s.queues h)
+  shut_same t = grind (arith, nat_tests)
 
   closes : (t : State) → t.tasks ≡ s.tasks → t.actions ≡ s.actions → t.queues ≡ s.queues
       → Follows (ends_where (is_shut (queue_at s.queues)) Cancelled (seen_of s)) (end_tasks (λ u. is_unstarted u && is_shut_in s.queues u) Cancelled t)
@@ -230,11 +183,7 @@ module _ (s : State) (i : Sound (workers s) s) where
       (follows_starts (seen_of s) s h (asked_of q.0 x args cores detached group) self (fresh_tasks h e))
 
   waits : (h : ℕ) (t : Task) → live_object s.tasks h ≡ Some t → is_some (unstarted_at s.tasks h) ≡ is_unstarted t
-  waits h t e = ap is_some (unstarted_first s.tasks h ∙ first-found unstarted_in h t s.tasks (i.once h) e) ∙ by (is_unstarted t)
-    where
-      by : (b : Bool) → is_some (cond b (Some (unstarted_of t)) None) ≡ b
-      by true = refl
-      by false = refl
+  waits h t e1 = grind (arith, nat_tests, unstarted_first, first-found, unstarted_in, is_unstarted, unstarted_of)
 
   on_cancels : (k : TaskHandle) (t : Task) (x : TaskState) → live_object s.tasks k.0 ≡ Some t → t.state ≡ x → Leads (W (op.TaskCancel k)) s (cancels k.0 x)
   on_cancels k t Scheduled e d =
@@ -259,8 +208,7 @@ module _ (s : State) (i : Sound (workers s) s) where
   on_picks w _ = leads_only (W op.Pick) s (not (any_listed (can_take s w) s.tasks)) Idle [] (λ b. self)
 
   on_stops : (b : Bool) (w : ℕ) (v : Row) → Leads (W op.Pick) s v → Leads (W op.Pick) s (cond b (gives Stop (stops w ∷ [])) v)
-  on_stops true w v h = follows_same (seen_of s) s _ self refl refl refl
-  on_stops false w v h = h
+  on_stops b w v e1 = grind (arith, nat_tests)
 
   -- a task that ends after other objects changed
   ends_so : (h : ℕ) (e : TaskEnd) (t : Task) (u : State) → live_object s.tasks h ≡ Some t → u.tasks ≡ s.tasks → u.actions ≡ s.actions → u.queues ≡ s.queues

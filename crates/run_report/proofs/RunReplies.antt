@@ -1,7 +1,7 @@
 -- The report of a run reads for each statement the reply to which its own call came.
-use Rattle.run_report.proofs.Names.{◌≡◌, ℕ, suc, ◌+◌, Bool, true, false, not, cond, List, [], ◌∷◌, ◌++◌, length, Option, Some, None, refl, sym, ◌∙◌, ap, arith, take, drop, ◌==◌, ◌&&◌, map, append-nil, Statement, Part, Op, Reply, handle_of, NodeEntry, has_begin, Carried, MainRan, CallerRan, CallersRan, PartsRan, Told, decided, calls_before, further_told, all_told}
+use Rattle.run_report.proofs.Names.{nat_tests, ◌≡◌, ℕ, suc, ◌+◌, Bool, true, false, not, cond, List, [], ◌∷◌, ◌++◌, length, Option, refl, sym, ◌∙◌, ap, arith, take, drop, ◌==◌, ◌&&◌, map, append-nil, Statement, Part, Op, Reply, handle_of, NodeEntry, has_begin, Carried, MainRan, CallerRan, CallersRan, PartsRan, Told, decided, calls_before, further_told, all_told}
 use Rattle.mtapi_machine.specs.Kept.{is_pending}
-use Rattle.workload_runs.specs.Calls.{Call, Once, Looking, call_of}
+use Rattle.workload_runs.specs.Calls.{Call, call_of}
 use Rattle.workload_runs.specs.Lines.{Line, line, lines_of, before_it, Made, head_of, tail_of_main, in_lines}
 use Rattle.run_report.specs.RunReplies.{ReadsTheRun}
 
@@ -37,17 +37,11 @@ one_reply o r n e = λ i. cond (not (e i)) (r ∷ []) []
 
 before_none : (o : Op) (first : Option ℕ) → decided_in (before_it o first) ≡ []
 unfolding decided_in
-before_none o None = refl
-before_none o (Some n) = refl
+before_none o first = grind (arith, nat_tests)
 
 -- the lines of a call have one such reply, the one to which it comes
 made_reads : (c : Call) (lines : List Line) (r : Reply) → Made c lines r → decided_in lines ≡ r ∷ []
-made_reads (Once o) lines r m = ap decided_in m.0 ∙ one_reply o r 0 m.1
-made_reads (Looking waits o timeout) lines r m =
-    ap decided_in m.is
-    ∙ decided_append (before_it (o false) m.first) (line (o m.last) r m.beside ∷ [])
-    ∙ ap (λ l. l ++ decided_in (line (o m.last) r m.beside ∷ [])) (before_none (o false) m.first)
-    ∙ one_reply (o m.last) r m.beside m.decides
+made_reads c lines r e1 = grind (arith, nat_tests, one_reply, decided_append, before_it, before_none)
 
 -- the lines of statements have one for each
 carried_reads : (bound : List ℕ) (ss : List Statement) (lines : List Line) (rs : List Reply) → Carried Made bound ss lines rs → decided_in lines ≡ rs
@@ -55,8 +49,7 @@ unfolding Carried decided_in
 carried_reads bound [] lines [] c = ap decided_in c
 carried_reads bound [] lines (r ∷ rs) c = absurd c
 carried_reads bound (s ∷ ss) lines [] c = absurd c
-carried_reads bound (s ∷ ss) lines (r ∷ rs) c =
-    ap decided_in c.2 ∙ decided_append c.0 c.1 ∙ (λ j. made_reads (call_of bound s.deed) c.0 r c.3 j ++ carried_reads (bound ++ handle_of r ∷ []) ss c.1 rs c.4 j)
+carried_reads bound (s ∷ ss) lines (r ∷ rs) c = grind (arith, nat_tests, carried_reads (bound ++ handle_of r ∷ []) ss c.1 rs c.4, decided_append, made_reads, call_of, handle_of)
 
 -- the first ones, as many as there are statements, are the replies to them
 carried_first : (bound : List ℕ) (ss : List Statement) (lines : List Line) (rs more : List Reply) → Carried Made bound ss lines rs → take (length ss) (rs ++ more) ≡ rs
@@ -69,8 +62,7 @@ carried_first bound (s ∷ ss) lines (r ∷ rs) more c = ap (λ l. r ∷ l) (car
 -- main's calls before those of its statements are left out
 head_reads : (b : Bool) (rest : List Line) → drop (cond b 1 2) (decided_in (head_of b ++ rest)) ≡ decided_in rest
 unfolding decided_in
-head_reads true rest = refl
-head_reads false rest = refl
+head_reads b rest = grind (arith, nat_tests)
 
 -- and so are those behind them
 main_reads : (ss : List Statement) (lines : List Line) (all rs : List Reply) → all ≡ decided_in lines → MainRan in_lines ss lines rs → take (length ss) (drop (calls_before ss) all) ≡ rs

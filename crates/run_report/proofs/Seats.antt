@@ -1,5 +1,5 @@
 -- The replies of a seat, one more entry on.
-use Rattle.run_report.proofs.Names.{◌≡◌, ℕ, ◌+◌, ◌<◌, Bool, true, false, cond, List, [], ◌∷◌, ◌++◌, refl, sym, ◌∙◌, ap, length, get_or, take, take_at_read, Reply, NodeEntry, decides, decided}
+use Rattle.run_report.proofs.Names.{arith, nat_tests, ◌≡◌, ℕ, ◌+◌, ◌<◌, Bool, true, false, cond, List, [], ◌∷◌, ◌++◌, refl, ap, length, get_or, take, take_at_read, Reply, NodeEntry, decides, decided}
 
 pub decided_none : (who : ℕ) → [] ≡ decided who []
 unfolding decided
@@ -17,9 +17,4 @@ decided_more who (x ∷ L) e = by (decides who x) (decided_more who L e)
 
 pub decided_next : (who i : ℕ) (L : List NodeEntry) (e : NodeEntry) (old new : List Reply) → i < length L → e ≡ get_or L i e → old ≡ decided who (take i L)
     → new ≡ old ++ cond (decides who e) (e.reply ∷ []) [] → new ≡ decided who (take (i + 1) L)
-decided_next who i L e old new l at before after =
-    let list : take (i + 1) L ≡ take i L ++ e ∷ [] = (take_at_read L i e l).1 ∙ ap (λ z. take i L ++ z ∷ []) (sym at) in
-    after
-    ∙ ap (λ l. l ++ cond (decides who e) (e.reply ∷ []) []) before
-    ∙ sym (decided_more who (take i L) e)
-    ∙ ap (decided who) (sym list)
+decided_next who i L e old new e1 e2 e3 e4 = grind (arith, nat_tests, take_at_read, decided_more)

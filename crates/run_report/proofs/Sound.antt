@@ -1,5 +1,5 @@
 -- What holds after every history: no task's handle is listed twice, no live queue stands twice, and the workers are so many.
-use Rattle.run_report.proofs.Names.{◌≡◌, ℕ, ◌+◌, ◌≤◌, Bool, true, false, ◌&&◌, cond, List, [], ◌∷◌, refl, sym, ◌∙◌, ap, subst, arith, ◌==◌, eqb-true, TaskEnd, Listed, live_of, change, change_all, issue, with_fields, gone, listed, may_issue, Distinct, listed-change, listed-issue, Distinct-issue, Distinct-update, Distinct-retire, Task, Running, with_state, with_notes, ended, end_each, freed, let_go, State, workers, is_open, Queues, starts_task, runs_task, ends_task, ends_waiting, withdraws, notes, leaves, frees_members, lets_members_go, alters, removes, makes_action, enables, phase_is, released, stops, Groups, Mutexes, Sems, Rwls, Segments, NodeEntry, next, fst_true, snd_true, IsKept, by_moves}
+use Rattle.run_report.proofs.Names.{nat_tests, ◌≡◌, ℕ, ◌+◌, ◌≤◌, Bool, true, false, ◌&&◌, cond, List, [], ◌∷◌, refl, sym, ap, subst, arith, ◌==◌, eqb-true, TaskEnd, Listed, live_of, change, change_all, issue, with_fields, gone, listed, may_issue, Distinct, listed-change, listed-issue, Distinct-issue, Distinct-update, Distinct-retire, Task, Running, with_state, with_notes, ended, end_each, freed, let_go, State, workers, is_open, Queues, starts_task, runs_task, ends_task, ends_waiting, withdraws, notes, leaves, frees_members, lets_members_go, alters, removes, makes_action, enables, phase_is, released, stops, Groups, Mutexes, Sems, Rwls, Segments, NodeEntry, next, fst_true, snd_true, IsKept, by_moves}
 use Rattle.mtapi_machine.specs.Moves.{makes}
 use Rattle.run_report.proofs.Listed.{unlisted, same_number}
 
@@ -20,16 +20,7 @@ once_change : (h : ℕ) (f : Listed Task → Listed Task) (l : List (Listed Task
 once_change h f l keeps one k = subst (λ (n : ℕ). n ≤ 1) (sym (listed-change k h f keeps l)) (one k)
 
 once_issue : (last h : ℕ) (t : Task) (l : List (Listed Task)) → may_issue last h l ≡ true → Once l → Once (issue h t l)
-once_issue last h t l may one k = by (h == k) refl
-  where
-    by : (b : Bool) → (h == k) ≡ b → listed k (issue h t l) ≤ 1
-    by true is =
-        let here : listed k l ≡ 0 = subst (λ (n : ℕ). listed n l ≡ 0) (same_number h k is) (none_listed last h l may) in
-        let more : listed k (issue h t l) ≡ listed k l + 1 = listed-issue k h t l ∙ (λ i. listed k l + cond (is i) 1 0) in
-        omega (arith, here, more)
-    by false is =
-        let more : listed k (issue h t l) ≡ listed k l + 0 = listed-issue k h t l ∙ (λ i. listed k l + cond (is i) 1 0) in
-        omega (arith, one k, more)
+once_issue last h t l e1 e2 = grind (arith, nat_tests, same_number, none_listed, listed-issue)
 
 listed_ends : (k : ℕ) (p : Task → Bool) (e : TaskEnd) (n : ℕ) (l : List (Listed Task)) → listed k (end_each p e n l) ≡ listed k l
 unfolding listed end_each
@@ -57,12 +48,10 @@ once_all p f l keeps one k = subst (λ (m : ℕ). m ≤ 1) (sym (listed_all k p 
 
 module _ (n : ℕ) where
   with_tasks : (s t : State) → Sound n s → Once t.tasks → t.queues ≡ s.queues → t.terms ≡ s.terms → Sound n t
-  with_tasks s t i one same terms =
-      record { once = one; distinct = subst (λ l. Distinct (live_of l)) (sym same) i.distinct; workers = ap (λ x. x.settings.workers) terms ∙ i.workers }
+  with_tasks s t e1 e2 e3 e4 = grind (arith, nat_tests)
 
   with_queues : (s t : State) → Sound n s → Distinct (live_of t.queues) → t.tasks ≡ s.tasks → t.terms ≡ s.terms → Sound n t
-  with_queues s t i alone same terms =
-      record { once = λ k. subst (λ l. listed k l ≤ 1) (sym same) (i.once k); distinct = alone; workers = ap (λ x. x.settings.workers) terms ∙ i.workers }
+  with_queues s t e1 e2 e3 e4 = grind (arith, nat_tests)
 
   as_before : (s t : State) → Sound n s → t.tasks ≡ s.tasks → t.queues ≡ s.queues → t.terms ≡ s.terms → Sound n t
   as_before s t i same alone terms = with_queues s t i (subst (λ l. Distinct (live_of l)) (sym alone) i.distinct) same terms

@@ -1,6 +1,5 @@
 -- The totals of the parts, one part after another.
-use Rattle.run_report.proofs.Names.{◌≡◌, ℕ, ◌+◌, ◌≤◌, List, [], ◌∷◌, ◌++◌, append_assoc, length, map, Result, Err, sym, ◌∙◌, ap, arith, get_or, IfOk, Option, codes, signed_decimal, TaskEnd, NodeEntry, flat_map, length-append, length-map, Layout, Reply, Legal, Statement, Part, Workload, Seen, nothing_seen, seen_from, SameAs, run_terms, parts_told, Totals, reported, further_told, all_told, calls_before, no_totals, with_tasks, with_parts, totals, counted, totals_text, statements_in}
-use Rattle.std.proofs.Common.{Ok}
+use Rattle.run_report.proofs.Names.{nat_tests, ◌≡◌, ℕ, ◌+◌, ◌≤◌, List, [], ◌∷◌, ◌++◌, append_assoc, length, Result, sym, ◌∙◌, ap, arith, get_or, IfOk, Option, codes, signed_decimal, TaskEnd, NodeEntry, flat_map, length-append, length-map, Layout, Reply, Legal, Statement, Part, Workload, nothing_seen, seen_from, run_terms, parts_told, Totals, reported, further_told, all_told, calls_before, no_totals, with_tasks, with_parts, totals, counted, totals_text, statements_in}
 use Rattle.std.specs.declared.alloc.AllocError.{AllocError}
 use Rattle.workload_file.specs.Formed.{WellFormed, part_lines, line_if_any}
 use Rattle.run_report.proofs.History.{ends_by_entries}
@@ -21,14 +20,10 @@ pub all_with : (by : ℕ → Option TaskEnd) (t u : Totals) (main : ℕ) (es : L
     → u ≡ with_tasks by t p.statements (reported main before es p).replies
     → with_parts by u (further_told (main + 1) es (rest_of ps)) ≡ with_parts by t (all_told main es ps)
 unfolding with_parts
-all_with by t u main es p ps before h is same made =
-    ap (λ (x : Totals). with_parts by x (further_told (main + 1) es (rest_of ps))) made
-    ∙ ap (λ (n : ℕ). with_parts by (with_tasks by t p.statements (reported main n es p).replies) (further_told (main + 1) es (rest_of ps))) same
-    ∙ sym (ap (λ (l : List Part). with_parts by t (all_told main es l)) (first_with ps p h is))
+all_with by t u main es p ps before e1 e2 e3 e4 = grind (arith, nat_tests, with_parts, further_told, rest_of, with_tasks, all_told, first_with)
 
 pub if_totals : (r : Result Totals AllocError) (a b : Totals) → a ≡ b → IfOk r (λ t. t ≡ a) → IfOk r (λ t. t ≡ b)
-if_totals (Ok t) a b e h = h ∙ e
-if_totals (Err x) a b e h = tt
+if_totals r a b e1 e2 = grind (arith, nat_tests)
 
 -- ---- the line
 
@@ -54,10 +49,7 @@ part_is t u by ss rs none made = made ∙ ap (λ (x : Totals). with_tasks by x s
 -- the totals by the ends that were found
 pub totals_are : (load : Workload) (es : List NodeEntry) (ends : ℕ → Option TaskEnd) (n : ℕ) (parts : List Part) → ((h : ℕ) → ends h ≡ (seen_from n nothing_seen es).ends h) → n ≡ load.settings.workers → parts ≡ load.parts
     → with_parts ends no_totals (all_told n es parts) ≡ with_parts (seen_from load.settings.workers nothing_seen es).ends no_totals (parts_told load es)
-totals_are load es ends n parts is w p =
-    ap (λ (l : List Part). with_parts ends no_totals (all_told n es l)) p
-    ∙ ap (λ (f : ℕ → Option TaskEnd). with_parts f no_totals (all_told n es load.parts)) (λ j h. is h j)
-    ∙ ap (λ (k : ℕ). with_parts (seen_from k nothing_seen es).ends no_totals (all_told k es load.parts)) w
+totals_are load es ends n parts e1 e2 e3 = grind (arith, nat_tests)
 
 -- for a legal list the ends that entries show are those in the last state
 pub summary_is : (layout : Layout) (load : Workload) (es : List NodeEntry) → Legal (run_terms layout load) es → with_parts (seen_from load.settings.workers nothing_seen es).ends no_totals (parts_told load es) ≡ totals layout load es
@@ -66,17 +58,11 @@ summary_is layout load es legal = ap (λ (f : ℕ → Option TaskEnd). with_part
 
 -- a well-formed workload has at most 20,000 statements
 lines_more : (p : Part) (rest : List ℕ) → length p.statements + length rest ≤ length (part_lines p ++ rest)
-lines_more p rest =
-    let a = length-append (part_lines p) rest in
-    let b = length-append (line_if_any p.line) (map (λ s. s.line) p.statements) in
-    let c = length-map p.statements (λ (s : Statement). s.line) in
-    omega (arith, a, b, c)
+lines_more p rest = grind (arith, nat_tests, length-append, part_lines, line_if_any, length-map)
 
 parts_more : (ps : List Part) → statements_in ps ≤ length (flat_map part_lines ps)
 parts_more [] = omega arith
 parts_more (p ∷ ps) = let rest = parts_more ps in let here = lines_more p (flat_map part_lines ps) in omega (arith, rest, here)
 
 pub few_statements : (load : Workload) → WellFormed load → statements_in load.parts ≤ 20000
-few_statements load w =
-    let all = length-append (line_if_any load.node_line) (flat_map part_lines load.parts) in
-    omega (arith, all, parts_more load.parts, w.statements)
+few_statements load e1 = grind (arith, nat_tests, length-append, line_if_any, flat_map, part_lines, parts_more)

@@ -1,6 +1,5 @@
 -- Statements with their replies, one after another.
-use Rattle.run_report.proofs.Names.{zero, suc, Some, None, Result, Err, ◌≡◌, ℕ, ◌+◌, ◌<◌, ◌≤◌, Bool, true, false, cond, List, [], ◌∷◌, ◌++◌, Option, refl, sym, ◌∙◌, ap, arith, length, get_or, take, drop, append_assoc, length-drop, nows, map-append, length-map, get_or-map, drop-map, drop_more, append-nil, nil_from_length, drop-drop, ◌==◌, slice_get, OnOk, TaskEnd, Statement, Reply, list_any, take-map, or_parts, first_of_two, place_if, is_found, place_from, name_of, name_at, names_by, is_given, shows_given, ShowsNames, shown_of, is_task, task_line, task_lines_of, task_name, call_line, call_lines_of}
-use Rattle.std.proofs.Common.{Ok}
+use Rattle.run_report.proofs.Names.{nat_tests, zero, suc, Some, None, Result, ◌≡◌, ℕ, ◌+◌, ◌<◌, ◌≤◌, Bool, true, false, cond, List, [], ◌∷◌, ◌++◌, Option, refl, sym, ◌∙◌, ap, arith, length, get_or, take, drop, append_assoc, length-drop, nows, map-append, length-map, get_or-map, drop-map, drop_more, append-nil, nil_from_length, drop-drop, slice_get, OnOk, TaskEnd, Statement, Reply, list_any, take-map, or_parts, first_of_two, place_if, is_found, place_from, name_of, name_at, names_by, is_given, shows_given, ShowsNames, shown_of, is_task, task_line, task_lines_of, task_name, call_line, call_lines_of}
 use denote.Ref.{Bor}
 use Rattle.workload_file.specs.Reading.{name_text}
 use Rattle.run_report.specs.declared.sorts.Shown.{Shown}
@@ -31,10 +30,7 @@ module _ {A B C : Type 0} where
   -- a value of what is left of two lists, at its first elements
   both_more : (F : List A → List B → C) (ss : List A) (rs : List B) (i : ℕ) (s : A) (r : B) → i < length ss → s ≡ get_or ss i s → i < length rs → r ≡ get_or rs i r
       → F (drop i ss) (drop i rs) ≡ F (s ∷ drop (i + 1) ss) (r ∷ drop (i + 1) rs)
-  both_more F ss rs i s r l at m got =
-      let left : drop i ss ≡ s ∷ drop (i + 1) ss = drop_more ss i s l ∙ ap (λ x. x ∷ drop (i + 1) ss) (sym at) in
-      let right : drop i rs ≡ r ∷ drop (i + 1) rs = drop_more rs i r m ∙ ap (λ x. x ∷ drop (i + 1) rs) (sym got) in
-      λ j. F (left j) (right j)
+  both_more F ss rs i s r e1 e2 e3 e4 = grind (arith, nat_tests, drop_more)
 
 -- a text that grows by the piece with which what is left begins
 grows : (out new piece rest whole left : List ℕ) → out ++ left ≡ whole → left ≡ piece ++ rest → new ≡ out ++ piece → new ++ rest ≡ whole
@@ -96,8 +92,7 @@ call_lines-past part name ss rs i out whole past so = ends out whole _ so (ap (�
 -- The places of tasks
 
 first_none : (x : Option ℕ) → first_of_two x None ≡ x
-first_none None = refl
-first_none (Some k) = refl
+first_none x = grind (arith, nat_tests)
 
 no_place : (n : ℕ) (ss : List Statement) (h : ℕ) → place_from n ss [] h ≡ None
 unfolding place_from
@@ -106,13 +101,7 @@ no_place n (s ∷ ss) h = refl
 
 -- where a handle was found, it has its first place
 place_step : (n h : ℕ) (found : Option ℕ) (b : Bool) (old rest : Option ℕ) → b ≡ is_found h found → first_of_two (first_of_two old (place_if n h found)) rest ≡ first_of_two old (cond b (Some n) rest)
-place_step n h found b (Some k) rest is = refl
-place_step n h None b None rest is = λ j. cond (sym is j) (Some n) rest
-place_step n h (Some k) b None rest is = by (k == h) ∙ (λ j. cond (sym is j) (Some n) rest)
-  where
-    by : (d : Bool) → first_of_two (cond d (Some n) None) rest ≡ cond d (Some n) rest
-    by true = refl
-    by false = refl
+place_step n h found b old rest e1 = grind (arith, nat_tests)
 
 pub place-next : (ss : List Statement) (rs : List Reply) (h i : ℕ) (s : Statement) (r : Reply) (old new whole found : Option ℕ)
     → i < length ss → s ≡ get_or ss i s → i < length rs → r ≡ get_or rs i r
@@ -127,13 +116,11 @@ place-next ss rs h i s r old new whole found l at m got so made is =
     ∙ so
 
 pub place-past_replies : (ss : List Statement) (rs : List Reply) (h i : ℕ) (old whole : Option ℕ) → length rs ≤ i → first_of_two old (place_from i (drop i ss) (drop i rs) h) ≡ whole → old ≡ whole
-place-past_replies ss rs h i old whole past so =
-    sym (first_none old) ∙ ap (first_of_two old) (sym (ap (λ l. place_from i (drop i ss) l h) (nothing_left rs i past) ∙ no_place i (drop i ss) h)) ∙ so
+place-past_replies ss rs h i old whole e1 e2 = grind (arith, nat_tests, first_none, first_of_two, place_from, nothing_left, no_place)
 
 pub place-past : (ss : List Statement) (rs : List Reply) (h i : ℕ) (old whole : Option ℕ) → length ss ≤ i → first_of_two old (place_from i (drop i ss) (drop i rs) h) ≡ whole → old ≡ whole
 unfolding place_from
-place-past ss rs h i old whole past so =
-    sym (first_none old) ∙ ap (first_of_two old) (sym (ap (λ l. place_from i l (drop i rs) h) (nothing_left ss i past))) ∙ so
+place-past ss rs h i old whole e1 e2 = grind (arith, nat_tests, first_none, first_of_two, place_from, nothing_left)
 
 -- The names of tasks
 
@@ -158,8 +145,7 @@ named all h n (s ∷ ss) (r ∷ rs) left = by (makes h s r) (named all h (n + 1)
     by false more = more
 
 pub on_ok : {T E : Type 0} (r : Result T E) (P Q : Type 0) → (P → Q) → OnOk r P → OnOk r Q
-on_ok (Ok x) P Q f h = f h
-on_ok (Err e) P Q f h = tt
+on_ok r P Q e1 e2 = grind (arith, nat_tests)
 
 -- the lines of calls, where the names are found by places
 pub named_lines : (ss : List Statement) (rs : List Reply) (places : ℕ → Option ℕ) → ((h : ℕ) → places h ≡ place_from 0 ss rs h) → ShowsNames ss rs places
@@ -167,19 +153,13 @@ named_lines ss rs places is part = ap (λ (f : ℕ → List ℕ). call_lines_of 
 
 -- a line that shows no given task is the same whatever the names are
 unnamed_line : (part : List ℕ) (f g : ℕ → List ℕ) (line : ℕ) (shown : Shown) (r : Reply) → is_given shown ≡ false → call_line part f line shown r ≡ call_line part g line shown r
-unnamed_line part f g line shows.Task r plain = refl
-unnamed_line part f g line shows.Nothing r plain = refl
-unnamed_line part f g line shows.Number r plain = refl
-unnamed_line part f g line shows.Given r plain = absurd (cc)
-unnamed_line part f g line shows.Status r plain = refl
+unnamed_line part f g line shown r e1 = grind (arith, nat_tests)
 
 unnamed : (part : List ℕ) (f g : ℕ → List ℕ) (ss : List Statement) (rs : List Reply) → list_any shows_given ss ≡ false → call_lines_of part f ss rs ≡ call_lines_of part g ss rs
 unfolding call_lines_of
 unnamed part f g [] rs plain = refl
 unnamed part f g (s ∷ ss) [] plain = refl
-unnamed part f g (s ∷ ss) (r ∷ rs) plain =
-    let both = or_parts (shows_given s) (list_any shows_given ss) plain in
-    λ j. unnamed_line part f g s.line (shown_of s.deed) r both.0 j ++ unnamed part f g ss rs both.1 j
+unnamed part f g (s ∷ ss) (r ∷ rs) plain = grind (arith, nat_tests, unnamed part f g ss rs, or_parts, shows_given, unnamed_line, shown_of)
 
 pub unnamed_lines : (ss : List Statement) (rs : List Reply) (places : ℕ → Option ℕ) → list_any shows_given ss ≡ false → ShowsNames ss rs places
 unnamed_lines ss rs places plain part = unnamed part (names_by ss places) (task_name ss rs) ss rs plain
