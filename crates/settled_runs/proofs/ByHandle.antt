@@ -1,5 +1,5 @@
 -- What a row gives with a handle, where none of its refusals is one.
-use Rattle.settled_runs.proofs.Names.{◌≡◌, ℕ, Bool, true, false, List, refl, ◌∙◌, ap, Reply, Move, Row, unless, gives, never, Allows, only, moves_of, AllGives, true_false}
+use Rattle.settled_runs.proofs.Names.{arith, nat_tests, ◌≡◌, ℕ, Bool, true, false, List, refl, ◌∙◌, ap, Reply, Move, Row, unless, gives, never, Allows, only, moves_of, AllGives, true_false}
 use Rattle.mtapi_machine.specs.declared.replies.Reply.TheVariants.{Handle}
 
 abbrev is_handle : Reply → Bool
@@ -23,5 +23,4 @@ granted P (gives x ms) h n g a = g a
 granted P never h n g a = absurd a
 
 pub refuses_only : (b : Bool) (x : Reply) (ms : List Move) → RefusesAll (only b (gives x ms))
-refuses_only true x ms = tt
-refuses_only false x ms = tt
+refuses_only b x ms = grind (arith, nat_tests)

@@ -1,5 +1,5 @@
 -- How many entries of a run ask for an op of some class: the statements bound it.
-use Rattle.settled_runs.proofs.Names.{Each, ◌≡◌, ℕ, suc, ◌+◌, ◌≤◌, ◌<◌, Bool, true, false, List, [], ◌∷◌, ◌++◌, length, Option, Some, None, refl, sym, ◌∙◌, ap, subst, arith, ◌==◌, ◌&&◌, ◌||◌, nat_le, map, flat_map, nat_tests, eq-eqb, both_true, snd_true, how_many, Deed, Statement, Part, Workload, Op, Reply, handle_of, NodeEntry, Call, Once, Looking, call_of, Line, line, before_it, Made, RunOf, entries_that, BySeats, true_false, lines_of, Carried, all_statements, is_settled}
+use Rattle.settled_runs.proofs.Names.{Each, ◌≡◌, ℕ, suc, ◌+◌, ◌≤◌, ◌<◌, Bool, true, false, List, [], ◌∷◌, ◌++◌, length, Option, refl, ◌∙◌, ap, subst, arith, ◌==◌, ◌&&◌, ◌||◌, nat_le, map, flat_map, nat_tests, eq-eqb, both_true, snd_true, how_many, Deed, Statement, Part, Workload, Op, Reply, handle_of, NodeEntry, Call, Once, Looking, call_of, Line, before_it, Made, RunOf, entries_that, BySeats, true_false, lines_of, Carried, all_statements, is_settled}
 use Rattle.settled_runs.proofs.{Along.Step, Along.along, Granted.bit, Granted.bit_within}
 use Rattle.settled_runs.proofs.Each.{AllSeats, CallEach, OnlyBy, PartAt, each_map, each_of, is_outside, map_seats, settled_whole, run_each, run_parts, work_outside}
 
@@ -24,8 +24,7 @@ module _ {X : Type 0} where
   many_within p q (x ∷ xs) a = let k : how_many p xs ≤ how_many q xs = many_within p q xs a.1 in let b : bit (p x) ≤ bit (q x) = bit_within (p x) (q x) a.0 in omega arith
 
 pub entries_are : (p : NodeEntry → Bool) (es : List NodeEntry) → entries_that p es ≡ how_many p es
-entries_are p [] = refl
-entries_are p (e ∷ es) = ap (λ (n : ℕ). bit (p e) + n) (entries_are p es)
+entries_are p es = grind (arith, nat_tests)
 
 -- Entries and lines that ask for such an op
 
@@ -60,31 +59,21 @@ CallAsks p n (Once o) = bit (p o) ≤ n
 CallAsks p n (Looking waits o timeout) = bit (p (o false)) + bit (p (o true)) ≡ 0
 
 pub no_bit : (b : Bool) → bit b ≡ 0 → b ≡ false
-no_bit true e = absurd (omega arith)
-no_bit false e = refl
+no_bit b e1 = grind (arith, nat_tests)
 
 module _ (p : Op → Bool) where
   look_asks : (o : Bool → Op) (last : Bool) → bit (p (o false)) + bit (p (o true)) ≡ 0 → bit (p (o last)) ≡ 0
-  look_asks o true e = omega arith
-  look_asks o false e = omega arith
+  look_asks o last e1 = grind (arith, nat_tests)
 
   before_asks : (o : Op) (first : Option ℕ) → bit (p o) ≡ 0 → asked p (before_it o first) ≡ 0
-  before_asks o None e = refl
-  before_asks o (Some n) e = omega arith
+  before_asks o first e1 = grind (arith, nat_tests)
 
   made_asks : (c : Call) (n : ℕ) (ls : List Line) (r : Reply) → CallAsks p n c → Made c ls r → asked p ls ≤ n
-  made_asks (Once o) n ls r a m = subst (λ (x : List Line). asked p x ≤ n) (sym m.0) (let b : bit (p o) ≤ n = a in omega arith)
-  made_asks (Looking waits o timeout) n ls r a m =
-      subst (λ (x : List Line). asked p x ≤ n) (sym m.is)
-      (let b : asked p (before_it (o false) m.first) ≡ 0 = before_asks (o false) m.first (look_asks o false a) in
-      let c : bit (p (o m.last)) ≡ 0 = look_asks o m.last a in
-      let d : asked p (before_it (o false) m.first ++ line (o m.last) r m.beside ∷ []) ≡ asked p (before_it (o false) m.first) + asked p (line (o m.last) r m.beside ∷ []) = many_append (λ l. p l.op) (before_it (o false) m.first) (line (o m.last) r m.beside ∷ []) in
-      omega arith)
+  made_asks c n ls r e1 e2 = grind (arith, nat_tests)
 
   -- a call that may not ask for it does not
   pub calls_none : (c : Call) (b : Bool) → CallAsks p (bit b) c → b ≡ false → CallEach (λ o. p o ≡ false) c
-  calls_none (Once o) b a e = no_bit (p o) (let x : bit (p o) ≤ bit b = a in let y : bit b ≡ 0 = ap bit e in omega arith)
-  calls_none (Looking waits o timeout) b a e = λ last. no_bit (p (o last)) (look_asks o last a)
+  calls_none c b e1 e2 = grind (arith, nat_tests)
 
   -- where each statement of a class asks for it once at most, and no other does
   pub statements_ask : (q : Deed → Bool) (all : List Statement) (ls : List Line) (rs : List Reply) → Carried Made [] all ls rs

@@ -1,5 +1,5 @@
 -- What holds of each line of a seat, and of each entry of a run.
-use Rattle.settled_runs.proofs.Names.{Each, list_any, list_all, flat_map, ap, append_assoc, arith, cond, refl, suc, sym, ◌∙◌, Bool, List, None, Option, Some, [], false, length, true, ℕ, ◌++◌, ◌+◌, ◌<◌, ◌∷◌, ◌≡◌, ◌≤◌, subst, append-nil, eq-eqb, eqb-true, or_left, or_right, list_any-append, nat_lt, not, ◌&&◌, ◌==◌, nat_tests, Made, line, Line, before_it, head_of, in_lines, tail_of_main, Action, BySeats, Call, Looking, Once, CallerRan, MainRan, PartsRan, NodeEntry, NodeSettings, Op, Part, Reply, RunOf, WorkerRan, is_work, Statement, Workload, entry, fst_true, not_true, snd_true, true_false, has_room, are_settled_parts, has_one_fault_a_group, is_settled_further, is_settled_part, set_up, action_in, actions_in, all_statements, lines_of, CallersRan, Carried, has_begin, all_work, are_settled, has_different_ids, has_one_kind_a_job, is_settled, keep_limits, sets_up_first, inl, inr, cases_eq, cond_both, and_parts, Timeout, Looked, whether}
+use Rattle.settled_runs.proofs.Names.{Each, list_any, list_all, flat_map, ap, append_assoc, arith, cond, refl, suc, sym, ◌∙◌, Bool, List, Option, [], false, length, true, ℕ, ◌++◌, ◌+◌, ◌<◌, ◌∷◌, ◌≡◌, ◌≤◌, subst, append-nil, eq-eqb, eqb-true, or_left, or_right, list_any-append, nat_lt, not, ◌==◌, nat_tests, Made, line, Line, before_it, head_of, in_lines, tail_of_main, Action, BySeats, Call, Looking, Once, CallerRan, MainRan, PartsRan, NodeEntry, NodeSettings, Op, Part, Reply, RunOf, WorkerRan, is_work, Statement, Workload, entry, fst_true, not_true, snd_true, true_false, has_room, are_settled_parts, has_one_fault_a_group, is_settled_further, is_settled_part, set_up, action_in, actions_in, all_statements, lines_of, CallersRan, Carried, has_begin, all_work, are_settled, has_different_ids, has_one_kind_a_job, is_settled, keep_limits, sets_up_first, inl, inr, cases_eq, cond_both, Timeout, Looked, whether}
 use Rattle.settled_runs.proofs.Along.{Step, along}
 
 module _ {X : Type 0} (P : X → Type 0) where
@@ -32,13 +32,10 @@ CallEach P (Looking waits o timeout) = (last : Bool) → P (o last)
 
 module _ (P : Op → Type 0) where
   pub before_each : (o : Op) (first : Option ℕ) → P o → Each (λ l. P l.op) (before_it o first)
-  before_each o None e = tt
-  before_each o (Some n) e = (e, tt)
+  before_each o first e1 = grind (arith, nat_tests)
 
   pub made_each : (c : Call) (ls : List Line) (r : Reply) → CallEach P c → Made c ls r → Each (λ l. P l.op) ls
-  made_each (Once o) ls r p x = subst (Each (λ (l : Line). P l.op)) (sym x.0) (p, tt)
-  made_each (Looking waits o timeout) ls r p x =
-      subst (Each (λ (l : Line). P l.op)) (sym x.is) (each_both (λ (l : Line). P l.op) (before_it (o false) x.first) (line (o x.last) r x.beside ∷ []) (before_each (o false) x.first (p false)) (p x.last, tt))
+  made_each c ls r e1 e2 = grind (arith, nat_tests)
 
   -- the lines of statements
   pub statements_each : (all : List Statement) (ls : List Line) (rs : List Reply) → Carried Made [] all ls rs
@@ -73,12 +70,10 @@ is_outside Op.Final = true
 is_outside o = is_at_work o
 
 pub work_outside : (o : Op) → is_at_work o ≡ true → is_outside o ≡ true
-work_outside Op.Initialize e = refl
-work_outside _ e = cc
+work_outside o e1 = grind (arith, nat_tests)
 
 at_work : (o : Op) (r : Reply) → is_work o r ≡ true → is_at_work o ≡ true
-at_work Op.Pick r e = refl
-at_work _ r e = cc
+at_work o r e1 = grind (arith, nat_tests)
 
 all_at_work : (ls : List Line) → all_work ls ≡ true → Each (λ l. is_at_work l.op ≡ true) ls
 unfolding all_work
@@ -175,13 +170,7 @@ pub record Whole (load : Workload) : Type 0 where
 
 pub settled_whole : (load : Workload) → is_settled load ≡ true → Whole load
 unfolding is_settled
-settled_whole load e =
-    let a = and_parts (are_settled_parts load.settings load.parts && has_one_kind_a_job (actions_in (all_statements load)) && has_different_ids (all_statements load) && has_room load.settings (all_statements load) && list_all (λ p. keep_limits p.statements 0 p.statements) load.parts) _ e in
-    let b = and_parts (are_settled_parts load.settings load.parts && has_one_kind_a_job (actions_in (all_statements load)) && has_different_ids (all_statements load) && has_room load.settings (all_statements load)) _ a.0 in
-    let c = and_parts (are_settled_parts load.settings load.parts && has_one_kind_a_job (actions_in (all_statements load)) && has_different_ids (all_statements load)) _ b.0 in
-    let d = and_parts (are_settled_parts load.settings load.parts && has_one_kind_a_job (actions_in (all_statements load))) _ c.0 in
-    let f = and_parts (are_settled_parts load.settings load.parts) _ d.0 in
-    record { parts = f.0; kinds = f.1; ids = d.1; room = c.1; limits = b.1; faults = a.1 }
+settled_whole load e1 = grind (arith, nat_tests)
 
 -- the settled parts
 pub record Parts (settings : NodeSettings) (p : Part) (ps : List Part) : Type 0 where
@@ -190,10 +179,7 @@ pub record Parts (settings : NodeSettings) (p : Part) (ps : List Part) : Type 0 
   pub further : list_all (is_settled_further settings (actions_in p.statements)) ps ≡ true
 
 pub parts_are : (settings : NodeSettings) (p : Part) (ps : List Part) → are_settled_parts settings (p ∷ ps) ≡ true → Parts settings p ps
-parts_are settings p [] e = record { main = e; first = λ x xs i. absurd (cc); further = refl }
-parts_are settings p (q ∷ ps) e =
-    let a : (sets_up_first p.statements && is_settled_part settings [] p) ≡ true = fst_true _ (list_all (is_settled_further settings (actions_in p.statements)) (q ∷ ps)) e in
-    record { main = snd_true (sets_up_first p.statements) _ a; first = λ x xs i. fst_true _ (is_settled_part settings [] p) a; further = snd_true (sets_up_first p.statements && is_settled_part settings [] p) _ e }
+parts_are settings p ps e1 = grind (arith, nat_tests)
 
 module _ (load : Workload) (es : List NodeEntry) (ns : List ℕ) where
   -- the lines of a seat that runs a part
@@ -213,8 +199,7 @@ module _ (load : Workload) (es : List NodeEntry) (ns : List ℕ) where
     pub within : Within (actions_in p.statements) (actions_in (all_statements load))
 
   pub main_first : (b : Bool) → Each (λ l. is_outside l.op ≡ true) (head_of b)
-  main_first true = (refl, tt)
-  main_first false = (refl, (refl, tt))
+  main_first b = grind (arith, nat_tests)
 
   abbrev pub main_at : (p : Part) (rs : List Reply) → MainRan in_lines p.statements (lines_of load.settings.workers es ns) rs → are_settled load.settings [] p.statements [] p.statements ≡ true → Within (actions_in p.statements) (actions_in (all_statements load)) → PartAt load.settings.workers p rs
   main_at p rs x e w = record { start = head_of (has_begin p.statements); body = x.body; finish = tail_of_main; known = []; is = x.is; carried = x.carried; first = main_first (has_begin p.statements); last = (refl, (refl, tt)); enters = λ k. absurd (omega arith); settled = e; no_set_up = λ k. absurd (omega arith); within = w }

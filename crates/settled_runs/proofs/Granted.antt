@@ -1,5 +1,5 @@
 -- In a quiet history a call isn't refused for which there is room and all that it needs.
-use Rattle.settled_runs.proofs.Names.{◌≡◌, ℕ, ◌+◌, ◌≤◌, ◌<◌, Bool, true, false, cond, List, [], ◌∷◌, refl, ◌∙◌, arith, length, ◌==◌, ◌&&◌, not, nat_tests, entry, ObjectKind, how_many, Listed, live_object, Task, NewTask, new_task, Op, Reply, Handle, Mtapi, Terms, State, opening, Move, starts_task, apply, after_moves, Allows, after_row, NodeEntry, IsNext, next, after, SameTask, given, on_only, by_moves, objects_of, entries_that, true_false, is_handle, makes_one, HasRoom, live_of, issue, retired, is_full, row, LegalFrom, after_from, zero, suc, ◌++◌, Option, Some, None, sym, ap, subst, ℤ, ◌||◌, nat_lt, is_none, is_some, eq-eqb, holds, Kind, Mask, GroupHandle, any_live, any_listed, Action, new_action, is_job, has_job, has_enabled_job, is_eligible, some_below, Ok, Phase, Open, Closing, Closed, workers, is_open, phase_is, makes, alters, removes, is_served, Row, unless, gives, never, only, number_of, Legal, IsMade, turns, Legal-front, sorts_keep, closes, NoClose, cut_from, cut_after, AreQuiet, IsOpened, IsServed, GroupIsMade, Asks, IsGranted, has_worker, cond_both, QuietCallsAreGranted, nat_le, QueueHandle, count_listed, with_fields, gone, Queue, is_in, is_unended_in, queues, Queues, is_fresh, handle_of, live, new_queue, AltersObject, makes_kind, some_entry, none_first, Every, every_issue, every_change, sort_move, HasAction, makes_queue, puts, IsQueued, both_true, makes_object, FieldsOf, AgesEach, SameFields, kind_move, terms_stay, puts_entry as puts_into, MtapiStatus, whether}
+use Rattle.settled_runs.proofs.Names.{◌≡◌, ℕ, ◌+◌, ◌≤◌, ◌<◌, Bool, true, false, cond, List, [], ◌∷◌, refl, ◌∙◌, arith, length, ◌==◌, ◌&&◌, not, nat_tests, entry, ObjectKind, how_many, Listed, live_object, Task, NewTask, new_task, Op, Reply, Handle, Mtapi, Terms, State, opening, Move, starts_task, apply, after_moves, Allows, after_row, NodeEntry, IsNext, next, after, SameTask, given, on_only, by_moves, objects_of, entries_that, true_false, is_handle, makes_one, HasRoom, live_of, issue, retired, is_full, row, LegalFrom, after_from, zero, suc, ◌++◌, Option, Some, None, sym, ap, subst, ℤ, ◌||◌, nat_lt, is_none, is_some, eq-eqb, holds, Kind, Mask, GroupHandle, any_live, any_listed, Action, new_action, is_job, has_job, has_enabled_job, is_eligible, some_below, Ok, Phase, Open, workers, is_open, phase_is, makes, alters, removes, is_served, Row, unless, gives, never, only, number_of, Legal, IsMade, turns, Legal-front, sorts_keep, closes, NoClose, cut_from, cut_after, AreQuiet, IsOpened, IsServed, GroupIsMade, Asks, IsGranted, has_worker, cond_both, QuietCallsAreGranted, nat_le, QueueHandle, count_listed, with_fields, gone, Queue, is_in, is_unended_in, queues, Queues, is_fresh, handle_of, live, new_queue, AltersObject, makes_kind, some_entry, none_first, Every, every_issue, every_change, sort_move, HasAction, makes_queue, puts, IsQueued, both_true, makes_object, FieldsOf, AgesEach, SameFields, kind_move, terms_stay, puts_entry as puts_into, MtapiStatus, whether}
 use Rattle.settled_runs.proofs.Stays.{made_objects_stay, AskedAs, on_start}
 
 -- How many objects a history made, and room for another
@@ -81,9 +81,7 @@ module _ (p : Task → Bool) (same : (x y : Task) → SameTask x y → p y ≡ p
       (λ z. let n : made_of ObjectKind.Task p (next s (entry who o r)) ≡ made_of ObjectKind.Task p s = none_made ObjectKind.Task p same s (entry who o r) z in omega arith)
 
 starts_some : (s : State) (n : NewTask) (k : ℕ) (o : Op) → AskedAs s n o → any (new_task n k) ≡ true → makes_object ObjectKind.Task o ≡ true
-starts_some s n k (Op.TaskStart job args priority cores detached group) b e = refl
-starts_some s n k (Op.TaskEnqueue q args cores detached group) b e = refl
-starts_some s n k _ b e = absurd b
+starts_some s n k o e1 e2 = grind (arith, nat_tests)
 
 pub tasks_grow : GrowsBy ObjectKind.Task
 tasks_grow = tasks_made any (λ x y i. refl) (makes_object ObjectKind.Task) starts_some
@@ -132,16 +130,12 @@ passes (gives x ms) r p a = (p.0, a ∙ p.1)
 passes never r p a = absurd a
 
 pub passes_only : (b : Bool) (h : ℕ) (ms : List Move) → Passes (only b (gives (Handle h) ms))
-passes_only true h ms = (h, refl)
-passes_only false h ms = tt
+passes_only b h ms = grind (arith, nat_tests)
 
 -- The phase
 
 phase_turns : (p : Phase) (o : Op) → closes o ≡ false → turns p o ≡ true → is_open p ≡ true
-phase_turns Open o c t = refl
-phase_turns Closing Op.Close c t = true_false refl c
-phase_turns Closed Op.Final c t = true_false refl c
-phase_turns _ _ c t = true_false t refl
+phase_turns p o e1 e2 = grind (arith, nat_tests)
 
 pub open_move : (o : Op) → closes o ≡ false → (s : State) (x : Move) → IsMade s o x → is_open s.phase ≡ true → is_open (apply x s).phase ≡ true
 open_move o c s (phase_is p) e v = phase_turns p o c e.by
@@ -156,8 +150,7 @@ open_along s [] c v = v
 open_along s (e ∷ es) c v = open_along (next s e) es c.1 (by_moves (λ t. is_open t.phase ≡ true) s e (λ t x i u. open_move e.op c.0 t x i u) v)
 
 opens : (s : State) (b : Bool) → Allows (unless b (Mtapi MtapiStatus.ErrNodeInitialized) (gives Ok (phase_is Open ∷ []))) Ok → is_open (after_row s (unless b (Mtapi MtapiStatus.ErrNodeInitialized) (gives Ok (phase_is Open ∷ [])))).phase ≡ true
-opens s true a = absurd (cc)
-opens s false a = refl
+opens s b e1 = grind (arith, nat_tests)
 
 pub opened : (terms : Terms) (L : List NodeEntry) → LegalFrom (opening terms) L → IsOpened L → is_open (after terms L).phase ≡ true
 opened terms L l x =
@@ -255,9 +248,7 @@ abbrev Differs : ℕ → Queue → Type 0
 Differs id q = (q.id == id) ≡ false
 
 altered_id : (id h : ℕ) (f : Queue → Queue) (o : Op) → AltersObject Queues h f o → (x : Queue) → Differs id x → Differs id (f x)
-altered_id id h f (Op.QueueEnable q) e x d = ap (λ (g : Queue → Queue). (g x).id == id) e.1 ∙ d
-altered_id id h f (Op.QueueDisable q) e x d = ap (λ (g : Queue → Queue). (g x).id == id) e.1 ∙ d
-altered_id id h f _ e x d = absurd e
+altered_id id h f o e1 x e2 = grind (arith, nat_tests)
 
 abbrev Differ : ℕ → State → Type 0
 Differ id s = Every (Differs id) s.queues
@@ -307,9 +298,7 @@ in_same : (q : ℕ) (x y : Task) → SameTask x y → is_in q y ≡ is_in q x
 in_same q x y i = ap (holds (λ h. h == q)) i.queue
 
 puts_some : (q : ℕ) (s : State) (n : NewTask) (k : ℕ) (o : Op) → AskedAs s n o → is_in q (new_task n k) ≡ true → puts q o ≡ true
-puts_some q s n k (Op.TaskStart job args priority cores detached group) b e = true_false e (ap (λ (x : NewTask). holds (λ h. h == q) x.queue) (sym b.0))
-puts_some q s n k (Op.TaskEnqueue y args cores detached group) b e = ap (λ (x : NewTask). holds (λ h. h == q) x.queue) b.2 ∙ e
-puts_some q s n k _ b e = absurd b
+puts_some q s n k o e1 e2 = grind (arith, nat_tests)
 
 gets_along : (q : ℕ) (s : State) (L : List NodeEntry) → LegalFrom s L → given_to q (after_from s L) ≤ given_to q s + entries_that (puts_into q) L
 gets_along q = grown_along (given_to q) (puts_into q) (λ s e i. tasks_made (is_in q) (in_same q) (puts q) (puts_some q) s e.who e.op e.reply i.allowed)

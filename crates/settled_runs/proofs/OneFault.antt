@@ -1,6 +1,6 @@
 -- Where the faults of each group of a part have one status, the one that is told as its members are put into it is the one of a verdict.
-use Rattle.settled_runs.proofs.Names.{◌≡◌, ℕ, Bool, true, false, List, [], ◌∷◌, ◌++◌, Option, Some, refl, sym, ◌∙◌, subst, ◌==◌, ◌&&◌, ◌||◌, not, list_any, list_all, flat_map, eq-eqb, eqb-true, list_any-append, MtapiStatus, mtapi_number, Action, NewTask, fst_true, snd_true, both_true, Statement, true_false, both, fault_in, task_in, plain_fault, have_one_fault_a_group, ap, ◌⊎◌, inl, inr, or_left, or_right, or_cases, None, option_or, verdict, State, Reply, fault_at, IsVerdict, none_some, find, mtapi_all, some_same, arith, nat_tests}
-use Rattle.settled_runs.proofs.Verdicts.{has, has_more}
+use Rattle.settled_runs.proofs.Names.{◌≡◌, ℕ, Bool, true, List, [], ◌∷◌, ◌++◌, Option, Some, refl, sym, ◌∙◌, subst, ◌==◌, ◌&&◌, ◌||◌, not, list_any, list_all, flat_map, eqb-true, list_any-append, MtapiStatus, mtapi_number, Action, NewTask, fst_true, snd_true, Statement, true_false, both, fault_in, task_in, plain_fault, have_one_fault_a_group, ap, ◌⊎◌, inl, inr, or_left, or_right, or_cases, None, option_or, verdict, State, Reply, fault_at, IsVerdict, none_some, find, mtapi_all, some_same, arith, nat_tests}
+use Rattle.settled_runs.proofs.Verdicts.{has}
 
 -- Statuses that are compared by number
 
@@ -61,9 +61,7 @@ in_all p f [] x behind e = list_any-append p (f x) (flat_map f behind) ∙ or_le
 in_all p f (y ∷ before) x behind e = list_any-append p (f y) (flat_map f (before ++ x ∷ behind)) ∙ or_right _ _ (in_all p f before x behind e)
 
 both_there : (group : Option ℕ) (fault : Option MtapiStatus) (g : ℕ) (c : MtapiStatus) → group ≡ Some g → fault ≡ Some c → has_fault (both group fault) g c ≡ true
-both_there group fault g c i j =
-    subst (λ (x : Option ℕ). has_fault (both x fault) g c ≡ true) (sym i)
-    (subst (λ (x : Option MtapiStatus). has_fault (both (Some g) x) g c ≡ true) (sym j) (or_left _ false (both_true (g == g) _ (eq-eqb g g refl) (eq-eqb (mtapi_number c) (mtapi_number c) refl))))
+both_there group fault g c e1 e2 = grind (arith, nat_tests)
 
 -- where it is in a group, the group has it
 pub fault_there : (actions : List Action) (all before : List Statement) (s : Statement) (behind : List Statement) (t : NewTask) (g : ℕ) (c : MtapiStatus) → task_in all s.deed ≡ Some t → t.group ≡ Some g → plain_fault actions t ≡ Some c
@@ -84,8 +82,7 @@ module _ (F : ℕ → Option MtapiStatus) where
   no_member = record { none = λ e h b. true_false b refl; some = λ c e. none_some e }
 
   pub more_member : (h : ℕ) (x : Option MtapiStatus) (hs : List ℕ) (fault : Option MtapiStatus) → F h ≡ x → Matches F hs fault → Matches F (h ∷ hs) (option_or fault x)
-  more_member h x hs None e m = record { none = λ i k b. elim (or_cases (h == k) (has hs k) b) as (λ z. F k ≡ None) [ inl j ↦ subst (λ (n : ℕ). F n ≡ None) (eqb-true h k j) (e ∙ i) | inr j ↦ m.none refl k j ]; some = λ c i. (h, or_left (h == h) _ (eq-eqb h h refl), e ∙ i) }
-  more_member h x hs (Some d) e m = record { none = λ i k b. none_some (sym i); some = λ c i. let y = m.some c i in (y.0, has_more h hs y.0 y.1, y.2) }
+  more_member h x hs fault e1 e2 = grind (arith, nat_tests)
 
   -- where the faults of the tasks are one, so are the two
   pub one_verdict : (s : State) (hs : List ℕ) (r : Reply) (fault : Option MtapiStatus) → IsVerdict s hs r → ((h : ℕ) → has hs h ≡ true → fault_at s h ≡ F h) → Matches F hs fault

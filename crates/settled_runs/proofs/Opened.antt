@@ -1,5 +1,5 @@
 -- In a run of a settled workload the node is open before each statement's entry, there is room for what it asks for, and the ids of queues are new.
-use Rattle.settled_runs.proofs.Names.{Each, ◌≡◌, inl, inr, ℕ, suc, ◌+◌, ◌≤◌, ◌<◌, Bool, true, false, cond, List, [], ◌∷◌, ◌++◌, length, refl, sym, ◌∙◌, ap, subst, arith, append_assoc, ◌==◌, map, eq-eqb, Layout, entry, entries_of, how_many, Deed, Statement, Part, Workload, begins, IsFurther, MainFirst, Op, Reply, opening, NodeEntry, Legal, Legal-prefix, call_of, Line, line, head_of, tail_of_main, in_lines, MainRan, PartsRan, closes, NoClose, BySeats, is_release, true_false, by_seats, run_terms, AreQuiet, handle_of, IsOpened, all_statements, actions_in, SettledRun, is_begin, lines_of, CallersRan, cond_both, has_begin, Option, Some, None, ◌&&◌, nat_le, is_some, list_any, eqb-true, NodeSettings, holds, ObjectKind, Queue, fst_true, snd_true, not_true, some_entry, entries_that, makes_one, HasRoom, makes_queue, queue_in, has_new_id, makes_group, makes_task, has_different_ids, or_parts, objects_of, and_parts, cases_Bool, makes_object as makes, makes_one_action as makes_action, is_settled, leb-true}
+use Rattle.settled_runs.proofs.Names.{nat_tests, Each, ◌≡◌, inl, inr, ℕ, suc, ◌+◌, ◌≤◌, ◌<◌, Bool, true, false, cond, List, [], ◌∷◌, ◌++◌, length, refl, sym, ◌∙◌, ap, subst, arith, append_assoc, ◌==◌, map, eq-eqb, Layout, entry, entries_of, how_many, Deed, Statement, Part, Workload, begins, IsFurther, MainFirst, Op, Reply, opening, NodeEntry, Legal, Legal-prefix, call_of, Line, line, head_of, tail_of_main, in_lines, MainRan, PartsRan, closes, NoClose, BySeats, is_release, true_false, by_seats, run_terms, AreQuiet, handle_of, IsOpened, all_statements, actions_in, SettledRun, is_begin, lines_of, CallersRan, cond_both, has_begin, Option, Some, None, ◌&&◌, nat_le, is_some, list_any, eqb-true, NodeSettings, holds, ObjectKind, Queue, fst_true, snd_true, not_true, some_entry, entries_that, makes_one, HasRoom, makes_queue, queue_in, has_new_id, makes_group, makes_task, has_different_ids, or_parts, objects_of, and_parts, cases_Bool, makes_object as makes, makes_one_action as makes_action, is_settled, leb-true}
 use Rattle.settled_runs.proofs.{Granted.bit, Stays.quiet_front, Along.Placed, Along.placed, Along.Cut, Along.cut, Along.no_end}
 use Rattle.settled_runs.proofs.RunEnds.{ArePlanned, run_planned, all_quiet}
 use Rattle.settled_runs.proofs.Each.{AllSeats, OnlyBy, PartAt, each_behind, each_front, each_map, each_of, is_at_work, made_each, map_seats, only_by, settled_whole, run_parts, seat_each, with_each, is_outside}
@@ -10,22 +10,17 @@ use Rattle.settled_runs.proofs.Counted.{asks, asked, many_append, many_none, onl
 -- what a call may ask for: no op that closes, and one that makes an action, a group, a queue or a task only where its statement makes one
 calls_ask : (bound : List ℕ) (d : Deed) → CallAsks closes (bit false) (call_of bound d) × CallAsks (makes ObjectKind.Action) (bit (makes_action d)) (call_of bound d) × CallAsks (makes ObjectKind.Group) (bit (makes_group d)) (call_of bound d)
     × CallAsks (makes ObjectKind.Queue) (bit (is_some (queue_in d))) (call_of bound d) × CallAsks (makes ObjectKind.Task) (bit (makes_task d)) (call_of bound d)
-calls_ask bound Deed.Begin = (omega arith, omega arith, omega arith, omega arith, omega arith)
-calls_ask bound _ = (omega arith, omega arith, omega arith, omega arith, omega arith)
+calls_ask bound d = grind (arith, nat_tests)
 
 pub release_calls : (bound : List ℕ) (d : Deed) → CallAsks is_release (bit (is_begin d)) (call_of bound d)
 unfolding is_begin
-release_calls bound Deed.Begin = omega arith
-release_calls bound _ = omega arith
+release_calls bound d = grind (arith, nat_tests)
 
 close_work : (o : Op) → is_at_work o ≡ true → closes o ≡ false
-close_work Op.Close e = true_false e refl
-close_work Op.Final e = true_false e refl
-close_work _ e = refl
+close_work o e1 = grind (arith, nat_tests)
 
 release_work : (o : Op) → is_at_work o ≡ true → is_release o ≡ false
-release_work Op.Release e = true_false e refl
-release_work _ e = refl
+release_work o e1 = grind (arith, nat_tests)
 
 pub no_close : (L : List NodeEntry) → asks closes L ≡ 0 → NoClose L
 no_close [] k = tt
@@ -49,8 +44,7 @@ pub record MainOf (f : ℕ → List Line) (main : ℕ) (ps : List Part) (rss : L
   pub callers : CallersRan in_lines f (suc main) others further
 
 pub main_of : (f : ℕ → List Line) (main : ℕ) (ps : List Part) (rss : List (List Reply)) → PartsRan in_lines f main ps rss → MainOf f main ps rss
-main_of f main (p ∷ ps) (rs ∷ rss) x = record { part = p; others = ps; replies = rs; further = rss; are = refl; told = refl; ran = x.0; callers = x.1 }
-main_of f main _ _ x = absurd x
+main_of f main ps rss e1 = grind (arith, nat_tests)
 
 pub begin_none : (before : List Statement) (s : Statement) (rest : List Statement) → begins (before ++ s ∷ rest) ≡ 0 → is_begin s.deed ≡ false
 begin_none [] s rest e = no_bit (is_begin s.deed) (omega arith)
@@ -189,30 +183,13 @@ is_opened who L ks R i k =
 -- The ops that make objects, and the statements that do
 
 makes_outside : (k : ObjectKind) (o : Op) → is_outside o ≡ true → makes k o ≡ false
-makes_outside ObjectKind.Action (Op.ActionCreate job kind cores) e = true_false e refl
-makes_outside ObjectKind.Task (Op.TaskStart job args priority cores detached group) e = true_false e refl
-makes_outside ObjectKind.Task (Op.TaskEnqueue q args cores detached group) e = true_false e refl
-makes_outside ObjectKind.Group Op.GroupCreate e = true_false e refl
-makes_outside ObjectKind.Queue (Op.QueueCreate id job priority limit ordered retain) e = true_false e refl
-makes_outside ObjectKind.Mutex (Op.MutexCreate id recursive) e = true_false e refl
-makes_outside ObjectKind.Sem (Op.SemCreate id limit) e = true_false e refl
-makes_outside ObjectKind.Rwl (Op.RwlCreate id limit) e = true_false e refl
-makes_outside ObjectKind.Shmem (Op.ShmemCreate id cells) e = true_false e refl
-makes_outside _ _ e = refl
+makes_outside k o e1 = grind (arith, nat_tests)
 
 abbrev has_id : ℕ → Deed → Bool
 has_id id d = holds (λ y. y.id == id) (queue_in d)
 
 ids_class : (id : ℕ) → IsClass (makes_queue id) (has_id id)
-ids_class id = record { calls = calls; outside = outside }
-  where
-    calls : (bound : List ℕ) (d : Deed) → CallAsks (makes_queue id) (bit (has_id id d)) (call_of bound d)
-    calls bound Deed.Begin = omega arith
-    calls bound _ = omega arith
-
-    outside : (o : Op) → is_outside o ≡ true → makes_queue id o ≡ false
-    outside (Op.QueueCreate other job priority limit ordered retain) e = true_false e refl
-    outside _ e = refl
+ids_class id = grind (arith, nat_tests)
 
 -- What a settled workload has room for
 

@@ -1,6 +1,6 @@
 -- No seat of a run uses a handle that another seat was given: so what became of a group is told by the lines of its own seat.
-use Rattle.settled_runs.proofs.Names.{Each, ◌≡◌, ℕ, Bool, true, false, List, Some, refl, ◌∙◌, arith, None, Option, ◌==◌, map, IfSome, ◌||◌, option_map, eq-eqb, eqb-true, false_from_ne_true, or_from, Layout, ObjectKind, Sort, Deed, fields, place_used, values, word_for, Statement, Part, Workload, IsBoundAt, IsStatement, AllFit, Op, Reply, handle_of, NodeEntry, handle_at, group_at, call_of, Line, true_false, run_terms, holds, looks_at, waits_for, SettledRun, looks_at_all, starts_member, deed_spelled, lines_of, append_assoc, sym, ◌≤◌, ap, cond, [], ◌∷◌, ◌++◌, length, entry, is_pending, with_new, members_behind, members_of, or_parts, word_row as row, nat_tests}
-use Rattle.settled_runs.proofs.{Granted.bit, Opened.seats_are, SeatsGranted.seats, Walk.Seat, Walk.seat_granted, Counted.CallAsks, Counted.calls_none}
+use Rattle.settled_runs.proofs.Names.{Each, ◌≡◌, ℕ, Bool, true, false, List, refl, ◌∙◌, arith, ◌==◌, map, ◌||◌, eq-eqb, Layout, ObjectKind, Sort, Statement, Part, Workload, IsBoundAt, IsStatement, Op, Reply, handle_of, NodeEntry, handle_at, call_of, Line, true_false, run_terms, looks_at, waits_for, SettledRun, looks_at_all, starts_member, deed_spelled, lines_of, append_assoc, sym, ap, [], ◌∷◌, ◌++◌, length, entry, members_behind, members_of, word_row as row, nat_tests}
+use Rattle.settled_runs.proofs.{Opened.seats_are, SeatsGranted.seats, Walk.Seat, Walk.seat_granted}
 use Rattle.settled_runs.proofs.Along.{step_bound, step_statement}
 use Rattle.settled_runs.proofs.Each.{CallEach, OnlyBy, each_map, is_outside, made_each, map_seats, only_by, seat_each, work_outside}
 use Rattle.settled_runs.proofs.Places.{Gave, gave_in, one_seat, tasks_list, Binds, IsListedKind, binds_group, binds_task, bound_gave, groups_list}
@@ -30,16 +30,11 @@ module _ (layout : Layout) (load : Workload) (es : List NodeEntry) (ns : List �
 -- The looks at a task
 
 pub looks_outside : (h : ℕ) (o : Op) → is_outside o ≡ true → looks_at h o ≡ false
-looks_outside h (Op.TaskLook t last) e = true_false e refl
-looks_outside h _ e = refl
+looks_outside h o e1 = grind (arith, nat_tests)
 
 pub looks_call : (h : ℕ) (before : List Statement) (s : Statement) (bound : List ℕ) → IsStatement before s → ((place : ℕ) → waits_for place s.deed ≡ true → IsBoundAt Sort.Task before place → handle_at bound place ≡ h → ⊥) → CallEach (λ o. looks_at h o ≡ false) (call_of bound s.deed)
 unfolding row deed_spelled
-looks_call h before s bound st avoid = calls_none (looks_at h) (call_of bound s.deed) false (by s.deed st.uses avoid) refl
-  where
-    by : (d : Deed) → IfSome (place_used d) (λ v. IsBoundAt v.0 before v.1) → ((place : ℕ) → waits_for place d ≡ true → IsBoundAt Sort.Task before place → handle_at bound place ≡ h → ⊥) → CallAsks (looks_at h) 0 (call_of bound d)
-    by (Deed.Wait place t) o f = let e : bit (handle_at bound place == h) ≡ 0 = ap bit (false_from_ne_true (handle_at bound place == h) (λ e. f place (eq-eqb place place refl) o (eqb-true (handle_at bound place) h e))) in omega arith
-    by _ o f = omega arith
+looks_call h before s bound e1 e2 = grind (arith, nat_tests)
 
 -- only its own seat looks at a task
 pub one_looks : (layout : Layout) (load : Workload) (es : List NodeEntry) (ns : List ℕ) (u : SettledRun layout load es ns) (who h : ℕ) → Gave ObjectKind.Task h (lines_of who es ns) → OnlyBy who (looks_at h) es
@@ -51,27 +46,11 @@ abbrev pub uses : ℕ → Op → Bool
 uses g o = starts_member g o || looks_at_all g o
 
 uses_outside : (h : ℕ) (o : Op) → is_outside o ≡ true → uses h o ≡ false
-uses_outside h (Op.TaskStart job args priority cores detached group) e = true_false e refl
-uses_outside h (Op.TaskEnqueue q args cores detached group) e = true_false e refl
-uses_outside h (Op.AllLook g last) e = true_false e refl
-uses_outside h _ e = refl
+uses_outside h o e1 = grind (arith, nat_tests)
 
 pub uses_call : (h : ℕ) (before : List Statement) (s : Statement) (bound : List ℕ) → IsStatement before s → ((place : ℕ) → IsBoundAt Sort.Group before place → handle_at bound place ≡ h → ⊥) → CallEach (λ o. uses h o ≡ false) (call_of bound s.deed)
 unfolding row deed_spelled
-uses_call h before s bound st avoid = calls_none (uses h) (call_of bound s.deed) false (by s.deed st.uses st.options) refl
-  where
-    apart : (place : ℕ) → IsBoundAt Sort.Group before place → (handle_at bound place == h) ≡ false
-    apart place o = false_from_ne_true (handle_at bound place == h) (λ e. avoid place o (eqb-true (handle_at bound place) h e))
-
-    by_group : (group : Option ℕ) → IfSome group (IsBoundAt Sort.Group before) → bit (holds (λ x. x.0 == h) (option_map (group_at bound) group) || false) ≤ 0
-    by_group None o = omega arith
-    by_group (Some g) o = let e : bit ((handle_at bound g == h) || false) ≡ 0 = ap bit (or_from _ false (apart g o) refl) in omega arith
-
-    by : (d : Deed) → IfSome (place_used d) (λ v. IsBoundAt v.0 before v.1) → AllFit before (fields (word_for d)) (values d) → CallAsks (uses h) 0 (call_of bound d)
-    by (Deed.Start job args priority cores detached group) v o = by_group group o.1.1.1.1.1.0
-    by (Deed.Enqueue queue args cores detached group) v o = by_group group o.1.1.1.1.0
-    by (Deed.WaitAll place t) v o = let e : bit (handle_at bound place == h) ≡ 0 = ap bit (apart place v) in omega arith
-    by _ v o = omega arith
+uses_call h before s bound e1 e2 = grind (arith, nat_tests)
 
 -- only its own seat uses a group
 pub one_uses : (layout : Layout) (load : Workload) (es : List NodeEntry) (ns : List ℕ) (u : SettledRun layout load es ns) (who h : ℕ) → Gave ObjectKind.Group h (lines_of who es ns) → OnlyBy who (uses h) es
@@ -89,9 +68,7 @@ members_append g hs [] ks = refl
 members_append g hs (l ∷ ls) ks = members_append g (members_behind g hs (entry 0 l.op l.reply)) ls ks
 
 unused : (g : ℕ) (hs : List ℕ) (e : NodeEntry) → uses g e.op ≡ false → members_behind g hs e ≡ hs
-unused g hs e i =
-    let x = or_parts (starts_member g e.op) (looks_at_all g e.op) i in
-    ap (λ (b : Bool). cond b (cond (is_pending e.reply) hs []) (cond (starts_member g e.op) (with_new e.reply hs) hs)) x.1 ∙ ap (λ (b : Bool). cond b (with_new e.reply hs) hs) x.0
+unused g hs e e1 = grind (arith, nat_tests)
 
 -- lines that don't use it put none in
 pub unused_lines : (g : ℕ) (hs : List ℕ) (ls : List Line) → Each (λ l. uses g l.op ≡ false) ls → members_in g hs ls ≡ hs

@@ -1,5 +1,5 @@
 -- The lines of the statements of a part, found by the places of the statements: no two statements of a run are given one handle of one kind of object.
-use Rattle.settled_runs.proofs.Names.{◌≡◌, ℕ, Bool, true, false, List, [], ◌∷◌, ◌++◌, Some, refl, sym, ◌∙◌, ap, subst, append_assoc, inl, inr, ◌⊎◌, map, slice_get, list_any, append-nil, list_any-append, Kind, Mask, Action, new_action, Queue, Deed, Statement, Op, Reply, handle_of, new_queue, some_same, handle_at, call_of, Line, line, Made, true_false, GrantedTo, AllGranted, action_in, actions_in, queue_in, binds, Carried, or_cases, none_some, ◌≤◌, arith, length, ◌<◌, is_some, eq-eqb, option_map, Sort, ObjectKind, entry, State, opening, NodeEntry, IsNext, next, Legal, both_true, group_at, issues, times, live_listed, started_as, issues_fresh, fresh_unlisted, Terms, IsGranted, LegalFrom, lines_of, cases_order, false_from_ne_true, Each, cut_from, listed, after_from, makes_object as makes, listed_next}
+use Rattle.settled_runs.proofs.Names.{nat_tests, ◌≡◌, ℕ, Bool, true, false, List, [], ◌∷◌, ◌++◌, Some, refl, sym, ◌∙◌, ap, subst, append_assoc, inl, inr, ◌⊎◌, map, slice_get, list_any, append-nil, list_any-append, Kind, Mask, Action, new_action, Queue, Deed, Statement, Op, Reply, handle_of, new_queue, some_same, handle_at, call_of, Line, line, Made, true_false, GrantedTo, AllGranted, action_in, actions_in, queue_in, binds, Carried, or_cases, none_some, ◌≤◌, arith, length, ◌<◌, is_some, eq-eqb, Sort, ObjectKind, entry, State, opening, NodeEntry, IsNext, next, Legal, both_true, issues, times, live_listed, started_as, issues_fresh, fresh_unlisted, Terms, IsGranted, LegalFrom, lines_of, cases_order, false_from_ne_true, Each, cut_from, listed, after_from, makes_object as makes, listed_next}
 use Rattle.settled_runs.proofs.{Stays.made_there, Waits.legal_behind, Each.actions_append, Each.each_behind}
 use Rattle.settled_runs.proofs.Along.{placed, Cut, cut, BoundBy, Found, along, found_bound, found_granted, step_granted, found, bound_shorter, handles_front}
 
@@ -24,8 +24,7 @@ one_has ls before front behind o h i f = record { before = before; beside = 0; b
 -- the line of a statement that makes a group
 group_line : (bound : List ℕ) (d : Deed) (front : List Line) (r : Reply) → binds Sort.Group d ≡ true → Made (call_of bound d) front r → GrantedTo d r → front ≡ line Op.GroupCreate (Reply.Handle (handle_of r)) 0 ∷ []
 unfolding binds
-group_line bound Deed.Group front r b m g = m.0 ∙ ap (λ (x : Reply). line Op.GroupCreate x 0 ∷ []) (g.1 ∙ ap Reply.Handle (sym (ap handle_of g.1)))
-group_line bound _ front r b m g = true_false b refl
+group_line bound d front r e1 e2 e3 = grind (arith, nat_tests)
 
 module _ (ss : List Statement) (ls : List Line) (rs : List Reply) (c : Carried Made [] ss ls rs) (a : AllGranted ss rs) where
   -- the group of a place
@@ -192,20 +191,15 @@ made_one k o front r e g m = record { op = o; handle = g.0; makes_it = m; told =
 
 pub binds_queue : Binds ObjectKind.Queue Sort.Queue
 unfolding binds
-binds_queue (Deed.Queue id job priority limit ordered retain) bound front r b g m = made_one ObjectKind.Queue (Op.QueueCreate id job priority limit ordered retain) front r m.0 g refl
-binds_queue (Deed.QueueGet id) bound front r b g m = absurd g
-binds_queue _ bound front r b g m = true_false b refl
+binds_queue = grind (arith, nat_tests)
 
 pub binds_task : Binds ObjectKind.Task Sort.Task
 unfolding binds
-binds_task (Deed.Start job args priority cores detached group) bound front r b g m = made_one ObjectKind.Task (Op.TaskStart job args priority cores detached (option_map (group_at bound) group)) front r m.0 g refl
-binds_task (Deed.Enqueue queue args cores detached group) bound front r b g m = made_one ObjectKind.Task (Op.TaskEnqueue (record { 0 = handle_at bound queue }) args cores detached (option_map (group_at bound) group)) front r m.0 g refl
-binds_task _ bound front r b g m = true_false b refl
+binds_task = grind (arith, nat_tests)
 
 pub binds_group : Binds ObjectKind.Group Sort.Group
 unfolding binds
-binds_group Deed.Group bound front r b g m = made_one ObjectKind.Group Op.GroupCreate front r m.0 g refl
-binds_group _ bound front r b g m = true_false b refl
+binds_group = grind (arith, nat_tests)
 
 module _ (k : ObjectKind) (t : Sort) (y : Binds k t) where
   pub made_there_one : (ss : List Statement) (ls : List Line) (rs : List Reply) → AllGranted ss rs → (place : ℕ) (b : BoundBy t ss place) (f : Found ss ls rs place b.statement) → MadeOne k f.front f.reply

@@ -1,20 +1,15 @@
 -- The report of plain replies is the plain report.
-use Rattle.settled_runs.proofs.Names.{◌≡◌, ℕ, false, cond, List, [], ◌∷◌, ◌++◌, Option, Some, None, refl, sym, ◌∙◌, ap, option_map, flat_map, append-nil, TaskEnd, MtapiStatus, mtapi_name, Action, NewTask, Reply, verdict, is_status, Deed, Statement, Part, Told, ended_text, is_task, task_line, task_lines, status_of, marked_line, call_line, call_lines, all_statements, actions_in, Faults, no_faults, plain_task_line, plain_task_lines, plain_call_lines, IsPlainTask, PlainRepliesShowPlainReport, shown_of, task_lines_of, task_name, call_lines_of, task_in, faults_behind, plain_call_line, plain_calls_from, plain_report, IsPlainReply, ArePlain, PartsArePlain, name_text}
+use Rattle.settled_runs.proofs.Names.{arith, nat_tests, ◌≡◌, ℕ, false, cond, List, [], ◌∷◌, ◌++◌, Option, None, refl, ◌∙◌, ap, option_map, flat_map, append-nil, TaskEnd, MtapiStatus, mtapi_name, Action, NewTask, Reply, verdict, is_status, Deed, Statement, Part, Told, is_task, task_line, task_lines, status_of, marked_line, call_line, call_lines, all_statements, actions_in, Faults, no_faults, plain_task_line, plain_task_lines, plain_call_lines, IsPlainTask, PlainRepliesShowPlainReport, shown_of, task_lines_of, task_name, call_lines_of, task_in, faults_behind, plain_call_line, plain_calls_from, plain_report, IsPlainReply, ArePlain, PartsArePlain}
 
 module _ (actions : List Action) (all : List Statement) (ends : ℕ → Option TaskEnd) (part : List ℕ) where
   -- Lines of tasks
 
   shows_task : (s : Statement) (asked : Option NewTask) (r : Reply) → IsPlainTask actions ends asked r → task_line part ends s r ≡ plain_task_line actions part s asked
-  shows_task s asked r (t, e, h, i, k) =
-      ap (task_line part ends s) i
-      ∙ ap (λ (o : Option TaskEnd). part ++ (46 ∷ (name_text s.name ++ (32 ∷ (ended_text o ++ 10 ∷ []))))) k
-      ∙ ap (plain_task_line actions part s) (sym e)
+  shows_task s asked r e1 = grind (arith, nat_tests)
 
   task_shown : (faults : Faults) (s : Statement) (d : Deed) (r : Reply) → IsPlainReply actions all ends faults d r → cond (is_task (shown_of d)) (task_line part ends s r) [] ≡ plain_task_line actions part s (task_in all d)
   unfolding IsPlainReply shown_of task_in
-  task_shown faults s (Deed.Start job args priority cores detached group) r p = shows_task s (task_in all (Deed.Start job args priority cores detached group)) r p
-  task_shown faults s (Deed.Enqueue queue args cores detached group) r p = shows_task s (task_in all (Deed.Enqueue queue args cores detached group)) r p
-  task_shown faults s _ r p = cc
+  task_shown faults s d r e1 = grind (arith, nat_tests)
 
   pub tasks_shown : (faults : Faults) (ss : List Statement) (rs : List Reply) → ArePlain actions all ends faults ss rs
       → task_lines_of part ends ss rs ≡ flat_map (λ s. plain_task_line actions part s (task_in all s.deed)) ss
@@ -29,13 +24,10 @@ module _ (actions : List Action) (all : List Statement) (ends : ℕ → Option T
   -- Lines of calls
 
   no_status : (r : Reply) → is_status r ≡ false → status_of r ≡ None
-  no_status (Reply.Mtapi c) e = absurd (cc)
-  no_status (Reply.Mrapi c) e = absurd (cc)
-  no_status _ e = refl
+  no_status r e1 = grind (arith, nat_tests)
 
   tells : (fault : Option MtapiStatus) → status_of (verdict fault) ≡ option_map mtapi_name fault
-  tells None = refl
-  tells (Some c) = refl
+  tells fault = grind (arith, nat_tests)
 
   unrefused : (line : ℕ) (r : Reply) → is_status r ≡ false → marked_line 33 part line (status_of r) ++ [] ≡ []
   unrefused line r e = append-nil (marked_line 33 part line (status_of r)) ∙ ap (marked_line 33 part line) (no_status r e)

@@ -1,5 +1,5 @@
 -- The summary of plain replies is the plain summary.
-use Rattle.settled_runs.proofs.Names.{◌≡◌, ℕ, ◌+◌, cond, List, [], ◌∷◌, Option, refl, sym, ◌∙◌, ap, TaskEnd, Action, NewTask, Reply, after, Deed, Statement, Part, is_task, Told, run_terms, parts_told, no_totals, with_end, all_statements, actions_in, Faults, no_faults, IsPlainTask, with_plain_task, SettledSummariesArePlain, end_at, shown_of, with_tasks, with_parts, totals, totals_text, task_in, faults_behind, IsPlainReply, ArePlain, PartsArePlain, with_plain_tasks, with_plain_parts, plain_summary, Totals, with_counted as with_task}
+use Rattle.settled_runs.proofs.Names.{arith, nat_tests, ◌≡◌, ℕ, ◌+◌, cond, List, [], ◌∷◌, Option, refl, sym, ◌∙◌, ap, TaskEnd, Action, NewTask, Reply, after, Deed, Statement, Part, is_task, Told, run_terms, parts_told, no_totals, with_end, all_statements, actions_in, Faults, no_faults, IsPlainTask, with_plain_task, SettledSummariesArePlain, end_at, shown_of, with_tasks, with_parts, totals, totals_text, task_in, faults_behind, IsPlainReply, ArePlain, PartsArePlain, with_plain_tasks, with_plain_parts, plain_summary, Totals, with_counted as with_task}
 use Rattle.settled_runs.proofs.RunReport.{told_plainly}
 
 module _ (actions : List Action) (ends : ℕ → Option TaskEnd) where
@@ -8,9 +8,7 @@ module _ (actions : List Action) (ends : ℕ → Option TaskEnd) where
 
   task_counted : (all : List Statement) (faults : Faults) (t : Totals) (d : Deed) (r : Reply) → IsPlainReply actions all ends faults d r → cond (is_task (shown_of d)) (with_task ends t r) t ≡ with_plain_task actions t (task_in all d)
   unfolding IsPlainReply shown_of task_in
-  task_counted all faults t (Deed.Start job args priority cores detached group) r p = counts_task t (task_in all (Deed.Start job args priority cores detached group)) r p
-  task_counted all faults t (Deed.Enqueue queue args cores detached group) r p = counts_task t (task_in all (Deed.Enqueue queue args cores detached group)) r p
-  task_counted all faults t _ r p = cc
+  task_counted all faults t d r e1 = grind (arith, nat_tests)
 
   tasks_counted : (all : List Statement) (faults : Faults) (t : Totals) (ss : List Statement) (rs : List Reply) → ArePlain actions all ends faults ss rs → with_tasks ends t ss rs ≡ with_plain_tasks actions all t ss
   unfolding ArePlain with_tasks with_plain_tasks

@@ -1,7 +1,7 @@
 -- What a run of a settled workload asks for, and how its tasks end.
-use Rattle.settled_runs.proofs.Names.{Each, ◌≡◌, ℕ, ◌+◌, Bool, true, false, List, ◌∷◌, ◌++◌, refl, subst, arith, length, ◌==◌, ◌&&◌, map, list_any, eq-eqb, or_left, NodeSettings, Kind, is_pure, Action, kind_number, Deed, Statement, Part, Workload, Op, Reply, handle_of, NodeEntry, call_of, Line, RunOf, BySeats, both_true, true_false, is_quiet, all_statements, action_in, actions_in, lines_of, is_settled_deed, is_settled, cond, [], Some, sym, ◌∙◌, ap, ℤ, append_assoc, ◌||◌, option_map, find, Layout, TaskEnd, entry, Listed, with_fields, with_enabled, has_job, Task, NewTask, new_task, Terms, State, opening, Move, makes_action, enables, withdraws, makes, alters, removes, apply, task_end, next, Legal, after, IsMade, MakesAction, end_in, some_same, fst_true, snd_true, by_moves, sorts_keep, accepted_end, SameTask, Under, Every, every_issue, every_change, every_at, StartedAs, started_as, task_then, cut_from, has_behind, HasObject, by_seats, run_terms, AreQuiet, IsPlain, none_withdrawn, quiet_tasks_end_plainly, answer_of, LegalFrom, after_from, end_at, task_at, plain_end, has_one_kind_a_job, cond-false, cond-true, cond_both, or_right, and_right, not, NoClose, closes, not_true, handle_at, Made, GoOn, goes_on, makes_object, is_that_handle as is_handle, accepted_by, accepted, EndsOnce, same_kind, SettledTasksEndAsPlanned, Timeout, ObjectKind}
+use Rattle.settled_runs.proofs.Names.{nat_tests, Each, ◌≡◌, ℕ, ◌+◌, Bool, true, false, List, ◌∷◌, ◌++◌, refl, subst, arith, length, ◌==◌, ◌&&◌, map, list_any, eq-eqb, or_left, NodeSettings, Kind, is_pure, Action, kind_number, Deed, Statement, Part, Workload, Op, Reply, handle_of, NodeEntry, call_of, Line, RunOf, BySeats, both_true, true_false, is_quiet, all_statements, action_in, actions_in, lines_of, is_settled_deed, is_settled, cond, [], Some, sym, ◌∙◌, ap, ℤ, append_assoc, ◌||◌, option_map, find, Layout, TaskEnd, entry, Listed, with_fields, with_enabled, has_job, Task, NewTask, new_task, Terms, State, opening, Move, makes_action, enables, withdraws, makes, alters, removes, apply, task_end, next, Legal, after, IsMade, MakesAction, end_in, some_same, by_moves, sorts_keep, accepted_end, SameTask, Under, Every, every_issue, every_change, every_at, StartedAs, started_as, task_then, cut_from, has_behind, HasObject, by_seats, run_terms, AreQuiet, IsPlain, none_withdrawn, quiet_tasks_end_plainly, answer_of, LegalFrom, after_from, end_at, task_at, plain_end, has_one_kind_a_job, cond-false, cond-true, cond_both, or_right, and_right, not, NoClose, closes, not_true, Made, GoOn, goes_on, makes_object, is_that_handle as is_handle, accepted_by, accepted, EndsOnce, same_kind, SettledTasksEndAsPlanned, ObjectKind}
 use Rattle.settled_runs.proofs.{Along.step_settled, OneFault.one_number}
-use Rattle.settled_runs.proofs.Each.{one_look, PartAt, Within, any_left, each_map, is_outside, made_each, map_seats, settled_whole, run_each, run_parts, seat_each, within_behind, work_outside}
+use Rattle.settled_runs.proofs.Each.{PartAt, Within, any_left, each_map, is_outside, map_seats, settled_whole, run_each, run_parts, seat_each, within_behind, work_outside}
 
 -- one of these actions has the job and the kind
 abbrev pub is_listed : List Action → ℕ → Kind → Bool
@@ -21,22 +21,10 @@ ArePlanned actions es = Each (λ e. is_planned actions e.op ≡ true) es
 deed_planned : (settings : NodeSettings) (known : List Action) (before all : List Statement) (actions : List Action) (bound : List ℕ) (d : Deed) (front : List Line) (r : Reply) → Within (action_in d) actions → is_settled_deed settings known before all d ≡ true → Made (call_of bound d) front r
     → Each (λ l. is_planned actions l.op ≡ true) front
 unfolding is_settled_deed
-deed_planned settings known before all actions bound (Deed.Action job kind cores) front r w e m =
-    made_each (λ o. is_planned actions o ≡ true) (call_of bound (Deed.Action job kind cores)) front r
-    (both_true (is_pure kind) _ e (w (λ a. (a.job == job) && (kind_number a.kind == kind_number kind)) (or_left _ false (both_true (job == job) _ (eq-eqb job job refl) (eq-eqb (kind_number kind) (kind_number kind) refl))))) m
-deed_planned settings known before all actions bound Deed.Begin front r w e m = made_each (λ o. is_planned actions o ≡ true) (call_of bound Deed.Begin) front r refl m
-deed_planned settings known before all actions bound (Deed.Start job args priority cores detached group) front r w e m = made_each (λ o. is_planned actions o ≡ true) (call_of bound (Deed.Start job args priority cores detached group)) front r refl m
-deed_planned settings known before all actions bound (Deed.Enqueue queue args cores detached group) front r w e m = made_each (λ o. is_planned actions o ≡ true) (call_of bound (Deed.Enqueue queue args cores detached group)) front r refl m
-deed_planned settings known before all actions bound (Deed.Wait place timeout) front r w e m = made_each (λ o. is_planned actions o ≡ true) (call_of bound (Deed.Wait place timeout)) front r (λ last. refl) m
-deed_planned settings known before all actions bound Deed.Group front r w e m = made_each (λ o. is_planned actions o ≡ true) (call_of bound Deed.Group) front r refl m
-deed_planned settings known before all actions bound (Deed.WaitAll place Timeout.Infinite) front r w e m =
-    subst (Each (λ (l : Line). is_planned actions l.op ≡ true)) (sym (one_look (λ last. Op.AllLook (record { 0 = handle_at bound place }) last) Timeout.Infinite front r m)) (ap not m.within, tt)
-deed_planned settings known before all actions bound (Deed.Queue id job priority limit ordered retain) front r w e m = made_each (λ o. is_planned actions o ≡ true) (call_of bound (Deed.Queue id job priority limit ordered retain)) front r refl m
-deed_planned settings known before all actions bound _ front r w e m = true_false e refl
+deed_planned settings known before all actions bound d front r e1 e2 e3 = grind (arith, nat_tests)
 
 outside_planned : (actions : List Action) (o : Op) → is_outside o ≡ true → is_planned actions o ≡ true
-outside_planned actions Op.Initialize e = refl
-outside_planned actions _ e = cc
+outside_planned actions o e1 = grind (arith, nat_tests)
 
 seat_planned : (load : Workload) (es : List NodeEntry) (ns : List ℕ) (w : ℕ) (p : Part) (rs : List Reply) → PartAt load es ns w p rs → Each (λ l. is_planned (actions_in (all_statements load)) l.op ≡ true) (lines_of w es ns)
 seat_planned load es ns w p rs x =
@@ -60,9 +48,7 @@ run_planned load es ns e l run b =
 -- What is planned is quiet, and each action is one of those of the workload
 
 planned_quiet : (actions : List Action) (o : Op) → is_planned actions o ≡ true → is_quiet o ≡ true
-planned_quiet actions (Op.ActionCreate job kind cores) e = fst_true _ _ e
-planned_quiet actions (Op.AllLook g last) e = refl
-planned_quiet actions _ e = e
+planned_quiet actions o e1 = grind (arith, nat_tests)
 
 pub all_quiet : (actions : List Action) (es : List NodeEntry) → ArePlanned actions es → AreQuiet es
 all_quiet actions [] a = tt
@@ -81,8 +67,7 @@ abbrev IsListed : List Action → Action → Type 0
 IsListed actions a = is_listed actions a.job a.kind ≡ true
 
 made_listed : (actions : List Action) (a : Action) (o : Op) → is_planned actions o ≡ true → MakesAction a o → IsListed actions a
-made_listed actions a (Op.ActionCreate job kind cores) e b = subst (IsListed actions) (sym b) (snd_true _ _ e)
-made_listed actions a _ e b = absurd b
+made_listed actions a o e1 e2 = grind (arith, nat_tests)
 
 abbrev AreListed : List Action → State → Type 0
 AreListed actions s = Every (IsListed actions) s.actions
@@ -129,9 +114,7 @@ under_task F [] h t u e = absurd (cc)
 under_task F (r ∷ rs) h t u e = cond_both (r.handle == h) (Some r.fields) (task_at rs h) (λ o. o ≡ Some t → F t) (λ j d. subst F (some_same d) (u.0 j)) (λ j d. under_task F rs h t u.1 d) e
 
 accepted_issues : (o : Op) (r : Reply) (h : ℕ) → accepted_by o r ≡ Some h → (makes_object ObjectKind.Task o && is_handle h r) ≡ true
-accepted_issues (Op.TaskStart job args priority cores detached group) (Reply.Handle k) h e = eq-eqb k h (some_same e)
-accepted_issues (Op.TaskEnqueue q args cores detached group) (Reply.Handle k) h e = eq-eqb k h (some_same e)
-accepted_issues _ _ h e = absurd (cc)
+accepted_issues o r h e1 = grind (arith, nat_tests)
 
 -- A task that was accepted as this one ends as the kind of its job answers
 

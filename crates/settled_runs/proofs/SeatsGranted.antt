@@ -1,5 +1,5 @@
 -- In a run of a settled workload main and each further caller are given what they ask for.
-use Rattle.settled_runs.proofs.Names.{Each, ◌≡◌, inr, ℕ, ◌≤◌, Bool, true, false, List, ◌∷◌, ◌++◌, Option, Some, None, refl, ◌∙◌, subst, arith, ◌==◌, slice_get, option_and_then, option_map, list_all, NodeSettings, Layout, Action, Queue, Deed, Statement, Part, Workload, IsPart, NodeEntry, fst_true, handle_at, call_of, head_of, tail_of_main, true_false, puts, actions_in, queue_in, queue_at, is_startable, set_up, are_settled_parts, AllGranted, SettledRun, has_begin, task_in, is_settled_deed, keep_limits, [], sym, append-nil, none_some, inl, suc, ◌<◌, length, ap, append_assoc, ◌||◌, not, map, list_any, flat_map, entry, begins, Reply, handle_of, Legal, snd_true, not_true, Line, line, Made, in_lines, is_release, is_released, run_terms, IsOpened, action_in, all_statements, sets_up, is_settled_part, is_settled_further, PartsGranted, SettledStatementsAreGranted, is_begin, lines_of, Carried, CallersRan, sets_up_first, or_left, or_right, some_entry, Op, cond_both, or_parts, enter_behind, MadeBy, nat_tests}
+use Rattle.settled_runs.proofs.Names.{Each, ◌≡◌, inr, ℕ, ◌≤◌, Bool, true, false, List, ◌∷◌, ◌++◌, Option, Some, None, refl, ◌∙◌, subst, arith, slice_get, option_and_then, option_map, list_all, NodeSettings, Layout, Action, Queue, Deed, Statement, Part, Workload, IsPart, NodeEntry, fst_true, call_of, head_of, tail_of_main, true_false, puts, actions_in, queue_in, queue_at, is_startable, set_up, are_settled_parts, AllGranted, SettledRun, has_begin, task_in, is_settled_deed, keep_limits, [], sym, append-nil, none_some, inl, suc, ◌<◌, length, ap, append_assoc, ◌||◌, not, map, list_any, flat_map, entry, begins, Reply, handle_of, Legal, snd_true, not_true, Line, line, Made, in_lines, is_release, is_released, run_terms, IsOpened, action_in, all_statements, sets_up, is_settled_part, is_settled_further, PartsGranted, SettledStatementsAreGranted, is_begin, lines_of, Carried, CallersRan, sets_up_first, or_left, or_right, some_entry, Op, cond_both, or_parts, enter_behind, MadeBy, nat_tests}
 use Rattle.settled_runs.proofs.{Granted.bit, Counted.CallAsks, Counted.calls_none}
 use Rattle.settled_runs.proofs.Places.{Has, has_more, HasAction, action_map, action_has}
 use Rattle.settled_runs.proofs.Walk.{puts_outside, sets_all, Seat, seat_granted, MadeAction, Finds}
@@ -17,8 +17,7 @@ most : (b : Bool) → bit b ≤ 1
 most b = grind arith
 
 puts_calls : (h : ℕ) (bound : List ℕ) (d : Deed) → CallAsks (puts h) (bit (is_put d)) (call_of bound d)
-puts_calls h bound (Deed.Enqueue queue args cores detached group) = most (handle_at bound queue == h)
-puts_calls h bound _ = omega arith
+puts_calls h bound d = grind (arith, nat_tests)
 
 -- where a part sets nothing up, it puts no task into a queue
 not_put : (settings : NodeSettings) (known : List Action) (before all : List Statement) (d : Deed) → set_up all ≡ false → is_settled_deed settings known before all d ≡ true → is_put d ≡ false
@@ -63,8 +62,7 @@ no_actions (s ∷ ss) e = let x = or_parts (sets_up s.deed) (set_up ss) e in by 
 
 begin_acts : (d : Deed) → is_begin d ≡ true → action_in d ≡ []
 unfolding is_begin
-begin_acts Deed.Begin e = refl
-begin_acts _ e = true_false e refl
+begin_acts d e1 = grind (arith, nat_tests)
 
 pub first_actions : (ss : List Statement) (x : SetUp ss) → actions_in ss ≡ actions_in x.before
 first_actions ss x =
@@ -93,8 +91,7 @@ pub record Began (ss : List Statement) (x : SetUp ss) (M : List Line) : Type 0 w
 
 begin_released : (d : Deed) (bound : List ℕ) (front : List Line) (r : Reply) → is_begin d ≡ true → Made (call_of bound d) front r → front ≡ line Op.Release r 0 ∷ []
 unfolding is_begin
-begin_released Deed.Begin bound front r e m = m.0
-begin_released _ bound front r e m = true_false e refl
+begin_released d bound front r e1 e2 = grind (arith, nat_tests)
 
 began : (ss : List Statement) (x : SetUp ss) (M body : List Line) (rs : List Reply) → M ≡ head_of (has_begin ss) ++ (body ++ tail_of_main) → Carried Made [] ss body rs → AllGranted ss rs → Began ss x M
 began ss x M body rs i c g =

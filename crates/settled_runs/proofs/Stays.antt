@@ -1,5 +1,5 @@
 -- In a quiet history what was made stays as it was made.
-use Rattle.settled_runs.proofs.Names.{◌≡◌, ℕ, true, List, [], ◌∷◌, ◌++◌, Some, refl, sym, ◌∙◌, ap, subst, is_some, entry, live_object, Action, new_action, Group, new_group, Queue, Op, Handle, State, opening, Move, Groups, Queues, makes_action, enables, withdraws, makes, alters, removes, apply, after_moves, new_queue, NodeEntry, IsNext, next, after, IsMade, EnablesAction, AltersObject, RemovesObject, on_only, by_moves, sorts_keep, live_listed, true_false, at_issue_here, at_issue_other, cut_from, cut_after, fresh_unlisted, fresh_apart, is_quiet, AreQuiet, none_withdrawn, IsThere, MadeObjectsStay, row, LegalFrom, after_from, ObjectKind, live_stays, NewTask, asked_for, asked_of, is_detached_member, false, Option, None, Reply, MtapiStatus, Mtapi, Row, gives, live, queues, Says, said, says_only, second_false, makes_object, tasks, is_fresh, starts_task, Allows, moves_of, handle_of}
+use Rattle.settled_runs.proofs.Names.{arith, nat_tests, ◌≡◌, ℕ, true, List, [], ◌∷◌, ◌++◌, Some, refl, sym, ◌∙◌, ap, subst, is_some, entry, live_object, Action, new_action, Group, new_group, Queue, Op, Handle, State, opening, Move, Groups, Queues, makes_action, enables, withdraws, makes, alters, removes, apply, after_moves, new_queue, NodeEntry, IsNext, next, after, IsMade, EnablesAction, AltersObject, RemovesObject, on_only, by_moves, sorts_keep, live_listed, true_false, at_issue_here, at_issue_other, cut_from, cut_after, fresh_unlisted, fresh_apart, is_quiet, AreQuiet, none_withdrawn, IsThere, MadeObjectsStay, row, LegalFrom, after_from, ObjectKind, live_stays, NewTask, asked_for, asked_of, is_detached_member, false, Option, Reply, MtapiStatus, Mtapi, Row, gives, live, queues, Says, said, says_only, second_false, makes_object, tasks, is_fresh, starts_task, Allows, moves_of, handle_of}
 use Rattle.settled_runs.proofs.ByHandle.{granted, refuses_only}
 
 -- The entry that makes it
@@ -32,8 +32,7 @@ AskedAs s n _ = ⊥
 -- K of each reply and the moves that come with it, where it holds of each refusal and of the start of a fresh task
 module _ (K : Reply → List Move → Type 0) (s : State) (who : ℕ) (r : Reply) (refused : (c : MtapiStatus) → K (Mtapi c) []) where
   says_queue : (x : Option Queue) (w : Queue → Row) → ((y : Queue) → x ≡ Some y → Says K (w y)) → Says K (live x (gives queues.invalid []) w)
-  says_queue None w f = refused MtapiStatus.ErrQueueInvalid
-  says_queue (Some y) w f = f y refl
+  says_queue x w e1 = grind (arith, nat_tests)
 
   pub on_start : (o : Op) → makes_object ObjectKind.Task o ≡ true → ((h : ℕ) (n : NewTask) → AskedAs s n o → is_fresh tasks s h ≡ true → K (Handle h) (starts_task h n ∷ [])) → Allows (row s who o r) r → K r (moves_of (row s who o r))
   on_start (Op.TaskStart job args priority cores detached group) z k a =
@@ -53,8 +52,7 @@ module _ (K : Reply → List Move → Type 0) (s : State) (who : ℕ) (r : Reply
 -- The entries behind it
 
 no_enabling : (j : ℕ) (o : Op) → is_quiet o ≡ true → EnablesAction j o → ⊥
-no_enabling j (Op.ActionEnable a) q b = true_false q refl
-no_enabling j _ q b = b
+no_enabling j o e1 e2 = grind (arith, nat_tests)
 
 abbrev Same : ℕ → Action → State → Type 0
 Same h x s = live_object s.actions h ≡ Some x
@@ -69,20 +67,16 @@ action_stays h x o q s (removes k j) e v = sorts_keep (Same h x) (λ t g u n c r
 action_stays h x o q s _ e v = v
 
 no_queue_alters : (j : ℕ) (f : Queue → Queue) (o : Op) → is_quiet o ≡ true → AltersObject Queues j f o → ⊥
-no_queue_alters j f (Op.QueueEnable a) q b = true_false q refl
-no_queue_alters j f (Op.QueueDisable a) q b = true_false q refl
-no_queue_alters j f _ q b = b
+no_queue_alters j f o e1 e2 = grind (arith, nat_tests)
 
 no_queue_goes : (j : ℕ) (o : Op) → is_quiet o ≡ true → RemovesObject Queues j o → ⊥
-no_queue_goes j (Op.QueueDelete a) q b = true_false q refl
-no_queue_goes j _ q b = b
+no_queue_goes j o e1 e2 = grind (arith, nat_tests)
 
 no_group_alters : (j : ℕ) (f : Group → Group) (o : Op) → AltersObject Groups j f o → ⊥
 no_group_alters j f _ b = b
 
 no_group_goes : (j : ℕ) (o : Op) → is_quiet o ≡ true → RemovesObject Groups j o → ⊥
-no_group_goes j (Op.GroupDelete a) q b = true_false q refl
-no_group_goes j _ q b = b
+no_group_goes j o e1 e2 = grind (arith, nat_tests)
 
 pub there_next : (s : State) (e : NodeEntry) (o : Op) (h : ℕ) → is_quiet e.op ≡ true → IsThere o h s → IsThere o h (next s e)
 there_next s e (Op.ActionCreate job k cores) h q v = by_moves (Same h (new_action job k cores.0)) s e (λ t m i u. action_stays h (new_action job k cores.0) e.op q t m i u) v

@@ -1,5 +1,5 @@
 -- What a look at a whole group tells in a quiet history: its live members are the tasks that were put into it since the last verdict.
-use Rattle.settled_runs.proofs.Names.{◌≡◌, ◌⊎◌, inl, inr, ℕ, ◌+◌, ◌≤◌, Bool, true, false, cond, List, [], ◌∷◌, Option, Some, None, refl, ◌∙◌, ap, subst, arith, ◌==◌, nat_lt, is_some, option_and_then, option_or, eq-eqb, MtapiStatus, Listed, live_object, Task, TaskState, Running, Ended, end_of, is_member, Ending, insert, insert_ended, fault_of, first_fault, end_in, some_same, live_listed, true_false, at_skip, at_here, OnceIn, once_rest, live_of, listed, endings, sym, ◌&&◌, is_none, eqb-true, holds, Failed, with_fields, gone, with_state, with_notes, ended, new_task, Group, freed, let_go, Op, State, is_open, tasks, Move, starts_task, runs_task, ends_task, ends_waiting, withdraws, notes, leaves, frees_members, lets_members_go, makes, alters, removes, is_fresh, is_served, apply, NodeEntry, IsNext, next, IsMade, all_live, fst_true, snd_true, not_true, sorts_keep, Every, every_issue, every_change, every_all, every_map, every_ends, always, listed_move, LegalFrom, after_from, list_any, TaskEnd, GroupHandle, NewTask, number_of, StartsTask, FreesMembers, FoundAs, is_quiet, starts_member, looks_at_all, change, change_all, issue, end_each, cond_both, Notes, ◌++◌, ◌||◌, not, entry, any_listed, is_unended, with_waiter, new_group, is_unended_member, Reply, opening, groups, Groups, after_moves, Row, unless, gives, Allows, live, moves_of, after_row, is_detached_member, verdict, is_pending, after, AllGives, given, on_only, on_live, not_false, both_true, Legal-front, by_moves, at_issue_here, closes, cut_from, cut_after, found_changed, found_issued, fresh_unlisted, AreQuiet, with_new, members_behind, goes_on, GoOn, IsVerdict, QuietVerdicts, IsCalm, calm_next, calm_along, calm_opening, row, members_of, false_from_ne_true, or_right, or_cases, at_head, at_past, is_up, May, by_made_moves, looks_row, once_from, end_found, ObjectKind, makes_object, second_false, whether, nat_tests}
+use Rattle.settled_runs.proofs.Names.{◌≡◌, ◌⊎◌, inl, inr, ℕ, ◌+◌, ◌≤◌, Bool, true, false, cond, List, [], ◌∷◌, Option, Some, None, refl, ◌∙◌, ap, subst, arith, ◌==◌, nat_lt, is_some, option_and_then, option_or, eq-eqb, MtapiStatus, Listed, live_object, Task, TaskState, Running, Ended, end_of, is_member, Ending, insert, insert_ended, fault_of, first_fault, end_in, some_same, live_listed, true_false, at_skip, at_here, OnceIn, once_rest, live_of, listed, endings, sym, ◌&&◌, is_none, eqb-true, holds, Failed, with_fields, gone, with_state, with_notes, ended, new_task, Group, freed, let_go, Op, State, is_open, tasks, Move, starts_task, runs_task, ends_task, ends_waiting, withdraws, notes, leaves, frees_members, lets_members_go, makes, alters, removes, is_fresh, is_served, apply, NodeEntry, IsNext, next, IsMade, all_live, fst_true, snd_true, not_true, sorts_keep, Every, every_issue, every_change, every_all, every_map, every_ends, always, listed_move, LegalFrom, after_from, list_any, TaskEnd, GroupHandle, NewTask, number_of, StartsTask, FreesMembers, FoundAs, is_quiet, starts_member, looks_at_all, change, change_all, issue, end_each, cond_both, Notes, ◌++◌, ◌||◌, not, entry, any_listed, is_unended, with_waiter, new_group, is_unended_member, Reply, opening, groups, Groups, after_moves, Row, unless, gives, Allows, live, moves_of, after_row, is_detached_member, verdict, is_pending, after, AllGives, given, on_only, on_live, not_false, both_true, Legal-front, by_moves, at_issue_here, closes, cut_from, cut_after, found_changed, found_issued, fresh_unlisted, AreQuiet, with_new, members_behind, goes_on, GoOn, IsVerdict, QuietVerdicts, IsCalm, calm_next, calm_along, calm_opening, row, members_of, false_from_ne_true, or_right, or_cases, at_head, at_past, is_up, May, by_made_moves, looks_row, once_from, end_found, ObjectKind, makes_object, whether, nat_tests}
 use Rattle.settled_runs.proofs.{Stays.there_next, Stays.made_there, Granted.any_found, Granted.open_move, Stays.AskedAs, Stays.on_start}
 use Rattle.settled_runs.proofs.ByHandle.{granted, refuses_only}
 use Rattle.settled_runs.proofs.Waits.{no_deletion, notes_stay, notes_tasks, noting, taking, open_up, legal_behind, none_noted}
@@ -7,20 +7,17 @@ use Rattle.settled_runs.proofs.Waits.{no_deletion, notes_stay, notes_tasks, noti
 -- The first fault of the endings
 
 or_none : {A : Type 0} (x y : Option A) → option_or x y ≡ None → (x ≡ None) × (y ≡ None)
-or_none None y e = (refl, e)
-or_none (Some x) y e = absurd (cc)
+or_none x y e1 = grind (arith, nat_tests)
 
 or_some : {A : Type 0} (x y : Option A) (c : A) → option_or x y ≡ Some c → (x ≡ Some c) ⊎ (y ≡ Some c)
-or_some None y c e = inr e
-or_some (Some x) y c e = inl e
+or_some x y c e1 = grind (arith, nat_tests)
 
 -- the third is the first one, if there is any, of the two, in either order
 abbrev Joined : Option MtapiStatus → Option MtapiStatus → Option MtapiStatus → Type 0
 Joined x y z = (z ≡ option_or x y) ⊎ (z ≡ option_or y x)
 
 joined_none : (x y z : Option MtapiStatus) → Joined x y z → z ≡ None → (x ≡ None) × (y ≡ None)
-joined_none x y z (inl i) e = or_none x y (sym i ∙ e)
-joined_none x y z (inr i) e = let k = or_none y x (sym i ∙ e) in (k.1, k.0)
+joined_none x y z e1 e2 = grind (arith, nat_tests)
 
 joined_some : (x y z : Option MtapiStatus) (c : MtapiStatus) → Joined x y z → z ≡ Some c → (x ≡ Some c) ⊎ (y ≡ Some c)
 joined_some x y z c (inl i) e = or_some x y c (sym i ∙ e)
@@ -58,15 +55,7 @@ record Passes (g : ℕ) (r : Listed Task) (rs : List (Listed Task)) : Type 0 whe
 
 one_more : (g : ℕ) (r : Listed Task) (rs : List (Listed Task)) → Joins g r rs ⊎ Passes g r rs
 unfolding live_of endings
-one_more g r rs = by r.live refl (is_member g r.fields) refl
-  where
-    head : (a : Bool) → r.live ≡ a → endings g (live_of (r ∷ rs)) ≡ endings g (cond a ((r.handle, r.fields) ∷ live_of rs) (live_of rs))
-    head a i = ap (λ (b : Bool). endings g (cond b ((r.handle, r.fields) ∷ live_of rs) (live_of rs))) i
-
-    by : (a : Bool) → r.live ≡ a → (m : Bool) → is_member g r.fields ≡ m → Joins g r rs ⊎ Passes g r rs
-    by true i true j = inl (record { live = i; member = j; is = head true i ∙ ap (λ (b : Bool). cond b (insert_ended r.handle (end_of r.fields.state) (endings g (live_of rs))) (endings g (live_of rs))) j })
-    by true i false j = inr (record { other = λ k. j; is = head true i ∙ ap (λ (b : Bool). cond b (insert_ended r.handle (end_of r.fields.state) (endings g (live_of rs))) (endings g (live_of rs))) j })
-    by false i m j = inr (record { other = λ k. true_false k i; is = head false i })
+one_more g r rs = grind (arith, nat_tests)
 
 -- without a fault each live member has none
 none_faulty : (g : ℕ) (l : List (Listed Task)) (h : ℕ) (t : Task) → first_fault (endings g (live_of l)) ≡ None → live_object l h ≡ Some t → is_member g t ≡ true → option_and_then fault_of (end_in t.state) ≡ None
@@ -113,8 +102,7 @@ live_group made (Some x) g a e = subst (λ (n : ℕ). 1 ≤ listed n made) (eqb-
     by_live (Some y) e = refl
 
 noted_member : (g : ℕ) (a b : Option ℕ) → (b ≡ a) ⊎ (b ≡ None) → holds (λ h. h == g) b ≡ true → holds (λ h. h == g) a ≡ true
-noted_member g a b (inl e) i = ap (holds (λ h. h == g)) (sym e) ∙ i
-noted_member g a b (inr e) i = true_false i (ap (holds (λ h. h == g)) e)
+noted_member g a b e1 e2 = grind (arith, nat_tests)
 
 named_move : (who : ℕ) (o : Op) (s : State) (x : Move) → IsMade s o x → May s who o x → Named s → Every (IsNamed s.groups) (apply x s).tasks
 named_move who o s (starts_task h t) e k v =
@@ -203,23 +191,18 @@ out_issue g hs ks j t (r ∷ rs) f k v = ((λ a b. f r.handle (v.0 a b)), out_is
 
 -- a member of one group is none of another
 other_group : (g j : ℕ) (o : Option ℕ) → holds (λ h. h == g) o ≡ true → holds (λ h. h == j) o ≡ true → j ≡ g
-other_group g j None c d = true_false c refl
-other_group g j (Some x) c d = sym (eqb-true x j d) ∙ eqb-true x g c
+other_group g j o e1 e2 = grind (arith, nat_tests)
 
 -- The moves of an op that starts no member, looks at no group as a whole, and notes nothing
 
 same_group : (g : ℕ) (o : Option GroupHandle) → holds (λ h. h == g) (number_of o) ≡ holds (λ x. x.0 == g) o
-same_group g None = refl
-same_group g (Some x) = refl
+same_group g o = grind (arith, nat_tests)
 
 no_member : (g : ℕ) (o : Op) (n : NewTask) (k : ℕ) → starts_member g o ≡ false → StartsTask n o → is_member g (new_task n k) ≡ true → ⊥
-no_member g (Op.TaskStart job args priority cores detached group) n k z b i = true_false (sym (same_group g group) ∙ (ap (λ (x : NewTask). holds (λ h. h == g) x.group) (sym b) ∙ i)) z
-no_member g (Op.TaskEnqueue q args cores detached group) n k z b i = true_false (sym (same_group g group) ∙ (ap (λ (x : NewTask). holds (λ h. h == g) x.group) (sym b.1) ∙ i)) z
-no_member g _ n k z b i = b
+no_member g o n k e1 e2 e3 = grind (arith, nat_tests)
 
 freeing : (g j : ℕ) (o : Op) → FreesMembers j o → j ≡ g → looks_at_all g o ≡ true
-freeing g j (Op.AllLook x last) e i = eq-eqb x.0 g (sym e ∙ i)
-freeing g j _ e i = absurd e
+freeing g j o e1 e2 = grind (arith, nat_tests)
 
 out_move : (g : ℕ) (hs : List ℕ) (o : Op) → is_quiet o ≡ true → notes_tasks o ≡ false → starts_member g o ≡ false → (s : State) (x : Move) → IsMade s o x → Out g hs s.tasks → Out g hs (apply x s).tasks
 out_move g hs o q n z s (starts_task j t) e v = out_issue g hs hs j _ s.tasks (λ h i. i) (λ i. absurd (no_member g o t s.starts z e.by i)) v
@@ -257,18 +240,13 @@ more_members g hs h n s d i e v =
     }
 
 of_group : (g : ℕ) (detached : Bool) (group : Option GroupHandle) → holds (λ x. x.0 == g) group ≡ true → is_detached_member detached group ≡ false → (detached ≡ false) × (holds (λ x. x == g) (number_of group) ≡ true)
-of_group g d None e i = true_false e refl
-of_group g true (Some x) e i = true_false refl i
-of_group g false (Some x) e i = (refl, e)
+of_group g detached group e1 e2 = grind (arith, nat_tests)
 
 member_start : (g : ℕ) (s : State) (n : NewTask) (o : Op) → starts_member g o ≡ true → AskedAs s n o → (n.detached ≡ false) × (holds (λ x. x == g) n.group ≡ true)
-member_start g s n (Op.TaskStart job args priority cores detached group) z b = subst (λ (x : NewTask). (x.detached ≡ false) × (holds (λ y. y == g) x.group ≡ true)) b.0 (of_group g detached group z b.1)
-member_start g s n (Op.TaskEnqueue q args cores detached group) z b = subst (λ (x : NewTask). (x.detached ≡ false) × (holds (λ y. y == g) x.group ≡ true)) b.2 (of_group g detached group z b.3)
-member_start g s n _ z b = absurd b
+member_start g s n o e1 e2 = grind (arith, nat_tests)
 
 member_starts : (g : ℕ) (o : Op) → starts_member g o ≡ true → makes_object ObjectKind.Task o ≡ true
-member_starts g (Op.TaskStart job args priority cores detached group) z = refl
-member_starts g _ z = cc
+member_starts g o e1 = grind (arith, nat_tests)
 
 put_or_not : (g : ℕ) (hs : List ℕ) (s : State) (w : ℕ) (o : Op) (r : Reply) → starts_member g o ≡ true → Allows (row s w o r) r → Holds g hs s → Holds g (with_new r hs) (after_row s (row s w o r))
 put_or_not g hs s w o r z a v =
@@ -294,15 +272,11 @@ on_looks g hs s w t true _ n v = waits g hs s t None n v
 on_looks g hs s w t false _ n v = waits g hs s t (Some w) n v
 
 member_some : (g : ℕ) (o : Option ℕ) → holds (λ h. h == g) o ≡ true → is_some o ≡ true
-member_some g None i = true_false i refl
-member_some g (Some x) i = refl
+member_some g o e1 = grind (arith, nat_tests)
 
 -- a task that one may look at by itself is no member
 apart : (g : ℕ) (hs : List ℕ) (s : State) (t : ℕ) (x : Task) → live_object s.tasks t ≡ Some x → (x.notes.detached || is_some x.notes.group) ≡ false → Holds g hs s → (h : ℕ) → has hs h ≡ true → t ≡ h → ⊥
-apart g hs s t x e a v h b i =
-    let u = v.into h b in
-    let same : x ≡ u.0 = some_same (sym e ∙ (ap (λ (y : ℕ). live_object s.tasks y) i ∙ u.1)) in
-    true_false (ap (λ (y : Task). is_some y.notes.group) same ∙ member_some g u.0.notes.group u.2.member) (second_false x.notes.detached _ a)
+apart g hs s t x e1 e2 e3 h e4 e5 = grind (arith, nat_tests)
 
 noted : (g : ℕ) (hs : List ℕ) (s : State) (w : ℕ) (o : Op) (r : Reply) → IsCalm s → notes_tasks o ≡ true → Allows (row s w o r) r → Holds g hs s → Holds g hs (after_row s (row s w o r))
 noted g hs s w (Op.TaskLook t last) r c n a v =
@@ -312,8 +286,7 @@ noted g hs s w o r c n a v = none_noted (Kept g hs s) s w o r c n (λ t last e. 
 -- A look at the whole group
 
 verdict_decides : (o : Option MtapiStatus) → is_pending (verdict o) ≡ false
-verdict_decides None = refl
-verdict_decides (Some c) = refl
+verdict_decides o = grind (arith, nat_tests)
 
 -- the members that have all ended are freed
 none_left : (g : ℕ) (l : List (Listed Task)) → any_listed (is_unended_member g) l ≡ false → Out g [] (change_all (λ t. is_member g t && not (is_unended t)) freed l)
@@ -365,10 +338,7 @@ members_next g hs s e i q c k v =
     (λ z. whether (notes_tasks e.op) (λ n. noted g hs s e.who e.op e.reply c n i.allowed v.members) (λ n. by_moves (λ t. Members g hs t.tasks) s e (λ t x y u. members_move g hs e.op q n z l t x y u) v.members)))
 
 unclosed : (g : ℕ) (o : Op) → goes_on g o ≡ true → closes o ≡ false
-unclosed g (Op.AllLook x last) e = refl
-unclosed g Op.Close e = true_false e refl
-unclosed g Op.Final e = true_false e refl
-unclosed g _ e = refl
+unclosed g o e1 = grind (arith, nat_tests)
 
 fine_along : (g : ℕ) (hs : List ℕ) (s : State) (L : List NodeEntry) → LegalFrom s L → AreQuiet L → IsCalm s → GoOn g L → Fine g hs s → Fine g (members_of g hs L) (after_from s L)
 unfolding LegalFrom after_from members_of

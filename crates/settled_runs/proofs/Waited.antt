@@ -1,5 +1,5 @@
 -- In a run of a settled workload each wait for a task is told its end.
-use Rattle.settled_runs.proofs.Names.{Each, ◌≡◌, ◌⊎◌, inl, inr, ℕ, Bool, true, false, List, [], ◌∷◌, ◌++◌, Option, Some, None, refl, sym, ◌∙◌, ap, subst, not, is_none, nat_lt, map, slice_get, option_and_then, option_map, list_any, NodeSettings, Layout, TaskEnd, entry, Action, Queue, Deed, Statement, Workload, IsBoundAt, AreStatements, Op, Reply, handle_of, is_status, is_pending, NodeEntry, fst_true, both_true, handle_at, group_at, call_of, Line, line, before_it, Made, true_false, run_terms, starts_alone, looks_at, AreLeft, actions_in, queue_at, serves, is_alone, is_startable, waits_for, AllGranted, SettledRun, binds, lines_of, Carried, task_in, is_settled_deed, are_settled, or_parts, list_any-append, ObjectKind, Sort, MadeBy}
+use Rattle.settled_runs.proofs.Names.{arith, nat_tests, Each, ◌≡◌, ◌⊎◌, inl, inr, ℕ, Bool, true, false, List, [], ◌∷◌, ◌++◌, Option, refl, sym, ◌∙◌, ap, subst, is_none, map, slice_get, option_and_then, option_map, list_any, NodeSettings, Layout, TaskEnd, entry, Action, Deed, Statement, Workload, IsBoundAt, AreStatements, Op, Reply, handle_of, is_status, is_pending, NodeEntry, handle_at, group_at, call_of, Line, line, before_it, Made, true_false, run_terms, starts_alone, looks_at, AreLeft, actions_in, is_alone, waits_for, AllGranted, SettledRun, binds, lines_of, Carried, task_in, is_settled_deed, are_settled, or_parts, list_any-append, ObjectKind, Sort, MadeBy}
 use Rattle.settled_runs.proofs.{Walk.Finds, Walk.made_before, Waits.quiet_looks_are_answered, Opened.legal_here, Opened.quiet_before}
 use Rattle.settled_runs.proofs.Owners.{one_looks, looks_call, looks_outside}
 use Rattle.settled_runs.proofs.Each.{OnlyBy, each_behind, each_both, each_front, each_map, is_outside, made_each, own_each, statements_each}
@@ -15,12 +15,10 @@ pending_none : (h : ℕ) (ls : List Line) → Each (λ l. looks_at h l.op ≡ fa
 pending_none h ls a = each_map (λ (l : Line). looks_at h l.op ≡ false) (λ (l : Line). looks_at h l.op ≡ true → l.reply ≡ Reply.Pending) (λ l e t. true_false t e) ls a
 
 pub pending_before : (h : ℕ) (o : Op) (first : Option ℕ) → ArePending h (before_it o first)
-pending_before h o None = tt
-pending_before h o (Some n) = ((λ t. refl), tt)
+pending_before h o first = grind (arith, nat_tests)
 
 are_left : (who h : ℕ) (L : List NodeEntry) → Each (λ e. looks_at h e.op ≡ true → (e.who ≡ who) × (e.reply ≡ Reply.Pending)) L → AreLeft who h L
-are_left who h [] a = tt
-are_left who h (e ∷ es) a = (a.0, are_left who h es a.1)
+are_left who h L e1 = grind (arith, nat_tests)
 
 -- the line that started the task of a place
 record StartedBy (ls : List Line) (h : ℕ) : Type 0 where
@@ -29,8 +27,7 @@ record StartedBy (ls : List Line) (h : ℕ) : Type 0 where
   has : Has ls op h
 
 no_group : (group : Option ℕ) (bound : List ℕ) → is_none group ≡ true → is_none (option_map (group_at bound) group) ≡ true
-no_group None bound e = refl
-no_group (Some g) bound e = e
+no_group group bound e1 = grind (arith, nat_tests)
 
 module _ (settings : NodeSettings) (known : List Action) (all bf : List Statement) (bound : List ℕ) (ls first front more : List Line) (is : ls ≡ first ++ (front ++ more)) (r : Reply) (h : ℕ) (told : r ≡ Reply.Handle h) where
   started : (o : Op) → starts_alone o ≡ true → front ≡ line o r 0 ∷ [] → StartedBy ls h
@@ -38,18 +35,7 @@ module _ (settings : NodeSettings) (known : List Action) (all bf : List Statemen
 
   started_by : (d : Deed) → is_settled_deed settings (known ++ actions_in bf) bf all d ≡ true → is_alone (task_in all d) ≡ true → binds Sort.Task d ≡ true → Made (call_of bound d) front r → StartedBy ls h
   unfolding is_settled_deed task_in binds
-  started_by (Deed.Start job args priority cores detached group) e a b m =
-      started (Op.TaskStart job args priority cores detached (option_map (group_at bound) group))
-      (both_true (not detached) _ (fst_true _ (nat_lt priority settings.priorities) (fst_true _ (serves settings.workers (known ++ actions_in bf) job cores.0) e)) (no_group group bound a)) m.0
-  started_by (Deed.Enqueue queue args cores detached group) e a b m = by (queue_at all queue) e a
-    where
-      by : (q : Option Queue) → is_startable settings (known ++ actions_in bf) (option_map (λ z. record { job = z.job; args = args; priority = z.priority; cores = cores.0; detached = detached; group = group; queue = Some queue }) q) ≡ true
-          → is_alone (option_map (λ z. record { job = z.job; args = args; priority = z.priority; cores = cores.0; detached = detached; group = group; queue = Some queue }) q) ≡ true → StartedBy ls h
-      by None k l = true_false k refl
-      by (Some z) k l =
-          started (Op.TaskEnqueue (record { 0 = handle_at bound queue }) args cores detached (option_map (group_at bound) group))
-          (both_true (not detached) _ (fst_true _ (nat_lt z.priority settings.priorities) (fst_true _ (serves settings.workers (known ++ actions_in bf) z.job cores.0) k)) (no_group group bound l)) m.0
-  started_by _ e a b m = true_false b refl
+  started_by d e1 e2 e3 e4 = grind (arith, nat_tests)
 
 none_of : (p : Statement → Bool) (before : List Statement) (s : Statement) (rest : List Statement) → list_any p (before ++ s ∷ rest) ≡ false → p s ≡ true → ⊥
 none_of p before s rest e t = true_false t (or_parts (p s) _ (or_parts (list_any p before) _ (sym (list_any-append p before (s ∷ rest)) ∙ e)).1).0

@@ -1,5 +1,5 @@
 -- In a quiet history a task that its own caller alone looks at stays until it has ended and told its end.
-use Rattle.settled_runs.proofs.Names.{◌≡◌, ◌⊎◌, inl, inr, ℕ, Bool, true, false, List, [], ◌∷◌, ◌++◌, Option, Some, None, refl, sym, ap, subst, arith, ◌==◌, ◌&&◌, ◌||◌, not, is_none, is_some, eq-eqb, nat_tests, holds, TaskEnd, Failed, GroupHandle, entry, Listed, live_object, with_fields, gone, Task, NewTask, TaskState, Running, Ended, is_unstarted, new_task, with_state, with_notes, with_waiter, ended, is_member, freed, Op, Reply, Phase, New, Closed, State, opening, is_open, is_up, tasks, Move, starts_task, runs_task, ends_task, ends_waiting, withdraws, notes, leaves, frees_members, lets_members_go, makes, alters, removes, is_fresh, apply, after_moves, Row, unless, gives, Allows, live, after_row, number_of, NodeEntry, IsNext, next, after, IsMade, NotesTask, TakesEnded, some_same, Legal-front, Legal-rest, AllGives, given, on_live, fst_true, by_moves, sorts_keep, true_false, at_issue_here, FoundAs, found_changed, found_issued, found_ends, found_all, cut_from, cut_after, fresh_unlisted, is_quiet, AreQuiet, starts_alone, looks_at, AreLeft, QuietLooksAreAnswered, IsCalm, calm_next, calm_along, calm_opening, none_impure, row, LegalFrom, after_from, DeletesGroup, FreesMembers, Notes, is_other, Kind, ObjectKind, MtapiStatus, looks_row, makes_object, eqb-true, is_that_handle as is_given, TaskHandle, moves_of, whether}
+use Rattle.settled_runs.proofs.Names.{◌≡◌, ◌⊎◌, ℕ, Bool, true, false, List, [], ◌∷◌, ◌++◌, Option, Some, None, refl, sym, ap, subst, arith, ◌==◌, ◌&&◌, ◌||◌, not, is_none, is_some, eq-eqb, nat_tests, holds, TaskEnd, Failed, GroupHandle, entry, Listed, live_object, with_fields, gone, Task, NewTask, TaskState, Running, Ended, is_unstarted, new_task, with_state, with_notes, with_waiter, ended, is_member, freed, Op, Reply, Phase, State, opening, is_open, is_up, tasks, Move, starts_task, runs_task, ends_task, ends_waiting, withdraws, notes, leaves, frees_members, lets_members_go, makes, alters, removes, is_fresh, apply, after_moves, Row, unless, gives, Allows, live, after_row, number_of, NodeEntry, IsNext, next, after, IsMade, NotesTask, TakesEnded, Legal-front, Legal-rest, AllGives, given, on_live, fst_true, by_moves, sorts_keep, true_false, at_issue_here, FoundAs, found_changed, found_issued, found_ends, found_all, cut_from, cut_after, fresh_unlisted, is_quiet, AreQuiet, starts_alone, looks_at, AreLeft, QuietLooksAreAnswered, IsCalm, calm_next, calm_along, calm_opening, none_impure, row, LegalFrom, after_from, DeletesGroup, FreesMembers, Notes, is_other, Kind, ObjectKind, MtapiStatus, looks_row, makes_object, eqb-true, is_that_handle as is_given, TaskHandle, moves_of, whether}
 use Rattle.settled_runs.proofs.{Stays.quiet_rest, Stays.quiet_front, Granted.before, Granted.is_up as open_now, Granted.allowed, Stays.AskedAs, Stays.on_start}
 use Rattle.settled_runs.proofs.{Granted.is_up as open_now}
 
@@ -15,20 +15,16 @@ Own who h s = FoundAs (λ t. IsOwn who t.notes) s.tasks h
 -- The entry that starts it
 
 started_alone : (a : Bool) (g : Option GroupHandle) → (not a && is_none g) ≡ true → (a ≡ false) × (number_of g ≡ None)
-started_alone false None e = (refl, refl)
-started_alone _ _ e = true_false e refl
+started_alone a g e1 = grind (arith, nat_tests)
 
 new_own : (who h : ℕ) (n : NewTask) (s : State) → (n.detached ≡ false) × (n.group ≡ None) → is_fresh tasks s h ≡ true → Own who h (apply (starts_task h n) s)
 new_own who h n s b e = (new_task n s.starts, at_issue_here h (new_task n s.starts) s.tasks (fresh_unlisted ObjectKind.Task s h e), record { kept = b.0; alone = b.1; waiter = refl })
 
 own_start : (s : State) (n : NewTask) (o : Op) → starts_alone o ≡ true → AskedAs s n o → (n.detached ≡ false) × (n.group ≡ None)
-own_start s n (Op.TaskStart job args priority cores detached group) a b = subst (λ (x : NewTask). (x.detached ≡ false) × (x.group ≡ None)) b.0 (started_alone detached group a)
-own_start s n (Op.TaskEnqueue q args cores detached group) a b = subst (λ (x : NewTask). (x.detached ≡ false) × (x.group ≡ None)) b.2 (started_alone detached group a)
-own_start s n _ a b = absurd b
+own_start s n o e1 e2 = grind (arith, nat_tests)
 
 alone_starts : (o : Op) → starts_alone o ≡ true → makes_object ObjectKind.Task o ≡ true
-alone_starts (Op.TaskStart job args priority cores detached group) a = refl
-alone_starts _ a = cc
+alone_starts o e1 = grind (arith, nat_tests)
 
 started_own : (who h : ℕ) (s : State) (w : ℕ) (o : Op) → IsNext s (entry w o (Reply.Handle h)) → starts_alone o ≡ true → Own who h (next s (entry w o (Reply.Handle h)))
 started_own who h s w o n a =
@@ -47,23 +43,13 @@ notes_tasks (Op.TallyWrite t value) = true
 notes_tasks _ = false
 
 pub noting : (j : ℕ) (o : Op) → is_quiet o ≡ true → NotesTask j o → notes_tasks o ≡ true
-noting j (Op.TaskLook t last) q e = refl
-noting j (Op.TaskCancel t) q e = true_false q refl
-noting j (Op.AnyLook g last) q e = true_false q refl
-noting j (Op.Asked t) q e = refl
-noting j (Op.TallyLock t) q e = refl
-noting j (Op.TallyRead t) q e = refl
-noting j (Op.TallyWrite t value) q e = refl
-noting j _ q e = absurd e
+noting j o e1 e2 = grind (arith, nat_tests)
 
 pub taking : (j : ℕ) (o : Op) → is_quiet o ≡ true → TakesEnded j o → notes_tasks o ≡ true
-taking j (Op.TaskLook t last) q e = refl
-taking j (Op.AnyLook g last) q e = true_false q refl
-taking j _ q e = absurd e
+taking j o e1 e2 = grind (arith, nat_tests)
 
 pub no_deletion : (j : ℕ) (o : Op) → is_quiet o ≡ true → DeletesGroup j o → ⊥
-no_deletion j (Op.GroupDelete x) q b = true_false q refl
-no_deletion j _ q b = b
+no_deletion j o e1 e2 = grind (arith, nat_tests)
 
 -- what is noted of a task that isn't detached stays, where the op notes nothing and doesn't free it
 pub notes_stay : (N : Notes → Type 0) → ((n : Notes) → N n → n.detached ≡ false) → (h : ℕ) (o : Op) → is_quiet o ≡ true → notes_tasks o ≡ false → ((j : ℕ) (t : Task) → FreesMembers j o → N t.notes → is_member j t ≡ true → ⊥)
@@ -140,21 +126,16 @@ legal_behind s A e B l = (Legal-rest s A (e ∷ B) l).1
 -- The look
 
 pub open_up : (p : Phase) → not (is_open p) ≡ false → not (is_up p) ≡ false
-open_up New e = true_false refl e
-open_up Closed e = true_false refl e
-open_up _ e = refl
+open_up p e1 = grind (arith, nat_tests)
 
 pub passed : (c : Bool) (x : Reply) (w : Row) (r : Reply) → c ≡ false → Allows (unless c x w) r → Allows w r
-passed true x w r e a = true_false refl e
-passed false x w r e a = a
+passed c x w r e1 e2 = grind (arith, nat_tests)
 
 found_live : {T : Type 0} (o : Option T) (t : T) (v : Row) (f : T → Row) (r : Reply) → o ≡ Some t → Allows (live o v f) r → Allows (f t) r
-found_live None t v f r e a = absurd (cc)
-found_live (Some y) t v f r e a = subst (λ z. Allows (f z) r) (some_same e) a
+found_live o t v f r e1 e2 = grind (arith, nat_tests)
 
 told : (w h : ℕ) (x : TaskState) (r : Reply) → Allows (looks_row w h false x) r → (r ≡ Reply.Pending) ⊎ ((end : TaskEnd) × (r ≡ Reply.Ended end))
-told w h (Ended e n) r a = inr (e, a)
-told w h _ r a = inl a
+told w h x r e1 = grind (arith, nat_tests)
 
 pub quiet_looks_are_answered : QuietLooksAreAnswered
 quiet_looks_are_answered terms L who t r x y =

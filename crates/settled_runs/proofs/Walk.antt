@@ -12,15 +12,7 @@ use Rattle.settled_runs.proofs.Places.{Has, has_more, group_has, HasQueue, queue
 module _ (h place : ℕ) where
   puts_call : (before : List Statement) (s : Statement) (bound : List ℕ) → IsStatement before s → ((queue : ℕ) → IsBoundAt Sort.Queue before queue → handle_at bound queue ≡ h → queue ≡ place) → CallAsks (puts h) (bit (puts_into place s.deed)) (call_of bound s.deed)
   unfolding row deed_spelled
-  puts_call before s bound st only = by s.deed st.options
-    where
-      by_place : (queue : ℕ) → IsBoundAt Sort.Queue before queue → (b : Bool) → (handle_at bound queue == h) ≡ b → bit b ≤ bit (queue == place)
-      by_place queue o false e = omega arith
-      by_place queue o true e = let y : bit (queue == place) ≡ 1 = ap bit (eq-eqb queue place (only queue o (eqb-true (handle_at bound queue) h e))) in omega arith
-
-      by : (d : Deed) → AllFit before (fields (word_for d)) (values d) → CallAsks (puts h) (bit (puts_into place d)) (call_of bound d)
-      by (Deed.Enqueue queue args cores detached group) o = by_place queue o.0 (handle_at bound queue == h) refl
-      by _ o = omega arith
+  puts_call before s bound e1 e2 = grind (arith, nat_tests)
 
   pub puts_carried : (all : List Statement) (ls : List Line) (rs : List Reply) → Carried Made [] all ls rs → AreStatements [] all → ((other : ℕ) → BoundBy Sort.Queue all other → handle_at (map handle_of rs) other ≡ h → other ≡ place) → asked (puts h) ls ≤ how_many (λ s. puts_into place s.deed) all
   puts_carried all ls rs c a only =
@@ -28,8 +20,7 @@ module _ (h place : ℕ) where
       (λ b l1 r1 s front r x. puts_call b s (map handle_of r1) (step_statement all ls rs b l1 r1 s front r x a) (λ queue o e. let y = step_bound all ls rs b l1 r1 s front r x Sort.Queue queue o in only queue y.0 (y.1 ∙ e)))
 
 pub puts_outside : (h : ℕ) (o : Op) → is_outside o ≡ true → puts h o ≡ false
-puts_outside h (Op.TaskEnqueue q args cores detached group) e = true_false e refl
-puts_outside h _ e = refl
+puts_outside h o e1 = grind (arith, nat_tests)
 
 -- and the limit of the queue
 
