@@ -1,5 +1,5 @@
 -- What holds after an entry whose reply passes a test.
-use Rattle.history_law.proofs.Names.{nat_tests, arith, ◌≡◌, Bool, true, false, cond, List, [], Option, Some, None, refl, sym, ◌∙◌, ap, subst, ◌||◌, Reply, Move, Row, unless, gives, never, Allows, live, moves_of, AllGives}
+use Rattle.history_law.proofs.Names.{nat_tests, arith, ◌≡◌, Bool, true, false, cond, List, [], Some, None, refl, sym, ◌∙◌, ap, subst, ◌||◌, Reply, Move, Row, unless, gives, never, Allows, moves_of, AllGives}
 
 pub true_false : {A : Type 0} {b : Bool} → b ≡ true → b ≡ false → A
 true_false e f = absurd (cc)
@@ -47,14 +47,6 @@ module _ (p : Reply → Bool) where
 
   pub answered : (P : List Move → Type 0) (w : Row) (r : Reply) → p r ≡ true → NoRefusal w → AllGives (λ x ms. p x ≡ true → P ms) w → Allows w r → P (moves_of w)
   answered P w r i n g a = answered_by (λ x ms. P ms) w r i n g a
-
-  pub no_live : {T : Type 0} (x : Option T) (v : Row) (w : T → Row) → NoRefusal v → ((t : T) → NoRefusal (w t)) → NoRefusal (live x v w)
-  no_live None v w g h = g
-  no_live (Some t) v w g h = h t
-
-  pub no_cond : (b : Bool) (v w : Row) → NoRefusal v → NoRefusal w → NoRefusal (cond b v w)
-  no_cond true v w g h = g
-  no_cond false v w g h = h
 
   -- a reply that doesn't pass comes with no move
   abbrev pub Quiet : Reply → List Move → Type 0

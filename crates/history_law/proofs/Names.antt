@@ -11,9 +11,9 @@ pub use Rattle.std.specs.Bool.{MatchBool}
 pub use Rattle.std.specs.Cmp.Lexicographic.{pointwise}
 pub use Rattle.std.specs.Ordering.{int_eq}
 pub use Rattle.std.specs.Prelude.{IsSome, is_none, is_some, length, nat_lt, not, option_map, pos, replicate, slice_index, slice_index_or, slice_set, ℤ, ◌&&◌, ◌+ℤ◌, ◌-◌, ◌==◌, ◌||◌}
-pub use Rattle.action_fn.specs.Answers.{Answered, IsAnswered, is_pure, number_end}
-pub use Rattle.handle_pool.specs.Issued.{Listed, any_listed, any_live, count_listed, gone, how_many, live_object, lookup, update, with_fields}
-pub use Rattle.history.specs.Histories.{entries_of, entry}
+pub use Rattle.action_fn.specs.Answers.{Answered, IsAnswered, is_pure}
+pub use Rattle.handle_pool.specs.Issued.{Listed, any_listed, any_live, count_listed, gone, how_many, live_object, update, with_fields}
+pub use Rattle.history.specs.Histories.{entry}
 pub use Rattle.history_law.specs.Accepted.{EndsOnce, TasksEndOnce, accepted, accepted_by}
 pub use Rattle.history_law.specs.Affinity.{ObeysMasks, action_mask, task_mask}
 pub use Rattle.history_law.specs.Ends.{EndsAfterClose}
@@ -27,51 +27,49 @@ pub use Rattle.history_law.specs.Reuse.{NeverAgain, NotInBoth}
 pub use Rattle.history_law.specs.Seats.{AreUntouched, BySeats, EndsInTime, EntersBehindRelease, FinalsBehindStops, Free, HasMarks, Holds, IsUntouched, IsWaiter, KeepsEarly, KeepsOnce, KeepsPhase, KeepsRelease, KeepsStops, KeepsWaiter, NoClose, NoPhase, NoRelease, OnceListed, Others, RunsWith, Waits, Work, WorkerKeeps, closes, is_late_end, is_release, is_released, is_stop_of, moves_phase, says_ok, says_stop}
 pub use Rattle.history_law.specs.Served.{AsksOf, IsServed, Serves}
 pub use Rattle.history_law.specs.Tally.{HoldsTheSum, NamesOneMutex, adds_to, completed_in, is_completed, mutex_in, number_added, sum_of, writes_to}
-pub use Rattle.history_law.specs.TallyHolds.{IsAttached, IsOwned, TalliesHold, got_both}
-pub use Rattle.history_law.specs.Told.{TellsItsEnd, done_told, end_told, given_told, told_by}
+pub use Rattle.history_law.specs.TallyHolds.{IsAttached, TalliesHold, got_both}
+pub use Rattle.history_law.specs.Told.{TellsItsEnd, told_by}
 pub use Rattle.history_law.specs.Words.{entries_that, is_handle, is_live, issues, some_entry, times}
 pub use Rattle.history_law.specs.Worked.{OneTaskEnds}
 pub use Rattle.history_law.specs.WorkedSum.{TalliesAddUp, begins, gets_both, two_workers}
 pub use Rattle.mtapi_machine.proofs.Answered.{answered}
 pub use Rattle.mtapi_machine.proofs.Changes.{at-update, some_same}
-pub use Rattle.mtapi_machine.proofs.EachKind.{at_opening, own_kind, sort_at}
+pub use Rattle.mtapi_machine.proofs.EachKind.{at_opening, own_kind}
 pub use Rattle.mtapi_machine.proofs.Ends.{after_grows}
 pub use Rattle.mtapi_machine.proofs.Lines.{fits_of}
 pub use Rattle.mtapi_machine.proofs.Lists.{Legal-front, Legal-prefix, Legal-rest, after-append, after-one}
-pub use Rattle.mtapi_machine.proofs.Made.{AllGives, all_more, both_true, found_holds, fst_true, given, moves_given, not_false, not_true, on_live, on_only, row_made, snd_true, unstarted_unended}
+pub use Rattle.mtapi_machine.proofs.Made.{AllGives, found_holds, fst_true, not_false, not_true, row_made, snd_true, unstarted_unended}
 pub use Rattle.mtapi_machine.proofs.Moves.{along, by_moves, rest_keeps}
 pub use Rattle.mtapi_machine.proofs.Replays.{legal_if}
 pub use Rattle.mtapi_machine.proofs.Worked.{one_task-legal}
 pub use Rattle.mtapi_machine.specs.Ends.{end_in}
-pub use Rattle.mtapi_machine.specs.GroupRows.{gives_end, gives_first}
-pub use Rattle.mtapi_machine.specs.KeyedRows.{Keyed, alters_one, creates_keyed, deletes, found, gets, keyed_mutexes, keyed_queues, keyed_rwls, keyed_segments, keyed_sems, looks_one, mrapi, mrapi_open, mrapi_unless}
+pub use Rattle.mtapi_machine.specs.KeyedRows.{alters_one, deletes, looks_one, mrapi, mrapi_open, mrapi_unless}
 pub use Rattle.mtapi_machine.specs.Laws.{AltersObject, AreMade, DropsToSame, EndsTask, Grows, IsMade, MakesAction, RemovesObject, StartsTask, WithdrawsAction, all_live, ends_many, is_pick, leads_to, makes_kind, may}
 pub use Rattle.mtapi_machine.specs.Legal.{IsHonest, IsNext, Legal, NodeEntry, after, next, row_of}
 pub use Rattle.mtapi_machine.specs.Moves.{Fields, Groups, Move, Mutexes, Queues, Rwls, Segments, Sems, Sort, after_moves, all_of, alters, apply, enables, ends_task, ends_waiting, frees_members, is_fresh, is_served, leaves, lets_members_go, makes, makes_action, notes, phase_is, released, removes, runs_task, starts_task, stops, withdraws}
 pub use Rattle.mtapi_machine.specs.QueueRows.{new_queue}
-pub use Rattle.mtapi_machine.specs.Row.{Allows, Row, after_row, chosen, gives, handle_of, live, moves_of, mtapi_unless, never, not_yet, only, says, unless}
+pub use Rattle.mtapi_machine.specs.Row.{Allows, Row, after_row, gives, live, moves_of, never, only, says, unless}
 pub use Rattle.mtapi_machine.specs.Rows.{row}
-pub use Rattle.mtapi_machine.specs.State.{FieldsOf, Objects, State, changed, is_new, is_open, is_past_open, is_stop, objects_of, opening, seats, segments, tasks, workers}
+pub use Rattle.mtapi_machine.specs.State.{FieldsOf, Objects, State, changed, is_new, is_open, is_past_open, objects_of, opening, seats, tasks, workers}
 pub use Rattle.mtapi_machine.specs.Tables.{h1}
-pub use Rattle.mtapi_machine.specs.TallyRows.{gives_back, gives_up, locks, takes_both}
-pub use Rattle.mtapi_machine.specs.TaskRows.{asked_for, asked_of, cancels, looks_at}
-pub use Rattle.mtapi_machine.specs.WorkRows.{picks, task_end}
+pub use Rattle.mtapi_machine.specs.TaskRows.{asked_for, asked_of}
+pub use Rattle.mtapi_machine.specs.WorkRows.{task_end}
 pub use Rattle.mtapi_machine.specs.Worked.{add_task, every_core, finishes_first, first_handle, main, next_handle, picks_first, task, the_action, usual, worker}
 pub use Rattle.mtapi_machine.specs.declared.ops.Op.{Op}
 pub use Rattle.mtapi_machine.specs.declared.ops.Op.TheVariants.{Close, Final, Initialize, TallyEnd}
 pub use Rattle.mtapi_machine.specs.declared.replies.Reply.{Reply}
-pub use Rattle.mtapi_machine.specs.declared.replies.Reply.TheVariants.{Given, Handle, Idle, Mrapi, Mtapi, Number, Ok, Pending, Picked, Stop}
+pub use Rattle.mtapi_machine.specs.declared.replies.Reply.TheVariants.{Handle, Idle, Mrapi, Mtapi, Ok, Pending, Picked, Stop}
 pub use Rattle.mtapi_machine.specs.declared.terms.Phase.{Phase}
-pub use Rattle.mtapi_machine.specs.declared.terms.Phase.TheVariants.{Closed, Closing, New, Open}
+pub use Rattle.mtapi_machine.specs.declared.terms.Phase.TheVariants.{Open}
 pub use Rattle.mtapi_machine.specs.declared.terms.Terms.{Terms}
 pub use Rattle.mtapi_objects.specs.Actions.{Action, has_enabled_job, is_eligible, new_action, with_enabled}
-pub use Rattle.mtapi_objects.specs.Groups.{Ending, freed, in_no_group, insert, insert_ended, is_member, is_unended_member, let_go, new_group}
-pub use Rattle.mtapi_objects.specs.Mutexes.{Mutex, locked_by, mutex_busy, mutex_delete_refusals, mutex_look_refusals, mutex_unlock_refusals, new_mutex, unlocked}
-pub use Rattle.mtapi_objects.specs.Queues.{Queue, is_head, is_in, is_shut_in, is_unended_in, lets, opened}
-pub use Rattle.mtapi_objects.specs.Rwls.{Rwl, new_rwl, rwl_busy, rwl_create_refusals, rwl_delete_refusals, rwl_given, rwl_held, rwl_look_refusals, rwl_taken, rwl_unlock_refusals}
-pub use Rattle.mtapi_objects.specs.Segments.{Segment, attach_refusals, cell_of, cell_refusals, detach_refusals, new_segment, shmem_delete_refusals, with_attached, with_cell}
-pub use Rattle.mtapi_objects.specs.Sems.{Sem, new_sem, sem_busy, sem_create_refusals, sem_delete_refusals, sem_given, sem_taken, sem_unlock_refusals, total}
-pub use Rattle.mtapi_objects.specs.Tasks.{Adds, Ended, NewTask, Notes, Running, Scheduled, TallyNotes, Task, TaskState, added, asked_once, cell_in, end_of, ended, finish_refusals, is_unended, is_unstarted, kind_number, looks_of, new_task, no_tally, number_in, runner, runs_as, runs_on, scheduled, tally_args, tally_failed, tally_has, tally_read, tally_written, watch_end, with_notes, with_state, with_tally, with_waiter}
+pub use Rattle.mtapi_objects.specs.Groups.{Ending, freed, in_no_group, insert, insert_ended, is_member, let_go}
+pub use Rattle.mtapi_objects.specs.Mutexes.{Mutex, locked_by, new_mutex, unlocked}
+pub use Rattle.mtapi_objects.specs.Queues.{Queue, is_head, is_in, is_shut_in, is_unended_in, lets}
+pub use Rattle.mtapi_objects.specs.Rwls.{Rwl, new_rwl, rwl_busy, rwl_given, rwl_held, rwl_taken}
+pub use Rattle.mtapi_objects.specs.Segments.{Segment, cell_of, new_segment, with_attached, with_cell}
+pub use Rattle.mtapi_objects.specs.Sems.{Sem, new_sem, sem_busy, sem_given, sem_taken, total}
+pub use Rattle.mtapi_objects.specs.Tasks.{Adds, Ended, NewTask, Notes, Running, Scheduled, TallyNotes, Task, TaskState, added, asked_once, cell_in, end_of, ended, is_unended, is_unstarted, kind_number, new_task, no_tally, number_in, runner, runs_as, runs_on, scheduled, tally_args, tally_failed, tally_has, tally_read, tally_written, watch_end, with_notes, with_state, with_tally, with_waiter}
 pub use Rattle.mtapi_values.specs.Conditions.{holds}
 pub use Rattle.mtapi_values.specs.Layouts.{named_kind, names_kind, object_number}
 pub use Rattle.mtapi_values.specs.Masks.{in_mask}
@@ -79,7 +77,6 @@ pub use Rattle.mtapi_values.specs.Seats.{all_marked, any_mark, is_other, is_seat
 pub use Rattle.mtapi_values.specs.declared.ends.TaskEnd.{TaskEnd}
 pub use Rattle.mtapi_values.specs.declared.ends.TaskEnd.TheVariants.{Cancelled, Completed, Failed}
 pub use Rattle.mtapi_values.specs.declared.handles.ActionHandle.{ActionHandle}
-pub use Rattle.mtapi_values.specs.declared.handles.GroupHandle.{GroupHandle}
 pub use Rattle.mtapi_values.specs.declared.handles.Layout.{Layout}
 pub use Rattle.mtapi_values.specs.declared.handles.Layout.TheVariants.{Two}
 pub use Rattle.mtapi_values.specs.declared.handles.ObjectKind.{ObjectKind}
@@ -87,7 +84,7 @@ pub use Rattle.mtapi_values.specs.declared.handles.TaskHandle.{TaskHandle}
 pub use Rattle.mtapi_values.specs.declared.kinds.Kind.{Kind}
 pub use Rattle.mtapi_values.specs.declared.statuses.MrapiStatus.{MrapiStatus}
 pub use Rattle.mtapi_values.specs.declared.statuses.MtapiStatus.{MtapiStatus}
-pub use Rattle.mtapi_values.specs.declared.statuses.MtapiStatus.TheVariants.{ErrActionFailed, ErrTaskInvalid, Timeout}
+pub use Rattle.mtapi_values.specs.declared.statuses.MtapiStatus.TheVariants.{ErrTaskInvalid, Timeout}
 unfoldable pub use Rattle.action_fn.specs.Answers.{answer_of, fits}
 unfoldable pub use Rattle.handle_pool.specs.Issued.{change, change_all, is_full, issue, issued_at, listed, live_of, may_issue, retired}
 unfoldable pub use Rattle.history_law.specs.Order.{number_at}

@@ -5,7 +5,6 @@ use Rattle.mtapi_machine.specs.declared.ops.Op.TheVariants as op
 use Rattle.history_law.proofs.Answered.{true_false, whether}
 use Rattle.history_law.proofs.SeatMoves.{answer}
 use Rattle.mtapi_machine.specs.Answers as is
-use Rattle.mtapi_machine.specs.Answers.{HasTask}
 use Rattle.history_law.proofs.lists.Every.{Every, every_issue, every_change, every_all, every_map, every_at, every_passing, always}
 use Rattle.history_law.proofs.lists.Found.{found_changed, found_issued}
 use Rattle.history_law.proofs.lists.KindNumbers.{same_kind}

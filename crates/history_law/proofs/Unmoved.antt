@@ -1,5 +1,5 @@
 -- What an op leaves that alters and removes no object of a kind.
-use Rattle.history_law.proofs.Names.{◌≡◌, ℕ, ◌≤◌, true, List, Option, refl, ◌∙◌, Listed, live_object, listed, State, Sort, Fields, all_of, NodeEntry, next, AltersObject, RemovesObject, makes_kind, by_moves}
+use Rattle.history_law.proofs.Names.{◌≡◌, ℕ, ◌≤◌, List, Option, refl, ◌∙◌, Listed, live_object, listed, State, Sort, Fields, all_of, NodeEntry, next, AltersObject, RemovesObject, by_moves}
 use Rattle.history_law.proofs.lists.AtHandles.{at_issue_other}
 use Rattle.history_law.proofs.Reuse.{apart_if, listed_issue_some}
 use Rattle.history_law.proofs.Sorts.{sort_move}
@@ -15,9 +15,3 @@ live_stays k s e h alter remove l =
     (λ t m y w. sort_move k t e.op (Alike h (live_object ((all_of k).list s) h))
     (λ j x z u. (listed_issue_some h j x ((all_of k).list t) u.0, at_issue_other j h x ((all_of k).list t) (apart_if (all_of k) t h j u.0 z.may) ∙ u.1))
     (λ j f z u. absurd (alter j f z)) (λ j z u. absurd (remove j z)) m y w) (l, refl)).1
-
--- the objects stay as they are, where it makes none either
-pub list_stays : (k : Sort) (s : State) (e : NodeEntry) → (makes_kind k e.op ≡ true → ⊥) → ((j : ℕ) (f : Fields k → Fields k) → AltersObject k j f e.op → ⊥) → ((j : ℕ) → RemovesObject k j e.op → ⊥) → (all_of k).list (next s e) ≡ (all_of k).list s
-list_stays k s e make alter remove =
-    by_moves (λ t. (all_of k).list t ≡ (all_of k).list s) s e
-    (λ t m y w. sort_move k t e.op (λ l. l ≡ (all_of k).list s) (λ j x z u. absurd (make z.by)) (λ j f z u. absurd (alter j f z)) (λ j z u. absurd (remove j z)) m y w) refl

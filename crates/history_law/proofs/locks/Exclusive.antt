@@ -1,5 +1,5 @@
 -- At most one seat holds a mutex.
-use Rattle.history_law.proofs.Names.{◌≡◌, ℕ, ◌+◌, ◌<◌, ◌≤◌, Bool, true, false, cond, List, [], ◌∷◌, ◌++◌, Some, None, inl, inr, refl, sym, ◌∙◌, ap, subst, arith, ◌==◌, ◌&&◌, nat_lt, length, TaskHandle, Terms, Op, Reply, Listed, live_of, live_object, count_listed, change, with_fields, eqb-true, nat_tests, Task, Adds, runs_on, runs_as, with_notes, with_tally, tally_failed, tally_has, ended, Mutex, locked_by, with_attached, State, opening, workers, Move, Mutexes, Segments, alters, notes, after_moves, NodeEntry, IsNext, next, LegalFrom, Legal, after_from, after, Legal-rest, after-append, after-one, at-update, some_same, entries_that, by_seat, gets_mutex, gives_mutex, says_end, is_tally_end, ends_tally, HasMutex, tally_got, HoldsByLooks, HoldsByTally, HoldsMutex, MutexesKeepTo, mutex_in, and-false, Answers, IsAttached, Legal-prefix, Segment, TaskEnd, answered, Allows, row, after_row}
+use Rattle.history_law.proofs.Names.{◌≡◌, ℕ, ◌+◌, ◌<◌, ◌≤◌, Bool, true, false, cond, List, [], ◌∷◌, ◌++◌, Some, None, inl, inr, refl, sym, ◌∙◌, ap, subst, arith, ◌==◌, ◌&&◌, nat_lt, length, TaskHandle, Terms, Op, Reply, Listed, live_of, live_object, count_listed, change, with_fields, eqb-true, nat_tests, Task, Adds, runs_on, runs_as, with_notes, with_tally, tally_failed, tally_has, ended, Mutex, locked_by, with_attached, State, opening, workers, Move, Mutexes, Segments, alters, notes, after_moves, NodeEntry, IsNext, next, LegalFrom, Legal, after_from, after, Legal-rest, after-append, after-one, at-update, some_same, entries_that, by_seat, gets_mutex, gives_mutex, says_end, is_tally_end, ends_tally, HasMutex, tally_got, HoldsByLooks, HoldsByTally, HoldsMutex, MutexesKeepTo, mutex_in, and-false, Answers, IsAttached, Legal-prefix, Segment, TaskEnd}
 use Rattle.mtapi_values.specs.declared.kinds.Kind.TheVariants as kinds
 use Rattle.mtapi_values.specs.declared.handles.ObjectKind.TheVariants as kind
 use Rattle.mtapi_machine.specs.declared.ops.Op.TheVariants as op
@@ -20,7 +20,7 @@ use Rattle.history_law.proofs.lists.Firsts.{first_at}
 use Rattle.history_law.proofs.TaskMoves.{every_moved, found_moved}
 use Rattle.history_law.proofs.tallies.Ties.{Owns, id_in, Tied, Ties, ties_kept, AtMostOne, one_move, none_runs, On, OnAt, on_stays, on_runs, as_on}
 use Rattle.history_law.proofs.locks.Mutexes.{Step, Free, free_step, owns_step, share, share_step, share_owner}
-use Rattle.history_law.proofs.locks.MutexSteps.{is_ending, is_end_op, mutex_by}
+use Rattle.history_law.proofs.locks.MutexSteps.{is_ending, mutex_by}
 use Rattle.history_law.proofs.locks.Attached.{Step as SegmentStep, HasMarks, marks_step, attached_step, mark_here, segment_by}
 use Rattle.mtapi_machine.specs.Answers as is
 use Rattle.mtapi_machine.specs.Answers.{HasTask, HasBoth}
@@ -224,16 +224,3 @@ mutexes_keep_to terms es legal L R h cut =
     }
 
 -- The end of a tally, and an answer that is no end, by the row
-
-pub end_count : (s : State) (who : ℕ) (t : TaskHandle) (r : Reply) → AtMostOne who s → says_end r ≡ true → Allows (row s who (op.TallyEnd t) r) r → count_listed (runs_on who) (after_row s (row s who (op.TallyEnd t) r)).tasks ≡ 0
-end_count s who t r one i a = end_counts s who (op.TallyEnd t) r _ one (ap (λ (b : Bool). b && true) i) (answered s who (op.TallyEnd t) r a)
-
-quiet_by : (s : State) (who : ℕ) (o : Op) (r : Reply) (ms : List Move) → is_end_op o ≡ true → says_end r ≡ false → Answers s who o r ms → after_moves ms s ≡ s
-quiet_by s who _ _ _ e i (is.refuses o x z) = refl
-quiet_by s who _ _ _ e i (is.refuses_caller o x z) = refl
-quiet_by s who _ _ _ e i (is.tally_ends_failed t x k f) = true_false refl i
-quiet_by s who _ _ _ e i (is.tally_ends t x y z k f d a b) = true_false refl i
-quiet_by s who _ _ _ e i _ = true_false e refl
-
-pub quiet_end : (s : State) (who : ℕ) (t : TaskHandle) (r : Reply) → says_end r ≡ false → Allows (row s who (op.TallyEnd t) r) r → after_row s (row s who (op.TallyEnd t) r) ≡ s
-quiet_end s who t r i a = quiet_by s who (op.TallyEnd t) r _ refl i (answered s who (op.TallyEnd t) r a)
