@@ -63,9 +63,6 @@ module _ (p : Unstarted → Bool) (e : TaskEnd) (v : Seen) (ks : List ℕ) (k : 
   actions_one : (b : Bool) → (cond b (with_end k e so_far) so_far).actions ≡ v.actions
   actions_one b = grind (arith, nat_tests)
 
-  queues_one : (b : Bool) (h : ℕ) → (cond b (with_end k e so_far) so_far).queues h ≡ v.queues h
-  queues_one b h = grind (arith, nat_tests)
-
   pub ends_more : SameAs (cond (holds p (so_far.unstarted k)) (with_end k e so_far) so_far) (ends_among (ks ++ k ∷ []) p e v)
   ends_more = grind (arith, nat_tests, ends_one, step_value, is_ended, among_more, unstarted_one, actions_one)
 

@@ -1,5 +1,5 @@
 -- Where each change names the task that it ends, the ends that are seen are those that were named.
-use Rattle.run_report.proofs.Names.{arith, nat_tests, ◌≡◌, ℕ, ◌+◌, ◌<◌, length, get_or, take, Bool, true, false, not, cond, List, [], Option, Some, None, refl, option_map, take_at_read, holds, TaskEnd, NodeEntry, Unstarted, LiveQueue, Change, change_of, Seen, opened, is_shut, with_change, nothing_seen, seen_from}
+use Rattle.run_report.proofs.Names.{arith, nat_tests, ◌≡◌, ℕ, ◌+◌, ◌<◌, length, get_or, take, true, false, not, List, [], Option, None, refl, take_at_read, holds, TaskEnd, NodeEntry, Change, change_of, Seen, with_change, nothing_seen, seen_from}
 use Rattle.run_report.specs.Ends.{names_each_end, with_named_end}
 use Rattle.run_report.proofs.History.{seen_more}
 
@@ -7,15 +7,6 @@ use Rattle.run_report.proofs.History.{seen_more}
 pub record Named (ends : ℕ → Option TaskEnd) (v : Seen) : Type 0 where
   pub same : (h : ℕ) → ends h ≡ v.ends h
   pub clear : (q : ℕ) → holds (λ x. not x.enabled) (v.queues q) ≡ false
-
-shut_none : (queues : ℕ → Option LiveQueue) → ((q : ℕ) → holds (λ x. not x.enabled) (queues q) ≡ false) → (o : Option Unstarted) → holds (is_shut queues) o ≡ false
-shut_none queues e1 o = grind (arith, nat_tests)
-
-put_open : (b : Bool) (q : LiveQueue) (o : Option LiveQueue) → q.enabled ≡ true → holds (λ x. not x.enabled) o ≡ false → holds (λ x. not x.enabled) (cond b (Some q) o) ≡ false
-put_open b q o e1 e2 = grind (arith, nat_tests)
-
-opened_open : (b : Bool) (o p : Option LiveQueue) → holds (λ x. not x.enabled) p ≡ false → holds (λ x. not x.enabled) (cond b (option_map (opened true) o) p) ≡ false
-opened_open b o p e1 = grind (arith, nat_tests)
 
 pub named_change : (n : ℕ) (c : Change) (ends : ℕ → Option TaskEnd) (v : Seen) → names_each_end c ≡ true → Named ends v → Named (with_named_end c ends) (with_change n c v)
 named_change n c ends v e1 e2 = grind (arith, nat_tests)

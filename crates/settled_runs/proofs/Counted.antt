@@ -1,5 +1,5 @@
 -- How many entries of a run ask for an op of some class: the statements bound it.
-use Rattle.settled_runs.proofs.Names.{Each, ◌≡◌, ℕ, suc, ◌+◌, ◌≤◌, ◌<◌, Bool, true, false, List, [], ◌∷◌, ◌++◌, length, Option, refl, ◌∙◌, ap, subst, arith, ◌==◌, ◌&&◌, ◌||◌, nat_le, map, flat_map, nat_tests, eq-eqb, both_true, snd_true, how_many, Deed, Statement, Part, Workload, Op, Reply, handle_of, NodeEntry, Call, Once, Looking, call_of, Line, before_it, Made, RunOf, entries_that, BySeats, true_false, lines_of, Carried, all_statements, is_settled}
+use Rattle.settled_runs.proofs.Names.{Each, ◌≡◌, ℕ, suc, ◌+◌, ◌≤◌, ◌<◌, Bool, true, false, List, [], ◌∷◌, ◌++◌, length, refl, ◌∙◌, ap, subst, arith, ◌==◌, ◌&&◌, ◌||◌, nat_le, map, flat_map, nat_tests, eq-eqb, both_true, snd_true, how_many, Deed, Statement, Part, Workload, Op, Reply, handle_of, NodeEntry, Call, Once, Looking, call_of, Line, Made, RunOf, entries_that, BySeats, true_false, lines_of, Carried, all_statements, is_settled}
 use Rattle.settled_runs.proofs.{Along.Step, Along.along, Granted.bit, Granted.bit_within}
 use Rattle.settled_runs.proofs.Each.{AllSeats, CallEach, OnlyBy, PartAt, each_map, each_of, is_outside, map_seats, settled_whole, run_each, run_parts, work_outside}
 
@@ -62,12 +62,6 @@ pub no_bit : (b : Bool) → bit b ≡ 0 → b ≡ false
 no_bit b e1 = grind (arith, nat_tests)
 
 module _ (p : Op → Bool) where
-  look_asks : (o : Bool → Op) (last : Bool) → bit (p (o false)) + bit (p (o true)) ≡ 0 → bit (p (o last)) ≡ 0
-  look_asks o last e1 = grind (arith, nat_tests)
-
-  before_asks : (o : Op) (first : Option ℕ) → bit (p o) ≡ 0 → asked p (before_it o first) ≡ 0
-  before_asks o first e1 = grind (arith, nat_tests)
-
   made_asks : (c : Call) (n : ℕ) (ls : List Line) (r : Reply) → CallAsks p n c → Made c ls r → asked p ls ≤ n
   made_asks c n ls r e1 e2 = grind (arith, nat_tests)
 

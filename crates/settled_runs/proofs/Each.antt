@@ -31,9 +31,6 @@ CallEach P (Once o) = P o
 CallEach P (Looking waits o timeout) = (last : Bool) → P (o last)
 
 module _ (P : Op → Type 0) where
-  pub before_each : (o : Op) (first : Option ℕ) → P o → Each (λ l. P l.op) (before_it o first)
-  before_each o first e1 = grind (arith, nat_tests)
-
   pub made_each : (c : Call) (ls : List Line) (r : Reply) → CallEach P c → Made c ls r → Each (λ l. P l.op) ls
   made_each c ls r e1 e2 = grind (arith, nat_tests)
 

@@ -1,11 +1,8 @@
 -- The report of plain replies is the plain report.
-use Rattle.settled_runs.proofs.Names.{arith, nat_tests, ◌≡◌, ℕ, false, cond, List, [], ◌∷◌, ◌++◌, Option, None, refl, ◌∙◌, ap, option_map, flat_map, append-nil, TaskEnd, MtapiStatus, mtapi_name, Action, NewTask, Reply, verdict, is_status, Deed, Statement, Part, Told, is_task, task_line, task_lines, status_of, marked_line, call_line, call_lines, all_statements, actions_in, Faults, no_faults, plain_task_line, plain_task_lines, plain_call_lines, IsPlainTask, PlainRepliesShowPlainReport, shown_of, task_lines_of, task_name, call_lines_of, task_in, faults_behind, plain_call_line, plain_calls_from, plain_report, IsPlainReply, ArePlain, PartsArePlain}
+use Rattle.settled_runs.proofs.Names.{arith, nat_tests, ◌≡◌, ℕ, false, cond, List, [], ◌∷◌, ◌++◌, Option, None, refl, ◌∙◌, ap, option_map, flat_map, append-nil, TaskEnd, MtapiStatus, mtapi_name, Action, Reply, verdict, is_status, Deed, Statement, Part, Told, is_task, task_line, task_lines, status_of, marked_line, call_line, call_lines, all_statements, actions_in, Faults, no_faults, plain_task_line, plain_task_lines, plain_call_lines, PlainRepliesShowPlainReport, shown_of, task_lines_of, task_name, call_lines_of, task_in, faults_behind, plain_call_line, plain_calls_from, plain_report, IsPlainReply, ArePlain, PartsArePlain}
 
 module _ (actions : List Action) (all : List Statement) (ends : ℕ → Option TaskEnd) (part : List ℕ) where
   -- Lines of tasks
-
-  shows_task : (s : Statement) (asked : Option NewTask) (r : Reply) → IsPlainTask actions ends asked r → task_line part ends s r ≡ plain_task_line actions part s asked
-  shows_task s asked r e1 = grind (arith, nat_tests)
 
   task_shown : (faults : Faults) (s : Statement) (d : Deed) (r : Reply) → IsPlainReply actions all ends faults d r → cond (is_task (shown_of d)) (task_line part ends s r) [] ≡ plain_task_line actions part s (task_in all d)
   unfolding IsPlainReply shown_of task_in

@@ -1,11 +1,8 @@
 -- The summary of plain replies is the plain summary.
-use Rattle.settled_runs.proofs.Names.{arith, nat_tests, ◌≡◌, ℕ, ◌+◌, cond, List, [], ◌∷◌, Option, refl, sym, ◌∙◌, ap, TaskEnd, Action, NewTask, Reply, after, Deed, Statement, Part, is_task, Told, run_terms, parts_told, no_totals, with_end, all_statements, actions_in, Faults, no_faults, IsPlainTask, with_plain_task, SettledSummariesArePlain, end_at, shown_of, with_tasks, with_parts, totals, totals_text, task_in, faults_behind, IsPlainReply, ArePlain, PartsArePlain, with_plain_tasks, with_plain_parts, plain_summary, Totals, with_counted as with_task}
+use Rattle.settled_runs.proofs.Names.{arith, nat_tests, ◌≡◌, ℕ, cond, List, [], ◌∷◌, Option, refl, ◌∙◌, ap, TaskEnd, Action, Reply, after, Deed, Statement, Part, is_task, Told, run_terms, parts_told, no_totals, all_statements, actions_in, Faults, no_faults, with_plain_task, SettledSummariesArePlain, end_at, shown_of, with_tasks, with_parts, totals, totals_text, task_in, faults_behind, IsPlainReply, ArePlain, PartsArePlain, with_plain_tasks, with_plain_parts, plain_summary, Totals, with_counted as with_task}
 use Rattle.settled_runs.proofs.RunReport.{told_plainly}
 
 module _ (actions : List Action) (ends : ℕ → Option TaskEnd) where
-  counts_task : (t : Totals) (asked : Option NewTask) (r : Reply) → IsPlainTask actions ends asked r → with_task ends t r ≡ with_plain_task actions t asked
-  counts_task t asked r (x, e, h, i, k) = ap (with_task ends t) i ∙ ap (λ (o : Option TaskEnd). record (with_end t o) { tasks = t.tasks + 1 }) k ∙ ap (with_plain_task actions t) (sym e)
-
   task_counted : (all : List Statement) (faults : Faults) (t : Totals) (d : Deed) (r : Reply) → IsPlainReply actions all ends faults d r → cond (is_task (shown_of d)) (with_task ends t r) t ≡ with_plain_task actions t (task_in all d)
   unfolding IsPlainReply shown_of task_in
   task_counted all faults t d r e1 = grind (arith, nat_tests)

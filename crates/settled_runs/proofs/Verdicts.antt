@@ -1,5 +1,5 @@
 -- What a look at a whole group tells in a quiet history: its live members are the tasks that were put into it since the last verdict.
-use Rattle.settled_runs.proofs.Names.{◌≡◌, ◌⊎◌, inl, inr, ℕ, ◌+◌, ◌≤◌, Bool, true, false, cond, List, [], ◌∷◌, Option, Some, None, refl, ◌∙◌, ap, subst, arith, ◌==◌, nat_lt, is_some, option_and_then, option_or, eq-eqb, MtapiStatus, Listed, live_object, Task, TaskState, Running, Ended, end_of, is_member, Ending, insert, insert_ended, fault_of, first_fault, end_in, some_same, live_listed, true_false, at_skip, at_here, OnceIn, once_rest, live_of, listed, endings, sym, ◌&&◌, is_none, eqb-true, holds, Failed, with_fields, gone, with_state, with_notes, ended, new_task, Group, freed, let_go, Op, State, is_open, tasks, Move, starts_task, runs_task, ends_task, ends_waiting, withdraws, notes, leaves, frees_members, lets_members_go, makes, alters, removes, is_fresh, is_served, apply, NodeEntry, IsNext, next, IsMade, all_live, fst_true, snd_true, not_true, sorts_keep, Every, every_issue, every_change, every_all, every_map, every_ends, always, listed_move, LegalFrom, after_from, list_any, TaskEnd, GroupHandle, NewTask, number_of, StartsTask, FreesMembers, FoundAs, is_quiet, starts_member, looks_at_all, change, change_all, issue, end_each, cond_both, Notes, ◌++◌, ◌||◌, not, entry, any_listed, is_unended, with_waiter, new_group, is_unended_member, Reply, opening, groups, Groups, after_moves, Row, unless, gives, Allows, live, moves_of, after_row, is_detached_member, verdict, is_pending, after, AllGives, given, on_only, on_live, not_false, both_true, Legal-front, by_moves, at_issue_here, closes, cut_from, cut_after, found_changed, found_issued, fresh_unlisted, AreQuiet, with_new, members_behind, goes_on, GoOn, IsVerdict, QuietVerdicts, IsCalm, calm_next, calm_along, calm_opening, row, members_of, false_from_ne_true, or_right, or_cases, at_head, at_past, is_up, May, by_made_moves, looks_row, once_from, end_found, ObjectKind, makes_object, whether, nat_tests}
+use Rattle.settled_runs.proofs.Names.{◌≡◌, ◌⊎◌, inl, inr, ℕ, ◌+◌, ◌≤◌, Bool, true, false, cond, List, [], ◌∷◌, Option, Some, None, refl, ◌∙◌, ap, subst, arith, ◌==◌, nat_lt, is_some, option_and_then, option_or, eq-eqb, MtapiStatus, Listed, live_object, Task, TaskState, Running, Ended, end_of, is_member, Ending, insert, insert_ended, fault_of, first_fault, end_in, some_same, live_listed, true_false, at_skip, at_here, OnceIn, once_rest, live_of, listed, endings, sym, ◌&&◌, is_none, eqb-true, holds, Failed, with_fields, gone, with_state, with_notes, ended, new_task, Group, freed, let_go, Op, State, is_open, tasks, Move, starts_task, runs_task, ends_task, ends_waiting, withdraws, notes, leaves, frees_members, lets_members_go, makes, alters, removes, is_fresh, is_served, apply, NodeEntry, IsNext, next, IsMade, all_live, fst_true, snd_true, not_true, sorts_keep, Every, every_issue, every_change, every_all, every_map, every_ends, always, listed_move, LegalFrom, after_from, list_any, TaskEnd, GroupHandle, NewTask, StartsTask, FreesMembers, FoundAs, is_quiet, starts_member, looks_at_all, change, change_all, issue, end_each, cond_both, Notes, ◌++◌, ◌||◌, not, entry, any_listed, is_unended, with_waiter, new_group, is_unended_member, Reply, opening, groups, Groups, after_moves, Row, unless, gives, Allows, live, moves_of, after_row, verdict, is_pending, after, AllGives, given, on_only, on_live, not_false, both_true, Legal-front, by_moves, at_issue_here, closes, cut_from, cut_after, found_changed, found_issued, fresh_unlisted, AreQuiet, with_new, members_behind, goes_on, GoOn, IsVerdict, QuietVerdicts, IsCalm, calm_next, calm_along, calm_opening, row, members_of, false_from_ne_true, or_right, or_cases, at_head, at_past, is_up, May, by_made_moves, looks_row, once_from, end_found, ObjectKind, makes_object, whether, nat_tests}
 use Rattle.settled_runs.proofs.{Stays.there_next, Stays.made_there, Granted.any_found, Granted.open_move, Stays.AskedAs, Stays.on_start}
 use Rattle.settled_runs.proofs.ByHandle.{granted, refuses_only}
 use Rattle.settled_runs.proofs.Waits.{no_deletion, notes_stay, notes_tasks, noting, taking, open_up, legal_behind, none_noted}
@@ -195,9 +195,6 @@ other_group g j o e1 e2 = grind (arith, nat_tests)
 
 -- The moves of an op that starts no member, looks at no group as a whole, and notes nothing
 
-same_group : (g : ℕ) (o : Option GroupHandle) → holds (λ h. h == g) (number_of o) ≡ holds (λ x. x.0 == g) o
-same_group g o = grind (arith, nat_tests)
-
 no_member : (g : ℕ) (o : Op) (n : NewTask) (k : ℕ) → starts_member g o ≡ false → StartsTask n o → is_member g (new_task n k) ≡ true → ⊥
 no_member g o n k e1 e2 e3 = grind (arith, nat_tests)
 
@@ -239,9 +236,6 @@ more_members g hs h n s d i e v =
       out = out_issue g hs (h ∷ hs) h (new_task n s.starts) s.tasks (λ k b. has_more h hs k b) (λ b. ap (λ (z : Bool). z || has hs h) (eq-eqb h h refl)) v.out;
     }
 
-of_group : (g : ℕ) (detached : Bool) (group : Option GroupHandle) → holds (λ x. x.0 == g) group ≡ true → is_detached_member detached group ≡ false → (detached ≡ false) × (holds (λ x. x == g) (number_of group) ≡ true)
-of_group g detached group e1 e2 = grind (arith, nat_tests)
-
 member_start : (g : ℕ) (s : State) (n : NewTask) (o : Op) → starts_member g o ≡ true → AskedAs s n o → (n.detached ≡ false) × (holds (λ x. x == g) n.group ≡ true)
 member_start g s n o e1 e2 = grind (arith, nat_tests)
 
@@ -270,9 +264,6 @@ on_looks : (g : ℕ) (hs : List ℕ) (s : State) (w t : ℕ) (last : Bool) (x : 
 on_looks g hs s w t last (Ended y k) n v = goes g hs s t n v
 on_looks g hs s w t true _ n v = waits g hs s t None n v
 on_looks g hs s w t false _ n v = waits g hs s t (Some w) n v
-
-member_some : (g : ℕ) (o : Option ℕ) → holds (λ h. h == g) o ≡ true → is_some o ≡ true
-member_some g o e1 = grind (arith, nat_tests)
 
 -- a task that one may look at by itself is no member
 apart : (g : ℕ) (hs : List ℕ) (s : State) (t : ℕ) (x : Task) → live_object s.tasks t ≡ Some x → (x.notes.detached || is_some x.notes.group) ≡ false → Holds g hs s → (h : ℕ) → has hs h ≡ true → t ≡ h → ⊥

@@ -1,5 +1,5 @@
 -- In a quiet history a task that its own caller alone looks at stays until it has ended and told its end.
-use Rattle.settled_runs.proofs.Names.{◌≡◌, ◌⊎◌, ℕ, Bool, true, false, List, [], ◌∷◌, ◌++◌, Option, Some, None, refl, sym, ap, subst, arith, ◌==◌, ◌&&◌, ◌||◌, not, is_none, is_some, eq-eqb, nat_tests, holds, TaskEnd, Failed, GroupHandle, entry, Listed, live_object, with_fields, gone, Task, NewTask, TaskState, Running, Ended, is_unstarted, new_task, with_state, with_notes, with_waiter, ended, is_member, freed, Op, Reply, Phase, State, opening, is_open, is_up, tasks, Move, starts_task, runs_task, ends_task, ends_waiting, withdraws, notes, leaves, frees_members, lets_members_go, makes, alters, removes, is_fresh, apply, after_moves, Row, unless, gives, Allows, live, after_row, number_of, NodeEntry, IsNext, next, after, IsMade, NotesTask, TakesEnded, Legal-front, Legal-rest, AllGives, given, on_live, fst_true, by_moves, sorts_keep, true_false, at_issue_here, FoundAs, found_changed, found_issued, found_ends, found_all, cut_from, cut_after, fresh_unlisted, is_quiet, AreQuiet, starts_alone, looks_at, AreLeft, QuietLooksAreAnswered, IsCalm, calm_next, calm_along, calm_opening, none_impure, row, LegalFrom, after_from, DeletesGroup, FreesMembers, Notes, is_other, Kind, ObjectKind, MtapiStatus, looks_row, makes_object, eqb-true, is_that_handle as is_given, TaskHandle, moves_of, whether}
+use Rattle.settled_runs.proofs.Names.{◌≡◌, ◌⊎◌, ℕ, Bool, true, false, List, [], ◌∷◌, ◌++◌, Option, Some, None, refl, sym, ap, subst, arith, ◌==◌, ◌&&◌, ◌||◌, not, is_some, eq-eqb, nat_tests, holds, TaskEnd, Failed, entry, Listed, live_object, with_fields, gone, Task, NewTask, TaskState, Running, Ended, is_unstarted, new_task, with_state, with_notes, with_waiter, ended, is_member, freed, Op, Reply, Phase, State, opening, is_open, is_up, tasks, Move, starts_task, runs_task, ends_task, ends_waiting, withdraws, notes, leaves, frees_members, lets_members_go, makes, alters, removes, is_fresh, apply, after_moves, Row, unless, gives, Allows, live, after_row, NodeEntry, IsNext, next, after, IsMade, NotesTask, TakesEnded, Legal-front, Legal-rest, AllGives, given, on_live, fst_true, by_moves, sorts_keep, true_false, at_issue_here, FoundAs, found_changed, found_issued, found_ends, found_all, cut_from, cut_after, fresh_unlisted, is_quiet, AreQuiet, starts_alone, looks_at, AreLeft, QuietLooksAreAnswered, IsCalm, calm_next, calm_along, calm_opening, none_impure, row, LegalFrom, after_from, DeletesGroup, FreesMembers, Notes, is_other, Kind, ObjectKind, MtapiStatus, looks_row, makes_object, eqb-true, is_that_handle as is_given, TaskHandle, moves_of, whether}
 use Rattle.settled_runs.proofs.{Stays.quiet_rest, Stays.quiet_front, Granted.before, Granted.is_up as open_now, Granted.allowed, Stays.AskedAs, Stays.on_start}
 use Rattle.settled_runs.proofs.{Granted.is_up as open_now}
 
@@ -13,9 +13,6 @@ abbrev Own : ℕ → ℕ → State → Type 0
 Own who h s = FoundAs (λ t. IsOwn who t.notes) s.tasks h
 
 -- The entry that starts it
-
-started_alone : (a : Bool) (g : Option GroupHandle) → (not a && is_none g) ≡ true → (a ≡ false) × (number_of g ≡ None)
-started_alone a g e1 = grind (arith, nat_tests)
 
 new_own : (who h : ℕ) (n : NewTask) (s : State) → (n.detached ≡ false) × (n.group ≡ None) → is_fresh tasks s h ≡ true → Own who h (apply (starts_task h n) s)
 new_own who h n s b e = (new_task n s.starts, at_issue_here h (new_task n s.starts) s.tasks (fresh_unlisted ObjectKind.Task s h e), record { kept = b.0; alone = b.1; waiter = refl })
