@@ -1,14 +1,12 @@
 -- What the calls of a caller answer follows from the rows of their ops.
-use Rattle.sched_workers.proofs.Names.{[], ◌+◌, ◌==◌, ◌^◌, ◌∷◌, ◌≡◌, ◌≤◌, Allows, AnsweredBy, Bool, Called, Cancelled, Completed, Ended, Ending, Err, Every, Failed, IfOk, IfOk-weaker, InTime, IsTimed, List, Looked, MtapiStatus, None, OnErr, Op, Option, Reply, Result, Row, Running, Scheduled, Seat, Some, Standard, State, StillLooking, TaskEnd, TaskState, Turned, Unturned, Waited, Wanted, any_listed, ap, arith, cancels, cond, done, endings, every_at, false, fault_of, first_fault, first_handle, found, gives_end, gives_first, inl, inr, is_late_end, is_pending, is_some, is_unended_member, key, live, live_object, live_of, looks_at, lt-ltb, mrapi, mtapi, mutex_busy, not_yet, op_of, option_or, pos, refl, row, rwl_busy, self_is, sem_busy, true, verdict, ℕ}
-use Rattle.std.proofs.Common.{Ok}
+use Rattle.std.proofs.lemmas.Bool.Decides.{nat_tests}
+use Rattle.sched_workers.proofs.Names.{◌≡◌, AnsweredBy, Bool, Called, IfOk, IfOk-weaker, IsTimed, List, Looked, MtapiStatus, None, OnErr, Op, Option, Reply, Result, Seat, Some, Standard, State, StillLooking, Turned, Unturned, Waited, Wanted, ap, arith, cond, found, is_some, refl, self_is, true, ℕ}
 use Rattle.mtapi_values.specs.declared.statuses.MtapiStatus.TheVariants as m
 use Rattle.mtapi_machine.specs.declared.ops.Op.TheVariants as op
 use Rattle.mtapi_machine.specs.declared.replies.Reply.TheVariants as reply
 use Rattle.workload_runs.specs.declared.calls.Wanted.TheVariants as want
-use Rattle.sched_workers.specs.Replies.{says, fits}
+use Rattle.sched_workers.specs.Replies.{fits}
 use Rattle.sched_workers.proofs.OwnEntries.{turned_next, state_at}
-use Rattle.sched_workers.proofs.Depths.{Shallow}
-use Rattle.sched_workers.proofs.WantedRows.{wanted_says, not_spent, not_spent_caller}
 use Rattle.mtapi_machine.specs.Answers.{Answers, refuses_with}
 use Rattle.mtapi_machine.specs.Answers as is
 use Rattle.mtapi_machine.proofs.Answered.{answered}
@@ -24,12 +22,10 @@ Fits o r = fits o r ≡ true
 
 -- a refusal has an answer, in the op's standard
 refused_fits : (o : Op) (x : MtapiStatus) → refuses_with o (reply.Mtapi x) ≡ true → Fits o (reply.Mtapi x)
-refused_fits op.Pick x e = refl
-refused_fits _ x e = first_of (cc, search not_spent)
+refused_fits o x e1 = grind (arith, nat_tests)
 
 caller_fits : (o : Op) (x : MrapiStatus) → refuses_with o (reply.Mrapi x) ≡ true → Fits o (reply.Mrapi x)
-caller_fits op.Pick x e = refl
-caller_fits _ x e = first_of (cc, search not_spent_caller)
+caller_fits o x e1 = grind (arith, nat_tests)
 
 fits_by : (s : State) (who : ℕ) (o : Op) (r : Reply) (ms : List Move) → Answers s who o r ms → Fits o r
 fits_by s who _ _ _ (is.refuses o x e) = refused_fits o x e
@@ -47,11 +43,7 @@ turn_fits old new o x k =
 
 -- a look with a limit, and one at the entrance without, that came to an answer
 pub timed_found : (w : Wanted) (limit : Option ℕ) (old new : Seat) (x : Result Reply ℕ) → IsTimed w → IfOk x (λ r. Looked w limit old new r) → IfOk x (λ r. found w r ≡ true)
-timed_found w limit old new x i k = IfOk-weaker x (λ r. Looked w limit old new r) (λ r. found w r ≡ true) (λ r l. l.found (decided r l l.last refl)) k
-  where
-    decided : (r : Reply) (l : Looked w limit old new r) (b : Bool) → l.last ≡ b → is_pending r ≡ false
-    decided r l false e = l.decides e
-    decided r l true e = (wanted_says w l.state old.number l.last r l.allowed).pending i e
+timed_found w limit old new x e1 e2 = grind (arith, nat_tests)
 
 pub entrance_found : (old new : Seat) (x : Result Reply ℕ) → IfOk x (λ r. Looked want.Entrance None old new r) → IfOk x (λ r. found want.Entrance r ≡ true)
 entrance_found old new x k = IfOk-weaker x (λ r. Looked want.Entrance None old new r) (λ r. found want.Entrance r ≡ true) (λ r l. l.found (l.decides l.bound)) k
@@ -59,9 +51,7 @@ entrance_found old new x k = IfOk-weaker x (λ r. Looked want.Entrance None old 
 -- What a call comes to
 
 pub called : {S A : Type 0} (standard : Standard S) (read : Reply → Option A) (o : Op) (old new : Seat) (y : Result Reply ℕ) (x : Result A S) → IfOk y (λ r. Turned old o r new) → OnErr y (Unturned old new) → AnsweredBy standard read y x → Called standard read o old new x
-called standard read o old new (Ok r) x a b k = inl (r, a, k)
-called standard read o old new (Err s) x a b k = inr (b, k)
+called standard read o old new y x e1 e2 e3 = grind (arith, nat_tests)
 
 pub waited : {S A : Type 0} (standard : Standard S) (read : Reply → Option A) (w : Wanted) (limit : Option ℕ) (old new : Seat) (y : Result Reply ℕ) (x : Result A S) → IfOk y (λ r. Looked w limit old new r) → OnErr y (StillLooking w limit old new) → AnsweredBy standard read y x → Waited standard read w limit old new x
-waited standard read w limit old new (Ok r) x a b k = inl (r, a, k)
-waited standard read w limit old new (Err s) x a b k = inr (b, k)
+waited standard read w limit old new y x e1 e2 e3 = grind (arith, nat_tests)

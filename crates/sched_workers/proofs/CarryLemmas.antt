@@ -1,17 +1,13 @@
 -- How a caller executes its statements, and its whole part.
+use Rattle.std.proofs.lemmas.Bool.Decides.{nat_tests}
 use Rattle.sched_workers.proofs.Names.{[], ◌++◌, ◌∷◌, ◌≡◌, ◌≤◌, AddsOwn, Bool, CallerAs, Carried, CarriedAs, EntersAs, Entrance, Initialize, List, Looked, Looking, MadeAs, MainAs, NodeEntry, None, Once, Op, OpensAs, Release, Reply, Seat, StatedAs, Statement, Timeout, Turned, Wanted, ap, append-nil, append_assoc, arith, call_of, entry, false, handle_of, has_begin, if◌then◌else◌, is_ok, length, looks_of, op_of, refl, subst, suc, sym, take, true, waits, zero, ℕ}
-use Rattle.sched_workers.proofs.Adds.{same_then, adds_none, adds_then, adds_as}
+use Rattle.sched_workers.proofs.Adds.{adds_none, adds_then, adds_as}
 
 pub stated_once : (old new : Seat) (o : Op) (r : Reply) (h : ℕ) → h ≡ handle_of r → Turned old o r new → AddsOwn (StatedAs (Once o) h) old new
 stated_once old new o r h e t = record { same = t.same; own = _; mine = t.mine; is = record { reply = r; made = refl; is = e } }
 
 pub stated_look : (old new : Seat) (w : Wanted) (timeout : Timeout) (r : Reply) (h : ℕ) → h ≡ handle_of r → Looked w (looks_of timeout) old new r → AddsOwn (StatedAs (Looking (waits w) (op_of w) timeout) h) old new
-stated_look old new w timeout r h e l = record {
-  same = l.same;
-  own = _;
-  mine = l.mine;
-  is = record { reply = r; made = record { pending = l.pending; last = l.last; is = refl; bound = l.bound; decides = l.decides; late = l.late }; is = e };
-}
+stated_look old new w timeout r h e1 e2 = grind (arith, nat_tests)
 
 -- the statements so far: what is left may follow
 pub record SoFar (bound now : List ℕ) (done : List Statement) (w : ℕ) (own : List NodeEntry) : Type 0 where
@@ -52,8 +48,7 @@ all_taken (x ∷ ss) (suc i) l = ap (λ k. x ∷ k) (all_taken ss i (omega (arit
 -- Main's part
 
 pub opens_alone : (a b : Seat) (begins : Bool) (r : Reply) → begins ≡ true → Turned a Initialize r b → AddsOwn (OpensAs begins) a b
-opens_alone a b false r e t = absurd (cc)
-opens_alone a b true r e t = record { same = t.same; own = _; mine = t.mine; is = record { first = r; lets = []; is = refl; let_is = refl } }
+opens_alone a b begins r e1 e2 = grind (arith, nat_tests)
 
 pub opens_both : (a b c : Seat) (begins : Bool) (r q : Reply) → begins ≡ false → Turned a Initialize r b → Turned b Release q c → AddsOwn (OpensAs begins) a c
 opens_both a b c true r q e t u = absurd (cc)

@@ -1,6 +1,6 @@
 -- One seat goes out, and one comes back.
-use Rattle.sched_workers.proofs.Names.{[], ◌++◌, ◌+◌, ◌-◌, ◌<◌, ◌∙◌, ◌∷◌, ◌≡◌, AddsOwn, All, All-pop, All-push, AllZip, AllZip-push, AreReady, Back, CallerAs, CallerIn, CallersDid, CameBack, Cell, Close, Crew, Err, GaveUp, Hands, HasPart, IfOk, IsClean, IsCrewOf, IsJoined, IsOf, List, MainAs, OnErr, Part, Reply, Result, Seat, Some, Statement, Turned, Unturned, ap, arith, get_or, inl, inr, length, refl, slice_get, subst, suc, sym, true, vec_capacity, vec_len, zero, ℕ}
-use Rattle.std.proofs.Common.{Ok}
+use Rattle.std.proofs.lemmas.Bool.Decides.{nat_tests}
+use Rattle.sched_workers.proofs.Names.{[], ◌++◌, ◌+◌, ◌-◌, ◌<◌, ◌∙◌, ◌∷◌, ◌≡◌, AddsOwn, All, All-pop, All-push, AllZip, AllZip-push, AreReady, Back, CallerAs, CallerIn, CallersDid, CameBack, Cell, Close, Crew, GaveUp, Hands, HasPart, IfOk, IsClean, IsCrewOf, IsJoined, IsOf, List, MainAs, OnErr, Part, Reply, Result, Seat, Some, Statement, Turned, Unturned, ap, arith, get_or, length, refl, slice_get, subst, suc, sym, vec_capacity, vec_len, zero, ℕ}
 use Rattle.sched_workers.proofs.Adds.{adds_as}
 
 -- the same hands, but for one caller's seat
@@ -20,8 +20,7 @@ got_part parts a b m n p d e f l g = got parts (m - n) d l ∙ ap (λ (x : Part)
 
 -- a close that was asked, be it answered or not
 pub gave_up : (old new : Seat) (r : Result Reply ℕ) → IfOk r (λ x. Turned old Close x new) → OnErr r (Unturned old new) → GaveUp old new
-gave_up old new (Ok x) t u = inl (x, t)
-gave_up old new (Err s) t u = inr u
+gave_up old new r e1 e2 = grind (arith, nat_tests)
 
 module _ (z : Cell) (parts : List Part) where
   pub joined_of : (c : Crew) (b : Back) (c' : Crew) → IsJoined c b c' → IsOf z c → b.seat.cell ≡ z.id → IsOf z c'

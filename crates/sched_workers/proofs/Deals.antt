@@ -1,5 +1,6 @@
 -- The seats of a new cell, dealt; and what a whole run begins and ends with.
-use Rattle.sched_workers.proofs.Names.{[], ◌++◌, ◌+◌, ◌-◌, ◌<◌, ◌∙◌, ◌∷◌, ◌≡◌, ◌≤◌, All, All-cons, All-nil, All-push, AllDid, AllHands, AreAllReady, Bool, Cell, Close, Counts, Crew, Dealt, Err, Final, GaveUp, GivesMain, HasPart, IfErr, IfOk, IfOk-weaker, IsClean, IsComplete, IsEnded, IsIdle, IsOf, IsRun, IsWholeCrewOf, Journal, JournalOf, JournaledTerms, KeptAs, Legal, List, MadeNone, NodeEntry, Part, RefusedAs, Result, RunBy, RunError, RunOf, Seat, State, Statement, Terms, Workload, accepted_end, all_of, ap, append_assoc, arith, counts_next, drop, entry, false, fresh-drop, fresh-take, fresh_seat, fresh_seats, get_or, if◌then◌else◌, inl, inr, is_dropped, is_refused, journal_run, journal_seats, kept, length, next, no_counts, opening, refl, skipped, slice_index, subst, suc, sym, take, terms_for, true, zero, ℕ}
+use Rattle.std.proofs.lemmas.Bool.Decides.{nat_tests}
+use Rattle.sched_workers.proofs.Names.{[], ◌++◌, ◌+◌, ◌-◌, ◌<◌, ◌∙◌, ◌∷◌, ◌≡◌, ◌≤◌, All, All-cons, All-nil, All-push, AllDid, AllHands, AreAllReady, Bool, Cell, Close, Counts, Crew, Dealt, Final, GaveUp, GivesMain, HasPart, IfErr, IfOk, IfOk-weaker, IsClean, IsComplete, IsEnded, IsIdle, IsOf, IsRun, IsWholeCrewOf, Journal, JournalOf, JournaledTerms, KeptAs, Legal, List, MadeNone, NodeEntry, Part, RefusedAs, Result, RunBy, RunError, RunOf, Seat, State, Statement, Terms, Workload, accepted_end, all_of, ap, append_assoc, arith, counts_next, drop, entry, fresh-drop, fresh-take, fresh_seat, fresh_seats, get_or, if◌then◌else◌, is_dropped, is_refused, journal_run, journal_seats, kept, length, next, no_counts, opening, refl, skipped, slice_index, subst, suc, sym, take, terms_for, true, zero, ℕ}
 use Rattle.std.proofs.Common.{Ok}
 use Rattle.mtapi_machine.specs.declared.replies.Reply.TheVariants as reply
 use Rattle.sched_workers.specs.declared.run.RunError.TheVariants as error
@@ -73,8 +74,7 @@ crew_complete z w m parts ss a c c' d i e t n clean = came_complete z w m parts 
 
 -- a number stands beside each kept entry
 both_or_none : (b : Bool) (es : List NodeEntry) (e : NodeEntry) (ns : List ℕ) (n : ℕ) → length es ≡ length ns → length (if b then es else e ∷ es) ≡ length (if b then ns else n ∷ ns)
-both_or_none true es e ns n rest = rest
-both_or_none false es e ns n rest = ap suc rest
+both_or_none b es e ns n e1 = grind (arith, nat_tests)
 
 beside_each : (s : State) (counts : List ℕ) (L : List NodeEntry) → length (kept s L) ≡ length (skipped s counts L)
 unfolding kept skipped
@@ -123,29 +123,16 @@ of_cell z c i = each_of (λ (s : Seat). s.cell ≡ z.id) (c.others.items ++ c.ma
 -- A run that was refused
 
 pub refused_is : (c : Crew) (r : Result Journal RunError) → RefusedAs c r → is_refused r ≡ c.refused
-refused_is c (Ok j) x = sym x
-refused_is c (Err (error.Refused main)) x = sym x.0
-refused_is c (Err (error.Spent s)) x = sym x
-refused_is c (Err error.Memory) x = sym x
+refused_is c r e1 = grind (arith, nat_tests)
 
 pub counts_as : (b d : Bool) (before after : ℕ) → b ≡ d → Counts d before after → Counts b before after
 counts_as b d before after e x = subst (λ (i : Bool). Counts i before after) (sym e) x
 
 made_none : (z : Cell) (w : ℕ) (main : Seat) → GaveUp (fresh_seat z.terms z.id w) main → (main.number ≡ w) × MadeNone main
-made_none z w main g = elim g [
-  | inl t ↦ (t.1.same.number, inr (t.0, t.1.mine ∙ ap (λ (k : ℕ). entry k Close t.0 ∷ []) (sym t.1.same.number)))
-  | inr u ↦ (u.same.number, inl u.mine)
-]
+made_none z w main e1 = grind (arith, nat_tests)
 
 pub gives_main : (z : Cell) (w m n : ℕ) (parts : List Part) (ss : List Statement) (a : AllHands) (c c' : Crew) (r : Result Journal RunError) → w ≡ n → Dealt z w m a → IsWholeCrewOf z parts ss a c → (c.refused ≡ true → c' ≡ c) → c'.refused ≡ c.refused → RefusedAs c' r → IfErr r (GivesMain n)
-gives_main z w m n parts ss a c c' (Ok j) e d i u s x = tt
-gives_main z w m n parts ss a c c' (Err (error.Refused main)) e d i u s x =
-    let was : c.refused ≡ true = sym s ∙ x.0 in
-    let same : main ≡ c.main = x.1 ∙ ap (λ (b : Crew). b.main) (u was) in
-    subst (λ (k : ℕ). (main.number ≡ k) × MadeNone main) e
-    (subst (λ (t : Seat). (t.number ≡ w) × MadeNone t) (sym same) (made_none z w c.main (subst (λ (t : Seat). GaveUp t c.main) d.main (i.gave_up was))))
-gives_main z w m n parts ss a c c' (Err (error.Spent s)) e d i u f x = tt
-gives_main z w m n parts ss a c c' (Err error.Memory) e d i u f x = tt
+gives_main z w m n parts ss a c c' r e1 e2 e3 e4 e5 e6 = grind (arith, nat_tests)
 
 -- How a run begins
 

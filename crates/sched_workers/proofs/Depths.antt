@@ -1,5 +1,5 @@
 -- No mutex is deeper than 64, in any state of a legal history.
-use Rattle.sched_workers.proofs.Names.{[], ◌&&◌, ◌+◌, ◌-◌, ◌==◌, ◌||◌, ◌∙◌, ◌∷◌, ◌≡◌, ◌≤◌, Adds, AllGives, AltersObject, Bool, Every, IsMade, LegalFrom, List, Move, Mutexes, NodeEntry, None, Op, Option, RemovesObject, Reply, Some, State, after_from, after_moves, alters, ap, apply, arith, change, cond, eqb-true, every_change, every_issue, false, gives_cond, gone, handle_of, is_fresh, is_other, is_seat, is_some, length, live_object, locked_by, locks, makes, makes_kind, moves_given, moves_of, mutex_busy, nat_lt, nat_tests, new_mutex, next, not, refl, removes, row, second_false, subst, sym, takes_both, tally_args, true, true_false, unlocked, with_fields, ℕ, ℤ}
+use Rattle.sched_workers.proofs.Names.{[], ◌&&◌, ◌==◌, ◌||◌, ◌∙◌, ◌∷◌, ◌≡◌, ◌≤◌, Bool, Every, LegalFrom, List, Move, NodeEntry, Op, Reply, Some, State, after_from, after_moves, arith, change, every_change, every_issue, false, gone, is_seat, is_some, live_object, locked_by, mutex_busy, nat_tests, new_mutex, next, not, refl, subst, sym, true_false, unlocked, with_fields, ℕ}
 use Rattle.mtapi_machine.specs.Answers.{Answers}
 use Rattle.mtapi_machine.specs.Answers as is
 use Rattle.mtapi_machine.proofs.Answered.{answered}
@@ -18,28 +18,13 @@ new_shallow id recursive = record { deep = omega arith; free = λ e. refl }
 
 -- a seat that may lock it owns it already, less than 64 deep, or nobody does
 locked_shallow : (who : ℕ) (m : Mutex) → (is_seat who m.owner && (not m.recursive || (m.depth == 64))) ≡ false → mutex_busy who m ≡ false → Shallow m → Shallow (locked_by who m)
-locked_shallow who m a b s = record { deep = by_owner m.owner refl; free = λ e. true_false refl e }
-  where
-    below : (not m.recursive || (m.depth == 64)) ≡ false → m.depth + 1 ≤ 64
-    below e = let d : (m.depth == 64) ≡ false = second_false (not m.recursive) (m.depth == 64) e in let k : m.depth ≤ 64 = s.deep in grind (arith, nat_tests)
-
-    by_seat : (v : ℕ) (c : Bool) → m.owner ≡ Some v → (v == who) ≡ c → m.depth + 1 ≤ 64
-    by_seat v true e i = below (sym (ap (λ (d : Bool). d && (not m.recursive || (m.depth == 64))) (ap (is_seat who) e ∙ i)) ∙ a)
-    by_seat v false e i = true_false (ap not i) (sym (ap (is_other who) e) ∙ b)
-
-    by_owner : (o : Option ℕ) → m.owner ≡ o → m.depth + 1 ≤ 64
-    by_owner None e = let z : m.depth ≡ 0 = s.free (ap is_some e) in omega arith
-    by_owner (Some v) e = by_seat v (v == who) e refl
+locked_shallow who m e1 e2 e3 = grind (arith, nat_tests)
 
 free_locked : (who : ℕ) (m : Mutex) → is_some m.owner ≡ false → Shallow m → Shallow (locked_by who m)
 free_locked who m e s = let z : m.depth ≡ 0 = s.free e in record { deep = omega arith; free = λ i. true_false refl i }
 
 unlocked_shallow : (m : Mutex) → Shallow m → Shallow (unlocked m)
-unlocked_shallow m s = let k : m.depth ≤ 64 = s.deep in record { deep = omega arith; free = by_depth (m.depth == 1) refl }
-  where
-    by_depth : (b : Bool) → (m.depth == 1) ≡ b → is_some (cond b None m.owner) ≡ false → m.depth - 1 ≡ 0
-    by_depth true e i = let k : m.depth ≡ 1 = eqb-true m.depth 1 e in omega arith
-    by_depth false e i = let k : m.depth ≡ 0 = s.free i in omega arith
+unlocked_shallow m e1 = grind (arith, nat_tests)
 
 module _ (s : State) (who : ℕ) (v : Every Shallow s.mutexes) where
   -- the mutex of a handle changes

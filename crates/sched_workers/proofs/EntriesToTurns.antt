@@ -1,10 +1,11 @@
 -- From entries to turns: what the entries of a seat tell of its part, its turns in a legal history tell too.
-use Rattle.sched_workers.proofs.Names.{[], ◌&&◌, ◌++◌, ◌+◌, ◌<◌, ◌==◌, ◌∙◌, ◌∷◌, ◌≡◌, Bool, Call, CallerTurns, EnteredBy, EntersAs, Entrance, IsNext, IsOnce, IsTimed, KeepsTimeout, Legal-front, Legal-rest, LegalFrom, List, LookedAs, Looking, MadeAs, MadeBy, MainTurns, MatchOption, NodeEntry, None, Once, OnceListed, Op, Option, Others, Reply, Shaped, Some, State, TaskHandle, Tells, Timeout, Told, Turn, Waits, Wanted, WorkerTurns, after-one, after_from, all_in, all_worked, ap, append_assoc, arith, call_of, caller_told, cond, entries_of, entry, false, first_alone, head_entries, head_turns, in_entries, in_turns, is_dropped, is_pending, is_work, length, looks_of, main_told, next, none_of, not, once_settles, once_stays, op_of, pended, pends_alike, refl, replicate, shaped, stayed, subst, suc, sym, tail_turns, told_as, told_then, true, turn_of, turns_append, turns_of, waiter_stays, waits, work_append, zero, ℕ}
+use Rattle.std.proofs.lemmas.Bool.Decides.{nat_tests}
+use Rattle.sched_workers.proofs.Names.{[], ◌&&◌, ◌++◌, ◌+◌, ◌<◌, ◌==◌, ◌∙◌, ◌∷◌, ◌≡◌, Bool, Call, CallerTurns, EnteredBy, EntersAs, Entrance, IsNext, IsTimed, KeepsTimeout, Legal-front, Legal-rest, LegalFrom, List, LookedAs, Looking, MadeAs, MadeBy, MainTurns, MatchOption, NodeEntry, Once, OnceListed, Op, Option, Others, Reply, Shaped, State, Tells, Timeout, Told, Turn, Waits, Wanted, WorkerTurns, after-one, after_from, all_in, all_worked, ap, append_assoc, arith, call_of, caller_told, cond, entries_of, entry, false, first_alone, head_entries, head_turns, in_entries, in_turns, is_dropped, is_pending, is_work, length, looks_of, main_told, next, none_of, not, once_settles, once_stays, op_of, pended, pends_alike, refl, replicate, shaped, stayed, subst, suc, sym, tail_turns, told_as, told_then, true, turn_of, turns_append, turns_of, waiter_stays, waits, work_append, zero, ℕ}
 use Rattle.mtapi_machine.specs.declared.ops.Op.TheVariants as op
 use Rattle.mtapi_machine.specs.declared.replies.Reply.TheVariants as reply
 use Rattle.workload_runs.specs.declared.calls.Wanted.TheVariants.{Task}
 use Rattle.sched_workers.proofs.Rounds.{AllWork, rounds_work}
-use Rattle.sched_workers.proofs.TurnMarks.{Cut, first_own, first_next, turns_one, turns_none, pend_waits, waiting_drops}
+use Rattle.sched_workers.proofs.TurnMarks.{Cut, first_own, first_next, turns_one, turns_none, pend_waits}
 use Rattle.sched_workers.proofs.WantedRows.{wanted_says}
 
 -- a place in a history: the state there, and the entries that follow
@@ -80,12 +81,10 @@ pend_stands (Task t) w s n = pend_waits s w t n
 pend_stands _ w s n = tt
 
 stands_drop : (x : Wanted) (w : ℕ) (s : State) → Stands x w s → is_dropped s (entry w (op_of x false) reply.Pending) ≡ true
-stands_drop (Task t) w s v = waiting_drops s w t v
-stands_drop _ w s v = refl
+stands_drop x w s e1 = grind (arith, nat_tests)
 
 stands_at_once : (x : Wanted) (w : ℕ) (s : State) → waits x ≡ false → Stands x w s
-stands_at_once (Task t) w s e = absurd (cc)
-stands_at_once _ w s e = tt
+stands_at_once x w s e1 = grind (arith, nat_tests)
 
 -- turns of looks, of which a journal keeps at most the first Pending one, and none where the seat stands as waiter
 record Marked (x : Wanted) (n : ℕ) (last : Bool) (r : Reply) (w : ℕ) (s : State) (ts : List Turn) : Type 0 where
@@ -146,12 +145,10 @@ module _ (w : ℕ) where
       }) a (looks_told x last r ends n a.behind rest a.left_is)
 
   within : (limit : Option ℕ) (n m : ℕ) (last : Bool) → m ≡ n → MatchOption limit (last ≡ false) (λ k. (n < k) × (last ≡ (n + 1 == k))) → KeepsTimeout limit last (m + 1)
-  within None n m last e b = b
-  within (Some k) n m last e b = ((let x = b.0 in omega arith), b.1 ∙ ap (λ (i : ℕ). i + 1 == k) (sym e))
+  within limit n m last e1 e2 = grind (arith, nat_tests)
 
   decided : (x : Wanted) (s : State) (last : Bool) (r : Reply) → IsTimed x → (last ≡ false → is_pending r ≡ false) → IsNext s (entry w (op_of x last) r) → is_pending r ≡ false
-  decided x s true r i d n = (wanted_says x s w true r n.allowed).pending i refl
-  decided x s false r i d n = d refl
+  decided x s last r e1 e2 e3 = grind (arith, nat_tests)
 
   wanted_told : (x : Wanted) (timeout : Timeout) (es : List NodeEntry) (r : Reply) (k : Place) (rest : List NodeEntry) → IsTimed x → LookedAs w (op_of x) (looks_of timeout) es r → Left IsLegal w k (es ++ rest) → CallerTold k rest (λ ts. MadeBy (Looking (waits x) (op_of x) timeout) ts r)
   wanted_told x timeout es r k rest i a l =

@@ -1,6 +1,5 @@
 -- What the looks of a call say beyond the entries that they add.
-use Rattle.sched_workers.proofs.Names.{[], ◌++◌, ◌+◌, ◌<◌, ◌==◌, ◌∙◌, ◌∷◌, ◌≡◌, Allows, Asked, Bool, Every, Given, Handle, Idle, InTime, Legal, Legal-prefix, List, Looked, MatchOption, Mrapi, Mtapi, NodeEntry, Number, Ok, Op, Option, Pending, Picked, Reply, Seat, State, Stop, Turned, Wanted, ap, append-nil, append_assoc, arith, entry, false, is_pending, is_timeout, journal_legal, nat_tests, op_of, opening, refl, replicate_more, row, subst, sym, time_after, true, ℕ}
-use Rattle.mtapi_machine.specs.declared.replies.Reply.TheVariants.{Ended}
+use Rattle.sched_workers.proofs.Names.{[], ◌++◌, ◌+◌, ◌∷◌, ◌≡◌, Allows, Bool, Every, InTime, Legal, Legal-prefix, Looked, Op, Option, Pending, Reply, Seat, State, Turned, Wanted, arith, entry, false, is_pending, is_timeout, journal_legal, nat_tests, op_of, opening, refl, row, subst, time_after, true, ℕ}
 use Rattle.sched_workers.proofs.WantedRows.{wanted_says}
 use Rattle.sched_workers.proofs.Depths.{Shallow, shallow_after}
 use Rattle.turn_looks.specs.Looks as looks
@@ -28,8 +27,7 @@ shallow_at b c o r t =
     (Legal-prefix c.terms.node (b.seen ++ t.between) (entry b.number o r ∷ []) (subst (Legal c.terms.node) t.seen t.legal)).from tt
 
 not_pending : (r : Reply) → (r ≡ Pending → ⊥) → is_pending r ≡ false
-not_pending Pending n = absurd (n refl)
-not_pending _ n = refl
+not_pending r e1 = grind (arith, nat_tests)
 
 -- what the loop of looks says, and what the machine's rows add to it
 pub looked : (w : Wanted) (limit : Option ℕ) (a c : Seat) (r : Reply) → looks.Looked journal_legal (op_of w) Pending limit a c r → Looked w limit a c r

@@ -1,5 +1,5 @@
 -- What a meeting leaves: each seat has the entries that it had.
-use Rattle.sched_workers.proofs.Names.{[], ◌++◌, ◌+◌, ◌<◌, ◌∙◌, ◌∷◌, ◌≡◌, ◌≤◌, All, AllZip, AreMet, Bool, Cell, Crew, HasSeenMore, IsEnded, Knows, List, NodeEntry, None, Op, Reply, Seat, Some, StartsWith, Turned, all_of, ap, append-nil, append_assoc, arith, dite, entries_of, false, get_or, length, length-set, refl, set, subst, suc, sym, true, vec_capacity, vec_len, zero, ℕ, ℕ_discrete}
+use Rattle.sched_workers.proofs.Names.{[], ◌++◌, ◌+◌, ◌<◌, ◌∙◌, ◌∷◌, ◌≡◌, ◌≤◌, All, AllZip, AreMet, Cell, Crew, HasSeenMore, IsEnded, Knows, List, NodeEntry, None, Op, Reply, Seat, Some, StartsWith, Turned, all_of, ap, append-nil, append_assoc, arith, dite, entries_of, get_or, length, length-set, refl, set, subst, suc, sym, vec_capacity, vec_len, zero, ℕ, ℕ_discrete}
 use Rattle.sched_workers.specs.declared.statements.Stop.{Stop}
 
 pub seen_nothing_more : (a : Seat) → HasSeenMore a a

@@ -1,17 +1,15 @@
 -- The names that the proofs of this crate cite of lower crates and of its own specs/, passed on from one place. Declares nothing.
-pub use Rattle.std.proofs.Common.{Bool, Err, FitsSigned, List, None, Option, Result, Some, [], ap, append_assoc, arith, cond, drop, false, get_or, inl, inr, length, refl, replicate, set, subst, suc, sym, take, true, vec_capacity, vec_len, w64, zero, ℕ, ℤ, ◌++◌, ◌+◌, ◌<◌, ◌∙◌, ◌∷◌, ◌≡◌, ◌≢◌, ◌≤◌}
+pub use Rattle.std.proofs.Common.{Bool, FitsSigned, List, None, Option, Result, Some, [], ap, append_assoc, arith, cond, drop, false, get_or, inl, inr, length, refl, replicate, set, subst, suc, sym, take, true, vec_capacity, vec_len, w64, zero, ℕ, ℤ, ◌++◌, ◌+◌, ◌<◌, ◌∙◌, ◌∷◌, ◌≡◌, ◌≢◌, ◌≤◌}
 pub use Rattle.std.proofs.Math.ListN.{length-set}
-pub use Rattle.std.proofs.lemmas.Bool.{cases_Bool, eqb-true, lt-ltb, ltb-false, ltb-true}
+pub use Rattle.std.proofs.lemmas.Bool.{lt-ltb}
 pub use Rattle.std.proofs.lemmas.Bool.Decides.{Decides-int_eq, nat_tests}
 pub use Rattle.std.proofs.lemmas.Grind.{take_at_read}
 pub use Rattle.std.proofs.lemmas.Int.{to_z-of_z}
-pub use Rattle.std.proofs.lemmas.List.{append-nil, map-append, replicate_more}
+pub use Rattle.std.proofs.lemmas.List.{append-nil, map-append}
 pub use Rattle.std.proofs.lemmas.List.Elements.{All-cons, All-nil, All-pop, All-push, AllZip-push}
 pub use Rattle.std.proofs.lemmas.Result.{IfOk-weaker}
-pub use Rattle.std.proofs.lemmas.Slice.Eq.{slice_eq-Decides}
 pub use Rattle.std.specs.Bool.{MatchBool}
 pub use Rattle.std.specs.Borrow.{MutBor}
-pub use Rattle.std.specs.Cmp.Lexicographic.{pointwise}
 pub use Rattle.std.specs.List.{AllZip}
 pub use Rattle.std.specs.Option.{option_or}
 pub use Rattle.std.specs.Ordering.{int_eq}
@@ -19,51 +17,46 @@ pub use Rattle.std.specs.Prelude.{All, IfErr, IfOk, MatchOption, OnErr, if◌the
 pub use Rattle.action_fn.proofs.Numbers.{FitsSigned-from, fits_from, fitting_from}
 pub use Rattle.action_fn.specs.Answers.{Answered, fitting}
 unfoldable pub use Rattle.action_fn.specs.Answers.{fits}
-pub use Rattle.handle_pool.specs.Issued.{Listed, any_listed, count_listed, first_handle, gone, live_object, update, with_fields}
+pub use Rattle.handle_pool.specs.Issued.{Listed, any_listed, count_listed, gone, live_object, update, with_fields}
 unfoldable pub use Rattle.handle_pool.specs.Issued.{change, listed, live_of}
 pub use Rattle.history.specs.Histories.{StartsWith, entries_of, entry}
 pub use Rattle.history_law.proofs.Accepted.{accepted_end}
-pub use Rattle.history_law.proofs.Answered.{gives_cond, second_false, true_false}
+pub use Rattle.history_law.proofs.Answered.{true_false}
 pub use Rattle.history_law.proofs.Bounds.{by_seats, early_stays, stopped_room}
 pub use Rattle.history_law.proofs.Others.{InTime, in_time, once_stays, phase_stays, stopped_stays, terms_stay, time_after, unstarted_untouched, waiter_stays, work_stays}
-pub use Rattle.history_law.proofs.RowRest.{Goes, goes_then, pass, skip}
+pub use Rattle.history_law.proofs.RowRest.{Goes, pass, skip}
 pub use Rattle.history_law.proofs.WorkerTurns.{PickedAs, Untouched, ends_free, finished_as, own_goes, picked_as, runs_as_its, runs_on_its}
 pub use Rattle.history_law.proofs.lists.Every.{Every, every_at, every_change, every_issue}
-pub use Rattle.history_law.proofs.lists.Found.{count_changed, count_none}
-pub use Rattle.history_law.specs.Seats.{BySeats, Free, Holds, IsUntouched, NoClose, NoPhase, OnceListed, Others, RunsWith, Waits, Work, WorkerKeeps, closes, is_late_end, moves_phase}
+pub use Rattle.history_law.proofs.lists.Found.{count_changed}
+pub use Rattle.history_law.specs.Seats.{BySeats, Free, Holds, NoClose, NoPhase, OnceListed, Others, RunsWith, Waits, Work, WorkerKeeps, closes, is_late_end, moves_phase}
 pub use Rattle.mtapi_machine.proofs.Changes.{at-update}
 pub use Rattle.mtapi_machine.proofs.Lists.{Legal-front, Legal-prefix, Legal-rest, after-append, after-one}
-pub use Rattle.mtapi_machine.proofs.Made.{AllGives, moves_given}
-pub use Rattle.mtapi_machine.specs.GroupRows.{gives_end, gives_first, verdict}
+pub use Rattle.mtapi_machine.specs.GroupRows.{verdict}
 pub use Rattle.mtapi_machine.specs.Kept.{counts_next, drops, is_dropped, is_pending, no_counts, pends_alike}
 unfoldable pub use Rattle.mtapi_machine.specs.Kept.{kept, skipped}
-pub use Rattle.mtapi_machine.specs.Laws.{AltersObject, IsMade, RemovesObject, makes_kind}
 pub use Rattle.mtapi_machine.specs.Legal.{IsNext, Legal, NodeEntry, after, next}
 unfoldable pub use Rattle.mtapi_machine.specs.Legal.{LegalFrom, after_from}
-pub use Rattle.mtapi_machine.specs.Moves.{Move, Mutexes, Segments, after_moves, alters, apply, ends_task, ends_waiting, is_fresh, makes, notes, phase_is, released, removes, stops}
-pub use Rattle.mtapi_machine.specs.Row.{Allows, Row, after_row, gives, handle_of, live, moves_of, mtapi_unless, never, not_yet, only, says, unless}
+pub use Rattle.mtapi_machine.specs.Moves.{Move, Segments, after_moves, alters, ends_task, ends_waiting, notes, phase_is, released, stops}
+pub use Rattle.mtapi_machine.specs.Row.{Allows, Row, after_row, gives, handle_of, live, moves_of, mtapi_unless, never, only, says, unless}
 pub use Rattle.mtapi_machine.specs.Rows.{row}
 pub use Rattle.mtapi_machine.specs.State.{State, changed, is_new, is_open, is_past_open, is_stop, is_up, opening, tasks, workers}
 pub use Rattle.mtapi_machine.specs.TallyRows.{gives_back, gives_up, locks, takes_both}
-pub use Rattle.mtapi_machine.specs.TaskRows.{cancels, looks_at}
-pub use Rattle.mtapi_machine.specs.WorkRows.{picks, task_end}
+pub use Rattle.mtapi_machine.specs.TaskRows.{looks_at}
+pub use Rattle.mtapi_machine.specs.WorkRows.{picks}
 unfoldable pub use Rattle.mtapi_machine.specs.WorkRows.{can_take, has_better, is_ready}
 pub use Rattle.mtapi_machine.specs.declared.ops.Op.{Op}
 pub use Rattle.mtapi_machine.specs.declared.ops.Op.TheVariants.{Close, Final, Initialize, Release}
 pub use Rattle.mtapi_machine.specs.declared.replies.Reply.{Reply}
-pub use Rattle.mtapi_machine.specs.declared.replies.Reply.TheVariants.{Asked, Given, Handle, Idle, Mrapi, Mtapi, Number, Ok, Pending, Picked, Stop}
+pub use Rattle.mtapi_machine.specs.declared.replies.Reply.TheVariants.{Asked, Idle, Mtapi, Number, Ok, Pending, Stop}
 pub use Rattle.mtapi_machine.specs.declared.terms.Phase.{Phase}
-pub use Rattle.mtapi_machine.specs.declared.terms.Phase.TheVariants.{Closed, Closing, New, Open}
+pub use Rattle.mtapi_machine.specs.declared.terms.Phase.TheVariants.{Closing, New, Open}
 pub use Rattle.mtapi_machine.specs.declared.terms.Terms.{Terms}
-pub use Rattle.mtapi_objects.specs.Actions.{Action, is_eligible}
-pub use Rattle.mtapi_objects.specs.Groups.{Ending, fault_of, first_fault, insert, insert_ended, is_member, is_unended_member}
+pub use Rattle.mtapi_objects.specs.Groups.{Ending, fault_of, first_fault, insert, insert_ended, is_member}
 unfoldable pub use Rattle.mtapi_objects.specs.Groups.{endings}
 pub use Rattle.mtapi_objects.specs.Mutexes.{locked_by, mutex_busy, new_mutex, unlocked}
 pub use Rattle.mtapi_objects.specs.Queues.{is_shut_in}
-pub use Rattle.mtapi_objects.specs.Rwls.{rwl_busy}
 pub use Rattle.mtapi_objects.specs.Segments.{cell_of, with_cell}
-pub use Rattle.mtapi_objects.specs.Sems.{sem_busy}
-pub use Rattle.mtapi_objects.specs.Tasks.{Adds, Ended, Notes, Running, Scheduled, TallyNotes, Task, TaskState, added, asked_once, asked_refusals, cell_in, end_of, ended, finish_refusals, is_unstarted, kind_number, no_tally, number_in, runner, runs_as, runs_on, scheduled, tally_args, tally_failed, tally_has, tally_read, tally_written, watch_end, watch_end_refusals, with_notes, with_state, with_tally, with_waiter}
+pub use Rattle.mtapi_objects.specs.Tasks.{Adds, Ended, Running, Scheduled, TallyNotes, Task, TaskState, added, asked_once, asked_refusals, cell_in, end_of, no_tally, number_in, runs_as, runs_on, tally_args, tally_failed, tally_has, tally_read, tally_written, watch_end, watch_end_refusals, with_notes, with_tally, with_waiter}
 pub use Rattle.mtapi_values.specs.Conditions.{holds}
 pub use Rattle.mtapi_values.specs.Seats.{all_marked, is_other, is_seat, marked}
 pub use Rattle.mtapi_values.specs.Timeouts.{looks_of}
@@ -86,10 +79,10 @@ pub use Rattle.sched_workers.specs.Crews.{AllDid, AreAllReady, AreMet, AreReady,
 pub use Rattle.sched_workers.specs.Looks.{Looked, StillLooking}
 pub use Rattle.sched_workers.specs.Pairs.{Counts}
 pub use Rattle.sched_workers.specs.Replies.{Standard, done, found, given, key, mrapi, mtapi}
-pub use Rattle.sched_workers.specs.Rounds.{Added, AtRest, AtWork, GivesUp, Ran, Reads, Rested, Round, Rounded, Stranded, Tallied, Tallying, Watched, WorkerAs, Writes, asks, entries_in, retries, tally_entries, tally_steps}
+pub use Rattle.sched_workers.specs.Rounds.{Added, AtRest, AtWork, Ran, Reads, Rested, Round, Rounded, Tallied, Tallying, Watched, WorkerAs, Writes, asks, entries_in, retries, tally_entries, tally_steps}
 unfoldable pub use Rattle.sched_workers.specs.Rounds.{all_in}
 pub use Rattle.sched_workers.specs.Runs.{Dealt, GivesMain, IsRun, JournalOf, MadeNone, RefusedAs, is_refused, terms_for}
-pub use Rattle.sched_workers.specs.Steps.{Acts, AddsToCell, Ends, EndsTally, Finishes, IsTallyAnswer, LocksOnce, LookedOut, MayEnd, MayEndTally, MayRead, MayWrite, PickEnds, ReadsCell, Sums, TakesBoth, Tallies, Watches, Works, WritesCell, answer_in, reported, sum_with, tallying, watching, work_of}
+pub use Rattle.sched_workers.specs.Steps.{Acts, AddsToCell, Ends, EndsTally, Finishes, IsTallyAnswer, LocksOnce, LookedOut, MayEnd, MayEndTally, MayRead, MayWrite, PickEnds, ReadsCell, TakesBoth, Tallies, Watches, Works, WritesCell, answer_in, reported, sum_with, tallying, watching, work_of}
 pub use Rattle.sched_workers.specs.Turns.{AddsOwn, SameSeat, Seat, Turned, Unturned}
 pub use Rattle.sched_workers.specs.declared.crew.back.AllHands.{AllHands}
 pub use Rattle.sched_workers.specs.declared.crew.back.Back.{Back}
@@ -101,7 +94,7 @@ pub use Rattle.workload_runs.proofs.Joins.{journal_run}
 pub use Rattle.workload_runs.proofs.Rows.{once_settles}
 pub use Rattle.workload_runs.proofs.Shapes.{Shaped, shaped}
 pub use Rattle.workload_runs.proofs.TurnLists.{turns_append, work_append}
-pub use Rattle.workload_runs.specs.Calls.{Call, IsOnce, Looking, Once, call_of}
+pub use Rattle.workload_runs.specs.Calls.{Call, Looking, Once, call_of}
 pub use Rattle.workload_runs.specs.Lines.{KeepsTimeout, is_timeout}
 pub use Rattle.workload_runs.specs.Parts.{CallerRan, MainRan, PartsRan}
 unfoldable pub use Rattle.workload_runs.specs.Parts.{CallersRan, Carried, has_begin}
@@ -112,7 +105,7 @@ pub use Rattle.workload_runs.specs.Wants.{IsTimed, op_of, waits}
 pub use Rattle.workload_runs.specs.Whole.{EnteredBy, MadeBy, RunBy, WorkerBy, first_alone, head_turns, in_turns, pended, tail_turns}
 unfoldable pub use Rattle.workload_runs.specs.Whole.{all_worked, none_of}
 pub use Rattle.workload_runs.specs.declared.calls.Wanted.{Wanted}
-pub use Rattle.workload_runs.specs.declared.calls.Wanted.TheVariants.{AllMembers, Entrance, FirstMember, Mutex, Rwl, Sem}
+pub use Rattle.workload_runs.specs.declared.calls.Wanted.TheVariants.{Entrance, FirstMember, Mutex, Rwl, Sem}
 pub use Rattle.turn_cell.proofs.Complete.{Has, all_has, fresh-drop, fresh-take, fresh_in, has_back, has_front, numbered_has, zip_has}
 pub use Rattle.turn_cell.specs.Lists.{all_of}
 pub use Rattle.turn_cell.specs.Seats.{HasSeenMore, IsComplete, IsSeatOf, fresh_seat, fresh_seats}

@@ -1,8 +1,7 @@
 -- What callers and workers do moves the phase nowhere, and what follows from that.
-use Rattle.sched_workers.proofs.Names.{[], ◌++◌, ◌==◌, ◌∷◌, ◌≡◌, ◌≢◌, AllMembers, Bool, Call, Carried, Deed, Entrance, FirstMember, IsNext, IsOnce, Legal-front, LegalFrom, List, Looking, MadeAs, Mutex, NoClose, NoPhase, NodeEntry, Once, Op, Others, Reply, Rwl, Sem, Shaped, State, Statement, Wanted, after_from, ap, append_assoc, arith, call_of, closes, cond, entries-append, entries_of, entry, false, handle_of, is_work, moves_phase, nat_tests, next, op_of, phase_stays, refl, replicate, self_is, shaped, subst, suc, sym, true, zero, ℕ}
+use Rattle.sched_workers.proofs.Names.{[], ◌++◌, ◌∷◌, ◌≡◌, ◌≢◌, Bool, Call, Carried, Deed, IsNext, Legal-front, LegalFrom, List, Looking, MadeAs, NoClose, NoPhase, NodeEntry, Once, Op, Others, Reply, State, Statement, after_from, append_assoc, arith, call_of, closes, cond, entries-append, entries_of, entry, false, handle_of, is_work, moves_phase, nat_tests, next, phase_stays, replicate, self_is, subst, suc, sym, true, zero, ℕ}
 use Rattle.mtapi_machine.specs.declared.ops.Op.TheVariants as op
 use Rattle.mtapi_machine.specs.declared.replies.Reply.TheVariants as reply
-use Rattle.workload_runs.specs.declared.calls.Wanted.TheVariants.{Task}
 use Rattle.sched_workers.proofs.Rounds.{AllWork}
 use Rattle.sched_workers.proofs.TurnMarks.{Cut, first_own, first_next}
 
@@ -20,26 +19,7 @@ CallQuiet (Once o) = moves_phase o ≡ false
 CallQuiet (Looking waits o timeout) = (b : Bool) → moves_phase (o b) ≡ false
 
 call_quiet : (bound : List ℕ) (d : Deed) → CallQuiet (call_of bound d)
-call_quiet bound d = by_shape (call_of bound d) (shaped bound d)
-  where
-    once_quiet : (o : Op) → IsOnce o → moves_phase o ≡ false
-    once_quiet op.Initialize i = absurd i
-    once_quiet op.Close i = absurd i
-    once_quiet op.Final i = absurd i
-    once_quiet _ i = refl
-
-    look_quiet : (w : Wanted) (b : Bool) → moves_phase (op_of w b) ≡ false
-    look_quiet (Task t) b = refl
-    look_quiet Entrance b = refl
-    look_quiet (AllMembers g) b = refl
-    look_quiet (FirstMember g) b = refl
-    look_quiet (Mutex x) b = refl
-    look_quiet (Sem x) b = refl
-    look_quiet (Rwl x writer) b = refl
-
-    by_shape : (c : Call) → Shaped c → CallQuiet c
-    by_shape (Once o) i = once_quiet o i
-    by_shape (Looking stands o timeout) i = subst (λ (p : Bool → Op). (b : Bool) → moves_phase (p b) ≡ false) (sym i.2) (look_quiet i.0)
+call_quiet bound d = grind (arith, nat_tests)
 
 made_quiet : (w : ℕ) (c : Call) → CallQuiet c → (es : List NodeEntry) (r : Reply) → MadeAs w c es r → NoPhase es
 made_quiet w (Once o) q es r e = subst NoPhase (sym e) (q, tt)
@@ -56,10 +36,7 @@ carried_quiet w (s ∷ ss) bound es (r ∷ rs) a =
 
 -- nor does what is work
 work_op : (o : Op) (r : Reply) → is_work o r ≡ true → moves_phase o ≡ false
-work_op op.Initialize r e = absurd (cc)
-work_op op.Close r e = absurd (cc)
-work_op op.Final r e = absurd (cc)
-work_op _ r e = refl
+work_op o r e1 = grind (arith, nat_tests)
 
 pub work_quiet : (es : List NodeEntry) → AllWork es → NoPhase es
 work_quiet [] a = tt
@@ -71,20 +48,14 @@ true_false : {A : Type 0} → true ≡ false → A
 true_false e = absurd (cc)
 
 quiet_op : (o : Op) → moves_phase o ≡ false → closes o ≡ false
-quiet_op op.Close q = true_false q
-quiet_op op.Final q = true_false q
-quiet_op _ q = refl
+quiet_op o e1 = grind (arith, nat_tests)
 
 pub open_quiet : (es : List NodeEntry) → NoPhase es → NoClose es
 open_quiet [] q = tt
 open_quiet (e ∷ es) q = (quiet_op e.op q.0, open_quiet es q.1)
 
 open_tail : (v : ℕ) (e : NodeEntry) (es : List NodeEntry) → NoClose (entries_of v (e ∷ es)) → NoClose (entries_of v es)
-open_tail v e es = by_seat (e.who == v)
-  where
-    by_seat : (b : Bool) → NoClose (cond b (e ∷ entries_of v es) (entries_of v es)) → NoClose (entries_of v es)
-    by_seat true h = h.1
-    by_seat false h = h
+open_tail v e es e1 = grind (arith, nat_tests)
 
 pub open_all : (L : List NodeEntry) → ((v : ℕ) → NoClose (entries_of v L)) → NoClose L
 open_all [] f = tt
@@ -117,14 +88,7 @@ pub quiet_back : (w : ℕ) (L M : List NodeEntry) → OthersQuiet w (L ++ M) →
 quiet_back w L M q v n = back_quiet (entries_of v L) (entries_of v M) (subst NoPhase (entries-append v L M) (q v n))
 
 other_who : (w : ℕ) (e : NodeEntry) (es : List NodeEntry) → Others w (e ∷ es) → (e.who ≢ w) × Others w es
-other_who w e es = by_seat (e.who == w) refl
-  where
-    apart : (e.who == w) ≡ false → e.who ≢ w
-    apart d i = grind (arith, nat_tests)
-
-    by_seat : (b : Bool) → (e.who == w) ≡ b → cond b (e ∷ entries_of w es) (entries_of w es) ≡ [] → (e.who ≢ w) × Others w es
-    by_seat true d i = absurd (cc)
-    by_seat false d i = (apart d, i)
+other_who w e es e1 = grind (arith, nat_tests)
 
 -- what others did moves the phase nowhere
 pub quiet_all : (w : ℕ) (L : List NodeEntry) → OthersQuiet w L → Others w L → NoPhase L

@@ -1,5 +1,5 @@
 -- The state in which a seat made a turn.
-use Rattle.sched_workers.proofs.Names.{[], ◌++◌, ◌∷◌, ◌≡◌, IsNext, Legal-rest, LegalFrom, List, NodeEntry, Op, Reply, Seat, State, Turned, after, entry, opening, subst}
+use Rattle.sched_workers.proofs.Names.{[], ◌++◌, ◌∷◌, IsNext, Legal-rest, LegalFrom, List, NodeEntry, Op, Reply, Seat, State, Turned, after, entry, opening, subst}
 
 first_legal : (s : State) (e : NodeEntry) → LegalFrom s (e ∷ []) → IsNext s e
 unfolding LegalFrom

@@ -1,5 +1,7 @@
 -- How a closure's run is shown, and read by equal counts.
-use Rattle.sched_workers.proofs.Names.{◌≡◌, IfOk, MutBor, Result, subst, ℕ}
+use Rattle.std.proofs.lemmas.Bool.Decides.{nat_tests}
+use Rattle.std.proofs.Common.{arith}
+use Rattle.sched_workers.proofs.Names.{◌≡◌, IfOk, MutBor, Result, ℕ}
 use Rattle.std.specs.Fn.{Once}
 use Rattle.sched_workers.specs.Pairs.{Ran}
 
@@ -11,5 +13,4 @@ module _ {F S C T : Type 0} (g : Once F (MutBor S × (C × Unit {0})) (T × (Mut
   -- the same run, read by equal counts
   pub IfOk-alike : {A E : Type 0} (r : Result (A × T) E) (before mid after after' : ℕ) → mid ≡ before
       → IfOk r (λ x. Ran g count b carry mid x.1 after) → after ≡ after' → IfOk r (λ x. Ran g count b carry before x.1 after')
-  IfOk-alike r before mid after after' d ran e =
-      subst (λ (n : ℕ). IfOk r (λ x. Ran g count b carry before x.1 n)) e (subst (λ (m : ℕ). IfOk r (λ x. Ran g count b carry m x.1 after)) d ran)
+  IfOk-alike r before mid after after' e1 e2 e3 = grind (arith, nat_tests)

@@ -1,5 +1,6 @@
 -- What the calls that move the phase, the entrance and a stop were answered, by the states in which they were made.
-use Rattle.sched_workers.proofs.Names.{[], ◌&&◌, ◌++◌, ◌<◌, ◌∙◌, ◌∷◌, ◌≡◌, ◌≤◌, Allows, Bool, Cancelled, Closed, Closing, Idle, IsNext, Legal-front, LegalFrom, List, MatchBool, Mtapi, New, NodeEntry, Ok, Open, Pending, Phase, Reply, Row, State, Stop, Terms, after-append, after_from, after_moves, after_row, all_marked, any_listed, ap, append_assoc, arith, can_take, cond, ends_waiting, entries_of, entry, false, gives, is_new, is_open, is_past_open, is_pending, is_shut_in, is_stop, is_up, length, marked, next, not, only, opening, pass, phase_is, picks, refl, released, row, runs_on, says, skip, slice_set, stopped_room, stopped_stays, stops, subst, suc, sym, true, unless, workers, zero, ℕ}
+use Rattle.std.proofs.lemmas.Bool.Decides.{nat_tests}
+use Rattle.sched_workers.proofs.Names.{[], ◌&&◌, ◌++◌, ◌<◌, ◌∙◌, ◌∷◌, ◌≡◌, ◌≤◌, Allows, Bool, Cancelled, Closing, Idle, IsNext, Legal-front, LegalFrom, List, MatchBool, Mtapi, New, NodeEntry, Ok, Open, Pending, Phase, Reply, Row, State, Stop, Terms, after-append, after_from, after_moves, after_row, all_marked, any_listed, ap, arith, can_take, cond, ends_waiting, entries_of, entry, false, gives, is_new, is_open, is_past_open, is_pending, is_shut_in, is_stop, length, marked, next, not, only, opening, pass, phase_is, picks, refl, released, row, runs_on, says, skip, slice_set, stopped_room, stopped_stays, stops, subst, suc, sym, true, unless, workers, zero, ℕ}
 use Rattle.mtapi_values.specs.declared.statuses.MtapiStatus.TheVariants as m
 use Rattle.mtapi_machine.specs.declared.ops.Op.TheVariants as op
 use Rattle.sched_workers.proofs.TurnMarks.{first_next}
@@ -16,11 +17,7 @@ release_reply u w r e a = (pass (not (is_open u.phase)) (Mtapi m.ErrNodeNotinit)
 -- The entrance
 
 waits_or_ok : (b : Bool) (r : Reply) → is_pending r ≡ false → MatchBool b (r ≡ Pending) (r ≡ Ok) → r ≡ Ok
-waits_or_ok true r d a = absurd (both (ap is_pending (sym a) ∙ d))
-  where
-    both : true ≡ false → ⊥
-    both e = cc
-waits_or_ok false r d a = a
+waits_or_ok b r e1 e2 = grind (arith, nat_tests)
 
 pub enter_reply : (u : State) (w : ℕ) (r : Reply) → is_past_open u.phase ≡ false → is_pending r ≡ false → Allows (row u w op.Enter r) r → r ≡ Ok
 enter_reply u w r e d a = waits_or_ok (not u.released) r d (pass (is_past_open u.phase) (Mtapi m.ErrNodeNotinit) r (unless (not u.released) Pending (says Ok)) u e a).allowed
@@ -50,8 +47,7 @@ not_idle : Stop ≡ Idle → ⊥
 not_idle e = cc
 
 only_idle : (b : Bool) → Allows (only b (says Idle)) Stop → ⊥
-only_idle true a = not_idle a
-only_idle false a = a
+only_idle b e1 = grind (arith, nat_tests)
 
 stop_set : (b : Bool) (s : State) (w : ℕ) → w < length s.stopped → Allows (cond b (gives Stop (stops w ∷ [])) (picks s w Stop)) Stop → marked w (after_row s (cond b (gives Stop (stops w ∷ [])) (picks s w Stop))).stopped ≡ true
 stop_set true s w h a = set_marks s.stopped w h
@@ -90,7 +86,4 @@ all_marks (suc n) [] h f = absurd (omega arith)
 all_marks (suc n) (b ∷ bs) h f = (λ i. f 0 (omega arith) i && all_marked n bs) ∙ all_marks n bs (omega arith) (λ k j. f (suc k) (omega arith))
 
 pub final_reply : (u : State) (w : ℕ) (r : Reply) → u.phase ≡ Closing → all_marked (workers u) u.stopped ≡ true → Allows (row u w op.Final r) r → r ≡ Ok
-final_reply u w r e k a =
-    let inner : Row = unless (not (is_past_open u.phase && all_marked (workers u) u.stopped)) (Mtapi m.ErrNodeInitialized) (gives Ok (phase_is Closed ∷ [])) in
-    let g = pass (not (is_up u.phase)) (Mtapi m.ErrNodeNotinit) r inner u (ap (λ (p : Phase). not (is_up p)) e) a in
-    (pass (not (is_past_open u.phase && all_marked (workers u) u.stopped)) (Mtapi m.ErrNodeInitialized) r (gives Ok (phase_is Closed ∷ [])) u (λ i. not (is_past_open (e i) && k i)) g.allowed).allowed
+final_reply u w r e1 e2 e3 = grind (arith, nat_tests)

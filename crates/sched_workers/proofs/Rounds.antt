@@ -1,5 +1,7 @@
 -- What a worker's entries are: each of them is work.
-use Rattle.sched_workers.proofs.Names.{[], ◌++◌, ◌∷◌, ◌≡◌, Bool, GivesUp, List, NodeEntry, Ran, Reads, Rested, Round, Tallied, Tallying, TaskHandle, Watched, Writes, all_in, asks, entries_in, entry, false, is_work, refl, retries, suc, tally_steps, true, zero, ℕ}
+use Rattle.std.proofs.lemmas.Bool.Decides.{nat_tests}
+use Rattle.std.proofs.Common.{arith}
+use Rattle.sched_workers.proofs.Names.{[], ◌++◌, ◌∷◌, ◌≡◌, Bool, List, NodeEntry, Ran, Rested, Round, Tallied, Tallying, TaskHandle, Watched, all_in, asks, entries_in, entry, is_work, refl, retries, suc, tally_steps, true, zero, ℕ}
 use Rattle.mtapi_machine.specs.declared.ops.Op.TheVariants as op
 use Rattle.mtapi_machine.specs.declared.replies.Reply.TheVariants as reply
 
@@ -20,9 +22,7 @@ retries_work w t zero = tt
 retries_work w t (suc n) = (refl, retries_work w t n)
 
 steps_work : (w : ℕ) (t : TaskHandle) (x : Tallying) → AllWork (tally_steps w t x)
-steps_work w t GivesUp = (refl, tt)
-steps_work w t (Reads z) = (refl, (refl, tt))
-steps_work w t (Writes z v) = (refl, (refl, (refl, tt)))
+steps_work w t x = grind (arith, nat_tests)
 
 round_work : (w : ℕ) (r : Round) → AllWork (entries_in w r)
 round_work w Rested = (refl, tt)

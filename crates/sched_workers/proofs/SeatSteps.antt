@@ -1,5 +1,5 @@
 -- A worker's turn, from what its seat has seen to what it has seen then.
-use Rattle.sched_workers.proofs.Names.{[], ◌&&◌, ◌++◌, ◌+◌, ◌<◌, ◌==◌, ◌∙◌, ◌∷◌, ◌≡◌, ActionHandle, Acts, Added, AddsOwn, Answered, AtRest, AtWork, Bool, Ends, Finishes, Free, Holds, JournaledTerms, Kind, Legal, Legal-prefix, Legal-rest, List, LookedOut, MayEnd, NodeEntry, None, Op, PickEnds, PickedAs, Ran, Reply, Round, Rounded, SameSeat, Seat, Some, State, Tallied, Tallies, TaskHandle, Terms, Turned, Untouched, Watched, Watches, Work, WorkerAs, WorkerKeeps, Works, after, after-append, after-one, all_in, ap, append-nil, append_assoc, arith, asks, entries_in, entry, false, finished_as, inl, inr, map-append, nat_lt, nat_tests, next, not, opening, picked_as, refl, reported, subst, sym, tally_entries, terms_stay, true, unstarted_untouched, watching, work_of, work_stays, workers, ℕ, ℤ}
+use Rattle.sched_workers.proofs.Names.{[], ◌++◌, ◌+◌, ◌<◌, ◌==◌, ◌∙◌, ◌∷◌, ◌≡◌, ActionHandle, Acts, Added, AddsOwn, Answered, AtRest, AtWork, Bool, Ends, Finishes, Free, Holds, JournaledTerms, Kind, Legal, Legal-prefix, Legal-rest, List, LookedOut, MayEnd, NodeEntry, Op, PickEnds, PickedAs, Ran, Reply, Round, Rounded, SameSeat, Seat, Some, State, Tallied, Tallies, TaskHandle, Terms, Turned, Untouched, Watched, Watches, Work, WorkerAs, WorkerKeeps, Works, after, after-append, after-one, all_in, ap, append-nil, append_assoc, arith, asks, entries_in, entry, false, finished_as, inl, inr, map-append, nat_tests, next, opening, picked_as, refl, reported, subst, sym, tally_entries, terms_stay, true, unstarted_untouched, watching, work_of, work_stays, workers, ℕ, ℤ}
 use Rattle.mtapi_objects.specs.Tasks.{looks_of}
 use Rattle.mtapi_machine.specs.declared.ops.Op.TheVariants as op
 use Rattle.mtapi_machine.specs.declared.replies.Reply.TheVariants as reply

@@ -1,5 +1,7 @@
 -- The turns of a worker that executes a tally, from what its seat has seen to what it has seen then.
-use Rattle.sched_workers.proofs.Names.{[], ◌++◌, ◌∙◌, ◌∷◌, ◌≡◌, Added, AddsToCell, AtWork, Bool, EndsTally, GivesUp, IsTallyAnswer, List, LocksOnce, MayEndTally, MayRead, MayWrite, NodeEntry, None, Option, Reads, ReadsCell, Reply, SameSeat, Seat, Some, Stranded, Sums, TakesBoth, Tallies, TallyNotes, Tallying, TaskHandle, Turned, Works, Writes, WritesCell, answer_in, ap, append-nil, append_assoc, cond, entry, false, fits, fitting, next, no_tally, refl, replicate, retries, subst, suc, sum_with, sym, tally_failed, tally_has, tally_read, tally_steps, tally_written, tallying, true, zero, ℕ, ℤ}
+use Rattle.std.proofs.lemmas.Bool.Decides.{nat_tests}
+use Rattle.std.proofs.Common.{arith}
+use Rattle.sched_workers.proofs.Names.{[], ◌++◌, ◌∙◌, ◌∷◌, ◌≡◌, Added, AddsToCell, AtWork, Bool, EndsTally, IsTallyAnswer, List, LocksOnce, MayEndTally, MayRead, MayWrite, NodeEntry, None, Option, Reads, ReadsCell, Reply, SameSeat, Seat, Some, TakesBoth, TaskHandle, Turned, Works, Writes, WritesCell, answer_in, ap, append-nil, entry, false, fits, fitting, next, no_tally, refl, replicate, retries, subst, suc, sum_with, sym, tally_failed, tally_has, tally_read, tally_written, tallying, true, zero, ℕ, ℤ}
 use Rattle.mtapi_machine.specs.declared.ops.Op.TheVariants as op
 use Rattle.mtapi_machine.specs.declared.replies.Reply.TheVariants as reply
 use Rattle.sched_workers.proofs.OwnEntries.{state_at, turned_next}
@@ -89,11 +91,7 @@ writes_cell old new r t args z value a e u =
 
 -- a sum that doesn't fit
 unfit : (z : ℤ) → None ≡ fitting z → fits z ≡ false
-unfit z = by_test (fits z)
-  where
-    by_test : (b : Bool) → None ≡ cond b (Some z) None → b ≡ false
-    by_test true e = absurd (cc)
-    by_test false e = refl
+unfit z e1 = grind (arith, nat_tests)
 
 pub adds_nothing : (a b : Seat) (t : TaskHandle) (args : List ℤ) (z : ℤ) → ReadsCell a t args z b → None ≡ fitting (sum_with args z) → AddsToCell a t args b
 adds_nothing a b t args z x e = record {

@@ -1,5 +1,6 @@
 -- What a worker's own turns do to its tally.
-use Rattle.sched_workers.proofs.Names.{[], ◌&&◌, ◌+ℤ◌, ◌<◌, ◌==◌, ◌||◌, ◌∙◌, ◌∷◌, ◌≡◌, Adds, Allows, Asked, Bool, Completed, Decides-int_eq, Failed, Free, Goes, Holds, IsNext, Kind, List, Listed, Move, Mtapi, MtapiStatus, None, Number, Ok, Option, Pending, Reply, Row, Segments, Some, State, TallyNotes, Task, TaskEnd, Work, added, after_moves, alters, ap, arith, at-update, cell_in, cell_of, cond, count_changed, count_listed, ends_free, ends_task, entry, false, fits, gives, gives_back, gives_up, goes_then, int_eq, is_some, length, live, live_object, locks, moves_of, nat_lt, never, next, not, notes, number_in, own_goes, pass, refl, runs_as, runs_as_its, runs_on, runs_on_its, says, subst, sym, takes_both, tally_args, tally_failed, tally_has, tally_read, tally_written, true, unless, update, with_cell, with_fields, with_notes, with_tally, workers, ℕ, ℤ}
+use Rattle.std.proofs.lemmas.Bool.Decides.{nat_tests}
+use Rattle.sched_workers.proofs.Names.{[], ◌&&◌, ◌+ℤ◌, ◌<◌, ◌==◌, ◌||◌, ◌∙◌, ◌∷◌, ◌≡◌, Adds, Allows, Asked, Bool, Completed, Decides-int_eq, Failed, Free, Goes, Holds, IsNext, Kind, List, Listed, Move, Mtapi, MtapiStatus, None, Number, Ok, Option, Pending, Reply, Row, Segments, Some, State, TallyNotes, Task, TaskEnd, Work, added, after_moves, alters, ap, arith, at-update, cell_in, cell_of, cond, count_changed, count_listed, ends_free, ends_task, entry, false, fits, gives, gives_back, gives_up, int_eq, is_some, length, live, live_object, locks, moves_of, nat_lt, never, next, not, notes, number_in, pass, refl, runs_as, runs_on, runs_on_its, says, subst, sym, takes_both, tally_args, tally_failed, tally_has, tally_read, tally_written, true, unless, update, with_cell, with_fields, with_notes, with_tally, workers, ℕ, ℤ}
 use Rattle.mtapi_values.specs.declared.kinds.Kind.TheVariants as kind
 use Rattle.mtapi_values.specs.declared.statuses.MtapiStatus.TheVariants as m
 use Rattle.mtapi_machine.specs.declared.replies.Reply.TheVariants as reply
@@ -27,10 +28,7 @@ noted_holds s u w h x f v e =
 tally_goes : (s : State) (w h : ℕ) (x : Work) (v : Holds s w h x) (r : Reply) (f : Task → Row) → w < workers s → x.kind ≡ kind.Tally
     → Allows (unless (not (nat_lt w (workers s))) (Mtapi m.ErrParameter) (live (live_object s.tasks h) (says (Mtapi m.ErrTaskInvalid)) (λ y. unless (not (runs_as w kind.Tally y)) (Mtapi m.ErrTaskInvalid) (f y)))) r
     → Goes s (unless (not (nat_lt w (workers s))) (Mtapi m.ErrParameter) (live (live_object s.tasks h) (says (Mtapi m.ErrTaskInvalid)) (λ y. unless (not (runs_as w kind.Tally y)) (Mtapi m.ErrTaskInvalid) (f y)))) r (f v.task)
-tally_goes s w h x v r f l k a =
-    let g = own_goes s w h x v r (λ y. unless (not (runs_as w kind.Tally y)) (Mtapi m.ErrTaskInvalid) (f y)) l a in
-    let runs : runs_as w kind.Tally v.task ≡ true = ap (λ (z : Kind). runs_as w z v.task) (sym k) ∙ runs_as_its w x v.task v.runs in
-    goes_then s _ _ _ r g (pass (not (runs_as w kind.Tally v.task)) (Mtapi m.ErrTaskInvalid) r (f v.task) s (ap not runs) g.allowed)
+tally_goes s w h x v r f e1 e2 e3 = grind (arith, nat_tests)
 
 -- what a row may answer and do
 abbrev Gives : (Reply → List Move → Type 0) → Row → Type 0
@@ -45,12 +43,10 @@ by_gives Q (gives x ms) r g a = subst (λ (y : Reply). Q y ms) (sym a) g
 by_gives Q never r g a = absurd a
 
 gives_live : (Q : Reply → List Move → Type 0) {T : Type 0} (x : Option T) (v : Row) (w : T → Row) → Gives Q v → ((t : T) → Gives Q (w t)) → Gives Q (live x v w)
-gives_live Q None v w g h = g
-gives_live Q (Some t) v w g h = h t
+gives_live Q x v w e1 e2 = grind (arith, nat_tests)
 
 gives_cond : (Q : Reply → List Move → Type 0) (b : Bool) (v w : Row) → Gives Q v → Gives Q w → Gives Q (cond b v w)
-gives_cond Q true v w g h = g
-gives_cond Q false v w g h = h
+gives_cond Q b v w e1 e2 = grind (arith, nat_tests)
 
 -- Locking
 

@@ -1,5 +1,6 @@
 -- What the rows of looks say: when a look decides, when it tells that the time is over, and that what it decides has an answer.
-use Rattle.sched_workers.proofs.Names.{[], ◌+◌, ◌^◌, ◌∷◌, ◌≡◌, ◌≤◌, Allows, Bool, Cancelled, Completed, Ended, Ending, Every, Failed, InTime, IsTimed, List, Listed, MrapiStatus, MtapiStatus, None, Option, Reply, Row, Running, Scheduled, Some, State, Task, TaskEnd, TaskState, Wanted, any_listed, ap, arith, cond, done, drops, end_of, endings, every_at, false, fault_of, first_fault, found, gives_end, gives_first, in_time, insert, insert_ended, is_late_end, is_member, is_pending, is_some, is_timeout, is_unended_member, key, live, live_object, live_of, looks_at, lt-ltb, mrapi, mtapi, mutex_busy, nat_lt, not, not_yet, op_of, option_or, pos, refl, row, rwl_busy, sem_busy, subst, true, verdict, ℕ}
+use Rattle.std.proofs.lemmas.Bool.Decides.{nat_tests}
+use Rattle.sched_workers.proofs.Names.{[], ◌+◌, ◌^◌, ◌∷◌, ◌≡◌, ◌≤◌, Allows, Bool, Ended, Ending, Every, Failed, InTime, IsTimed, List, Listed, MrapiStatus, MtapiStatus, None, Option, Reply, Running, Scheduled, Some, State, Task, TaskEnd, TaskState, Wanted, ap, arith, cond, done, drops, end_of, endings, every_at, false, fault_of, first_fault, found, in_time, insert, insert_ended, is_late_end, is_member, is_pending, is_some, is_timeout, key, live, live_of, lt-ltb, mrapi, mtapi, nat_lt, not, op_of, option_or, pos, refl, row, subst, true, verdict, ℕ}
 use Rattle.mtapi_values.specs.declared.statuses.MtapiStatus.TheVariants as m
 use Rattle.mtapi_machine.specs.declared.replies.Reply.TheVariants as reply
 use Rattle.workload_runs.specs.declared.calls.Wanted.TheVariants as want
@@ -23,20 +24,16 @@ pub record Says (w : Wanted) (s : State) (last : Bool) (r : Reply) : Type 0 wher
 
 -- a refusal is neither the end of the time nor the status for want of tickets
 not_timeout : (c : MtapiStatus) → is_refusal c ≡ true → is_timeout (reply.Mtapi c) ≡ false
-not_timeout m.Timeout e = absurd (cc)
-not_timeout _ e = refl
+not_timeout c e1 = grind (arith, nat_tests)
 
 not_caller_timeout : (c : MrapiStatus) → is_caller_refusal c ≡ true → is_timeout (reply.Mrapi c) ≡ false
-not_caller_timeout caller.Timeout e = absurd (cc)
-not_caller_timeout _ e = refl
+not_caller_timeout c e1 = grind (arith, nat_tests)
 
 pub not_spent : {A : Type 0} (read : Reply → Option A) (c : MtapiStatus) → is_refusal c ≡ true → says mtapi read (reply.Mtapi c) ≡ true
-not_spent read m.ErrSpent e = absurd (cc)
-not_spent read _ e = refl
+not_spent read c e1 = grind (arith, nat_tests)
 
 pub not_spent_caller : {A : Type 0} (read : Reply → Option A) (c : MrapiStatus) → is_caller_refusal c ≡ true → says mrapi read (reply.Mrapi c) ≡ true
-not_spent_caller read caller.ErrSpent e = absurd (cc)
-not_spent_caller read _ e = refl
+not_spent_caller read c e1 = grind (arith, nat_tests)
 
 module _ {w : Wanted} {s : State} where
   -- statuses other than that for the end of the time, and that an op was done
@@ -72,8 +69,7 @@ insert_early e (f ∷ fs) l a = by (nat_lt e.number f.number) (insert_early e fs
     by false more = (a.0, more)
 
 not_true : (b : Bool) → not b ≡ true → b ≡ false
-not_true true e = absurd (cc)
-not_true false e = refl
+not_true b e1 = grind (arith, nat_tests)
 
 ended_early : (h : ℕ) (x : TaskState) (es : List Ending) → in_time x ≡ true → AllEarly es → AllEarly (insert_ended h (end_of x) es)
 ended_early h Scheduled es i a = a
@@ -98,14 +94,10 @@ abbrev IsPlain : Option MtapiStatus → Type 0
 IsPlain o = (is_timeout (verdict o) ≡ false) × (says mtapi done (verdict o) ≡ true)
 
 failed_plain : (x : MtapiStatus) → is_late_end (Failed x) ≡ false → IsPlain (Some x)
-failed_plain m.Timeout l = absurd (cc)
-failed_plain m.ErrSpent l = absurd (cc)
-failed_plain _ l = (refl, refl)
+failed_plain x e1 = grind (arith, nat_tests)
 
 first_plain : (y : TaskEnd) (o : Option MtapiStatus) → is_late_end y ≡ false → IsPlain o → IsPlain (option_or (fault_of y) o)
-first_plain (Completed args) o l more = more
-first_plain Cancelled o l more = (refl, refl)
-first_plain (Failed x) o l more = failed_plain x l
+first_plain y o e1 e2 = grind (arith, nat_tests)
 
 faults_plain : (es : List Ending) → AllEarly es → IsPlain (first_fault es)
 faults_plain [] a = (refl, refl)

@@ -1,5 +1,6 @@
 -- A run of a workload, from what each seat's own entries are.
-use Rattle.sched_workers.proofs.Names.{[], ◌++◌, ◌+◌, ◌-◌, ◌<◌, ◌∙◌, ◌∷◌, ◌≡◌, ◌≤◌, Bool, BySeats, CallerAs, CallerIn, CallerRan, CallersRan, Carried, ClosesAtEnd, Closing, EntersAs, Legal-front, LegalFrom, List, MadeAs, MainAs, MainRan, MatchBool, New, NoClose, NoPhase, NodeEntry, Ok, OnceListed, Part, PartsRan, Pending, Reply, RunBy, Some, State, Statement, Stop, Terms, Turn, WorkerAs, WorkerBy, Workload, after-append, after_from, all_in, all_marked, ap, append-nil, append_assoc, arith, by_seats, cases_Bool, early_stays, entries-append, entries_of, entry, false, has_begin, head_entries, if◌then◌else◌, in_turns, inl, inr, is_ok, is_past_open, length, listed, ltb-false, ltb-true, marked, nat_lt, next, opening, phase_stays, refl, replicate, slice_get, stopped_room, subst, suc, sym, terms_stay, true, turns_of, workers, zero, ℕ}
+use Rattle.std.proofs.lemmas.Bool.Decides.{nat_tests}
+use Rattle.sched_workers.proofs.Names.{[], ◌++◌, ◌+◌, ◌-◌, ◌<◌, ◌∙◌, ◌∷◌, ◌≡◌, ◌≤◌, Bool, BySeats, CallerAs, CallerIn, CallerRan, CallersRan, Carried, ClosesAtEnd, Closing, EntersAs, Legal-front, LegalFrom, List, MadeAs, MainAs, MainRan, MatchBool, NoClose, NoPhase, NodeEntry, Ok, OnceListed, Part, PartsRan, Pending, Reply, RunBy, Some, State, Statement, Stop, Terms, Turn, WorkerAs, WorkerBy, Workload, after-append, after_from, all_in, all_marked, ap, append-nil, append_assoc, arith, by_seats, early_stays, entries-append, entries_of, entry, false, has_begin, head_entries, if◌then◌else◌, in_turns, is_ok, is_past_open, length, listed, marked, next, opening, phase_stays, refl, replicate, slice_get, stopped_room, subst, suc, sym, terms_stay, true, turns_of, workers, zero, ℕ}
 use Rattle.mtapi_machine.specs.declared.ops.Op.TheVariants as op
 use Rattle.sched_workers.proofs.TurnMarks.{first_next}
 use Rattle.sched_workers.proofs.Rounds.{rounds_work}
@@ -36,16 +37,7 @@ pub data Place (w n k : ℕ) : Type 0 where
   is_none : n ≤ k → Place w n k
 
 pub place_of : (w n k : ℕ) → Place w n k
-place_of w n k = elim (cases_Bool (nat_lt k w)) [
-  | inl i ↦ is_worker (ltb-true k w i)
-  | inr i ↦ let low = ltb-false k w i in elim (cases_Bool (nat_lt w k)) [
-    | inl j ↦ let high = ltb-true w k j in elim (cases_Bool (nat_lt k n)) [
-      | inl l ↦ is_caller high (ltb-true k n l)
-      | inr l ↦ is_none (ltb-false k n l)
-    ]
-    | inr j ↦ let top = ltb-false w k j in is_main (omega arith)
-  ]
-]
+place_of w n k = grind (arith, nat_tests)
 
 index : (w i : ℕ) → (w + suc i) - w ≡ suc i
 index w i = omega arith

@@ -1,11 +1,12 @@
 -- What a worker's looks at a watch do to its task.
-use Rattle.sched_workers.proofs.Names.{[], ◌&&◌, ◌+◌, ◌<◌, ◌==◌, ◌||◌, ◌∙◌, ◌∷◌, ◌≡◌, Action, ActionHandle, Allows, Answered, Asked, Bool, Decides-int_eq, Ended, Free, Given, Handle, Holds, Idle, IsNext, IsUntouched, Kind, List, Mrapi, Mtapi, None, Notes, Number, Ok, Option, Pending, Picked, Reply, Row, Running, RunsWith, Scheduled, Some, State, Stop, Task, TaskEnd, TaskState, Work, after_row, any_listed, ap, arith, asked_once, asked_refusals, at-update, can_take, change, changed, cond, count_changed, count_listed, count_none, ended, ends_free, entry, false, finish_refusals, gives, has_better, holds, int_eq, is_eligible, is_new, is_none, is_ready, is_stop, is_unstarted, kind_number, live, live_object, mtapi_unless, nat_lt, never, next, no_tally, not, notes, only, own_goes, pass, picks, pointwise, refl, runner, runs_as, runs_as_its, runs_on, runs_on_its, says, scheduled, slice_eq-Decides, subst, sym, task_end, tasks, true, unless, watch_end, watch_end_refusals, with_fields, with_notes, with_state, workers, ℕ, ℤ}
+use Rattle.std.proofs.lemmas.Bool.Decides.{nat_tests}
+use Rattle.sched_workers.proofs.Names.{[], ◌&&◌, ◌+◌, ◌<◌, ◌==◌, ◌||◌, ◌∙◌, ◌∷◌, ◌≡◌, Asked, Bool, Ended, Free, Holds, IsNext, Kind, Mtapi, Reply, Row, RunsWith, Some, State, Task, TaskEnd, Work, ap, arith, asked_once, asked_refusals, at-update, changed, cond, count_changed, ends_free, entry, false, gives, holds, is_none, mtapi_unless, nat_lt, next, not, notes, own_goes, pass, refl, runs_as, runs_as_its, runs_on, runs_on_its, subst, sym, tasks, true, unless, watch_end, watch_end_refusals, with_fields, with_notes, workers, ℕ}
 use Rattle.mtapi_values.specs.declared.kinds.Kind.TheVariants as kind
 use Rattle.mtapi_values.specs.declared.statuses.MtapiStatus.TheVariants as m
 use Rattle.mtapi_machine.specs.declared.replies.Reply.TheVariants as reply
 use Rattle.mtapi_machine.specs.declared.ops.Op.TheVariants as op
 use Rattle.mtapi_objects.specs.Tasks.{looks_of}
-use Rattle.mtapi_machine.specs.Moves.{runs_task as runs_task, stops as stops_worker, ends_task as ends_task}
+use Rattle.mtapi_machine.specs.Moves.{ends_task as ends_task}
 
 -- what an ask leaves of the work
 abbrev pub reported : Bool → Work → Work
@@ -18,12 +19,7 @@ pub record AskedAs (r : Reply) (w h : ℕ) (x : Work) (u : State) : Type 0 where
   pub holds : Holds u w h (reported requested x)
 
 asked_runs : (w : ℕ) (x : Work) (t : Task) (b : Bool) → t.notes.requested ≡ b → RunsWith w x t → RunsWith w (reported b x) (with_notes asked_once t)
-asked_runs w x t true e v =
-    subst (λ (n : Notes). RunsWith w (reported true x) (record t { notes = n })) (λ i. cond (sym e i) (record t.notes { seen = true }) (record t.notes { looks = t.notes.looks + 1 }))
-    (record { state = v.state; arguments = v.arguments; looked = v.looked; reported = refl; did = v.did })
-asked_runs w x t false e v =
-    subst (λ (n : Notes). RunsWith w (reported false x) (record t { notes = n })) (λ i. cond (sym e i) (record t.notes { seen = true }) (record t.notes { looks = t.notes.looks + 1 }))
-    (record { state = v.state; arguments = v.arguments; looked = ap (λ (n : ℕ). n + 1) v.looked; reported = v.reported; did = v.did })
+asked_runs w x t b e1 e2 = grind (arith, nat_tests)
 
 asked_holds : (s : State) (w h : ℕ) (x : Work) (v : Holds s w h x) → Holds (changed tasks h (with_notes asked_once) s) w h (reported v.task.notes.requested x)
 asked_holds s w h x v =

@@ -1,5 +1,5 @@
 -- One worker's seat goes out, and comes back.
-use Rattle.sched_workers.proofs.Names.{[], ◌++◌, ◌+◌, ◌∙◌, ◌∷◌, ◌≡◌, ◌≤◌, AddsOwn, All, All-pop, AllDid, AllHands, AllZip, AllZip-push, AreAllReady, AreReady, Back, CallerIn, CallersDid, CameBack, Cell, Close, Crew, GaveUp, Hands, IsClean, IsCrewOf, IsEnded, IsIdle, IsJoined, IsOf, IsWholeCrewOf, List, MainClosed, Part, Seat, Some, Statement, WorkerAs, ap, append-nil, append_assoc, arith, subst, sym, true, vec_capacity, vec_len}
+use Rattle.sched_workers.proofs.Names.{[], ◌++◌, ◌+◌, ◌∙◌, ◌∷◌, ◌≡◌, AddsOwn, All, All-pop, AllDid, AllHands, AllZip, AllZip-push, AreAllReady, Back, CallerIn, CallersDid, CameBack, Cell, Close, Crew, GaveUp, Hands, IsClean, IsCrewOf, IsEnded, IsIdle, IsJoined, IsOf, IsWholeCrewOf, List, MainClosed, Part, Seat, Some, Statement, WorkerAs, ap, append-nil, append_assoc, arith, subst, sym, true, vec_capacity, vec_len}
 use Rattle.sched_workers.proofs.CrewLemmas.{joined_of}
 use Rattle.sched_workers.proofs.Adds.{all_more}
 use Rattle.sched_workers.proofs.Meets.{met_zip}
