@@ -1,6 +1,6 @@
 -- The seats of a new cell, dealt; and what a whole run begins and ends with.
 use Rattle.std.proofs.lemmas.Bool.Decides.{nat_tests}
-use Rattle.sched_workers.proofs.Names.{[], ◌++◌, ◌+◌, ◌-◌, ◌<◌, ◌∙◌, ◌∷◌, ◌≡◌, ◌≤◌, All, All-cons, All-nil, All-push, AllDid, AllHands, AreAllReady, Bool, Cell, Close, Counts, Crew, Dealt, Final, GaveUp, GivesMain, HasPart, IfErr, IfOk, IfOk-weaker, IsClean, IsComplete, IsEnded, IsIdle, IsOf, IsRun, IsWholeCrewOf, Journal, JournalOf, JournaledTerms, KeptAs, Legal, List, MadeNone, NodeEntry, Part, RefusedAs, Result, RunBy, RunError, RunOf, Seat, State, Statement, Terms, Workload, accepted_end, all_of, ap, append_assoc, arith, counts_next, drop, entry, fresh-drop, fresh-take, fresh_seat, fresh_seats, get_or, if◌then◌else◌, is_dropped, is_refused, journal_run, journal_seats, kept, length, next, no_counts, opening, refl, skipped, slice_index, subst, suc, sym, take, terms_for, true, zero, ℕ}
+use Rattle.sched_workers.proofs.Names.{[], ◌++◌, ◌+◌, ◌-◌, ◌<◌, ◌∙◌, ◌∷◌, ◌≡◌, ◌≤◌, All, All-cons, All-nil, All-push, AllDid, AllHands, AreAllReady, Bool, Cell, Close, Counts, Crew, Dealt, Final, GivesMain, HasPart, IfErr, IfOk, IfOk-weaker, IsClean, IsComplete, IsEnded, IsIdle, IsOf, IsRun, IsWholeCrewOf, Journal, JournalOf, JournaledTerms, KeptAs, Legal, List, NodeEntry, Part, RefusedAs, Result, RunBy, RunError, RunOf, Seat, State, Statement, Terms, Workload, accepted_end, all_of, ap, append_assoc, arith, counts_next, drop, entry, fresh-drop, fresh-take, fresh_seat, fresh_seats, get_or, if◌then◌else◌, is_dropped, is_refused, journal_run, journal_seats, kept, length, next, no_counts, opening, refl, skipped, slice_index, subst, suc, sym, take, terms_for, true, zero, ℕ}
 use Rattle.std.proofs.Common.{Ok}
 use Rattle.mtapi_machine.specs.declared.replies.Reply.TheVariants as reply
 use Rattle.sched_workers.specs.declared.run.RunError.TheVariants as error
@@ -127,9 +127,6 @@ refused_is c r e1 = grind (arith, nat_tests)
 
 pub counts_as : (b d : Bool) (before after : ℕ) → b ≡ d → Counts d before after → Counts b before after
 counts_as b d before after e x = subst (λ (i : Bool). Counts i before after) (sym e) x
-
-made_none : (z : Cell) (w : ℕ) (main : Seat) → GaveUp (fresh_seat z.terms z.id w) main → (main.number ≡ w) × MadeNone main
-made_none z w main e1 = grind (arith, nat_tests)
 
 pub gives_main : (z : Cell) (w m n : ℕ) (parts : List Part) (ss : List Statement) (a : AllHands) (c c' : Crew) (r : Result Journal RunError) → w ≡ n → Dealt z w m a → IsWholeCrewOf z parts ss a c → (c.refused ≡ true → c' ≡ c) → c'.refused ≡ c.refused → RefusedAs c' r → IfErr r (GivesMain n)
 gives_main z w m n parts ss a c c' r e1 e2 e3 e4 e5 e6 = grind (arith, nat_tests)

@@ -81,7 +81,7 @@ pub use Rattle.sched_workers.specs.Pairs.{Counts}
 pub use Rattle.sched_workers.specs.Replies.{Standard, done, found, given, key, mrapi, mtapi}
 pub use Rattle.sched_workers.specs.Rounds.{Added, AtRest, AtWork, Ran, Reads, Rested, Round, Rounded, Tallied, Tallying, Watched, WorkerAs, Writes, asks, entries_in, retries, tally_entries, tally_steps}
 unfoldable pub use Rattle.sched_workers.specs.Rounds.{all_in}
-pub use Rattle.sched_workers.specs.Runs.{Dealt, GivesMain, IsRun, JournalOf, MadeNone, RefusedAs, is_refused, terms_for}
+pub use Rattle.sched_workers.specs.Runs.{Dealt, GivesMain, IsRun, JournalOf, RefusedAs, is_refused, terms_for}
 pub use Rattle.sched_workers.specs.Steps.{Acts, AddsToCell, Ends, EndsTally, Finishes, IsTallyAnswer, LocksOnce, LookedOut, MayEnd, MayEndTally, MayRead, MayWrite, PickEnds, ReadsCell, TakesBoth, Tallies, Watches, Works, WritesCell, answer_in, reported, sum_with, tallying, watching, work_of}
 pub use Rattle.sched_workers.specs.Turns.{AddsOwn, SameSeat, Seat, Turned, Unturned}
 pub use Rattle.sched_workers.specs.declared.crew.back.AllHands.{AllHands}

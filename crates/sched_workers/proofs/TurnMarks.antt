@@ -1,5 +1,5 @@
 -- A seat's entries in a legal history, as turns: which of them a journal keeps.
-use Rattle.sched_workers.proofs.Names.{[], ◌++◌, ◌==◌, ◌||◌, ◌∙◌, ◌∷◌, ◌≡◌, Allows, Bool, Ended, IsNext, Legal-rest, LegalFrom, List, Mtapi, NodeEntry, None, Option, Others, Pending, Reply, Row, Some, State, Task, TaskHandle, TaskState, Turn, Waits, after_from, after_row, ap, arith, at-update, changed, cond, entries_of, entry, false, holds, is_dropped, is_other, is_seat, is_some, is_up, live, live_object, looks_at, nat_tests, next, not, refl, says, self_is, skip, subst, sym, tasks, true, turn_of, turns_append, turns_of, unless, with_notes, with_waiter, ℕ}
+use Rattle.sched_workers.proofs.Names.{[], ◌++◌, ◌==◌, ◌||◌, ◌∙◌, ◌∷◌, ◌≡◌, Allows, Bool, IsNext, Legal-rest, LegalFrom, List, Mtapi, NodeEntry, None, Option, Others, Pending, Reply, Row, Some, State, Task, TaskHandle, TaskState, Turn, Waits, after_from, after_row, ap, arith, at-update, changed, cond, entries_of, entry, false, is_other, is_some, is_up, live, live_object, looks_at, nat_tests, next, not, refl, says, self_is, skip, subst, sym, tasks, true, turn_of, turns_append, turns_of, unless, with_notes, with_waiter, ℕ}
 use Rattle.mtapi_values.specs.declared.statuses.MtapiStatus.TheVariants as m
 use Rattle.mtapi_machine.specs.declared.ops.Op.TheVariants as op
 use Rattle.mtapi_machine.specs.declared.replies.Reply.TheVariants as reply
@@ -54,9 +54,6 @@ turns_one w s A e o b =
 not_mtapi : (c : _) → Pending ≡ Mtapi c → ⊥
 not_mtapi c e = cc
 
-not_end : (c : _) → Pending ≡ reply.Ended c → ⊥
-not_end c e = cc
-
 set_waiter : (s : State) (w h : ℕ) (x : Task) (y : TaskState) → Allows (looks_at w h false y) Pending → after_row s (looks_at w h false y) ≡ changed tasks h (with_notes (with_waiter (Some w))) s
 set_waiter s w h x y e1 = grind (arith, nat_tests)
 
@@ -89,10 +86,6 @@ pend_waits s w t n =
     let v : Row = live (live_object s.tasks t.0) (says (Mtapi m.ErrTaskInvalid)) (λ x. unless (x.notes.detached || is_some x.notes.group) (Mtapi m.ErrParameter) (unless (is_other w x.notes.waiter) (Mtapi m.ErrWaitPending) (looks_at w t.0 false x.state))) in
     let g = skip (not (is_up s.phase)) (Mtapi m.ErrNodeNotinit) Pending v s (not_mtapi m.ErrNodeNotinit) n.allowed in
     subst (λ (u : State). Waits u w t.0) (sym g.leads) (look_at_live s w t.0 (live_object s.tasks t.0) refl g.allowed)
-
--- a seat that stands as the waiter makes a look that no journal keeps
-pub waiting_drops : (s : State) (w : ℕ) (t : TaskHandle) → Waits s w t.0 → is_dropped s (entry w (op.TaskLook t false) Pending) ≡ true
-waiting_drops s w t v = ap (λ (o : Option Task). holds (λ x. is_seat w x.notes.waiter) o) v.1 ∙ v.2.mark
 
 cut_legal : (s : State) (e : NodeEntry) (B : List NodeEntry) → LegalFrom s (e ∷ B) → IsNext s e × LegalFrom (next s e) B
 unfolding LegalFrom

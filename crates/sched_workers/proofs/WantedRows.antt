@@ -1,6 +1,6 @@
 -- What the rows of looks say: when a look decides, when it tells that the time is over, and that what it decides has an answer.
 use Rattle.std.proofs.lemmas.Bool.Decides.{nat_tests}
-use Rattle.sched_workers.proofs.Names.{[], ◌+◌, ◌^◌, ◌∷◌, ◌≡◌, ◌≤◌, Allows, Bool, Ended, Ending, Every, Failed, InTime, IsTimed, List, Listed, MrapiStatus, MtapiStatus, None, Option, Reply, Running, Scheduled, Some, State, Task, TaskEnd, TaskState, Wanted, ap, arith, cond, done, drops, end_of, endings, every_at, false, fault_of, first_fault, found, in_time, insert, insert_ended, is_late_end, is_member, is_pending, is_some, is_timeout, key, live, live_of, lt-ltb, mrapi, mtapi, nat_lt, not, op_of, option_or, pos, refl, row, subst, true, verdict, ℕ}
+use Rattle.sched_workers.proofs.Names.{[], ◌+◌, ◌^◌, ◌∷◌, ◌≡◌, ◌≤◌, Allows, Bool, Ended, Ending, Every, InTime, IsTimed, List, Listed, MrapiStatus, MtapiStatus, None, Option, Reply, Running, Scheduled, Some, State, Task, TaskEnd, TaskState, Wanted, ap, arith, cond, done, drops, end_of, endings, every_at, false, fault_of, first_fault, found, in_time, insert, insert_ended, is_late_end, is_member, is_pending, is_some, is_timeout, key, live, live_of, lt-ltb, mrapi, mtapi, nat_lt, not, op_of, option_or, pos, refl, row, subst, true, verdict, ℕ}
 use Rattle.mtapi_values.specs.declared.statuses.MtapiStatus.TheVariants as m
 use Rattle.mtapi_machine.specs.declared.replies.Reply.TheVariants as reply
 use Rattle.workload_runs.specs.declared.calls.Wanted.TheVariants as want
@@ -92,9 +92,6 @@ endings_early g (r ∷ rs) a = by r.live (endings_early g rs a.1)
 -- what all members of a group say: neither the end of the time nor the status for want of tickets
 abbrev IsPlain : Option MtapiStatus → Type 0
 IsPlain o = (is_timeout (verdict o) ≡ false) × (says mtapi done (verdict o) ≡ true)
-
-failed_plain : (x : MtapiStatus) → is_late_end (Failed x) ≡ false → IsPlain (Some x)
-failed_plain x e1 = grind (arith, nat_tests)
 
 first_plain : (y : TaskEnd) (o : Option MtapiStatus) → is_late_end y ≡ false → IsPlain o → IsPlain (option_or (fault_of y) o)
 first_plain y o e1 e2 = grind (arith, nat_tests)
