@@ -1,50 +1,61 @@
--- The seats of a node from its start to its end, and what its client's calls add.
-use Rattle.std.proofs.Common.{◌≡◌, ℕ, zero, suc, ◌+◌, ◌≤◌, true, List, length, [], ◌∷◌, ◌++◌, Result, Ok, Err, drop, ◌<◌, ◌^◌, inl, inr, refl, sym, ◌∙◌, ap, subst, arith, vec_len}
+-- The seats of a node from its start to its end, and what its clients' calls add.
+use Rattle.std.proofs.Common.{◌≡◌, ℕ, zero, suc, true, ◌+◌, ◌-◌, ◌≤◌, ◌<◌, ◌^◌, List, length, take, drop, replicate, [], ◌∷◌, ◌++◌, Option, None, Result, Ok, Err, inl, inr, refl, sym, ◌∙◌, ap, subst, append_assoc, arith, vec_len}
 use Rattle.std.specs.Prelude.{All, IfOk, IfErr}
 use Rattle.std.specs.List.{AllZip}
-use Rattle.std.proofs.lemmas.Result.{IfOk-at_ok, IfErr-at_err}
 use Rattle.std.proofs.lemmas.List.{append-nil, same_from_push, take-append-drop}
 use Rattle.std.proofs.lemmas.List.Elements.{All-nil, All-cons, AllZip-push}
 use Rattle.history.specs.Histories.{StartsWith, entry, entries_of}
 use Rattle.history.proofs.Growth.{entries_append}
 use Rattle.turn_cell.specs.Lists.{all_of}
 use Rattle.turn_cell.specs.Seats.{fresh_seat, fresh_seats, IsComplete, IsSeatOf}
-use Rattle.turn_cell.proofs.Complete.{numbers, complete_alike, complete_fresh, all_has, has_back}
+use Rattle.turn_cell.proofs.Complete.{numbers, complete_alike, complete_fresh, all_has, has_back, has_front, fresh-take, fresh-drop}
 use Rattle.mtapi_values.specs.Attributes.{NodeSettings}
+use Rattle.mtapi_values.specs.declared.handles.Layout.TheVariants.{Two}
 use Rattle.mtapi_values.specs.declared.statuses.MtapiStatus.{MtapiStatus}
 use Rattle.mtapi_machine.specs.declared.ops.Op.{Op}
-use Rattle.mtapi_machine.specs.declared.ops.Op.TheVariants.{Initialize, Close, Final}
+use Rattle.mtapi_machine.specs.declared.ops.Op.TheVariants.{Initialize, Release, Enter, Close, Final}
 use Rattle.mtapi_machine.specs.declared.replies.Reply.{Reply}
 use Rattle.mtapi_machine.specs.declared.replies.Reply.TheVariants as reply
 use Rattle.mtapi_machine.specs.declared.terms.Terms.{Terms}
+use Rattle.mtapi_machine.specs.State.{terms_with}
 use Rattle.mtapi_machine.specs.Legal.{NodeEntry, Legal}
+use Rattle.node_journals.specs.declared.entries.Journal.{Journal}
 use Rattle.node_core.specs.declared.journaled.JournaledTerms.{JournaledTerms}
 use Rattle.node_core.specs.Logs.{journal_seats, KeptAs}
+use Rattle.workload_runs.specs.declared.calls.Wanted.TheVariants.{Entrance}
 use Rattle.sched_workers.specs.Turns.{Seat, SameSeat}
-use Rattle.sched_workers.specs.Answers.{Answers, Called}
+use Rattle.sched_workers.specs.Answers.{Answers, Called as Asked, Waited}
 use Rattle.sched_workers.specs.Replies.{mtapi, done}
 use Rattle.sched_workers.specs.Crews.{Cell, IsIdle, GaveUp}
 use Rattle.sched_workers.proofs.Starts.{new_at_rest}
+use Rattle.node_with_workers.specs.declared.client.Called.{Called}
+use Rattle.node_with_workers.specs.declared.callers.Callers.{Callers}
+use Rattle.node_with_workers.specs.declared.callers.Company.{Company}
 use Rattle.node_with_workers.specs.declared.crew.Crew.{Crew}
 use Rattle.node_with_workers.specs.declared.crew.Hands.{Hands}
 use Rattle.node_with_workers.specs.declared.failure.Failure.{Failure}
 use Rattle.node_with_workers.specs.declared.failure.Failure.TheVariants as failure
 use Rattle.node_with_workers.specs.declared.jobs.Over.{Over}
-use Rattle.node_with_workers.specs.declared.run.Done.{Done}
-use Rattle.node_with_workers.specs.Clients.{GoesOn, MadeOne, MainOpens, HasCalled, IfRefused, IsRefused, IsNoRefusal, SaysOf}
-use Rattle.node_with_workers.specs.Crews.{AreReady, IsJoined, CameBack}
-use Rattle.node_with_workers.specs.Runs.{terms_for, IsRun, Refuses, HasAllSeats, HasEnded, HasFailed}
+use Rattle.node_with_workers.specs.declared.run.AllDone.{AllDone}
+use Rattle.node_with_workers.specs.Clients.{GoesOn, MadeOne, MainOpens, CallerEnters, HasCalled, IfRefused, IsRefused, IsNotOpened, IsKeptOut, SaysOf}
+use Rattle.node_with_workers.specs.Crews.{HasComeBack, MayCall, AreTold, IsOneMore, IsJoinedBy, IsLostBy, HaveComeBack, AreRefused, AreReady, IsJoined, CameBack}
+use Rattle.node_with_workers.specs.Runs.{terms_among, terms_for, IsRun, IsRunOfAll, HaveCalled, Refuses, RefusesOne, IsNotEnded, HasAllSeats, HasEnded}
 use Rattle.node_with_workers.proofs.Told.{read_done}
+
+-- What a refusal says
+
+pub refused_weaker : (P Q : MtapiStatus → Type 0) (f : Failure) → ((s : MtapiStatus) → P s → Q s) → IfRefused f P → IfRefused f Q
+refused_weaker P Q (failure.Refused s) h r = h s r
+refused_weaker P Q failure.Memory h r = tt
+refused_weaker P Q (failure.NoThread n) h r = tt
+refused_weaker P Q (failure.Spent n) h r = tt
+
+-- The calls of one seat
 
 pub same_then : (a b c : Seat) → SameSeat a b → SameSeat b c → SameSeat a c
 same_then a b c x y = record { cell = y.cell ∙ x.cell; number = y.number ∙ x.number; terms = y.terms ∙ x.terms }
 
-same_behind : (a b c : Seat) → SameSeat a b → SameSeat a c → SameSeat b c
-same_behind a b c x y = record { cell = y.cell ∙ sym x.cell; number = y.number ∙ sym x.number; terms = y.terms ∙ sym x.terms }
-
--- The client's calls
-
-gave_more : (old new : Seat) → GaveUp old new → (more : List NodeEntry) × (new.mine ≡ old.mine ++ more)
+gave_more : (old new : Seat) → GaveUp old new → StartsWith new.mine old.mine
 gave_more old new (inl c) = (entry old.number Close c.0 ∷ [], c.1.mine)
 gave_more old new (inr u) = ([], u.mine ∙ sym (append-nil old.mine))
 
@@ -53,12 +64,12 @@ gave_same old new (inl c) = c.1.same
 gave_same old new (inr u) = u.same
 
 -- the seat's entries begin with those that it had
-pub goes_on : (old new : Seat) → GoesOn old new → StartsWith new.mine old.mine
+goes_on : (old new : Seat) → GoesOn old new → StartsWith new.mine old.mine
 goes_on old new g =
     (drop (length old.mine) new.mine, sym (take-append-drop (length old.mine) new.mine) ∙ ap (λ (l : List NodeEntry). l ++ drop (length old.mine) new.mine) g)
 
 -- a call that was done, and one that was refused
-pub made_one : (o : Op) (old new : Seat) (x : Result (Unit {0}) MtapiStatus) (u : Unit {0}) → Called mtapi done o old new x → x ≡ Ok u → MadeOne o old new
+made_one : (o : Op) (old new : Seat) (x : Result (Unit {0}) MtapiStatus) (u : Unit {0}) → Asked mtapi done o old new x → x ≡ Ok u → MadeOne o old new
 made_one o old new (Ok v) u (inl c) is = record { same = c.1.same; mine = c.1.mine ∙ ap (λ (r : Reply). old.mine ++ entry old.number o r ∷ []) (read_done c.0 v c.2) }
 made_one o old new (Ok v) u (inr c) is = absurd (cc)
 made_one o old new (Err e) u c is = absurd (cc)
@@ -68,7 +79,7 @@ read_refusal reply.Ok e a = absurd (cc)
 read_refusal (reply.Mtapi c) e a = let same = a.0 in cc
 read_refusal _ e a = absurd a
 
-is_refused : (o : Op) (old new : Seat) (x : Result (Unit {0}) MtapiStatus) (status : MtapiStatus) → Called mtapi done o old new x → x ≡ Err status → new.shown < 2 ^ 62 → IsRefused old.terms.node old.number old.mine o status
+is_refused : (o : Op) (old new : Seat) (x : Result (Unit {0}) MtapiStatus) (status : MtapiStatus) → Asked mtapi done o old new x → x ≡ Err status → new.shown < 2 ^ 62 → IsRefused old.terms.node old.number old.mine o status
 is_refused o old new (Ok v) status c is few = absurd (cc)
 is_refused o old new (Err e) status (inr c) is few = let shown = c.0.shown in absurd (omega arith)
 is_refused o old new (Err e) status (inl c) is few =
@@ -85,7 +96,7 @@ is_refused o old new (Err e) status (inl c) is few =
 
 -- the same of a caller that is made of the seat and gives it back
 pub says_of : (o : Op) (seat start tried given : Seat) (x : Result (Unit {0}) MtapiStatus) (status : MtapiStatus) (f : Failure)
-    → start ≡ seat → Called mtapi done o start tried x → x ≡ Err status → given ≡ tried → SaysOf given status f → IfRefused f (IsRefused seat.terms.node seat.number seat.mine o)
+    → start ≡ seat → Asked mtapi done o start tried x → x ≡ Err status → given ≡ tried → SaysOf given status f → IfRefused f (IsRefused seat.terms.node seat.number seat.mine o)
 says_of o seat start tried given x status (failure.Refused s) first called is back says =
     subst (IsRefused seat.terms.node seat.number seat.mine o) (sym says.0)
     (subst (λ (q : Seat). IsRefused q.terms.node q.number q.mine o status) first (is_refused o start tried x status called is (subst (λ (q : Seat). q.shown < 2 ^ 62) back says.1)))
@@ -93,41 +104,148 @@ says_of o seat start tried given x status failure.Memory first called is back sa
 says_of o seat start tried given x status (failure.NoThread n) first called is back says = tt
 says_of o seat start tried given x status (failure.Spent n) first called is back says = tt
 
--- and where the seat had made no call
-pub not_opened : (o : Op) (seat : Seat) (f : Failure) → seat.mine ≡ [] → IfRefused f (IsRefused seat.terms.node seat.number seat.mine o) → IfRefused f (IsRefused seat.terms.node seat.number [] o)
-not_opened o seat f new r = subst (λ (l : List NodeEntry). IfRefused f (IsRefused seat.terms.node seat.number l o)) new r
-
-pub made_last : (o : Op) (seat start new last : Seat) (x : Result (Unit {0}) MtapiStatus) (u : Unit {0}) → start ≡ seat → Called mtapi done o start new x → x ≡ Ok u → last ≡ new → MadeOne o seat last
+pub made_last : (o : Op) (seat start new last : Seat) (x : Result (Unit {0}) MtapiStatus) (u : Unit {0}) → start ≡ seat → Asked mtapi done o start new x → x ≡ Ok u → last ≡ new → MadeOne o seat last
 made_last o seat start new last x u first called is back =
     subst (λ (s : Seat). MadeOne o s last) first (subst (MadeOne o start) (sym back) (made_one o start new x u called is))
 
--- the caller is made of the seat, main opens, the client calls, and the seat begins the end
-pub has_called : {C T : Type 0} (promise : C → Seat → Seat → T → Type 0) (client : C) (told : T) (seat start before worked given back : Seat) (x : Result (Unit {0}) MtapiStatus) (u : Unit {0})
-    → seat.mine ≡ [] → start ≡ seat → Called mtapi done Initialize start before x → x ≡ Ok u → SameSeat before worked → GoesOn before worked → promise client before worked told
-    → given ≡ worked → GaveUp given back
-    → SameSeat seat back × HasCalled MainOpens promise client seat.terms.node seat.number told back.mine
-has_called promise client told seat start before worked given back x u new first called is same goes promised kept closes =
-    let one : MadeOne Initialize seat before = subst (λ (s : Seat). MadeOne Initialize s before) first (made_one Initialize start before x u called is) in
-    let gave : GaveUp worked back = subst (λ (s : Seat). GaveUp s back) kept closes in (
-      same_then seat before back one.same (same_then before worked back same (gave_same worked back gave)),
-      record {
+-- Main opens the node, and lets the others in
+
+pub not_opened : (seat start tried given : Seat) (x : Result (Unit {0}) MtapiStatus) (status : MtapiStatus) (f : Failure)
+    → seat.mine ≡ [] → start ≡ seat → Asked mtapi done Initialize start tried x → x ≡ Err status → given ≡ tried → SaysOf given status f → IfRefused f (IsNotOpened seat.terms.node seat.number)
+not_opened seat start tried given x status f new first called is back says =
+    refused_weaker (IsRefused seat.terms.node seat.number seat.mine Initialize) (IsNotOpened seat.terms.node seat.number) f
+    (λ s r. inl (subst (λ (l : List NodeEntry). IsRefused seat.terms.node seat.number l Initialize s) new r))
+    (says_of Initialize seat start tried given x status f first called is back says)
+
+opened_once : (seat start one : Seat) (x : Result (Unit {0}) MtapiStatus) (u : Unit {0}) → start ≡ seat → Asked mtapi done Initialize start one x → x ≡ Ok u → MadeOne Initialize seat one
+opened_once seat start one x u first called is = subst (λ (s : Seat). MadeOne Initialize s one) first (made_one Initialize start one x u called is)
+
+entry_first : (seat one : Seat) → seat.mine ≡ [] → MadeOne Initialize seat one → one.mine ≡ entry seat.number Initialize reply.Ok ∷ []
+entry_first seat one new p = p.mine ∙ ap (λ (l : List NodeEntry). l ++ entry seat.number Initialize reply.Ok ∷ []) new
+
+pub not_released : (seat start one two given : Seat) (x y : Result (Unit {0}) MtapiStatus) (u : Unit {0}) (status : MtapiStatus) (f : Failure)
+    → seat.mine ≡ [] → start ≡ seat → Asked mtapi done Initialize start one x → x ≡ Ok u → Asked mtapi done Release one two y → y ≡ Err status → given ≡ two → SaysOf given status f
+    → IfRefused f (IsNotOpened seat.terms.node seat.number)
+not_released seat start one two given x y u status f new first a ai b bi back says =
+    let p : MadeOne Initialize seat one = opened_once seat start one x u first a ai in
+    refused_weaker (IsRefused one.terms.node one.number one.mine Release) (IsNotOpened seat.terms.node seat.number) f
+    (λ s r. inr (
+    subst (λ (l : List NodeEntry). IsRefused seat.terms.node seat.number l Release s) (entry_first seat one new p)
+    (subst (λ (n : ℕ). IsRefused seat.terms.node n one.mine Release s) p.same.number
+    (subst (λ (t : JournaledTerms). IsRefused t.node one.number one.mine Release s) p.same.terms r))
+    ))
+    (says_of Release one one two given y status f refl b bi back says)
+
+pub main_opened : (seat start one two : Seat) (x y : Result (Unit {0}) MtapiStatus) (u v : Unit {0})
+    → seat.mine ≡ [] → start ≡ seat → Asked mtapi done Initialize start one x → x ≡ Ok u → Asked mtapi done Release one two y → y ≡ Ok v
+    → SameSeat seat two × MainOpens seat.number two.mine
+main_opened seat start one two x y u v new first a ai b bi =
+    let p : MadeOne Initialize seat one = opened_once seat start one x u first a ai in
+    let q : MadeOne Release one two = made_one Release one two y v b bi in (
+      same_then seat one two p.same q.same,
+      q.mine ∙ (ap (λ (l : List NodeEntry). l ++ entry one.number Release reply.Ok ∷ []) (entry_first seat one new p)
+          ∙ ap (λ (n : ℕ). entry seat.number Initialize reply.Ok ∷ entry n Release reply.Ok ∷ []) p.same.number),
+    )
+
+-- A further caller is let in
+
+pub entered : (seat start before : Seat) (x : Result (Unit {0}) MtapiStatus) (u : Unit {0})
+    → seat.mine ≡ [] → start ≡ seat → Waited mtapi done Entrance None start before x → x ≡ Ok u → SameSeat seat before × CallerEnters seat.number before.mine
+entered seat start before (Err e) u new first w is = absurd (cc)
+entered seat start before (Ok v) u new first (inr w) is = absurd (cc)
+entered seat start before (Ok v) u new first (inl w) is =
+    let l = w.1 in
+    let none : start.mine ≡ [] = ap (λ (s : Seat). s.mine) first ∙ new in
+    let mine : before.mine ≡ replicate l.pending (entry start.number Enter reply.Pending) ++ entry start.number Enter reply.Ok ∷ [] =
+    l.mine ∙ (ap (λ (h : List NodeEntry). h ++ (replicate l.pending (entry start.number Enter reply.Pending) ++ entry start.number Enter w.0 ∷ [])) none
+    ∙ ap (λ (q : Reply). replicate l.pending (entry start.number Enter reply.Pending) ++ entry start.number Enter q ∷ []) (read_done w.0 v w.2)) in
+    subst (λ (s : Seat). SameSeat s before × CallerEnters s.number before.mine) first (l.same, (l.pending, mine))
+
+out_by : (seat start tried : Seat) (x : Result (Unit {0}) MtapiStatus) (status s : MtapiStatus)
+    → seat.mine ≡ [] → start ≡ seat → Waited mtapi done Entrance None start tried x → x ≡ Err status → Legal tried.terms.node tried.seen → entries_of tried.number tried.seen ≡ tried.mine
+    → s ≡ status → tried.shown < 2 ^ 62 → IsKeptOut seat.terms.node seat.number s
+out_by seat start tried (Ok v) status s new first w is legal own says few = absurd (cc)
+out_by seat start tried (Err e) status s new first (inr w) is legal own says few = let shown = w.0.shown in absurd (omega arith)
+out_by seat start tried (Err e) status s new first (inl w) is legal own says few =
+    let l = w.1 in
+    let none : start.mine ≡ [] = ap (λ (q : Seat). q.mine) first ∙ new in
+    let read : w.0 ≡ reply.Mtapi s = read_refusal w.0 e w.2 ∙ cc in
+    let mine : tried.mine ≡ replicate l.pending (entry start.number Enter reply.Pending) ++ entry start.number Enter (reply.Mtapi s) ∷ [] =
+    l.mine ∙ (ap (λ (h : List NodeEntry). h ++ (replicate l.pending (entry start.number Enter reply.Pending) ++ entry start.number Enter w.0 ∷ [])) none
+    ∙ ap (λ (q : Reply). replicate l.pending (entry start.number Enter reply.Pending) ++ entry start.number Enter q ∷ []) read) in
+    subst (λ (q : Seat). IsKeptOut q.terms.node q.number s) first (record {
+      history = tried.seen;
+      legal = subst (λ (t : JournaledTerms). Legal t.node tried.seen) l.same.terms legal;
+      looks = l.pending;
+      own = ap (λ (n : ℕ). entries_of n tried.seen) (sym l.same.number) ∙ (own ∙ mine);
+    })
+
+pub kept_out : (seat start tried given : Seat) (x : Result (Unit {0}) MtapiStatus) (status : MtapiStatus) (f : Failure)
+    → seat.mine ≡ [] → start ≡ seat → Waited mtapi done Entrance None start tried x → x ≡ Err status → given ≡ tried → Legal given.terms.node given.seen → entries_of given.number given.seen ≡ given.mine
+    → SaysOf given status f → IfRefused f (IsKeptOut seat.terms.node seat.number)
+kept_out seat start tried given x status (failure.Refused s) new first w is back legal own says =
+    out_by seat start tried x status s new first w is (subst (λ (q : Seat). Legal q.terms.node q.seen) back legal) (subst (λ (q : Seat). entries_of q.number q.seen ≡ q.mine) back own)
+    says.0 (subst (λ (q : Seat). q.shown < 2 ^ 62) back says.1)
+kept_out seat start tried given x status failure.Memory new first w is back legal own says = tt
+kept_out seat start tried given x status (failure.NoThread n) new first w is back legal own says = tt
+kept_out seat start tried given x status (failure.Spent n) new first w is back legal own says = tt
+
+-- Whoever came in has its client call
+
+pub has_come : {C T : Type 0} (opens : ℕ → List NodeEntry → Type 0) (promise : C → Seat → Seat → T → Type 0) (client : C) (told : T) (seat before worked back : Seat)
+    → SameSeat seat before × opens seat.number before.mine → SameSeat before worked → GoesOn before worked → promise client before worked told → back ≡ worked
+    → HasComeBack opens promise client seat (record { seat = back; told = told })
+has_come opens promise client told seat before worked back came same goes promised kept =
+    subst (λ (s : Seat). HasComeBack opens promise client seat (record { seat = s; told = told })) (sym kept) (record {
+      same = same_then seat before worked came.0 same;
+      called = record {
         before = before;
-        number = one.same.number;
-        terms = ap (λ (t : JournaledTerms). t.node) one.same.terms;
-        opened = one.mine ∙ ap (λ (l : List NodeEntry). l ++ entry seat.number Initialize reply.Ok ∷ []) new;
+        number = came.0.number;
+        terms = ap (λ (t : JournaledTerms). t.node) came.0.terms;
+        opened = came.1;
         after = worked;
         same = same;
         goes_on = goes_on before worked goes;
         promised = promised;
-        begins = gave_more worked back gave;
-      },
-    )
+        begins = ([], sym (append-nil worked.mine));
+      };
+    })
+
+starts_then : (a b c : List NodeEntry) → StartsWith b a → StartsWith c b → StartsWith c a
+starts_then a b c x y = (x.0 ++ y.0, y.1 ∙ (ap (λ (l : List NodeEntry). l ++ y.0) x.1 ∙ append_assoc a x.0 y.0))
+
+-- and begins the end of the node
+pub come_closed : {C T : Type 0} (opens : ℕ → List NodeEntry → Type 0) (promise : C → Seat → Seat → T → Type 0) (client : C) (seat : Seat) (c : Called T) (back : Seat)
+    → HasComeBack opens promise client seat c → GaveUp c.seat back → HasComeBack opens promise client seat (record { seat = back; told = c.told })
+come_closed opens promise client seat c back h gave =
+    let k = h.called in
+    record {
+      same = same_then seat c.seat back h.same (gave_same c.seat back gave);
+      called = record {
+        before = k.before;
+        number = k.number;
+        terms = k.terms;
+        opened = k.opened;
+        after = k.after;
+        same = k.same;
+        goes_on = k.goes_on;
+        promised = k.promised;
+        begins = starts_then k.after.mine c.seat.mine back.mine k.begins (gave_more c.seat back gave);
+      };
+    }
 
 -- The seats that a cell begins with
 
 fresh_more : (z : Cell) (k n j : ℕ) → j ≡ k + n → (let l : List Seat = fresh_seats z.terms z.id k (suc n) in l) ≡ fresh_seats z.terms z.id k n ++ fresh_seat z.terms z.id j ∷ []
 fresh_more z k zero j e = let f : k ≡ j = omega arith in ap (λ (i : ℕ). fresh_seat z.terms z.id i ∷ []) f
 fresh_more z k (suc n) j e = ap (λ (l : List Seat). fresh_seat z.terms z.id k ∷ l) (fresh_more z (suc k) n j (omega arith))
+
+fresh_then : (z : Cell) (k n m j c : ℕ) → j ≡ k + n → c ≡ n + m → (let l : List Seat = fresh_seats z.terms z.id k c in l) ≡ fresh_seats z.terms z.id k n ++ fresh_seats z.terms z.id j m
+fresh_then z k zero m j c e f =
+    let a : k ≡ j = omega arith in let b : c ≡ m = omega arith in
+    ap (λ (i : ℕ). fresh_seats z.terms z.id i c) a ∙ ap (λ (i : ℕ). fresh_seats z.terms z.id j i) b
+fresh_then z k (suc n) m j zero e f = absurd (omega arith)
+fresh_then z k (suc n) m j (suc c) e f = ap (λ (l : List Seat). fresh_seat z.terms z.id k ∷ l) (fresh_then z (suc k) n m j c (omega arith) (omega arith))
 
 fresh_length : (z : Cell) (k n : ℕ) → (let l : List Seat = fresh_seats z.terms z.id k n in length l) ≡ n
 fresh_length z k zero = refl
@@ -143,60 +261,242 @@ fresh_idle z k (suc n) l =
     All-cons (IsIdle z) (fresh_seat z.terms z.id k) (fresh_seats z.terms z.id (suc k) n) (record { cell = refl; rest = new_at_rest (fresh_seat z.terms z.id k) (omega arith) refl })
     (fresh_idle z (suc k) n (omega arith))
 
--- they are the workers' and main's
-pub record Dealt (z : Cell) (workers : List Seat) (main : Seat) : Type 0 where
+-- they are the workers', main's, and those of so many further callers
+pub record Dealt (z : Cell) (n : ℕ) (workers : List Seat) (main : Seat) (others : List Seat) : Type 0 where
   pub workers_are : workers ≡ fresh_seats z.terms z.id 0 z.terms.node.settings.workers
   pub main_is : main ≡ fresh_seat z.terms z.id z.terms.node.settings.workers
+  pub others_are : others ≡ fresh_seats z.terms z.id (z.terms.node.settings.workers + 1) n
 
-begun : (z : Cell) (t : JournaledTerms) (u : Terms) (all : List Seat) → z.terms ≡ t → t ≡ record { node = u; keeps = true } → u.callers ≡ 1
-    → all ≡ fresh_seats t z.id 0 (journal_seats t) → all ≡ fresh_seats z.terms z.id 0 (suc z.terms.node.settings.workers)
-begun z t u all e f one is =
-    let callers : z.terms.node.callers ≡ 1 = ap (λ (x : JournaledTerms). x.node.callers) (e ∙ f) ∙ one in
-    let count : journal_seats z.terms ≡ suc z.terms.node.settings.workers = omega arith in
-    is ∙ (ap (λ (x : JournaledTerms). fresh_seats x z.id 0 (journal_seats x)) (sym e) ∙ ap (λ (n : ℕ). fresh_seats z.terms z.id 0 n) count)
+begun : (z : Cell) (t : JournaledTerms) (u : Terms) (n : ℕ) (all : List Seat) → z.terms ≡ t → t ≡ record { node = u; keeps = true } → u.callers ≡ n + 1
+    → all ≡ fresh_seats t z.id 0 (journal_seats t) → all ≡ fresh_seats z.terms z.id 0 (suc z.terms.node.settings.workers + n)
+begun z t u n all e f many is =
+    let callers : z.terms.node.callers ≡ n + 1 = ap (λ (x : JournaledTerms). x.node.callers) (e ∙ f) ∙ many in
+    let count : journal_seats z.terms ≡ suc z.terms.node.settings.workers + n = omega arith in
+    is ∙ (ap (λ (x : JournaledTerms). fresh_seats x z.id 0 (journal_seats x)) (sym e) ∙ ap (λ (c : ℕ). fresh_seats z.terms z.id 0 c) count)
 
-pub some_seat : (z : Cell) (t : JournaledTerms) (u : Terms) (all : List Seat) → z.terms ≡ t → t ≡ record { node = u; keeps = true } → u.callers ≡ 1
-    → all ≡ fresh_seats t z.id 0 (journal_seats t) → length all ≡ 0 → ⊥
-some_seat z t u all e f one is none =
-    let count = ap (λ (xs : List Seat). length xs) (begun z t u all e f one is) ∙ fresh_length z 0 (suc z.terms.node.settings.workers) in
-    absurd (omega arith)
+pub enough : (z : Cell) (t : JournaledTerms) (u : Terms) (n : ℕ) (all : List Seat) → z.terms ≡ t → t ≡ record { node = u; keeps = true } → u.callers ≡ n + 1
+    → all ≡ fresh_seats t z.id 0 (journal_seats t) → n < length all
+enough z t u n all e f many is =
+    let count = ap (λ (xs : List Seat). length xs) (begun z t u n all e f many is) ∙ fresh_length z 0 (suc z.terms.node.settings.workers + n) in
+    omega arith
 
-pub dealt : (z : Cell) (t : JournaledTerms) (u : Terms) (all workers : List Seat) (main : Seat) → z.terms ≡ t → t ≡ record { node = u; keeps = true } → u.callers ≡ 1
-    → all ≡ fresh_seats t z.id 0 (journal_seats t) → all ≡ workers ++ main ∷ [] → Dealt z workers main
-dealt z t u all workers main e f one is popped =
+pub dealt : (z : Cell) (t : JournaledTerms) (u : Terms) (n at : ℕ) (all workers : List Seat) (main : Seat) (others : List Seat) → z.terms ≡ t → t ≡ record { node = u; keeps = true } → u.callers ≡ n + 1
+    → all ≡ fresh_seats t z.id 0 (journal_seats t) → at ≡ length all - n → take at all ≡ workers ++ main ∷ [] → others ≡ drop at all → Dealt z n workers main others
+dealt z t u n at all workers main others e f many is off front back =
     let w = z.terms.node.settings.workers in
-    let both = same_from_push workers (fresh_seats z.terms z.id 0 w) main (fresh_seat z.terms z.id w) (sym popped ∙ (begun z t u all e f one is ∙ fresh_more z 0 w w (omega arith))) in
-    record { workers_are = both.0; main_is = both.1 }
+    let whole : all ≡ fresh_seats z.terms z.id 0 (suc w + n) = begun z t u n all e f many is in
+    let long : length all ≡ suc w + n = ap (λ (xs : List Seat). length xs) whole ∙ fresh_length z 0 (suc w + n) in
+    let here : at ≡ suc w = omega arith in
+    let first : take at all ≡ fresh_seats z.terms z.id 0 (suc w) =
+    ap (λ (k : ℕ). take k all) here ∙ (ap (λ (xs : List Seat). take (suc w) xs) whole ∙ fresh-take _ _ _ z.terms z.id 0 (suc w) (suc w + n) (omega arith)) in
+    let both = same_from_push workers (fresh_seats z.terms z.id 0 w) main (fresh_seat z.terms z.id w) (sym front ∙ (first ∙ fresh_more z 0 w w (omega arith))) in
+    let from : 0 + suc w ≡ w + 1 = omega arith in
+    let left : suc w + n - suc w ≡ n = omega arith in
+    record {
+      workers_are = both.0;
+      main_is = both.1;
+      others_are =
+          back ∙ (ap (λ (k : ℕ). drop k all) here ∙ (ap (λ (xs : List Seat). drop (suc w) xs) whole ∙ (fresh-drop _ _ _ z.terms z.id 0 (suc w) (suc w + n) (omega arith)
+          ∙ (ap (λ (k : ℕ). fresh_seats z.terms z.id k (suc w + n - suc w)) from ∙ ap (λ (k : ℕ). fresh_seats z.terms z.id (w + 1) k) left))));
+    }
 
-pub are_ready : {C A : Type 0} (z : Cell) (h : Hands C A) → Dealt z h.workers.items h.main → AreReady z h
-are_ready {C} {A} z h d = record {
+pub are_ready : {C D U A : Type 0} (z : Cell) (h : Hands C D U A) → Dealt z (length h.callers.others.items) h.workers.items h.callers.main h.callers.seats.items → h.callers.told.items ≡ [] → AreReady z h
+are_ready z h d none = record {
   workers = subst (All (IsIdle z)) (sym d.workers_are) (fresh_idle z 0 z.terms.node.settings.workers (omega arith));
-  main = ap (λ (s : Seat). s.cell) d.main_is;
-  caller =
-      let n = ap (λ (s : Seat). s.number) d.main_is in
-      let m = ap (λ (s : Seat). s.terms.node.settings.workers) d.main_is in
-      omega arith;
-  new = ap (λ (s : Seat). s.mine) d.main_is;
+  callers = record { main = d.main_is; seats = d.others_are; told = none };
 }
+
+-- What is known of main's seat before its calls
+
+pub main_cell : {C D U : Type 0} (z : Cell) (h : Callers C D U) → MayCall z h → h.main.cell ≡ z.id
+main_cell z h m = ap (λ (s : Seat). s.cell) m.main
+
+pub main_number : {C D U : Type 0} (z : Cell) (h : Callers C D U) → MayCall z h → h.main.terms.node.settings.workers ≤ h.main.number
+main_number z h m =
+    let n = ap (λ (s : Seat). s.number) m.main in
+    let w = ap (λ (s : Seat). s.terms.node.settings.workers) m.main in
+    omega arith
+
+pub main_new : {C D U : Type 0} (z : Cell) (h : Callers C D U) → MayCall z h → h.main.mine ≡ []
+main_new z h m = ap (λ (s : Seat). s.mine) m.main
+
+-- and after them
+pub back_cell : {C T : Type 0} {opens : ℕ → List NodeEntry → Type 0} {promise : C → Seat → Seat → T → Type 0} (z : Cell) (client : C) (seat : Seat) (c : Called T)
+    → HasComeBack opens promise client seat c → seat ≡ fresh_seat z.terms z.id z.terms.node.settings.workers → c.seat.cell ≡ z.id
+back_cell z client seat c h is = h.same.cell ∙ ap (λ (s : Seat). s.cell) is
+
+pub back_number : {C T : Type 0} {opens : ℕ → List NodeEntry → Type 0} {promise : C → Seat → Seat → T → Type 0} (z : Cell) (client : C) (seat : Seat) (c : Called T)
+    → HasComeBack opens promise client seat c → seat ≡ fresh_seat z.terms z.id z.terms.node.settings.workers → c.seat.terms.node.settings.workers ≤ c.seat.number
+back_number z client seat c h is =
+    let n = h.same.number ∙ ap (λ (s : Seat). s.number) is in
+    let w = ap (λ (t : JournaledTerms). t.node.settings.workers) h.same.terms ∙ ap (λ (s : Seat). s.terms.node.settings.workers) is in
+    omega arith
+
+-- The further callers' threads
+
+-- a client and a seat were taken from the ends of the lists
+pub record TakenOut {C D U : Type 0} (z : Cell) (h h' : Callers C D U) (s : Seat) : Type 0 where
+  pub may : MayCall z h'
+  pub seat_is : s ≡ fresh_seat z.terms z.id (z.terms.node.settings.workers + 1 + length h'.others.items)
+
+module _ {C D U : Type 0} (z : Cell) (h : Callers C D U) (left : List D) (d : D) where
+  one_fewer : (xs ys : List D) (y : D) → xs ≡ ys ++ y ∷ [] → length xs ≡ suc (length ys)
+  one_fewer xs ys y e = ap (λ (l : List D). length l) e ∙ long ys
+    where
+      long : (l : List D) → length (l ++ y ∷ []) ≡ suc (length l)
+      long [] = refl
+      long (x ∷ l) = ap suc (long l)
+
+  split_last : MayCall z h → h.others.items ≡ left ++ d ∷ []
+      → h.seats.items ≡ fresh_seats z.terms z.id (z.terms.node.settings.workers + 1) (length left) ++ fresh_seat z.terms z.id (z.terms.node.settings.workers + 1 + length left) ∷ []
+  split_last m e =
+      m.seats ∙ (ap (λ (n : ℕ). fresh_seats z.terms z.id (z.terms.node.settings.workers + 1) n) (one_fewer h.others.items left d e)
+      ∙ fresh_more z (z.terms.node.settings.workers + 1) (length left) (z.terms.node.settings.workers + 1 + length left) refl)
+
+  pub some_seat : MayCall z h → h.others.items ≡ left ++ d ∷ [] → length h.seats.items ≡ 0 → ⊥
+  some_seat m e none =
+      let count = ap (λ (l : List Seat). length l) m.seats ∙ fresh_length z (z.terms.node.settings.workers + 1) (length h.others.items) in
+      let more = one_fewer h.others.items left d e in
+      absurd (omega arith)
+
+  pub taken_out : (h' : Callers C D U) (s : Seat) → MayCall z h → h'.main ≡ h.main → h'.told ≡ h.told → h'.others.items ≡ left → h.others.items ≡ left ++ d ∷ [] → h.seats.items ≡ h'.seats.items ++ s ∷ [] → TakenOut z h h' s
+  taken_out h' s m main told rest e f =
+      let w1 = z.terms.node.settings.workers + 1 in
+      let both = same_from_push h'.seats.items (fresh_seats z.terms z.id w1 (length left)) s (fresh_seat z.terms z.id (w1 + length left)) (sym f ∙ split_last m e) in
+      let long : length left ≡ length h'.others.items = ap (λ (l : List D). length l) (sym rest) in
+      record {
+        may = record { main = main ∙ m.main; seats = both.0 ∙ ap (λ (n : ℕ). fresh_seats z.terms z.id w1 n) long; told = ap (λ v. v.items) told ∙ m.told };
+        seat_is = both.1 ∙ ap (λ (n : ℕ). fresh_seat z.terms z.id (w1 + n)) long;
+      }
+
+-- what is owed of the seat of a further caller
+pub record IsNewIn (z : Cell) (s : Seat) : Type 0 where
+  pub cell : s.cell ≡ z.id
+  pub number : s.terms.node.settings.workers ≤ s.number
+  pub new : s.mine ≡ []
+
+pub new_in : {C D U : Type 0} (z : Cell) (h h' : Callers C D U) (s : Seat) → TakenOut z h h' s → IsNewIn z s
+new_in z h h' s t = record {
+  cell = ap (λ (q : Seat). q.cell) t.seat_is;
+  number =
+      let n = ap (λ (q : Seat). q.number) t.seat_is in
+      let w = ap (λ (q : Seat). q.terms.node.settings.workers) t.seat_is in
+      omega arith;
+  new = ap (λ (q : Seat). q.mine) t.seat_is;
+}
+
+-- main alone came back
+pub main_alone : {C D T U : Type 0} (promise : C → Seat → Seat → T → Type 0) (further : D → Seat → Seat → U → Type 0) (z : Cell) (h : Callers C D U) (c : Company T U)
+    → MayCall z h → h.others.items ≡ [] → c.seats ≡ h.seats → c.told ≡ h.told → HasComeBack MainOpens promise h.client h.main c.main → HaveComeBack promise further z h c
+main_alone {D = D} {U = U} promise further z h c m none seats told main = record {
+  main = main;
+  others =
+      subst (λ (ds : List D). AreTold further z (z.terms.node.settings.workers + 1) ds c.seats.items c.told.items) (sym none) (
+        ap (λ v. v.items) seats ∙ (m.seats ∙ ap (λ (ds : List D). fresh_seats z.terms z.id (z.terms.node.settings.workers + 1) (length ds)) none),
+        ap (λ v. v.items) told ∙ m.told,
+      );
+}
+
+told_more : {D U : Type 0} (further : D → Seat → Seat → U → Type 0) (z : Cell) (who j : ℕ) (ds : List D) (bs : List Seat) (us : List U) (d : D) (c : Called U)
+    → j ≡ who + length ds → AreTold further z who ds bs us → HasComeBack CallerEnters further d (fresh_seat z.terms z.id j) c → AreTold further z who (ds ++ d ∷ []) (bs ++ c.seat ∷ []) (us ++ c.told ∷ [])
+told_more {U = U} further z who j [] bs us d c e a h =
+    let here : j ≡ who = omega arith in (
+      c.seat,
+      [],
+      c.told,
+      [],
+      ap (λ (l : List Seat). l ++ c.seat ∷ []) a.0,
+      ap (λ (l : List U). l ++ c.told ∷ []) a.1,
+      subst (λ (k : ℕ). HasComeBack CallerEnters further d (fresh_seat z.terms z.id k) c) here h,
+      (refl, refl),
+    )
+told_more {U = U} further z who j (x ∷ ds) bs us d c e a h = (
+  a.0,
+  a.1 ++ c.seat ∷ [],
+  a.2,
+  a.3 ++ c.told ∷ [],
+  ap (λ (l : List Seat). l ++ c.seat ∷ []) a.4,
+  ap (λ (l : List U). l ++ c.told ∷ []) a.5,
+  a.6,
+  told_more further z (suc who) j ds a.1 a.3 d c (omega arith) a.7 h,
+)
+
+-- one more of the further callers came back
+pub one_more_back : {C D T U : Type 0} (promise : C → Seat → Seat → T → Type 0) (further : D → Seat → Seat → U → Type 0) (z : Cell) (h h' : Callers C D U) (s : Seat) (d : D) (c c' : Company T U) (back : Result (Called U) Failure)
+    → h.others.items ≡ h'.others.items ++ d ∷ [] → h'.main ≡ h.main → h'.client ≡ h.client → TakenOut z h h' s → IfOk back (HasComeBack CallerEnters further d s)
+    → IsJoinedBy c back c' → HaveComeBack promise further z h' c → HaveComeBack promise further z h c'
+one_more_back promise further z h h' s d c c' (Err f) items main client t came joined b = absurd joined
+one_more_back {C} {D} {T} {U} promise further z h h' s d c c' (Ok k) items main client t came joined b =
+    let w1 = z.terms.node.settings.workers + 1 in
+    record {
+      main =
+          subst (λ (x : Called T). HasComeBack MainOpens promise h.client h.main x) (sym joined.main)
+          (subst (λ (x : Seat). HasComeBack MainOpens promise h.client x c.main) main (subst (λ (x : C). HasComeBack MainOpens promise x h'.main c.main) client b.main));
+      others =
+          subst (λ (ds : List D). AreTold further z w1 ds c'.seats.items c'.told.items) (sym items)
+          (subst (λ (bs : List Seat). AreTold further z w1 (h'.others.items ++ d ∷ []) bs c'.told.items) (sym joined.seats)
+          (subst (λ (us : List U). AreTold further z w1 (h'.others.items ++ d ∷ []) (c.seats.items ++ k.seat ∷ []) us) (sym joined.told)
+          (told_more further z w1 (w1 + length h'.others.items) h'.others.items c.seats.items c.told.items d k refl b.others
+          (subst (λ (x : Seat). HasComeBack CallerEnters further d x k) t.seat_is came))));
+    }
+
+-- why one wasn't let in, said of the cell
+pub lost_one : {C D U V : Type 0} (z : Cell) (h h' : Callers C D U) (s : Seat) (d : D) (back : Result (Called V) Failure) (f : Failure)
+    → h.others.items ≡ h'.others.items ++ d ∷ [] → TakenOut z h h' s → IfErr back (λ e. IfRefused e (IsKeptOut s.terms.node s.number)) → IsLostBy back f
+    → IfRefused f (AreRefused z.terms.node (length h.others.items))
+lost_one {D = D} z h h' s d (Ok k) f items t out lost = subst (λ (g : Failure). IfRefused g (AreRefused z.terms.node (length h.others.items))) (sym lost) tt
+lost_one {D = D} z h h' s d (Err g) f items t out lost =
+    let more : length h.others.items ≡ suc (length h'.others.items) = one_fewer z h h'.others.items d h.others.items h'.others.items d items in
+    subst (λ (e : Failure). IfRefused e (AreRefused z.terms.node (length h.others.items))) (sym lost)
+    (refused_weaker (IsKeptOut s.terms.node s.number) (AreRefused z.terms.node (length h.others.items)) g
+    (λ status k. inr (length h'.others.items, omega arith, subst (λ (q : Seat). IsKeptOut q.terms.node q.number status) t.seat_is k)) out)
+
+-- what fewer of them are refused
+pub refused_more : (t : Terms) (few many : ℕ) (f : Failure) → few ≤ many → IfRefused f (AreRefused t few) → IfRefused f (AreRefused t many)
+refused_more t few many f l r = refused_weaker (AreRefused t few) (AreRefused t many) f (λ s x. more s x) r
+  where
+    more : (s : MtapiStatus) → AreRefused t few s → AreRefused t many s
+    more s (inl x) = inl x
+    more s (inr x) = let k = x.1 in inr (x.0, omega arith, x.2)
+
+pub fewer : {D : Type 0} (xs ys : List D) (y : D) → xs ≡ ys ++ y ∷ [] → length ys ≤ length xs
+fewer {D} xs ys y e = let same = ap (λ (l : List D). length l) e ∙ longer ys in omega arith
+  where
+    longer : (l : List D) → length (l ++ y ∷ []) ≡ suc (length l)
+    longer [] = refl
+    longer (x ∷ l) = ap suc (longer l)
+
+-- main's opening, said of the cell
+pub main_refused : {C D U : Type 0} (z : Cell) (h : Callers C D U) (n : ℕ) (f : Failure) → MayCall z h → IfRefused f (IsNotOpened h.main.terms.node h.main.number) → IfRefused f (AreRefused z.terms.node n)
+main_refused z h n f m r =
+    refused_weaker (IsNotOpened h.main.terms.node h.main.number) (AreRefused z.terms.node n) f (λ s x. inl (subst (λ (q : Seat). IsNotOpened q.terms.node q.number s) m.main x)) r
+
+-- all callers came back, and main began the end
+pub all_closed : {C D T U : Type 0} (promise : C → Seat → Seat → T → Type 0) (further : D → Seat → Seat → U → Type 0) (z : Cell) (h : Callers C D U) (c : Company T U) (back : Seat)
+    → HaveComeBack promise further z h c → GaveUp c.main.seat back → HaveComeBack promise further z h (record { main = record { seat = back; told = c.main.told }; seats = c.seats; told = c.told })
+all_closed promise further z h c back b gave = record { main = come_closed MainOpens promise h.client h.main c.main back b.main gave; others = b.others }
 
 -- The workers' threads
 
-pub came_joined : {C T A : Type 0} (promise : C → Seat → Seat → T → Type 0) (h h' : Hands C A) (s : Seat) (c c' : Crew T A) (over : Over A)
-    → h.workers.items ≡ h'.workers.items ++ s ∷ [] → vec_len h'.workers + 1 ≡ vec_len h.workers → h'.sets ≡ h.sets → h'.main ≡ h.main → h'.client ≡ h.client
-    → SameSeat s over.seat → IsJoined c over c' → CameBack promise h' c → CameBack promise h c'
-came_joined {C} {T} {A} promise h h' s c c' over items len sets main client same j b = record {
+pub none_joined : {C D T U A : Type 0} (promise : C → Seat → Seat → T → Type 0) (further : D → Seat → Seat → U → Type 0) (z : Cell) (h : Hands C D U A) (c : Crew T U A)
+    → h.workers.items ≡ [] → c.workers.items ≡ [] → vec_len c.sets ≡ vec_len h.sets → HaveComeBack promise further z h.callers c.company → CameBack promise further z h c
+none_joined promise further z h c none back sets b = record {
+  workers = subst (λ (xs : List Seat). AllZip SameSeat xs c.workers.items) (sym none) (subst (λ (ys : List Seat). AllZip SameSeat [] ys) (sym back) tt);
+  sets = (let n = ap (λ (xs : List Seat). length xs) none in omega arith);
+  company = b;
+}
+
+pub came_joined : {C D T U A : Type 0} (promise : C → Seat → Seat → T → Type 0) (further : D → Seat → Seat → U → Type 0) (z : Cell) (h h' : Hands C D U A) (s : Seat) (c c' : Crew T U A) (over : Over A)
+    → h.workers.items ≡ h'.workers.items ++ s ∷ [] → vec_len h'.workers + 1 ≡ vec_len h.workers → h'.sets ≡ h.sets → h'.callers ≡ h.callers
+    → SameSeat s over.seat → IsJoined c over c' → CameBack promise further z h' c → CameBack promise further z h c'
+came_joined {C} {D} {T} {U} {A} promise further z h h' s c c' over items len sets callers same j b = record {
   workers =
       subst (λ (xs : List Seat). AllZip SameSeat xs c'.workers.items) (sym items)
       (subst (AllZip SameSeat (h'.workers.items ++ s ∷ [])) (sym j.workers) (AllZip-push SameSeat h'.workers.items c.workers.items s over.seat b.workers same));
   sets = (let n = j.sets in let m = b.sets in let k = ap vec_len sets in omega arith);
-  main = subst (λ (x : _). SameSeat h.main x.seat) (sym j.main) (subst (λ (x : Seat). SameSeat x c.main.seat) main b.main);
-  told =
-      subst (λ (x : _). IfOk x.told (λ t. HasCalled MainOpens promise h.client h.main.terms.node h.main.number t x.seat.mine)) (sym j.main)
-      (subst (λ (y : C). IfOk c.main.told (λ t. HasCalled MainOpens promise y h.main.terms.node h.main.number t c.main.seat.mine)) client
-      (subst (λ (x : Seat). IfOk c.main.told (λ t. HasCalled MainOpens promise h'.client x.terms.node x.number t c.main.seat.mine)) main b.told));
-  refused =
-      subst (λ (x : _). IfErr x.told (λ e. IfRefused e (IsRefused h.main.terms.node h.main.number [] Initialize))) (sym j.main)
-      (subst (λ (x : Seat). IfErr c.main.told (λ e. IfRefused e (IsRefused x.terms.node x.number [] Initialize))) main b.refused);
+  company =
+      subst (λ (x : Company T U). HaveComeBack promise further z h.callers x) (sym j.company)
+      (subst (λ (x : Callers C D U). HaveComeBack promise further z x c.company) callers b.company);
 }
 
 -- The close
@@ -213,109 +513,171 @@ zip_cells z [] (y ∷ ys) a b = absurd a
 zip_cells z (x ∷ xs) [] a b = absurd a
 zip_cells z (x ∷ xs) (y ∷ ys) a b = (a.0.cell ∙ b.0, zip_cells z xs ys a.1 b.1)
 
-module _ {T A : Type 0} (z : Cell) (c : Crew T A) (last : Seat) where
-  -- all seats, main's last
-  abbrev whole : List Seat
-  whole = c.workers.items ++ last ∷ []
+zip_behind : (xs ys us vs : List Seat) → AllZip SameSeat xs ys → AllZip SameSeat us vs → AllZip SameSeat (xs ++ us) (ys ++ vs)
+zip_behind [] [] us vs a b = b
+zip_behind [] (y ∷ ys) us vs a b = absurd a
+zip_behind (x ∷ xs) [] us vs a b = absurd a
+zip_behind (x ∷ xs) (y ∷ ys) us vs a b = (a.0, zip_behind xs ys us vs a.1 b)
 
-  all_same : HasAllSeats z c → SameSeat c.main.seat last → AllZip SameSeat (fresh_seats z.terms z.id 0 (suc z.terms.node.settings.workers)) whole
+all_back : (F : Seat → Type 0) (xs ys : List Seat) → all_of F (xs ++ ys) → all_of F ys
+all_back F [] ys a = a
+all_back F (x ∷ xs) ys a = all_back F xs ys a.1
+
+module _ {T U A : Type 0} (z : Cell) (c : Crew T U A) (last : Seat) where
+  -- all seats: the workers', main's, and the further callers'
+  abbrev whole : List Seat
+  whole = (c.workers.items ++ last ∷ []) ++ c.company.seats.items
+
+  abbrev all_seats : ℕ
+  all_seats = suc z.terms.node.settings.workers + length c.company.seats.items
+
+  all_same : HasAllSeats z c → SameSeat c.company.main.seat last → AllZip SameSeat (fresh_seats z.terms z.id 0 all_seats) whole
   all_same h s =
       let w = z.terms.node.settings.workers in
-      subst (λ (xs : List Seat). AllZip SameSeat xs whole) (sym (fresh_more z 0 w w (omega arith)))
-      (AllZip-push SameSeat (fresh_seats z.terms z.id 0 w) c.workers.items (fresh_seat z.terms z.id w) last h.workers (same_then (fresh_seat z.terms z.id w) c.main.seat last h.main s))
+      let n = length c.company.seats.items in
+      let front : AllZip SameSeat (fresh_seats z.terms z.id 0 (suc w)) (c.workers.items ++ last ∷ []) =
+      subst (λ (xs : List Seat). AllZip SameSeat xs (c.workers.items ++ last ∷ [])) (sym (fresh_more z 0 w w (omega arith)))
+      (AllZip-push SameSeat (fresh_seats z.terms z.id 0 w) c.workers.items (fresh_seat z.terms z.id w) last h.workers (same_then (fresh_seat z.terms z.id w) c.company.main.seat last h.main s)) in
+      subst (λ (xs : List Seat). AllZip SameSeat xs whole) (sym (fresh_then z 0 (suc w) n (w + 1) (suc w + n) (omega arith) refl))
+      (zip_behind (fresh_seats z.terms z.id 0 (suc w)) (c.workers.items ++ last ∷ []) (fresh_seats z.terms z.id (w + 1) n) c.company.seats.items front h.others)
 
-  pub all_own : HasAllSeats z c → SameSeat c.main.seat last → all_of (λ (s : Seat). s.cell ≡ z.id) whole
-  all_own h s = zip_cells z (fresh_seats z.terms z.id 0 (suc z.terms.node.settings.workers)) whole (all_same h s) (fresh_cells z 0 (suc z.terms.node.settings.workers))
+  pub all_own : HasAllSeats z c → SameSeat c.company.main.seat last → all_of (λ (s : Seat). s.cell ≡ z.id) whole
+  all_own h s = zip_cells z (fresh_seats z.terms z.id 0 all_seats) whole (all_same h s) (fresh_cells z 0 all_seats)
 
-  pub all_complete : HasAllSeats z c → SameSeat c.main.seat last → z.terms.node.callers ≡ 1 → IsComplete (journal_seats z.terms) whole
-  all_complete h s one =
-      let w = z.terms.node.settings.workers in
-      let count : suc w ≡ journal_seats z.terms = omega arith in
-      subst (λ (n : ℕ). IsComplete n whole) count (complete_alike (suc w) (fresh_seats z.terms z.id 0 (suc w)) whole (zip_numbers (fresh_seats z.terms z.id 0 (suc w)) whole (all_same h s)) (complete_fresh _ _ _ z.terms z.id (suc w)))
+  pub all_complete : HasAllSeats z c → SameSeat c.company.main.seat last → IsComplete (journal_seats z.terms) whole
+  all_complete h s =
+      let many = h.callers in
+      let count : all_seats ≡ journal_seats z.terms = omega arith in
+      subst (λ (n : ℕ). IsComplete n whole) count
+      (complete_alike all_seats (fresh_seats z.terms z.id 0 all_seats) whole (zip_numbers (fresh_seats z.terms z.id 0 all_seats) whole (all_same h s)) (complete_fresh _ _ _ z.terms z.id all_seats))
 
-  pub main_ended : (history : List NodeEntry) → HasAllSeats z c → MadeOne Final c.main.seat last → all_of (IsSeatOf z.terms history) whole
-      → entries_of z.terms.node.settings.workers history ≡ c.main.seat.mine ++ entry z.terms.node.settings.workers Final reply.Ok ∷ []
+  pub main_ended : (history : List NodeEntry) → HasAllSeats z c → MadeOne Final c.company.main.seat last → all_of (IsSeatOf z.terms history) whole
+      → entries_of z.terms.node.settings.workers history ≡ c.company.main.seat.mine ++ entry z.terms.node.settings.workers Final reply.Ok ∷ []
   main_ended history h one seats =
-      let own = (all_has (IsSeatOf z.terms history) whole last seats (has_back c.workers.items (last ∷ []) last (inl refl))).mine in
-      let number : c.main.seat.number ≡ z.terms.node.settings.workers = h.main.number in
-      ap (λ (n : ℕ). entries_of n history) (sym (one.same.number ∙ number)) ∙ (own ∙ (one.mine ∙ ap (λ (n : ℕ). c.main.seat.mine ++ entry n Final reply.Ok ∷ []) number))
+      let own = (all_has (IsSeatOf z.terms history) whole last seats (has_front (c.workers.items ++ last ∷ []) c.company.seats.items last (has_back c.workers.items (last ∷ []) last (inl refl)))).mine in
+      let number : c.company.main.seat.number ≡ z.terms.node.settings.workers = h.main.number in
+      ap (λ (n : ℕ). entries_of n history) (sym (one.same.number ∙ number)) ∙ (own ∙ (one.mine ∙ ap (λ (n : ℕ). c.company.main.seat.mine ++ entry n Final reply.Ok ∷ []) number))
 
--- what main's seat is refused, said of the cell's terms
-pub not_ended : {T A : Type 0} (z : Cell) (c : Crew T A) (told : T) (f : Failure) → HasAllSeats z c → c.main.told ≡ Ok told
-    → IfRefused f (IsRefused c.main.seat.terms.node c.main.seat.number c.main.seat.mine Final) → HasFailed z c f
-not_ended z c told (failure.Refused s) h is r =
-    let same : c.main.seat.terms ≡ z.terms = h.main.terms in
-    inr (told, is, subst (λ (n : ℕ). IsRefused z.terms.node n c.main.seat.mine Final s) h.main.number (subst (λ (t : JournaledTerms). IsRefused t.node c.main.seat.number c.main.seat.mine Final s) same r))
-not_ended z c told failure.Memory h is r = inr tt
-not_ended z c told (failure.NoThread n) h is r = inr tt
-not_ended z c told (failure.Spent n) h is r = inr tt
+  pub others_ended : (history : List NodeEntry) → all_of (IsSeatOf z.terms history) whole → all_of (IsSeatOf z.terms history) c.company.seats.items
+  others_ended history seats = all_back (IsSeatOf z.terms history) (c.workers.items ++ last ∷ []) c.company.seats.items seats
+
+-- what main's seat is refused, said of the cell
+pub not_ended : {T U A : Type 0} (z : Cell) (c : Crew T U A) (f : Failure) → HasAllSeats z c
+    → IfRefused f (IsRefused c.company.main.seat.terms.node c.company.main.seat.number c.company.main.seat.mine Final) → IfRefused f (IsRefused z.terms.node z.terms.node.settings.workers c.company.main.seat.mine Final)
+not_ended z c f h r =
+    let s = c.company.main.seat in
+    refused_weaker (IsRefused s.terms.node s.number s.mine Final) (IsRefused z.terms.node z.terms.node.settings.workers s.mine Final) f
+    (λ status x. subst (λ (n : ℕ). IsRefused z.terms.node n s.mine Final status) h.main.number (subst (λ (t : JournaledTerms). IsRefused t.node s.number s.mine Final status) h.main.terms x)) r
 
 -- All of it
 
-pub has_all : {C T A : Type 0} (promise : C → Seat → Seat → T → Type 0) (z : Cell) (h : Hands C A) (c : Crew T A) → Dealt z h.workers.items h.main → CameBack promise h c → HasAllSeats z c
-has_all {C} {T} {A} promise z h c d b = record {
-  workers = subst (λ (xs : List Seat). AllZip SameSeat xs c.workers.items) d.workers_are b.workers;
-  main = subst (λ (s : Seat). SameSeat s c.main.seat) d.main_is b.main;
-}
+told_length : {D U : Type 0} (further : D → Seat → Seat → U → Type 0) (z : Cell) (who : ℕ) (ds : List D) (bs : List Seat) (us : List U) → AreTold further z who ds bs us → length bs ≡ length ds
+told_length further z who [] bs us a = ap (λ (l : List Seat). length l) a.0
+told_length further z who (d ∷ ds) bs us a = ap (λ (l : List Seat). length l) a.4 ∙ ap suc (told_length further z (suc who) ds a.1 a.3 a.7)
 
-pub sets_are : {C T A : Type 0} (promise : C → Seat → Seat → T → Type 0) (n : ℕ) (z : Cell) (h : Hands C A) (c : Crew T A) (d : Done T A)
-    → Dealt z h.workers.items h.main → CameBack promise h c → HasEnded z c d → vec_len h.sets ≡ 0 → z.terms.node.settings.workers ≡ n → vec_len d.sets ≡ n
-sets_are {C} {T} {A} promise n z h c d dealt came ended none few =
+told_same : {D U : Type 0} (further : D → Seat → Seat → U → Type 0) (z : Cell) (who : ℕ) (ds : List D) (bs : List Seat) (us : List U) → AreTold further z who ds bs us → AllZip SameSeat (fresh_seats z.terms z.id who (length ds)) bs
+told_same further z who [] bs us a = subst (λ (l : List Seat). AllZip SameSeat [] l) (sym a.0) tt
+told_same further z who (d ∷ ds) bs us a =
+    subst (λ (l : List Seat). AllZip SameSeat (fresh_seats z.terms z.id who (suc (length ds))) l) (sym a.4) (a.6.same, told_same further z (suc who) ds a.1 a.3 a.7)
+
+have_called : {D U : Type 0} (further : D → Seat → Seat → U → Type 0) (z : Cell) (history : List NodeEntry) (who : ℕ) (ds : List D) (bs : List Seat) (us : List U)
+    → all_of (IsSeatOf z.terms history) bs → AreTold further z who ds bs us → HaveCalled further z.terms.node history who ds us
+have_called {D} {U} further z history who [] bs us seats a = subst (λ (l : List U). HaveCalled further z.terms.node history who [] l) (sym a.1) tt
+have_called {D} {U} further z history who (d ∷ ds) bs us seats a =
+    let own = subst (λ (l : List Seat). all_of (IsSeatOf z.terms history) l) a.4 seats in
+    let mine : entries_of who history ≡ a.0.mine = ap (λ (n : ℕ). entries_of n history) (sym a.6.same.number) ∙ own.0.mine in
+    subst (λ (l : List U). HaveCalled further z.terms.node history who (d ∷ ds) l) (sym a.5)
+    (subst (λ (es : List NodeEntry). HasCalled CallerEnters further d z.terms.node who a.2 es) (sym mine) a.6.called, have_called further z history (suc who) ds a.1 a.3 own.1 a.7)
+
+pub has_all : {C D T U A : Type 0} (promise : C → Seat → Seat → T → Type 0) (further : D → Seat → Seat → U → Type 0) (z : Cell) (h : Hands C D U A) (c : Crew T U A)
+    → z.terms.node.callers ≡ length h.callers.others.items + 1 → Dealt z (length h.callers.others.items) h.workers.items h.callers.main h.callers.seats.items → CameBack promise further z h c → HasAllSeats z c
+has_all promise further z h c many d b =
+    let w1 = z.terms.node.settings.workers + 1 in
+    let o = b.company.others in
+    let long : length c.company.seats.items ≡ length h.callers.others.items = told_length further z w1 h.callers.others.items c.company.seats.items c.company.told.items o in
+    record {
+      callers = many ∙ ap (λ (n : ℕ). n + 1) (sym long);
+      workers = subst (λ (xs : List Seat). AllZip SameSeat xs c.workers.items) d.workers_are b.workers;
+      main = subst (λ (s : Seat). SameSeat s c.company.main.seat) d.main_is b.company.main.same;
+      others =
+          subst (λ (n : ℕ). AllZip SameSeat (fresh_seats z.terms z.id w1 n) c.company.seats.items) (sym long)
+          (told_same further z w1 h.callers.others.items c.company.seats.items c.company.told.items o);
+    }
+
+pub sets_are : {C D T U A : Type 0} (promise : C → Seat → Seat → T → Type 0) (further : D → Seat → Seat → U → Type 0) (n : ℕ) (z : Cell) (h : Hands C D U A) (c : Crew T U A) (d : AllDone T U A)
+    → Dealt z (length h.callers.others.items) h.workers.items h.callers.main h.callers.seats.items → CameBack promise further z h c → HasEnded z c d → vec_len h.sets ≡ 0 → z.terms.node.settings.workers ≡ n → vec_len d.sets ≡ n
+sets_are promise further n z h c d dealt came ended none few =
     let same : vec_len d.sets ≡ vec_len c.sets = ap vec_len ended.sets in
     let given = came.sets in
     let workers : length h.workers.items ≡ z.terms.node.settings.workers = ap (λ (xs : List Seat). length xs) dealt.workers_are ∙ fresh_length z 0 z.terms.node.settings.workers in
     omega arith
 
--- the client's calls, with main's seat
-called_for : {C T A : Type 0} (promise : C → Seat → Seat → T → Type 0) (client : C) (settings : NodeSettings) (z : Cell) (h : Hands C A) (c : Crew T A) (told : T)
-    → z.terms.node ≡ terms_for settings → h.client ≡ client → Dealt z h.workers.items h.main → CameBack promise h c → c.main.told ≡ Ok told
-    → HasCalled MainOpens promise client (terms_for settings) settings.workers told c.main.seat.mine
-called_for {C} promise client settings z h c told terms same dealt came is =
-    subst (λ (y : C). HasCalled MainOpens promise y (terms_for settings) settings.workers told c.main.seat.mine) same
-    (subst (λ (u : Terms). HasCalled MainOpens promise h.client u u.settings.workers told c.main.seat.mine) terms
-    (subst (λ (s : Seat). HasCalled MainOpens promise h.client s.terms.node s.number told c.main.seat.mine) dealt.main_is
-    (IfOk-at_ok (λ t. HasCalled MainOpens promise h.client h.main.terms.node h.main.number t c.main.seat.mine) is came.told)))
+-- the calls of main's client
+called_for : {C D T U A : Type 0} (promise : C → Seat → Seat → T → Type 0) (further : D → Seat → Seat → U → Type 0) (client : C) (t : Terms) (z : Cell) (h : Hands C D U A) (c : Crew T U A)
+    → z.terms.node ≡ t → h.callers.client ≡ client → Dealt z (length h.callers.others.items) h.workers.items h.callers.main h.callers.seats.items → CameBack promise further z h c
+    → HasCalled MainOpens promise client t t.settings.workers c.company.main.told c.company.main.seat.mine
+called_for {C} promise further client t z h c terms same dealt came =
+    let m = c.company.main in
+    subst (λ (y : C). HasCalled MainOpens promise y t t.settings.workers m.told m.seat.mine) same
+    (subst (λ (u : Terms). HasCalled MainOpens promise h.callers.client u u.settings.workers m.told m.seat.mine) terms
+    (subst (λ (s : Seat). HasCalled MainOpens promise h.callers.client s.terms.node s.number m.told m.seat.mine) dealt.main_is came.company.main.called))
 
-pub run_is : {C T A : Type 0} (promise : C → Seat → Seat → T → Type 0) (client : C) (settings : NodeSettings) (z : Cell) (h : Hands C A) (c : Crew T A) (d : Done T A)
-    → z.terms.node ≡ terms_for settings → h.client ≡ client → Dealt z h.workers.items h.main → CameBack promise h c → HasEnded z c d
-    → IsRun promise client settings d.told d.journal
-run_is promise client settings z h c d terms same dealt came ended = record {
-  history = ended.history;
-  legal = subst (λ (u : Terms). Legal u ended.history) terms ended.legal;
-  kept = subst (λ (u : Terms). KeptAs u d.journal ended.history) terms ended.kept;
-  mine = c.main.seat.mine;
-  called = called_for promise client settings z h c d.told terms same dealt came ended.told;
-  ended = subst (λ (u : Terms). entries_of u.settings.workers ended.history ≡ c.main.seat.mine ++ entry u.settings.workers Final reply.Ok ∷ []) terms ended.ended;
-}
+pub run_is : {C D T U A : Type 0} (promise : C → Seat → Seat → T → Type 0) (further : D → Seat → Seat → U → Type 0) (client : C) (others : List D) (settings : NodeSettings) (z : Cell) (h : Hands C D U A) (c : Crew T U A) (d : AllDone T U A)
+    → z.terms.node ≡ terms_among settings (length others) → h.callers.client ≡ client → h.callers.others.items ≡ others
+    → Dealt z (length h.callers.others.items) h.workers.items h.callers.main h.callers.seats.items → CameBack promise further z h c → HasEnded z c d
+    → IsRunOfAll promise further client others settings d.told d.others.items d.journal
+run_is {C} {D} {T} {U} promise further client others settings z h c d terms same list dealt came ended =
+    let t = terms_among settings (length others) in
+    let w = z.terms.node.settings.workers in
+    let called = called_for promise further client t z h c terms same dealt came in
+    let each = have_called further z ended.history (w + 1) h.callers.others.items c.company.seats.items c.company.told.items ended.seats came.company.others in
+    record {
+      history = ended.history;
+      legal = subst (λ (u : Terms). Legal u ended.history) terms ended.legal;
+      kept = subst (λ (u : Terms). KeptAs u d.journal ended.history) terms ended.kept;
+      mine = c.company.main.seat.mine;
+      called = subst (λ (x : T). HasCalled MainOpens promise client t settings.workers x c.company.main.seat.mine) (sym ended.told) called;
+      ended = subst (λ (u : Terms). entries_of u.settings.workers ended.history ≡ c.company.main.seat.mine ++ entry u.settings.workers Final reply.Ok ∷ []) terms ended.ended;
+      others_called =
+          subst (λ (us : List U). HaveCalled further t ended.history (settings.workers + 1) others us) (sym (ap (λ v. v.items) ended.others))
+          (subst (λ (ds : List D). HaveCalled further t ended.history (settings.workers + 1) ds c.company.told.items) list
+          (subst (λ (u : Terms). HaveCalled further u ended.history (u.settings.workers + 1) h.callers.others.items c.company.told.items) terms each));
+    }
+
+-- the terms of the cell are those of the settings
+pub terms_are : (u : Terms) (settings : NodeSettings) (k n : ℕ) → u ≡ terms_with Two settings k → k ≡ n + 1 → u ≡ terms_among settings n
+terms_are u settings k n e f = e ∙ ap (λ (j : ℕ). terms_with Two settings j) f
 
 -- Why it gave nothing back
 
-unopened : {C T A : Type 0} (promise : C → Seat → Seat → T → Type 0) (settings : NodeSettings) (z : Cell) (h : Hands C A) (c : Crew T A) (f : Failure)
-    → z.terms.node ≡ terms_for settings → Dealt z h.workers.items h.main → CameBack promise h c → c.main.told ≡ Err f
-    → IfRefused f (IsRefused (terms_for settings) settings.workers [] Initialize)
-unopened promise settings z h c f terms dealt came is =
-    subst (λ (u : Terms). IfRefused f (IsRefused u u.settings.workers [] Initialize)) terms
-    (subst (λ (s : Seat). IfRefused f (IsRefused s.terms.node s.number [] Initialize)) dealt.main_is
-    (IfErr-at_err (λ e. IfRefused e (IsRefused h.main.terms.node h.main.number [] Initialize)) is came.refused))
+pub unopened_all : {C T : Type 0} (promise : C → Seat → Seat → T → Type 0) (client : C) (n m : ℕ) (settings : NodeSettings) (z : Cell) (f : Failure)
+    → z.terms.node ≡ terms_among settings n → m ≡ n → IfRefused f (AreRefused z.terms.node m) → IfRefused f (RefusesOne promise client n settings)
+unopened_all promise client n m settings z f terms same r =
+    refused_weaker (AreRefused z.terms.node m) (RefusesOne promise client n settings) f
+    (λ s x. inl (subst (λ (k : ℕ). AreRefused (terms_among settings n) k s) same (subst (λ (u : Terms). AreRefused u m s) terms x))) r
 
-pub causes_are : {C T A : Type 0} (promise : C → Seat → Seat → T → Type 0) (client : C) (settings : NodeSettings) (z : Cell) (h : Hands C A) (c : Crew T A) (f : Failure)
-    → z.terms.node ≡ terms_for settings → h.client ≡ client → Dealt z h.workers.items h.main → CameBack promise h c → HasFailed z c f
-    → IfRefused f (Refuses promise client settings)
-causes_are promise client settings z h c (failure.Refused s) terms same dealt came (inl is) = inl (unopened promise settings z h c (failure.Refused s) terms dealt came is)
-causes_are promise client settings z h c (failure.Refused s) terms same dealt came (inr e) =
-    inr (
-      e.0,
-      c.main.seat.mine,
-      called_for promise client settings z h c e.0 terms same dealt came e.1,
-      subst (λ (u : Terms). IsRefused u u.settings.workers c.main.seat.mine Final s) terms e.2,
-    )
-causes_are promise client settings z h c failure.Memory terms same dealt came failed = tt
-causes_are promise client settings z h c (failure.NoThread n) terms same dealt came failed = tt
-causes_are promise client settings z h c (failure.Spent n) terms same dealt came failed = tt
+pub unended_all : {C D T U A : Type 0} (promise : C → Seat → Seat → T → Type 0) (further : D → Seat → Seat → U → Type 0) (client : C) (n : ℕ) (settings : NodeSettings) (z : Cell) (h : Hands C D U A) (c : Crew T U A) (f : Failure)
+    → z.terms.node ≡ terms_among settings n → h.callers.client ≡ client → Dealt z (length h.callers.others.items) h.workers.items h.callers.main h.callers.seats.items → CameBack promise further z h c
+    → IfRefused f (IsRefused z.terms.node z.terms.node.settings.workers c.company.main.seat.mine Final) → IfRefused f (RefusesOne promise client n settings)
+unended_all promise further client n settings z h c f terms same dealt came r =
+    let m = c.company.main in
+    refused_weaker (IsRefused z.terms.node z.terms.node.settings.workers m.seat.mine Final) (RefusesOne promise client n settings) f
+    (λ s x. inr (m.told, m.seat.mine, called_for promise further client (terms_among settings n) z h c terms same dealt came, subst (λ (u : Terms). IsRefused u u.settings.workers m.seat.mine Final s) terms x)) r
 
--- where a thread or memory is refused, the node refused nothing
-pub no_refusal : (P : MtapiStatus → Type 0) (f : Failure) → IsNoRefusal f → IfRefused f P
-no_refusal P (failure.Refused s) none = absurd none
-no_refusal P failure.Memory none = tt
-no_refusal P (failure.NoThread n) none = tt
-no_refusal P (failure.Spent n) none = tt
+-- Main alone
+
+pub run_alone : {C D T U : Type 0} (promise : C → Seat → Seat → T → Type 0) (further : D → Seat → Seat → U → Type 0) (client : C) (others : List D) (settings : NodeSettings) (told : T) (us : List U) (j : Journal)
+    → others ≡ [] → IsRunOfAll promise further client others settings told us j → IsRun promise client settings told j
+run_alone {D = D} promise further client others settings told us j none run =
+    let r = subst (λ (ds : List D). IsRunOfAll promise further client ds settings told us j) none run in
+    record { history = r.history; legal = r.legal; kept = r.kept; mine = r.mine; called = r.called; ended = r.ended }
+
+pub causes_alone : {C T : Type 0} (promise : C → Seat → Seat → T → Type 0) (client : C) (n : ℕ) (settings : NodeSettings) (f : Failure) → n ≡ 0 → IfRefused f (RefusesOne promise client n settings) → IfRefused f (Refuses promise client settings)
+causes_alone promise client n settings f none r =
+    refused_weaker (RefusesOne promise client 0 settings) (Refuses promise client settings) f (λ s x. only s x)
+    (subst (λ (k : ℕ). IfRefused f (RefusesOne promise client k settings)) none r)
+  where
+    only : (s : MtapiStatus) → RefusesOne promise client 0 settings s → Refuses promise client settings s
+    only s (inl (inl x)) = inl x
+    only s (inl (inr x)) = let k = x.1 in absurd (omega arith)
+    only s (inr x) = inr x

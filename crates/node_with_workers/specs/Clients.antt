@@ -1,9 +1,9 @@
--- What a caller's seat does: it opens the node, has its client call, and makes further calls.
-use Rattle.std.specs.Prelude.{◌≡◌, ◌<◌, ◌^◌, ℕ, List, [], ◌∷◌, ◌++◌, take, length}
+-- What a caller's seat does: it comes into the node, has its client call, and makes further calls.
+use Rattle.std.specs.Prelude.{◌≡◌, ◌<◌, ◌^◌, ◌⊎◌, ℕ, List, [], ◌∷◌, ◌++◌, take, length, replicate}
 use Rattle.history.specs.Histories.{StartsWith, entry, entries_of}
 use Rattle.mtapi_values.specs.declared.statuses.MtapiStatus.{MtapiStatus}
 use Rattle.mtapi_machine.specs.declared.ops.Op.{Op}
-use Rattle.mtapi_machine.specs.declared.ops.Op.TheVariants.{Initialize}
+use Rattle.mtapi_machine.specs.declared.ops.Op.TheVariants.{Initialize, Release, Enter}
 use Rattle.mtapi_machine.specs.declared.replies.Reply.TheVariants as reply
 use Rattle.mtapi_machine.specs.declared.terms.Terms.{Terms}
 use Rattle.mtapi_machine.specs.Legal.{NodeEntry, Legal}
@@ -20,9 +20,13 @@ pub record MadeOne (o : Op) (old new : Seat) : Type 0 where
   pub same : SameSeat old new
   pub mine : new.mine ≡ old.mine ++ entry old.number o reply.Ok ∷ []
 
--- main opened the node, and made no other call
+-- main opened the node, let the further callers in, and made no other call
 abbrev pub MainOpens : ℕ → List NodeEntry → Type 0
-MainOpens who es = es ≡ entry who Initialize reply.Ok ∷ []
+MainOpens who es = es ≡ entry who Initialize reply.Ok ∷ entry who Release reply.Ok ∷ []
+
+-- a further caller looked until it was let in, and made no other call
+abbrev pub CallerEnters : ℕ → List NodeEntry → Type 0
+CallerEnters who es = (looks : ℕ) × (es ≡ replicate looks (entry who Enter reply.Pending) ++ entry who Enter reply.Ok ∷ [])
 
 -- These are the entries of a caller of a node with these terms. By the first of them its seat came in; then the client's promise holds of the
 -- seat before its calls and after them, and of what it was told; and then come others.
@@ -43,13 +47,21 @@ pub record IsRefused (t : Terms) (who : ℕ) (es : List NodeEntry) (o : Op) (sta
   pub own : entries_of who history ≡ es
   pub legal : Legal t (history ++ entry who o (reply.Mtapi status) ∷ [])
 
+-- main asked this node to open, or to let the further callers in once it was open, and was answered the status
+abbrev pub IsNotOpened : Terms → ℕ → MtapiStatus → Type 0
+IsNotOpened t who status = IsRefused t who [] Initialize status ⊎ IsRefused t who (entry who Initialize reply.Ok ∷ []) Release status
+
+-- a further caller looked until it was answered the status, in a legal history of a node with these terms, and made no other call
+pub record IsKeptOut (t : Terms) (who : ℕ) (status : MtapiStatus) : Type 0 where
+  pub history : List NodeEntry
+  pub legal : Legal t history
+  pub looks : ℕ
+  pub own : entries_of who history ≡ replicate looks (entry who Enter reply.Pending) ++ entry who Enter (reply.Mtapi status) ∷ []
+
 -- this holds of the status of a refusal
 abbrev pub IfRefused : Failure → (MtapiStatus → Type 0) → Type 0
 IfRefused (failure.Refused status) P = P status
 IfRefused _ P = Unit {0}
-
-abbrev pub IsNoRefusal : Failure → Type 0
-IsNoRefusal f = IfRefused f (λ _. ⊥)
 
 -- where the failure is a refusal it has this status, and the tickets shown to the seat hadn't run out
 abbrev pub SaysOf : Seat → MtapiStatus → Failure → Type 0

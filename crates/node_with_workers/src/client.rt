@@ -1,10 +1,11 @@
-//! The caller of the node.
+//! The callers of the node.
 
 ghost use Rattle.std.specs.Prelude.{◌≡◌, ◌≤◌, [], IfOk, IfErr};
-ghost use Rattle.mtapi_machine.specs.declared.ops.Op.TheVariants.{Initialize, Final};
+ghost use Rattle.mtapi_machine.specs.declared.ops.Op.TheVariants.{Final};
 ghost use Rattle.sched_workers.specs.Turns.{Seat, SameSeat};
 ghost use Rattle.sched_workers.specs.Crews.{GaveUp};
-ghost use Rattle.node_with_workers.specs.Clients.{GoesOn, MainOpens, MadeOne, HasCalled, IfRefused, IsRefused, SaysOf};
+ghost use Rattle.node_with_workers.specs.Clients.{GoesOn, MainOpens, CallerEnters, MadeOne, IfRefused, IsRefused, IsNotOpened, IsKeptOut, SaysOf};
+ghost use Rattle.node_with_workers.specs.Crews.{HasComeBack};
 
 use crate::failure::Failure;
 use mtapi_values::MtapiStatus;
@@ -18,7 +19,7 @@ pub trait Client: Drop {
     /// What comes of it.
     type Told: Drop;
 
-    // What it promises: of itself, of main's seat before its calls and after them, and of what it was told.
+    // What it promises: of itself, of its caller's seat before its calls and after them, and of what it was told.
     ghost promise: { Self → Seat → Seat → Self.Told → Type 0 };
 
     /// Calls the node, which is open. It may leave tasks that haven't ended, and needn't end the node.
@@ -28,13 +29,13 @@ pub trait Client: Drop {
         ensures kept { promise self caller.old caller.new result };
 }
 
-/// The seat that made the calls, and what came of them.
+/// The seat that made the calls, and what the client was told.
 #[derive(Drop)]
 pub struct Called<T: Drop> {
     /// The seat.
     pub seat: TurnSeat<Journaled>,
-    /// What the client was told, or why the node wasn't opened.
-    pub told: Result<T, Failure>,
+    /// What the client was told.
+    pub told: T,
 }
 
 /// Why a call of this seat answered a status: the tickets of the cell have run out, or the node refused it.
@@ -47,41 +48,78 @@ pub(crate) fn failure_of(seat: &TurnSeat<Journaled>, status: MtapiStatus) -> Fai
     }
 }
 
-/// Opens the node, has the client call it, and begins its end whatever came of that: the workers stop once it has begun.
+// Begins the end of a node that main couldn't open, and says why.
+fn unopened<R: Wait>(
+    rt: &R,
+    cell: &TurnCell<Journaled>,
+    seat: TurnSeat<Journaled>,
+    status: MtapiStatus,
+) -> Failure
+    requires cell { seat.cell ≡ cell.now.id }
+    requires caller { seat.terms.node.settings.workers ≤ seat.number }
+    ensures { SaysOf seat status result }
+{
+    let failure = failure_of(&seat, status);
+    let _ = closed(rt, cell, seat);
+    failure
+}
+
+/// Opens the node, lets the further callers in, and has the client call. Where the node isn't opened, its end begins at once.
 pub(crate) fn call<R: Wait, C: Client>(
     rt: &R,
     cell: &TurnCell<Journaled>,
     seat: TurnSeat<Journaled>,
     client: C,
-) -> Called<C::Told>
+) -> Result<Called<C::Told>, Failure>
     requires cell { seat.cell ≡ cell.now.id }
     requires caller { seat.terms.node.settings.workers ≤ seat.number }
     requires new { seat.mine ≡ [] }
-    ensures same { SameSeat seat result.seat }
-    ensures told { IfOk result.told (λ t. HasCalled MainOpens C.promise client seat.terms.node seat.number t result.seat.mine) }
-    ensures refused { IfErr result.told (λ e. IfRefused e (IsRefused seat.terms.node seat.number [] Initialize)) }
+    ensures called { IfOk result (HasComeBack MainOpens C.promise client seat) }
+    ensures refused { IfErr result (λ e. IfRefused e (IsNotOpened seat.terms.node seat.number)) }
 {
     let mut caller = Caller::new(cell, seat);
     match caller.initialize(rt) {
+        Ok(()) => match caller.release(rt) {
+            Ok(()) => {
+                let told = client.call(rt, &mut caller);
+                let seat = caller.into_seat();
+                Ok(Called { seat, told })
+            }
+            Err(status) => Err(unopened(rt, cell, caller.into_seat(), status)),
+        },
+        Err(status) => Err(unopened(rt, cell, caller.into_seat(), status)),
+    }
+}
+
+/// Waits until main lets the further callers in, and has the client call. Where the end of the node begins first, it isn't let in.
+pub(crate) fn call_inside<R: Wait, D: Client>(
+    rt: &R,
+    cell: &TurnCell<Journaled>,
+    seat: TurnSeat<Journaled>,
+    client: D,
+) -> Result<Called<D::Told>, Failure>
+    requires cell { seat.cell ≡ cell.now.id }
+    requires caller { seat.terms.node.settings.workers ≤ seat.number }
+    requires new { seat.mine ≡ [] }
+    ensures called { IfOk result (HasComeBack CallerEnters D.promise client seat) }
+    ensures refused { IfErr result (λ e. IfRefused e (IsKeptOut seat.terms.node seat.number)) }
+{
+    let mut caller = Caller::new(cell, seat);
+    match caller.enter(rt) {
         Ok(()) => {
             let told = client.call(rt, &mut caller);
-            Called {
-                seat: closed(rt, cell, caller.into_seat()),
-                told: Ok(told),
-            }
+            let seat = caller.into_seat();
+            Ok(Called { seat, told })
         }
         Err(status) => {
             let seat = caller.into_seat();
-            let failure = failure_of(&seat, status);
-            Called {
-                seat: closed(rt, cell, seat),
-                told: Err(failure),
-            }
+            seat.known();
+            Err(failure_of(&seat, status))
         }
     }
 }
 
-/// Begins the end of the node, and wakes the workers. It is refused where the client has begun it, or where the tickets ran out.
+/// Begins the end of the node, and wakes the workers. It is refused where a client has begun it, or where the tickets ran out.
 pub(crate) fn closed<R: Wait>(
     rt: &R,
     cell: &TurnCell<Journaled>,

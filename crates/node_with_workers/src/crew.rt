@@ -1,11 +1,12 @@
-//! The threads of the workers, and the caller beside them.
+//! The threads of the workers, and the callers beside them.
 
-ghost use Rattle.std.specs.Prelude.{◌≡◌, IfOk, IfErr, vec_len};
+ghost use Rattle.std.specs.Prelude.{◌≡◌, length, IfOk, IfErr, vec_len};
 ghost use Rattle.std.specs.Thread.{IsSync};
-ghost use Rattle.node_with_workers.specs.Clients.{IsNoRefusal};
-ghost use Rattle.node_with_workers.specs.Crews.{AreReady, CameBack, IsJoined};
+ghost use Rattle.node_with_workers.specs.Clients.{IfRefused};
+ghost use Rattle.node_with_workers.specs.Crews.{AreReady, AreRefused, CameBack, IsJoined};
 
-use crate::client::{Called, Client, call, closed};
+use crate::callers::{Callers, Company, call_all};
+use crate::client::{Client, closed};
 use crate::failure::Failure;
 use crate::jobs::{Over, Waiting};
 use crate::refusals::NoThread;
@@ -18,25 +19,27 @@ use std::sync::Wait;
 use std::thread::Threads as StartsThreads;
 use turn_cell::{TurnCell, TurnSeat};
 
-/// The seats of the workers that aren't started yet, main's seat and its client, and the list that takes the workers' sets back.
+/// The seats of the workers that aren't started yet, the callers, and the list that takes the workers' sets back.
 #[derive(Drop)]
-pub struct Hands<C: Drop, A: Drop> {
+pub struct Hands<C: Drop, D: Drop, U: Drop, A: Drop> {
     pub workers: Vec<TurnSeat<Journaled>>,
-    pub main: TurnSeat<Journaled>,
-    pub client: C,
+    pub callers: Callers<C, D, U>,
     pub sets: Vec<A>,
 }
 
-/// The seats and the sets of the workers whose threads are over, in the order of their numbers, and what came of the client.
+/// The seats and the sets of the workers whose threads are over, in the order of their numbers, and the callers.
 #[derive(Drop)]
-pub struct Crew<T: Drop, A: Drop> {
+pub struct Crew<T: Drop, U: Drop, A: Drop> {
     pub workers: Vec<TurnSeat<Journaled>>,
     pub sets: Vec<A>,
-    pub main: Called<T>,
+    pub company: Company<T, U>,
 }
 
 // The crew with one more worker, whose thread is over.
-fn joined<T: Drop, A: Drop>(crew: Crew<T, A>, over: Over<A>) -> Result<Crew<T, A>, AllocError>
+fn joined<T: Drop, U: Drop, A: Drop>(
+    crew: Crew<T, U, A>,
+    over: Over<A>,
+) -> Result<Crew<T, U, A>, AllocError>
     ensures { IfOk result (IsJoined crew over) }
 {
     let mut crew = crew;
@@ -45,31 +48,38 @@ fn joined<T: Drop, A: Drop>(crew: Crew<T, A>, over: Over<A>) -> Result<Crew<T, A
     Ok(crew)
 }
 
-/// Starts a thread for each worker, one inside the other, and has the client call beside them. All threads have ended when it returns. If one
+/// Starts a thread for each worker, one inside the other, and has the clients call beside them. All threads have ended when it returns. If one
 /// is refused, the end of the node begins at once, so that those that were started end.
-pub(crate) fn start_workers<S: ActionSource, C: Client, R: StartsThreads + Wait + Sync>(
+pub(crate) fn start_workers<
+    S: ActionSource,
+    C: Client,
+    D: Client + Send,
+    R: StartsThreads + Wait + Sync,
+>(
     rt: &R,
     cell: &TurnCell<Journaled>,
     acts: &mut S,
     beside: &mut Threads,
-    hands: Hands<C, S::Set>,
-) -> Result<Crew<C::Told, S::Set>, Failure>
+    hands: Hands<C, D, D::Told, S::Set>,
+) -> Result<Crew<C::Told, D::Told, S::Set>, Failure>
+where
+    D::Told: Send,
     requires { AreReady cell.now hands }
-    ensures back { IfOk result (CameBack C.promise hands) }
-    ensures failed { IfErr result IsNoRefusal }
+    ensures back { IfOk result (CameBack C.promise D.promise cell.now hands) }
+    ensures failed { IfErr result (λ e. IfRefused e (AreRefused cell.now.terms.node (length hands.callers.others.items))) }
 {
     let mut hands = hands;
     let Some(seat) = hands.workers.pop() else {
         let Hands {
             workers,
-            main,
-            client,
+            callers,
             sets,
         } = hands;
+        let company = call_all(rt, cell, beside, callers)?;
         return Ok(Crew {
             workers,
             sets,
-            main: call(rt, cell, main, client),
+            company,
         });
     };
     let number = seat.number();
@@ -83,16 +93,20 @@ pub(crate) fn start_workers<S: ActionSource, C: Client, R: StartsThreads + Wait 
         rt,
         job,
         hands,
-        |beside: &mut Threads, hands: Hands<C, S::Set>| -> Result<Crew<C::Told, S::Set>, Failure>
+        |beside: &mut Threads, hands: Hands<C, D, D::Told, S::Set>| -> Result<
+            Crew<C::Told, D::Told, S::Set>,
+            Failure,
+        >
             requires { AreReady cell.now hands × IsSync R.row }
-            ensures back { IfOk result (CameBack C.promise hands) }
-            ensures failed { IfErr result IsNoRefusal }
+            ensures back { IfOk result (CameBack C.promise D.promise cell.entry.now hands) }
+            ensures failed { IfErr result (λ e. IfRefused e (AreRefused cell.entry.now.terms.node (length hands.callers.others.items))) }
         { start_workers(rt, cell, acts, beside, hands) },
     );
     match outcome {
         Ok((over, crew)) => Ok(joined(crew?, over)?),
         Err((hands, _)) => {
-            let _ = closed(rt, cell, hands.main);
+            let callers = hands.callers;
+            let _ = closed(rt, cell, callers.main);
             let refused = mem::replace(beside, Threads::new());
             Err(Failure::NoThread(NoThread::shown_by(refused)))
         }
