@@ -1,4 +1,4 @@
-use Rattle.std.proofs.Common.{◌≡◌, List, refl, sym, subst, ap, ◌∙◌, ◌++◌}
+use Rattle.std.proofs.Common.{◌≡◌, List, refl, sym, subst, ap, ◌∙◌, ◌++◌, rules}
 use Rattle.turn_cell.specs.Lists.{all_of}
 use Rattle.turn_cell.specs.Seats.{IsComplete, IsSeatOf}
 use Rattle.node_core.specs.Logs.{KeptAs, journal_seats}
@@ -18,7 +18,7 @@ close-requires-clause-complete g c =
     subst (λ (xs : List Seat). IsComplete (journal_seats c.args.cell.terms) xs) (sym items) (all_complete c.args.cell c.args.crew c.in_ok-seat.seat c.requires.seats c.in_ok-seat.ensures.ended.same)
 
 pub returns-in_err-seat-clause-failed : goal.returns-in_err-seat-clause-failed
-returns-in_err-seat-clause-failed g c = not_ended c.args.cell c.args.crew _ c.requires.seats c.in_err-seat.ensures.refused
+returns-in_err-seat-clause-failed g c = let r = not_ended c.args.cell c.args.crew _ c.requires.seats c.in_err-seat.ensures.refused in search rules
 
 pub returns-clause-ended : goal.returns-clause-ended
 returns-clause-ended g c =
