@@ -1,5 +1,5 @@
 -- The seats of a node from its start to its end, and what its clients' calls add.
-use Rattle.std.proofs.Common.{◌≡◌, ℕ, zero, suc, true, ◌+◌, ◌-◌, ◌≤◌, ◌<◌, ◌^◌, List, length, take, drop, replicate, [], ◌∷◌, ◌++◌, Option, None, Result, Ok, Err, inl, inr, refl, sym, ◌∙◌, ap, subst, append_assoc, arith, vec_len}
+use Rattle.std.proofs.Common.{◌≡◌, ℕ, zero, suc, true, ◌+◌, ◌-◌, ◌≤◌, ◌<◌, ◌^◌, List, length, take, drop, replicate, [], ◌∷◌, ◌++◌, None, Result, Ok, Err, inl, inr, refl, sym, ◌∙◌, ap, subst, append_assoc, arith, vec_len}
 use Rattle.std.specs.Prelude.{All, IfOk, IfErr}
 use Rattle.std.specs.List.{AllZip}
 use Rattle.std.proofs.lemmas.List.{append-nil, same_from_push, take-append-drop}
@@ -38,8 +38,8 @@ use Rattle.node_with_workers.specs.declared.failure.Failure.TheVariants as failu
 use Rattle.node_with_workers.specs.declared.jobs.Over.{Over}
 use Rattle.node_with_workers.specs.declared.run.AllDone.{AllDone}
 use Rattle.node_with_workers.specs.Clients.{GoesOn, MadeOne, MainOpens, CallerEnters, HasCalled, IfRefused, IsRefused, IsNotOpened, IsKeptOut, SaysOf}
-use Rattle.node_with_workers.specs.Crews.{HasComeBack, MayCall, AreTold, IsOneMore, IsJoinedBy, IsLostBy, HaveComeBack, AreRefused, AreReady, IsJoined, CameBack}
-use Rattle.node_with_workers.specs.Runs.{terms_among, terms_for, IsRun, IsRunOfAll, HaveCalled, Refuses, RefusesOne, IsNotEnded, HasAllSeats, HasEnded}
+use Rattle.node_with_workers.specs.Crews.{HasComeBack, MayCall, AreTold, IsJoinedBy, IsLostBy, HaveComeBack, AreRefused, AreReady, IsJoined, CameBack}
+use Rattle.node_with_workers.specs.Runs.{terms_among, IsRun, IsRunOfAll, HaveCalled, Refuses, RefusesOne, HasAllSeats, HasEnded}
 use Rattle.node_with_workers.proofs.Told.{read_done}
 
 -- What a refusal says
