@@ -1,6 +1,5 @@
 -- After further calls a seat's entries still begin with those that it had, as a client owes of its seat.
-use Rattle.std.proofs.Common.{◌≡◌, ◌≤◌, List, ◌++◌, length, take, ap, ◌∙◌, arith}
-use Rattle.std.proofs.lemmas.List.{length-take, take-append-le, take_all}
+use Rattle.node_with_workers.proofs.Names.{◌≡◌, ◌≤◌, List, ◌++◌, length, take, ap, ◌∙◌, arith, length-take, take-append-le, take_all}
 
 -- `grind` picks a lemma up at the first call in its conclusion, which shows the entries before the last call and those of it
 pub begins_more : {X : Type 0} (had before more : List X) → take (length had) before ≡ had → take (length had) (before ++ more) ≡ had

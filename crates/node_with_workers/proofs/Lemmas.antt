@@ -1,54 +1,27 @@
 -- The seats of a node from its start to its end, and what its clients' calls add.
-use Rattle.std.proofs.Common.{◌≡◌, ℕ, zero, suc, true, ◌+◌, ◌-◌, ◌≤◌, ◌<◌, ◌^◌, List, length, take, drop, replicate, [], ◌∷◌, ◌++◌, None, Result, Ok, Err, inl, inr, refl, sym, ◌∙◌, ap, subst, append_assoc, arith, vec_len}
-use Rattle.std.specs.Prelude.{All, IfOk, IfErr}
+use Rattle.node_with_workers.proofs.Names.{nat_tests, ◌≡◌, ℕ, zero, suc, true, ◌+◌, ◌-◌, ◌≤◌, ◌<◌, ◌^◌, List, length, take, drop, [], ◌∷◌, ◌++◌, None, Result, Ok, Err, inl, inr, refl, sym, ◌∙◌, ap, subst, append_assoc, arith, vec_len, All, IfOk, IfErr, append-nil, same_from_push, take-append-drop, StartsWith, entry, entries_of, all_of, fresh_seat, fresh_seats, IsComplete, IsSeatOf, NodeSettings, MtapiStatus, Op, Initialize, Release, Close, Final, Reply, Terms, NodeEntry, Legal, Journal, JournaledTerms, journal_seats, KeptAs, Entrance, Seat, SameSeat, Answers, Waited, mtapi, done, Callers, Hands, GoesOn, MadeOne, MainOpens, CallerEnters, HasCalled, IfRefused, IsRefused, IsNotOpened, IsKeptOut, SaysOf, HasComeBack, MayCall, AreTold, IsJoinedBy, IsLostBy, HaveComeBack, AreRefused, AreReady, IsJoined, CameBack, terms_among, IsRun, IsRunOfAll, HaveCalled, Refuses, RefusesOne, HasAllSeats, HasEnded}
 use Rattle.std.specs.List.{AllZip}
-use Rattle.std.proofs.lemmas.List.{append-nil, same_from_push, take-append-drop}
 use Rattle.std.proofs.lemmas.List.Elements.{All-nil, All-cons, AllZip-push}
-use Rattle.history.specs.Histories.{StartsWith, entry, entries_of}
 use Rattle.history.proofs.Growth.{entries_append}
-use Rattle.turn_cell.specs.Lists.{all_of}
-use Rattle.turn_cell.specs.Seats.{fresh_seat, fresh_seats, IsComplete, IsSeatOf}
 use Rattle.turn_cell.proofs.Complete.{numbers, complete_alike, complete_fresh, all_has, has_back, has_front, fresh-take, fresh-drop}
-use Rattle.mtapi_values.specs.Attributes.{NodeSettings}
 use Rattle.mtapi_values.specs.declared.handles.Layout.TheVariants.{Two}
-use Rattle.mtapi_values.specs.declared.statuses.MtapiStatus.{MtapiStatus}
-use Rattle.mtapi_machine.specs.declared.ops.Op.{Op}
-use Rattle.mtapi_machine.specs.declared.ops.Op.TheVariants.{Initialize, Release, Enter, Close, Final}
-use Rattle.mtapi_machine.specs.declared.replies.Reply.{Reply}
 use Rattle.mtapi_machine.specs.declared.replies.Reply.TheVariants as reply
-use Rattle.mtapi_machine.specs.declared.terms.Terms.{Terms}
 use Rattle.mtapi_machine.specs.State.{terms_with}
-use Rattle.mtapi_machine.specs.Legal.{NodeEntry, Legal}
-use Rattle.node_journals.specs.declared.entries.Journal.{Journal}
-use Rattle.node_core.specs.declared.journaled.JournaledTerms.{JournaledTerms}
-use Rattle.node_core.specs.Logs.{journal_seats, KeptAs}
-use Rattle.workload_runs.specs.declared.calls.Wanted.TheVariants.{Entrance}
-use Rattle.sched_workers.specs.Turns.{Seat, SameSeat}
-use Rattle.sched_workers.specs.Answers.{Answers, Called as Asked, Waited}
-use Rattle.sched_workers.specs.Replies.{mtapi, done}
+use Rattle.sched_workers.specs.Answers.{Called as Asked}
 use Rattle.sched_workers.specs.Crews.{Cell, IsIdle, GaveUp}
 use Rattle.sched_workers.proofs.Starts.{new_at_rest}
 use Rattle.node_with_workers.specs.declared.client.Called.{Called}
-use Rattle.node_with_workers.specs.declared.callers.Callers.{Callers}
 use Rattle.node_with_workers.specs.declared.callers.Company.{Company}
 use Rattle.node_with_workers.specs.declared.crew.Crew.{Crew}
-use Rattle.node_with_workers.specs.declared.crew.Hands.{Hands}
 use Rattle.node_with_workers.specs.declared.failure.Failure.{Failure}
 use Rattle.node_with_workers.specs.declared.failure.Failure.TheVariants as failure
 use Rattle.node_with_workers.specs.declared.jobs.Over.{Over}
 use Rattle.node_with_workers.specs.declared.run.AllDone.{AllDone}
-use Rattle.node_with_workers.specs.Clients.{GoesOn, MadeOne, MainOpens, CallerEnters, HasCalled, IfRefused, IsRefused, IsNotOpened, IsKeptOut, SaysOf}
-use Rattle.node_with_workers.specs.Crews.{HasComeBack, MayCall, AreTold, IsJoinedBy, IsLostBy, HaveComeBack, AreRefused, AreReady, IsJoined, CameBack}
-use Rattle.node_with_workers.specs.Runs.{terms_among, IsRun, IsRunOfAll, HaveCalled, Refuses, RefusesOne, HasAllSeats, HasEnded}
-use Rattle.node_with_workers.proofs.Told.{read_done}
 
 -- What a refusal says
 
 pub refused_weaker : (P Q : MtapiStatus → Type 0) (f : Failure) → ((s : MtapiStatus) → P s → Q s) → IfRefused f P → IfRefused f Q
-refused_weaker P Q (failure.Refused s) h r = h s r
-refused_weaker P Q failure.Memory h r = tt
-refused_weaker P Q (failure.NoThread n) h r = tt
-refused_weaker P Q (failure.Spent n) h r = tt
+refused_weaker P Q f e1 e2 = grind (arith, nat_tests)
 
 -- The calls of one seat
 
@@ -60,8 +33,7 @@ gave_more old new (inl c) = (entry old.number Close c.0 ∷ [], c.1.mine)
 gave_more old new (inr u) = ([], u.mine ∙ sym (append-nil old.mine))
 
 gave_same : (old new : Seat) → GaveUp old new → SameSeat old new
-gave_same old new (inl c) = c.1.same
-gave_same old new (inr u) = u.same
+gave_same old new e1 = grind (arith, nat_tests)
 
 -- the seat's entries begin with those that it had
 goes_on : (old new : Seat) → GoesOn old new → StartsWith new.mine old.mine
@@ -70,14 +42,10 @@ goes_on old new g =
 
 -- a call that was done, and one that was refused
 made_one : (o : Op) (old new : Seat) (x : Result (Unit {0}) MtapiStatus) (u : Unit {0}) → Asked mtapi done o old new x → x ≡ Ok u → MadeOne o old new
-made_one o old new (Ok v) u (inl c) is = record { same = c.1.same; mine = c.1.mine ∙ ap (λ (r : Reply). old.mine ++ entry old.number o r ∷ []) (read_done c.0 v c.2) }
-made_one o old new (Ok v) u (inr c) is = absurd (cc)
-made_one o old new (Err e) u c is = absurd (cc)
+made_one o old new x u e1 e2 = grind (arith, nat_tests)
 
 read_refusal : (r : Reply) (e : MtapiStatus) → Answers mtapi done r (Err e) → r ≡ reply.Mtapi e
-read_refusal reply.Ok e a = absurd (cc)
-read_refusal (reply.Mtapi c) e a = let same = a.0 in cc
-read_refusal _ e a = absurd a
+read_refusal r e e1 = grind (arith, nat_tests)
 
 is_refused : (o : Op) (old new : Seat) (x : Result (Unit {0}) MtapiStatus) (status : MtapiStatus) → Asked mtapi done o old new x → x ≡ Err status → new.shown < 2 ^ 62 → IsRefused old.terms.node old.number old.mine o status
 is_refused o old new (Ok v) status c is few = absurd (cc)
@@ -105,8 +73,7 @@ says_of o seat start tried given x status (failure.NoThread n) first called is b
 says_of o seat start tried given x status (failure.Spent n) first called is back says = tt
 
 pub made_last : (o : Op) (seat start new last : Seat) (x : Result (Unit {0}) MtapiStatus) (u : Unit {0}) → start ≡ seat → Asked mtapi done o start new x → x ≡ Ok u → last ≡ new → MadeOne o seat last
-made_last o seat start new last x u first called is back =
-    subst (λ (s : Seat). MadeOne o s last) first (subst (MadeOne o start) (sym back) (made_one o start new x u called is))
+made_last o seat start new last x u e1 e2 e3 e4 = grind (arith, nat_tests)
 
 -- Main opens the node, and lets the others in
 
@@ -139,56 +106,18 @@ not_released seat start one two given x y u status f new first a ai b bi back sa
 pub main_opened : (seat start one two : Seat) (x y : Result (Unit {0}) MtapiStatus) (u v : Unit {0})
     → seat.mine ≡ [] → start ≡ seat → Asked mtapi done Initialize start one x → x ≡ Ok u → Asked mtapi done Release one two y → y ≡ Ok v
     → SameSeat seat two × MainOpens seat.number two.mine
-main_opened seat start one two x y u v new first a ai b bi =
-    let p : MadeOne Initialize seat one = opened_once seat start one x u first a ai in
-    let q : MadeOne Release one two = made_one Release one two y v b bi in (
-      same_then seat one two p.same q.same,
-      q.mine ∙ (ap (λ (l : List NodeEntry). l ++ entry one.number Release reply.Ok ∷ []) (entry_first seat one new p)
-          ∙ ap (λ (n : ℕ). entry seat.number Initialize reply.Ok ∷ entry n Release reply.Ok ∷ []) p.same.number),
-    )
+main_opened seat start one two x y u v e1 e2 e3 e4 e5 e6 = grind (arith, nat_tests)
 
 -- A further caller is let in
 
 pub entered : (seat start before : Seat) (x : Result (Unit {0}) MtapiStatus) (u : Unit {0})
     → seat.mine ≡ [] → start ≡ seat → Waited mtapi done Entrance None start before x → x ≡ Ok u → SameSeat seat before × CallerEnters seat.number before.mine
-entered seat start before (Err e) u new first w is = absurd (cc)
-entered seat start before (Ok v) u new first (inr w) is = absurd (cc)
-entered seat start before (Ok v) u new first (inl w) is =
-    let l = w.1 in
-    let none : start.mine ≡ [] = ap (λ (s : Seat). s.mine) first ∙ new in
-    let mine : before.mine ≡ replicate l.pending (entry start.number Enter reply.Pending) ++ entry start.number Enter reply.Ok ∷ [] =
-    l.mine ∙ (ap (λ (h : List NodeEntry). h ++ (replicate l.pending (entry start.number Enter reply.Pending) ++ entry start.number Enter w.0 ∷ [])) none
-    ∙ ap (λ (q : Reply). replicate l.pending (entry start.number Enter reply.Pending) ++ entry start.number Enter q ∷ []) (read_done w.0 v w.2)) in
-    subst (λ (s : Seat). SameSeat s before × CallerEnters s.number before.mine) first (l.same, (l.pending, mine))
-
-out_by : (seat start tried : Seat) (x : Result (Unit {0}) MtapiStatus) (status s : MtapiStatus)
-    → seat.mine ≡ [] → start ≡ seat → Waited mtapi done Entrance None start tried x → x ≡ Err status → Legal tried.terms.node tried.seen → entries_of tried.number tried.seen ≡ tried.mine
-    → s ≡ status → tried.shown < 2 ^ 62 → IsKeptOut seat.terms.node seat.number s
-out_by seat start tried (Ok v) status s new first w is legal own says few = absurd (cc)
-out_by seat start tried (Err e) status s new first (inr w) is legal own says few = let shown = w.0.shown in absurd (omega arith)
-out_by seat start tried (Err e) status s new first (inl w) is legal own says few =
-    let l = w.1 in
-    let none : start.mine ≡ [] = ap (λ (q : Seat). q.mine) first ∙ new in
-    let read : w.0 ≡ reply.Mtapi s = read_refusal w.0 e w.2 ∙ cc in
-    let mine : tried.mine ≡ replicate l.pending (entry start.number Enter reply.Pending) ++ entry start.number Enter (reply.Mtapi s) ∷ [] =
-    l.mine ∙ (ap (λ (h : List NodeEntry). h ++ (replicate l.pending (entry start.number Enter reply.Pending) ++ entry start.number Enter w.0 ∷ [])) none
-    ∙ ap (λ (q : Reply). replicate l.pending (entry start.number Enter reply.Pending) ++ entry start.number Enter q ∷ []) read) in
-    subst (λ (q : Seat). IsKeptOut q.terms.node q.number s) first (record {
-      history = tried.seen;
-      legal = subst (λ (t : JournaledTerms). Legal t.node tried.seen) l.same.terms legal;
-      looks = l.pending;
-      own = ap (λ (n : ℕ). entries_of n tried.seen) (sym l.same.number) ∙ (own ∙ mine);
-    })
+entered seat start before x u e1 e2 e3 e4 = grind (arith, nat_tests)
 
 pub kept_out : (seat start tried given : Seat) (x : Result (Unit {0}) MtapiStatus) (status : MtapiStatus) (f : Failure)
     → seat.mine ≡ [] → start ≡ seat → Waited mtapi done Entrance None start tried x → x ≡ Err status → given ≡ tried → Legal given.terms.node given.seen → entries_of given.number given.seen ≡ given.mine
     → SaysOf given status f → IfRefused f (IsKeptOut seat.terms.node seat.number)
-kept_out seat start tried given x status (failure.Refused s) new first w is back legal own says =
-    out_by seat start tried x status s new first w is (subst (λ (q : Seat). Legal q.terms.node q.seen) back legal) (subst (λ (q : Seat). entries_of q.number q.seen ≡ q.mine) back own)
-    says.0 (subst (λ (q : Seat). q.shown < 2 ^ 62) back says.1)
-kept_out seat start tried given x status failure.Memory new first w is back legal own says = tt
-kept_out seat start tried given x status (failure.NoThread n) new first w is back legal own says = tt
-kept_out seat start tried given x status (failure.Spent n) new first w is back legal own says = tt
+kept_out seat start tried given x status f e1 e2 e3 e4 e5 e6 e7 e8 = grind (arith, nat_tests)
 
 -- Whoever came in has its client call
 
@@ -269,10 +198,7 @@ pub record Dealt (z : Cell) (n : ℕ) (workers : List Seat) (main : Seat) (other
 
 begun : (z : Cell) (t : JournaledTerms) (u : Terms) (n : ℕ) (all : List Seat) → z.terms ≡ t → t ≡ record { node = u; keeps = true } → u.callers ≡ n + 1
     → all ≡ fresh_seats t z.id 0 (journal_seats t) → all ≡ fresh_seats z.terms z.id 0 (suc z.terms.node.settings.workers + n)
-begun z t u n all e f many is =
-    let callers : z.terms.node.callers ≡ n + 1 = ap (λ (x : JournaledTerms). x.node.callers) (e ∙ f) ∙ many in
-    let count : journal_seats z.terms ≡ suc z.terms.node.settings.workers + n = omega arith in
-    is ∙ (ap (λ (x : JournaledTerms). fresh_seats x z.id 0 (journal_seats x)) (sym e) ∙ ap (λ (c : ℕ). fresh_seats z.terms z.id 0 c) count)
+begun z t u n all e1 e2 e3 e4 = grind (arith, nat_tests)
 
 pub enough : (z : Cell) (t : JournaledTerms) (u : Terms) (n : ℕ) (all : List Seat) → z.terms ≡ t → t ≡ record { node = u; keeps = true } → u.callers ≡ n + 1
     → all ≡ fresh_seats t z.id 0 (journal_seats t) → n < length all
@@ -307,30 +233,6 @@ are_ready z h d none = record {
 }
 
 -- What is known of main's seat before its calls
-
-pub main_cell : {C D U : Type 0} (z : Cell) (h : Callers C D U) → MayCall z h → h.main.cell ≡ z.id
-main_cell z h m = ap (λ (s : Seat). s.cell) m.main
-
-pub main_number : {C D U : Type 0} (z : Cell) (h : Callers C D U) → MayCall z h → h.main.terms.node.settings.workers ≤ h.main.number
-main_number z h m =
-    let n = ap (λ (s : Seat). s.number) m.main in
-    let w = ap (λ (s : Seat). s.terms.node.settings.workers) m.main in
-    omega arith
-
-pub main_new : {C D U : Type 0} (z : Cell) (h : Callers C D U) → MayCall z h → h.main.mine ≡ []
-main_new z h m = ap (λ (s : Seat). s.mine) m.main
-
--- and after them
-pub back_cell : {C T : Type 0} {opens : ℕ → List NodeEntry → Type 0} {promise : C → Seat → Seat → T → Type 0} (z : Cell) (client : C) (seat : Seat) (c : Called T)
-    → HasComeBack opens promise client seat c → seat ≡ fresh_seat z.terms z.id z.terms.node.settings.workers → c.seat.cell ≡ z.id
-back_cell z client seat c h is = h.same.cell ∙ ap (λ (s : Seat). s.cell) is
-
-pub back_number : {C T : Type 0} {opens : ℕ → List NodeEntry → Type 0} {promise : C → Seat → Seat → T → Type 0} (z : Cell) (client : C) (seat : Seat) (c : Called T)
-    → HasComeBack opens promise client seat c → seat ≡ fresh_seat z.terms z.id z.terms.node.settings.workers → c.seat.terms.node.settings.workers ≤ c.seat.number
-back_number z client seat c h is =
-    let n = h.same.number ∙ ap (λ (s : Seat). s.number) is in
-    let w = ap (λ (t : JournaledTerms). t.node.settings.workers) h.same.terms ∙ ap (λ (s : Seat). s.terms.node.settings.workers) is in
-    omega arith
 
 -- The further callers' threads
 
@@ -376,26 +278,7 @@ pub record IsNewIn (z : Cell) (s : Seat) : Type 0 where
   pub new : s.mine ≡ []
 
 pub new_in : {C D U : Type 0} (z : Cell) (h h' : Callers C D U) (s : Seat) → TakenOut z h h' s → IsNewIn z s
-new_in z h h' s t = record {
-  cell = ap (λ (q : Seat). q.cell) t.seat_is;
-  number =
-      let n = ap (λ (q : Seat). q.number) t.seat_is in
-      let w = ap (λ (q : Seat). q.terms.node.settings.workers) t.seat_is in
-      omega arith;
-  new = ap (λ (q : Seat). q.mine) t.seat_is;
-}
-
--- main alone came back
-pub main_alone : {C D T U : Type 0} (promise : C → Seat → Seat → T → Type 0) (further : D → Seat → Seat → U → Type 0) (z : Cell) (h : Callers C D U) (c : Company T U)
-    → MayCall z h → h.others.items ≡ [] → c.seats ≡ h.seats → c.told ≡ h.told → HasComeBack MainOpens promise h.client h.main c.main → HaveComeBack promise further z h c
-main_alone {D = D} {U = U} promise further z h c m none seats told main = record {
-  main = main;
-  others =
-      subst (λ (ds : List D). AreTold further z (z.terms.node.settings.workers + 1) ds c.seats.items c.told.items) (sym none) (
-        ap (λ v. v.items) seats ∙ (m.seats ∙ ap (λ (ds : List D). fresh_seats z.terms z.id (z.terms.node.settings.workers + 1) (length ds)) none),
-        ap (λ v. v.items) told ∙ m.told,
-      );
-}
+new_in z h h' s e1 = grind (arith, nat_tests)
 
 told_more : {D U : Type 0} (further : D → Seat → Seat → U → Type 0) (z : Cell) (who j : ℕ) (ds : List D) (bs : List Seat) (us : List U) (d : D) (c : Called U)
     → j ≡ who + length ds → AreTold further z who ds bs us → HasComeBack CallerEnters further d (fresh_seat z.terms z.id j) c → AreTold further z who (ds ++ d ∷ []) (bs ++ c.seat ∷ []) (us ++ c.told ∷ [])
@@ -451,14 +334,6 @@ lost_one {D = D} z h h' s d (Err g) f items t out lost =
     (refused_weaker (IsKeptOut s.terms.node s.number) (AreRefused z.terms.node (length h.others.items)) g
     (λ status k. inr (length h'.others.items, omega arith, subst (λ (q : Seat). IsKeptOut q.terms.node q.number status) t.seat_is k)) out)
 
--- what fewer of them are refused
-pub refused_more : (t : Terms) (few many : ℕ) (f : Failure) → few ≤ many → IfRefused f (AreRefused t few) → IfRefused f (AreRefused t many)
-refused_more t few many f l r = refused_weaker (AreRefused t few) (AreRefused t many) f (λ s x. more s x) r
-  where
-    more : (s : MtapiStatus) → AreRefused t few s → AreRefused t many s
-    more s (inl x) = inl x
-    more s (inr x) = let k = x.1 in inr (x.0, omega arith, x.2)
-
 pub fewer : {D : Type 0} (xs ys : List D) (y : D) → xs ≡ ys ++ y ∷ [] → length ys ≤ length xs
 fewer {D} xs ys y e = let same = ap (λ (l : List D). length l) e ∙ longer ys in omega arith
   where
@@ -466,25 +341,12 @@ fewer {D} xs ys y e = let same = ap (λ (l : List D). length l) e ∙ longer ys 
     longer [] = refl
     longer (x ∷ l) = ap suc (longer l)
 
--- main's opening, said of the cell
-pub main_refused : {C D U : Type 0} (z : Cell) (h : Callers C D U) (n : ℕ) (f : Failure) → MayCall z h → IfRefused f (IsNotOpened h.main.terms.node h.main.number) → IfRefused f (AreRefused z.terms.node n)
-main_refused z h n f m r =
-    refused_weaker (IsNotOpened h.main.terms.node h.main.number) (AreRefused z.terms.node n) f (λ s x. inl (subst (λ (q : Seat). IsNotOpened q.terms.node q.number s) m.main x)) r
-
 -- all callers came back, and main began the end
 pub all_closed : {C D T U : Type 0} (promise : C → Seat → Seat → T → Type 0) (further : D → Seat → Seat → U → Type 0) (z : Cell) (h : Callers C D U) (c : Company T U) (back : Seat)
     → HaveComeBack promise further z h c → GaveUp c.main.seat back → HaveComeBack promise further z h (record { main = record { seat = back; told = c.main.told }; seats = c.seats; told = c.told })
 all_closed promise further z h c back b gave = record { main = come_closed MainOpens promise h.client h.main c.main back b.main gave; others = b.others }
 
 -- The workers' threads
-
-pub none_joined : {C D T U A : Type 0} (promise : C → Seat → Seat → T → Type 0) (further : D → Seat → Seat → U → Type 0) (z : Cell) (h : Hands C D U A) (c : Crew T U A)
-    → h.workers.items ≡ [] → c.workers.items ≡ [] → vec_len c.sets ≡ vec_len h.sets → HaveComeBack promise further z h.callers c.company → CameBack promise further z h c
-none_joined promise further z h c none back sets b = record {
-  workers = subst (λ (xs : List Seat). AllZip SameSeat xs c.workers.items) (sym none) (subst (λ (ys : List Seat). AllZip SameSeat [] ys) (sym back) tt);
-  sets = (let n = ap (λ (xs : List Seat). length xs) none in omega arith);
-  company = b;
-}
 
 pub came_joined : {C D T U A : Type 0} (promise : C → Seat → Seat → T → Type 0) (further : D → Seat → Seat → U → Type 0) (z : Cell) (h h' : Hands C D U A) (s : Seat) (c c' : Crew T U A) (over : Over A)
     → h.workers.items ≡ h'.workers.items ++ s ∷ [] → vec_len h'.workers + 1 ≡ vec_len h.workers → h'.sets ≡ h.sets → h'.callers ≡ h.callers
@@ -564,10 +426,7 @@ module _ {T U A : Type 0} (z : Cell) (c : Crew T U A) (last : Seat) where
 -- what main's seat is refused, said of the cell
 pub not_ended : {T U A : Type 0} (z : Cell) (c : Crew T U A) (f : Failure) → HasAllSeats z c
     → IfRefused f (IsRefused c.company.main.seat.terms.node c.company.main.seat.number c.company.main.seat.mine Final) → IfRefused f (IsRefused z.terms.node z.terms.node.settings.workers c.company.main.seat.mine Final)
-not_ended z c f h r =
-    let s = c.company.main.seat in
-    refused_weaker (IsRefused s.terms.node s.number s.mine Final) (IsRefused z.terms.node z.terms.node.settings.workers s.mine Final) f
-    (λ status x. subst (λ (n : ℕ). IsRefused z.terms.node n s.mine Final status) h.main.number (subst (λ (t : JournaledTerms). IsRefused t.node s.number s.mine Final status) h.main.terms x)) r
+not_ended z c f e1 e2 = grind (arith, nat_tests)
 
 -- All of it
 
@@ -616,11 +475,7 @@ sets_are promise further n z h c d dealt came ended none few =
 called_for : {C D T U A : Type 0} (promise : C → Seat → Seat → T → Type 0) (further : D → Seat → Seat → U → Type 0) (client : C) (t : Terms) (z : Cell) (h : Hands C D U A) (c : Crew T U A)
     → z.terms.node ≡ t → h.callers.client ≡ client → Dealt z (length h.callers.others.items) h.workers.items h.callers.main h.callers.seats.items → CameBack promise further z h c
     → HasCalled MainOpens promise client t t.settings.workers c.company.main.told c.company.main.seat.mine
-called_for {C} promise further client t z h c terms same dealt came =
-    let m = c.company.main in
-    subst (λ (y : C). HasCalled MainOpens promise y t t.settings.workers m.told m.seat.mine) same
-    (subst (λ (u : Terms). HasCalled MainOpens promise h.callers.client u u.settings.workers m.told m.seat.mine) terms
-    (subst (λ (s : Seat). HasCalled MainOpens promise h.callers.client s.terms.node s.number m.told m.seat.mine) dealt.main_is came.company.main.called))
+called_for promise further client t z h c e1 e2 e3 e4 = grind (arith, nat_tests)
 
 pub run_is : {C D T U A : Type 0} (promise : C → Seat → Seat → T → Type 0) (further : D → Seat → Seat → U → Type 0) (client : C) (others : List D) (settings : NodeSettings) (z : Cell) (h : Hands C D U A) (c : Crew T U A) (d : AllDone T U A)
     → z.terms.node ≡ terms_among settings (length others) → h.callers.client ≡ client → h.callers.others.items ≡ others
@@ -652,32 +507,18 @@ terms_are u settings k n e f = e ∙ ap (λ (j : ℕ). terms_with Two settings j
 
 pub unopened_all : {C T : Type 0} (promise : C → Seat → Seat → T → Type 0) (client : C) (n m : ℕ) (settings : NodeSettings) (z : Cell) (f : Failure)
     → z.terms.node ≡ terms_among settings n → m ≡ n → IfRefused f (AreRefused z.terms.node m) → IfRefused f (RefusesOne promise client n settings)
-unopened_all promise client n m settings z f terms same r =
-    refused_weaker (AreRefused z.terms.node m) (RefusesOne promise client n settings) f
-    (λ s x. inl (subst (λ (k : ℕ). AreRefused (terms_among settings n) k s) same (subst (λ (u : Terms). AreRefused u m s) terms x))) r
+unopened_all promise client n m settings z f e1 e2 e3 = grind (arith, nat_tests)
 
 pub unended_all : {C D T U A : Type 0} (promise : C → Seat → Seat → T → Type 0) (further : D → Seat → Seat → U → Type 0) (client : C) (n : ℕ) (settings : NodeSettings) (z : Cell) (h : Hands C D U A) (c : Crew T U A) (f : Failure)
     → z.terms.node ≡ terms_among settings n → h.callers.client ≡ client → Dealt z (length h.callers.others.items) h.workers.items h.callers.main h.callers.seats.items → CameBack promise further z h c
     → IfRefused f (IsRefused z.terms.node z.terms.node.settings.workers c.company.main.seat.mine Final) → IfRefused f (RefusesOne promise client n settings)
-unended_all promise further client n settings z h c f terms same dealt came r =
-    let m = c.company.main in
-    refused_weaker (IsRefused z.terms.node z.terms.node.settings.workers m.seat.mine Final) (RefusesOne promise client n settings) f
-    (λ s x. inr (m.told, m.seat.mine, called_for promise further client (terms_among settings n) z h c terms same dealt came, subst (λ (u : Terms). IsRefused u u.settings.workers m.seat.mine Final s) terms x)) r
+unended_all promise further client n settings z h c f e1 e2 e3 e4 e5 = grind (arith, nat_tests)
 
 -- Main alone
 
 pub run_alone : {C D T U : Type 0} (promise : C → Seat → Seat → T → Type 0) (further : D → Seat → Seat → U → Type 0) (client : C) (others : List D) (settings : NodeSettings) (told : T) (us : List U) (j : Journal)
     → others ≡ [] → IsRunOfAll promise further client others settings told us j → IsRun promise client settings told j
-run_alone {D = D} promise further client others settings told us j none run =
-    let r = subst (λ (ds : List D). IsRunOfAll promise further client ds settings told us j) none run in
-    record { history = r.history; legal = r.legal; kept = r.kept; mine = r.mine; called = r.called; ended = r.ended }
+run_alone promise further client others settings told us j e1 e2 = grind (arith, nat_tests)
 
 pub causes_alone : {C T : Type 0} (promise : C → Seat → Seat → T → Type 0) (client : C) (n : ℕ) (settings : NodeSettings) (f : Failure) → n ≡ 0 → IfRefused f (RefusesOne promise client n settings) → IfRefused f (Refuses promise client settings)
-causes_alone promise client n settings f none r =
-    refused_weaker (RefusesOne promise client 0 settings) (Refuses promise client settings) f (λ s x. only s x)
-    (subst (λ (k : ℕ). IfRefused f (RefusesOne promise client k settings)) none r)
-  where
-    only : (s : MtapiStatus) → RefusesOne promise client 0 settings s → Refuses promise client settings s
-    only s (inl (inl x)) = inl x
-    only s (inl (inr x)) = let k = x.1 in absurd (omega arith)
-    only s (inr x) = inr x
+causes_alone promise client n settings f e1 e2 = grind (arith, nat_tests)

@@ -1,26 +1,10 @@
 -- What the calls of one seat add up to, for the promise of a client.
-use Rattle.std.proofs.Common.{◌≡◌, ℕ, zero, suc, ◌+◌, ◌<◌, ◌==◌, Bool, true, List, [], ◌∷◌, ◌++◌, Option, Some, None, Result, Ok, Err, inl, inr, refl, sym, ◌∙◌, ap, subst, append_assoc, arith}
-use Rattle.std.specs.Prelude.{IfOk, false}
-use Rattle.std.proofs.lemmas.List.{append-nil}
-use Rattle.history.specs.Histories.{entry, entries_of}
-use Rattle.mtapi_values.specs.Attributes.{NodeSettings}
+use Rattle.node_with_workers.proofs.Names.{nat_tests, ◌≡◌, ℕ, ◌+◌, true, List, [], ◌∷◌, ◌++◌, Option, Some, None, Result, Ok, Err, inl, inr, refl, sym, ◌∙◌, ap, subst, append_assoc, arith, IfOk, false, append-nil, entry, entries_of, NodeSettings, MtapiStatus, Op, TaskLook, Final, Reply, NodeEntry, Task, Seat, SameSeat, Answers, Called, Waited, with_number, Standard, mtapi, done, handle, ended, Journal, IsRun, Tells}
 use Rattle.mtapi_values.specs.declared.ends.TaskEnd.{TaskEnd}
 use Rattle.mtapi_values.specs.declared.handles.TaskHandle.{TaskHandle}
-use Rattle.mtapi_values.specs.declared.statuses.MtapiStatus.{MtapiStatus}
-use Rattle.mtapi_machine.specs.declared.ops.Op.{Op}
-use Rattle.mtapi_machine.specs.declared.ops.Op.TheVariants.{TaskLook, Final}
-use Rattle.mtapi_machine.specs.declared.replies.Reply.{Reply}
 use Rattle.mtapi_machine.specs.declared.replies.Reply.TheVariants as reply
-use Rattle.mtapi_machine.specs.Legal.{NodeEntry}
 use Rattle.workload_runs.specs.declared.calls.Wanted.{Wanted}
-use Rattle.workload_runs.specs.declared.calls.Wanted.TheVariants.{Task}
-use Rattle.sched_workers.specs.Turns.{Seat, SameSeat}
-use Rattle.sched_workers.specs.Looks.{pends, Looked}
-use Rattle.sched_workers.specs.Answers.{Answers, Called, Waited, with_number}
-use Rattle.sched_workers.specs.Replies.{Standard, mtapi, done, handle, ended}
-use Rattle.node_journals.specs.declared.entries.Journal.{Journal}
 use Rattle.node_with_workers.specs.Told.{InOrder, WentOn, IsTold}
-use Rattle.node_with_workers.specs.Runs.{IsRun, Tells}
 
 -- Entries in order
 
@@ -70,29 +54,17 @@ pub made_went : (o : Op) (old new : Seat) (x : Result ℕ MtapiStatus) → Calle
 made_went = called_went mtapi handle
 
 pub waited_went : (w : Wanted) (limit : Option ℕ) (old new : Seat) (x : Result TaskEnd MtapiStatus) → Waited mtapi ended w limit old new x → WentOn [] old new
-waited_went w limit old new x (inl c) = record { same = c.1.same; more = pends old.number w c.1.pending ++ _ ∷ []; mine = c.1.mine; asked = tt }
-waited_went w limit old new x (inr c) = record { same = c.0.pended.same; more = pends old.number w c.0.pending; mine = c.0.pended.mine; asked = tt }
+waited_went w limit old new x e1 = grind (arith, nat_tests)
 
 -- What was answered
 
 -- the replies from which these answers are read
 
 pub read_done : (r : Reply) (u : Unit {0}) → Answers mtapi done r (Ok u) → r ≡ reply.Ok
-read_done reply.Ok u a = refl
-read_done (reply.Mtapi c) u a = absurd (cc)
-read_done _ u a = absurd a
+read_done r u e1 = grind (arith, nat_tests)
 
 read_handle : (r : Reply) (h : ℕ) → Answers mtapi handle r (Ok h) → r ≡ reply.Handle h
-read_handle (reply.Handle k) h a = cc
-read_handle (reply.Mtapi c) h a = absurd (cc)
-read_handle reply.Ok h a = absurd a
-read_handle _ h a = absurd a
-
-read_end : (r : Reply) (end : TaskEnd) → Answers mtapi ended r (Ok end) → r ≡ reply.Ended end
-read_end (reply.Ended e) end a = cc
-read_end (reply.Mtapi c) end a = absurd (cc)
-read_end reply.Ok end a = absurd a
-read_end _ end a = absurd a
+read_handle r h e1 = grind (arith, nat_tests)
 
 -- a call that made one turn and was told this
 told_once : (o : Op) (old new : Seat) (r s : Reply) (same : SameSeat old new) → new.mine ≡ old.mine ++ entry old.number o r ∷ [] → r ≡ s → WentOn (entry old.number o s ∷ []) old new
@@ -119,31 +91,13 @@ pub given_told : {H : Type 0} (number : H → ℕ) (o p : Op) (old new : Seat) (
 given_told number o p old new x h same called is =
     made_told p old new (with_number number x) (number h) (subst (λ (q : Op). Called mtapi handle q old new (with_number number x)) same called) (ap (with_number number) is)
 
-pub looked_told : (t : TaskHandle) (limit : Option ℕ) (last : Bool) (old new : Seat) (r : Reply) (end : TaskEnd) (l : Looked (Task t) limit old new r) → l.last ≡ last → r ≡ reply.Ended end → WentOn (entry old.number (TaskLook t last) (reply.Ended end) ∷ []) old new
-looked_told t limit last old new r end l at is = record {
-  same = l.same;
-  more = pends old.number (Task t) l.pending ++ entry old.number (TaskLook t last) (reply.Ended end) ∷ [];
-  mine = l.mine ∙ (ap (λ (x : Reply). old.mine ++ (pends old.number (Task t) l.pending ++ entry old.number (TaskLook t l.last) x ∷ [])) is
-      ∙ ap (λ (b : Bool). old.mine ++ (pends old.number (Task t) l.pending ++ entry old.number (TaskLook t b) (reply.Ended end) ∷ [])) at);
-  asked = (pends old.number (Task t) l.pending, [], refl, tt);
-}
-
 -- a wait without a limit, whose look is none that no other follows
 pub waited_told : (t : TaskHandle) (old new : Seat) (x : Result TaskEnd MtapiStatus) → Waited mtapi ended (Task t) None old new x → IfOk x (λ end. WentOn (entry old.number (TaskLook t false) (reply.Ended end) ∷ []) old new)
-waited_told t old new (Err c) w = tt
-waited_told t old new (Ok end) (inl w) = looked_told t None false old new w.0 end w.1 w.1.bound (read_end w.0 end w.2)
-waited_told t old new (Ok end) (inr w) = absurd (cc)
-
--- the one look that there may be has `last`
-only_look : (n : ℕ) (last : Bool) → n < 1 → last ≡ (n + 1 == 1) → last ≡ true
-only_look zero last n is = is
-only_look (suc n) last b is = absurd (omega arith)
+waited_told t old new x e1 = grind (arith, nat_tests)
 
 -- a wait of one look
 pub look_told : (t : TaskHandle) (old new : Seat) (x : Result TaskEnd MtapiStatus) → Waited mtapi ended (Task t) (Some 1) old new x → IfOk x (λ end. WentOn (entry old.number (TaskLook t true) (reply.Ended end) ∷ []) old new)
-look_told t old new (Err c) w = tt
-look_told t old new (Ok end) (inl w) = looked_told t (Some 1) true old new w.0 end w.1 (only_look w.1.pending w.1.last w.1.bound.0 w.1.bound.1) (read_end w.0 end w.2)
-look_told t old new (Ok end) (inr w) = absurd (cc)
+look_told t old new x e1 = grind (arith, nat_tests)
 
 -- Calls one after another
 

@@ -1,7 +1,4 @@
-use Rattle.std.proofs.Common.{refl, rules}
-use Rattle.std.proofs.lemmas.Result.{IfOk-at_ok, IfOk-weaker, IfErr-weaker}
-use Rattle.node_with_workers.specs.declared.callers.Callers.{Callers}
-use Rattle.node_with_workers.specs.Crews.{HaveComeBack}
+use Rattle.node_with_workers.proofs.Names.{refl, rules, IfOk-at_ok, IfOk-weaker, IfErr-weaker, Callers, HaveComeBack}
 use Rattle.node_with_workers.proofs.Lemmas.{taken_out, new_in, one_more_back, lost_one}
 use Rattle.node_with_workers.proofs.callers.+fn-start_callers-pair+start_callers.Goals as goal
 

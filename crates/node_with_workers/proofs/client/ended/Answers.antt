@@ -1,5 +1,4 @@
-use Rattle.std.proofs.Common.{refl}
-use Rattle.mtapi_machine.specs.declared.ops.Op.TheVariants.{Final}
+use Rattle.node_with_workers.proofs.Names.{refl, Final}
 use Rattle.node_with_workers.proofs.Lemmas.{made_last, says_of}
 use Rattle.node_with_workers.proofs.client.ended.Goals as goal
 

@@ -1,7 +1,4 @@
-use Rattle.std.proofs.Common.{refl}
-use Rattle.std.proofs.lemmas.Result.{IfOk-at_ok}
-use Rattle.node_with_workers.specs.declared.crew.Hands.{Hands}
-use Rattle.node_with_workers.specs.Crews.{CameBack}
+use Rattle.node_with_workers.proofs.Names.{refl, IfOk-at_ok, Hands, CameBack}
 use Rattle.node_with_workers.proofs.Lemmas.{came_joined}
 use Rattle.node_with_workers.proofs.crew.+fn-start_workers-pair+start_workers.Goals as goal
 

@@ -1,9 +1,4 @@
-use Rattle.std.proofs.Common.{◌≡◌, List, refl, sym, subst, ap, ◌∙◌, ◌++◌, rules}
-use Rattle.turn_cell.specs.Lists.{all_of}
-use Rattle.turn_cell.specs.Seats.{IsComplete, IsSeatOf}
-use Rattle.node_core.specs.Logs.{KeptAs, journal_seats}
-use Rattle.node_core.specs.declared.journaled.JournaledTerms.{JournaledTerms}
-use Rattle.sched_workers.specs.Turns.{Seat}
+use Rattle.node_with_workers.proofs.Names.{◌≡◌, List, refl, sym, subst, ap, ◌∙◌, ◌++◌, rules, all_of, IsComplete, IsSeatOf, KeptAs, journal_seats, JournaledTerms, Seat}
 use Rattle.node_with_workers.proofs.Lemmas.{all_own, all_complete, main_ended, others_ended, not_ended}
 use Rattle.node_with_workers.proofs.run.end.Goals as goal
 

@@ -1,7 +1,4 @@
-use Rattle.std.proofs.Common.{◌∙◌, ap, arith, refl, length, vec_len, ◌-◌, rules}
-use Rattle.std.proofs.lemmas.Result.{IfErr-weaker, IfOk-weaker}
-use Rattle.mtapi_machine.specs.declared.terms.Terms.{Terms}
-use Rattle.node_core.specs.declared.journaled.JournaledTerms.{JournaledTerms}
+use Rattle.node_with_workers.proofs.Names.{◌∙◌, ap, arith, refl, length, vec_len, ◌-◌, rules, IfErr-weaker, IfOk-weaker, Terms, JournaledTerms}
 use Rattle.node_with_workers.proofs.Lemmas.{enough, dealt, are_ready, has_all, run_is, sets_are, terms_are, unopened_all, unended_all}
 use Rattle.node_with_workers.proofs.run.with_callers.Goals as goal
 
