@@ -151,10 +151,11 @@ def check(folder, function):
 
 
 def errors_in(said):
-    """The lines with errors of their own, by file: those that only depend on others aren't counted."""
+    """The lines with errors of their own, by file, and those where a tactic chose what a definition means: errors that only
+    depend on others aren't counted."""
     found = {}
-    for match in re.finditer(r"((?:proofs|specs)/[^\s:]+\.antt):(\d+):\d+: error(.*)", said):
-        if "not checked" not in match.group(3):
+    for match in re.finditer(r"((?:proofs|specs)/[^\s:]+\.antt):(\d+):\d+: (error|note)(.*)", said):
+        if "chosen a term" in match.group(4) or match.group(3) == "error" and "not checked" not in match.group(4):
             found.setdefault(match.group(1), set()).add(int(match.group(2)))
     return found
 

@@ -73,7 +73,8 @@ record LookSays (last : Bool) (r : MsgReply) : Type 0 where
   late : r ≡ reply.Refused status.Timeout → last ≡ true
 
 status_of : MsgReply → MsgStatus
-status_of e1 = grind (arith, nat_tests)
+status_of (reply.Refused c) = c
+status_of _ = status.Spent
 
 is_late : MsgStatus → Bool
 is_late status.Timeout = true

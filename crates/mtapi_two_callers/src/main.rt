@@ -1,12 +1,65 @@
 //! A program with a node that two callers share: each adds numbers to a cell of a segment, under a mutex.
 #![tactic(auto)]
 
+ghost use Rattle.std.specs.Prelude.{◌≡◌, List, length, take};
+ghost use Rattle.mtapi_machine.specs.Legal.{NodeEntry};
+ghost use Rattle.sched_workers.specs.Turns.{SameSeat};
+ghost use Rattle.node_with_workers.specs.Clients.{GoesOn};
+
 use action_fn::StandardActions;
-use mtapi_values::{MrapiStatus, MutexAttr, NodeAttr, Timeout};
+use mtapi_values::{
+    MrapiStatus, MutexAttr, MutexHandle, NodeAttr, SemHandle, ShmemHandle, Timeout,
+};
 use node_with_workers::{Client, with_callers};
 use sched_workers::Caller;
 use std::sync::Wait;
 use std::{io, vec};
+
+// The gate, which the first caller makes. One at a time passes it.
+#[tactic(auto, using(node_with_workers::proofs::Calls::further_calls))]
+fn gate<R: Wait>(rt: &R, caller: &mut Caller) -> Result<SemHandle, MrapiStatus>
+    ensures same { SameSeat caller.old caller.new }
+    ensures goes_on { (had : List NodeEntry) → take (length had) caller.old.mine ≡ had → take (length had) caller.new.mine ≡ had }
+{
+    match caller.sem_create(rt, 9, 1) {
+        Err(MrapiStatus::ErrSemExists) => caller.sem_get(rt, 9),
+        made => made,
+    }
+}
+
+// What the callers share, which the first one behind the gate makes.
+#[tactic(auto, using(node_with_workers::proofs::Calls::further_calls))]
+fn shared<R: Wait>(rt: &R, caller: &mut Caller) -> Result<(MutexHandle, ShmemHandle), MrapiStatus>
+    ensures same { SameSeat caller.old caller.new }
+    ensures goes_on { (had : List NodeEntry) → take (length had) caller.old.mine ≡ had → take (length had) caller.new.mine ≡ had }
+{
+    match caller.mutex_create(rt, 5, MutexAttr::new()) {
+        Err(MrapiStatus::ErrMutexExists) => Ok((
+            caller.mutex_get(rt, 5)?,
+            caller.shmem_get(rt, 3)?,
+        )),
+        made => Ok((made?, caller.shmem_create(rt, 3, 1)?)),
+    }
+}
+
+// Adds a number, and tells the sum.
+#[tactic(auto, using(node_with_workers::proofs::Calls::further_calls))]
+fn add<R: Wait>(
+    rt: &R,
+    caller: &mut Caller,
+    mutex: MutexHandle,
+    cells: ShmemHandle,
+    number: i64,
+) -> Result<i64, MrapiStatus>
+    ensures same { SameSeat caller.old caller.new }
+    ensures goes_on { (had : List NodeEntry) → take (length had) caller.old.mine ≡ had → take (length had) caller.new.mine ≡ had }
+{
+    let key = caller.mutex_lock(rt, mutex, Timeout::Infinite)?;
+    let sum = caller.shmem_read(rt, cells, 0)?.saturating_add(number);
+    caller.shmem_write(rt, cells, 0, sum)?;
+    caller.mutex_unlock(rt, mutex, key)?;
+    Ok(sum)
+}
 
 /// Adds the numbers from 1 up to the last, one after the other.
 #[derive(Drop)]
@@ -22,27 +75,14 @@ impl Client for Adding {
 
     #[tactic(auto, using(node_with_workers::proofs::Calls::further_calls))]
     fn call<R: Wait>(self, rt: &R, caller: &mut Caller) -> Result<i64, MrapiStatus> {
-        // The first caller makes the gate. One at a time passes it, and the first one makes what they share.
-        let gate = match caller.sem_create(rt, 9, 1) {
-            Err(MrapiStatus::ErrSemExists) => caller.sem_get(rt, 9)?,
-            made => made?,
-        };
+        let gate = gate(rt, caller)?;
         caller.sem_lock(rt, gate, Timeout::Infinite)?;
-        let (mutex, cells) = match caller.mutex_create(rt, 5, MutexAttr::new()) {
-            Err(MrapiStatus::ErrMutexExists) => (
-                caller.mutex_get(rt, 5)?,
-                caller.shmem_get(rt, 3)?,
-            ),
-            made => (made?, caller.shmem_create(rt, 3, 1)?),
-        };
+        let (mutex, cells) = shared(rt, caller)?;
         caller.sem_unlock(rt, gate)?;
         caller.shmem_attach(rt, cells)?;
         let mut sum = 0;
         for number in 1..=self.last {
-            let key = caller.mutex_lock(rt, mutex, Timeout::Infinite)?;
-            sum = caller.shmem_read(rt, cells, 0)?.saturating_add(number);
-            caller.shmem_write(rt, cells, 0, sum)?;
-            caller.mutex_unlock(rt, mutex, key)?;
+            sum = add(rt, caller, mutex, cells, number)?;
         }
         Ok(sum)
     }
