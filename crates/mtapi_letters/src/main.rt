@@ -8,7 +8,7 @@ use std::alloc::Global;
 use std::sync::Wait;
 use std::thread::Threads;
 use std::{env, io};
-use typed_pieces::{Piece, Unfinished, run_pieces};
+use typed_pieces::{Piece, TaskContext, Unfinished, run_pieces};
 
 /// How often each letter from a to z was met, be it large or small.
 type Counts = [u64; 26];
@@ -22,7 +22,7 @@ impl<'a> Piece for Part<'a> {
 
     ghost promise = { λ _ _. Unit {0} };
 
-    fn go<R: Wait>(self, _rt: &R) -> Counts {
+    fn go<R: Wait>(self, _rt: &R, _task: &TaskContext) -> Counts {
         let mut counts = [0u64; 26];
         for byte in self.0 {
             let letter = byte.to_ascii_lowercase();

@@ -1,59 +1,40 @@
 //! A program with a node that two callers share: each adds numbers to a cell of a segment, under a mutex.
 #![tactic(auto)]
 
-ghost use Rattle.std.specs.Prelude.{◌≡◌, List, length, take};
-ghost use Rattle.mtapi_machine.specs.Legal.{NodeEntry};
 ghost use Rattle.sched_workers.specs.Turns.{SameSeat};
-ghost use Rattle.node_with_workers.specs.Clients.{GoesOn};
+ghost use Rattle.node_with_workers.specs.Clients.{StillBegins};
 
 use action_fn::StandardActions;
-use mtapi_values::{
-    MrapiStatus, MutexAttr, MutexHandle, NodeAttr, SemHandle, ShmemHandle, Timeout,
-};
+use mtapi_values::{MrapiStatus, MutexAttr, MutexHandle, NodeAttr, ShmemHandle, Timeout};
 use node_with_workers::{Client, with_callers};
 use sched_workers::Caller;
 use std::sync::Wait;
 use std::{io, vec};
 
-// The gate, which the first caller makes. One at a time passes it.
-#[tactic(auto, using(node_with_workers::proofs::Calls::further_calls))]
-fn gate<R: Wait>(rt: &R, caller: &mut Caller) -> Result<SemHandle, MrapiStatus>
-    ensures same { SameSeat caller.old caller.new }
-    ensures goes_on { (had : List NodeEntry) → take (length had) caller.old.mine ≡ had → take (length had) caller.new.mine ≡ had }
-{
-    match caller.sem_create(rt, 9, 1) {
-        Err(MrapiStatus::ErrSemExists) => caller.sem_get(rt, 9),
-        made => made,
-    }
-}
+/// What the callers share: a segment of one cell, and the mutex that guards it.
+type Shared = (MutexHandle, ShmemHandle);
 
-// What the callers share, which the first one behind the gate makes.
+// What the callers share, which the first one makes.
 #[tactic(auto, using(node_with_workers::proofs::Calls::further_calls))]
-fn shared<R: Wait>(rt: &R, caller: &mut Caller) -> Result<(MutexHandle, ShmemHandle), MrapiStatus>
+fn shared<R: Wait>(rt: &R, caller: &mut Caller) -> Result<Shared, MrapiStatus>
     ensures same { SameSeat caller.old caller.new }
-    ensures goes_on { (had : List NodeEntry) → take (length had) caller.old.mine ≡ had → take (length had) caller.new.mine ≡ had }
+    ensures further { StillBegins caller.old caller.new }
 {
     match caller.mutex_create(rt, 5, MutexAttr::new()) {
-        Err(MrapiStatus::ErrMutexExists) => Ok((
-            caller.mutex_get(rt, 5)?,
-            caller.shmem_get(rt, 3)?,
-        )),
+        Err(MrapiStatus::ErrMutexExists) => {
+            Ok((caller.mutex_get(rt, 5)?, caller.shmem_get(rt, 3)?))
+        }
         made => Ok((made?, caller.shmem_create(rt, 3, 1)?)),
     }
 }
 
 // Adds a number, and tells the sum.
 #[tactic(auto, using(node_with_workers::proofs::Calls::further_calls))]
-fn add<R: Wait>(
-    rt: &R,
-    caller: &mut Caller,
-    mutex: MutexHandle,
-    cells: ShmemHandle,
-    number: i64,
-) -> Result<i64, MrapiStatus>
+fn add<R: Wait>(rt: &R, caller: &mut Caller, at: Shared, number: i64) -> Result<i64, MrapiStatus>
     ensures same { SameSeat caller.old caller.new }
-    ensures goes_on { (had : List NodeEntry) → take (length had) caller.old.mine ≡ had → take (length had) caller.new.mine ≡ had }
+    ensures further { StillBegins caller.old caller.new }
 {
+    let (mutex, cells) = at;
     let key = caller.mutex_lock(rt, mutex, Timeout::Infinite)?;
     let sum = caller.shmem_read(rt, cells, 0)?.saturating_add(number);
     caller.shmem_write(rt, cells, 0, sum)?;
@@ -63,9 +44,7 @@ fn add<R: Wait>(
 
 /// Adds the numbers from 1 up to the last, one after the other.
 #[derive(Drop)]
-struct Adding {
-    last: i64,
-}
+struct Adding(i64);
 
 impl Client for Adding {
     // What it wrote last.
@@ -75,22 +54,26 @@ impl Client for Adding {
 
     #[tactic(auto, using(node_with_workers::proofs::Calls::further_calls))]
     fn call<R: Wait>(self, rt: &R, caller: &mut Caller) -> Result<i64, MrapiStatus> {
-        let gate = gate(rt, caller)?;
+        // The gate, which the first caller makes. One at a time passes it.
+        let gate = match caller.sem_create(rt, 9, 1) {
+            Err(MrapiStatus::ErrSemExists) => caller.sem_get(rt, 9)?,
+            made => made?,
+        };
         caller.sem_lock(rt, gate, Timeout::Infinite)?;
-        let (mutex, cells) = shared(rt, caller)?;
+        let shared = shared(rt, caller)?;
         caller.sem_unlock(rt, gate)?;
-        caller.shmem_attach(rt, cells)?;
+        caller.shmem_attach(rt, shared.1)?;
         let mut sum = 0;
-        for number in 1..=self.last {
-            sum = add(rt, caller, mutex, cells, number)?;
+        for number in 1..=self.0 {
+            sum = add(rt, caller, shared, number)?;
         }
         Ok(sum)
     }
 }
 
 fn main(rt: HostRuntime) -> io::Result<()> {
-    let others = vec![in rt.alloc(); Adding { last: 100 }]?;
-    let main = Adding { last: 50 };
+    let others = vec![in rt.alloc(); Adding(100)]?;
+    let main = Adding(50);
     let mut acts = StandardActions;
     match with_callers(&rt, rt.alloc(), NodeAttr::new(), &mut acts, main, others) {
         Ok(done) => match (done.told, done.others.into_iter().next()) {

@@ -1,5 +1,5 @@
 -- What the calls of one seat add up to, for the promise of a client.
-use Rattle.node_with_workers.proofs.Names.{nat_tests, ◌≡◌, ℕ, ◌+◌, true, List, [], ◌∷◌, ◌++◌, Option, Some, None, Result, Ok, Err, inl, inr, refl, sym, ◌∙◌, ap, subst, append_assoc, arith, IfOk, false, append-nil, entry, entries_of, NodeSettings, MtapiStatus, Op, TaskLook, Final, Reply, NodeEntry, Task, Seat, SameSeat, Answers, Called, Waited, with_number, Standard, mtapi, done, handle, ended, Journal, IsRun, Tells}
+use Rattle.node_with_workers.proofs.Names.{nat_tests, ◌≡◌, ℕ, true, List, [], ◌∷◌, ◌++◌, Option, Some, None, Result, Ok, Err, inl, inr, refl, sym, ◌∙◌, ap, subst, append_assoc, arith, IfOk, false, append-nil, entry, entries_of, NodeSettings, MtapiStatus, Op, TaskLook, Final, Reply, NodeEntry, Task, Seat, SameSeat, Answers, Called, Waited, with_number, Standard, mtapi, done, handle, ended, Journal, IsRun, Tells}
 use Rattle.mtapi_values.specs.declared.ends.TaskEnd.{TaskEnd}
 use Rattle.mtapi_values.specs.declared.handles.TaskHandle.{TaskHandle}
 use Rattle.mtapi_machine.specs.declared.replies.Reply.TheVariants as reply

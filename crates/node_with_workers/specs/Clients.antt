@@ -15,6 +15,10 @@ use Rattle.node_with_workers.specs.declared.failure.Failure.TheVariants as failu
 abbrev pub GoesOn : Seat → Seat → Type 0
 GoesOn old new = take (length old.mine) new.mine ≡ old.mine
 
+-- whatever the seat's entries began with, they begin with still: what a function of a client says that is passed the caller
+abbrev pub StillBegins : Seat → Seat → Type 0
+StillBegins old new = (had : List NodeEntry) → take (length had) old.mine ≡ had → take (length had) new.mine ≡ had
+
 -- the seat made one more call, which was done
 pub record MadeOne (o : Op) (old new : Seat) : Type 0 where
   pub same : SameSeat old new

@@ -3,9 +3,10 @@
 //! [`Work`] says what is done with the numbers of a task. [`PlainWork`] makes a node's sets of actions of it.
 #![tactic(auto)]
 
-ghost use Rattle.std.specs.Prelude.{◌≡◌, take};
+ghost use Rattle.std.specs.Prelude.{◌≡◌, ◌↔◌, IsTrue, true, take};
+ghost use Rattle.action_fn.specs.Answers.{answer_of, is_pure};
 
-use action_fn::{ActionSet, ActionSource, Finished, answer_of};
+use action_fn::{ActEnd, ActionSet, ActionSource, Finished, answer_of};
 use mtapi_values::{Args, Kind};
 use std::sync::Wait;
 
@@ -58,4 +59,28 @@ pub fn args_of(numbers: &[i64]) -> Args
         }
     }
     args
+}
+
+#[tactic(auto, using(crate::proofs::Same::same_numbers))]
+fn are_same(a: &ActEnd, b: &ActEnd) -> bool
+    ensures { IsTrue result ↔ a.now ≡ b.now }
+{
+    match (a, b) {
+        (ActEnd::Done(these), ActEnd::Done(those)) => these == those,
+        (ActEnd::Fails(this), ActEnd::Fails(that)) => this == that,
+        _ => false,
+    }
+}
+
+/// Puts an answer beside what it answers, as `Finished::new` does, for a set of actions of your own: it looks whether the answer is the
+/// kind's own, so that another one stops also a run of which nothing was proved.
+pub fn checked(kind: Kind, args: Args, end: ActEnd) -> Finished
+    requires pure { is_pure kind ≡ true }
+    requires answer { end ≡ answer_of kind args }
+    ensures { result ≡ record { kind = kind; args = args; end = end } }
+{
+    if !are_same(&end, &answer_of(kind, &args)) {
+        unreachable!("not the answer of this kind")
+    }
+    Finished::new(kind, args, end)
 }

@@ -6,10 +6,11 @@ ghost use Rattle.node_with_workers.specs.Clients.{GoesOn};
 
 use crate::piece::Piece;
 use crate::pieces::Pieces;
-use crate::table::{Handed, Table};
+use crate::shared::Shared;
+use crate::table::Handed;
 use node_with_workers::Client;
 use sched_workers::Caller;
-use std::sync::{Mutex, Wait};
+use std::sync::Wait;
 
 /// What a program does on a node whose workers run pieces, between its opening and its end.
 pub trait PieceClient<J: Piece>: Drop {
@@ -34,20 +35,20 @@ pub trait PieceClient<J: Piece>: Drop {
 
 /// A client of pieces, as a client of a node.
 #[derive(Drop)]
-pub struct WithTable<'a, L: Handed<J>, J: Piece, C: PieceClient<J>> {
+pub struct WithPieces<'a, L: Handed<J>, J: Piece, C: PieceClient<J>> {
     /// The client of pieces.
     pub client: C,
     /// Where the pieces are.
-    pub table: &'a Mutex<Table<L, J>>,
+    pub shared: &'a Shared<L, J>,
 }
 
-impl<'a, L: Handed<J>, J: Piece, C: PieceClient<J>> Client for WithTable<'a, L, J, C> {
+impl<'a, L: Handed<J>, J: Piece, C: PieceClient<J>> Client for WithPieces<'a, L, J, C> {
     type Told = C::Told;
 
     ghost promise = { λ b old new told. C.promise b.client L.pieces old new told };
 
     fn call<R: Wait>(self, rt: &R, caller: &mut Caller) -> C::Told {
-        let WithTable { client, table } = self;
-        client.call(rt, caller, &Pieces { table })
+        let WithPieces { client, shared } = self;
+        client.call(rt, caller, &Pieces { shared })
     }
 }

@@ -4,16 +4,19 @@
 #![tactic(auto)]
 
 pub mod client;
+pub mod context;
 pub mod node;
 pub mod piece;
 pub mod pieces;
 pub mod refusal;
 pub mod run;
+pub mod shared;
 pub mod table;
 pub mod unfinished;
 pub mod workers;
 
 pub use client::PieceClient;
+pub use context::TaskContext;
 pub use node::{Worked, with_pieces};
 pub use piece::Piece;
 pub use pieces::{Pieces, args_of};

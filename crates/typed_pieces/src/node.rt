@@ -4,8 +4,10 @@ ghost use Rattle.std.specs.Prelude.{◌≡◌, IfOk, vec_len};
 ghost use Rattle.node_with_workers.specs.Runs.{IsRun};
 ghost use Rattle.typed_pieces.specs.Places.{AreKept};
 
-use crate::client::{PieceClient, WithTable};
+use crate::client::{PieceClient, WithPieces};
+use crate::context::Cancels;
 use crate::piece::Piece;
+use crate::shared::Shared;
 use crate::table::{Handed, Table};
 use crate::workers::PieceRunners;
 use mtapi_values::NodeAttr;
@@ -27,12 +29,12 @@ pub struct Worked<T: Drop, D: Drop> {
     pub results: Vec<D>,
 }
 
-// The node over a table.
+// The node of these pieces.
 fn over<'a, L: Handed<J> + Send, J: Piece + Send, C: PieceClient<J>, R: Threads + Wait + Sync>(
     rt: &R,
     alloc: Global,
     settings: NodeAttr,
-    table: &'a Mutex<Table<L, J>>,
+    shared: &'a Shared<L, J>,
     client: C,
 ) -> Result<(C::Told, RunJournal), Failure>
 where
@@ -43,8 +45,8 @@ where
         rt,
         alloc,
         settings,
-        &mut PieceRunners { table },
-        WithTable { client, table },
+        &mut PieceRunners { shared },
+        WithPieces { client, shared },
     )?;
     Ok((done.told, done.journal))
 }
@@ -64,9 +66,11 @@ where
     ensures kept { IfOk result (λ w. AreKept J.promise pieces.items w.results.items) }
     ensures places { IfOk result (λ w. vec_len w.results ≡ vec_len pieces) }
 {
+    let cancels = Cancels::none(alloc, pieces.len())?;
     let table = Mutex::new(Table::<L, J>::new(alloc, pieces)?);
-    let (told, journal) = over(rt, alloc, settings, &table, client)?;
-    let Table { results, .. } = table.into_inner();
+    let shared = Shared { table, cancels };
+    let (told, journal) = over(rt, alloc, settings, &shared, client)?;
+    let Table { results, .. } = shared.table.into_inner();
     let results = results.into_vec();
     Ok(Worked {
         told,

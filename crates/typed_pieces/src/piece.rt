@@ -1,5 +1,6 @@
 //! A piece of work.
 
+use crate::context::TaskContext;
 use std::sync::Wait;
 
 /// A piece of work, which gives a result.
@@ -10,7 +11,8 @@ pub trait Piece: Drop {
     // What a piece promises of its result.
     ghost promise: { Self → Self.Done → Type 0 };
 
-    /// Does the work, on the thread of a worker. It may wait. The node can't end before it has returned.
-    fn go<R: Wait>(self, rt: &R) -> Self::Done
+    /// Does the work, on the thread of a worker. It may wait. The node can't end before it has returned, so a long piece asks `task` now and
+    /// then whether it should stop.
+    fn go<R: Wait>(self, rt: &R, task: &TaskContext) -> Self::Done
         ensures { promise self result };
 }

@@ -3,13 +3,15 @@
 ghost use Rattle.std.specs.Prelude.{◌≡◌, [], ◌∷◌, pos, IfSome};
 ghost use Rattle.typed_pieces.specs.Places.{IsKeptAt};
 ghost use Rattle.sched_workers.specs.Answers.{Called, with_number, enqueue_of, start_of};
-ghost use Rattle.sched_workers.specs.Replies.{handle, mtapi};
+ghost use Rattle.sched_workers.specs.Replies.{done, handle, mtapi};
+ghost use Rattle.mtapi_machine.specs.declared.ops.Op.TheVariants.{TaskCancel};
 
 use crate::piece::Piece;
-use crate::table::{Handed, Table};
+use crate::shared::Shared;
+use crate::table::Handed;
 use mtapi_values::{Args, GroupHandle, MtapiStatus, QueueHandle, TaskAttr, TaskHandle};
 use sched_workers::Caller;
-use std::sync::{Mutex, Wait};
+use std::sync::Wait;
 
 /// The arguments of a task that runs the piece of this place. Its action has to be of kind `echo`.
 pub fn args_of(place: u32) -> Args
@@ -23,7 +25,7 @@ pub fn args_of(place: u32) -> Args
 /// The pieces of a node.
 #[derive(Drop)]
 pub struct Pieces<'a, L: Handed<J>, J: Piece> {
-    pub(crate) table: &'a Mutex<Table<L, J>>,
+    pub(crate) shared: &'a Shared<L, J>,
 }
 
 impl<'a, L: Handed<J>, J: Piece> Pieces<'a, L, J> {
@@ -65,10 +67,30 @@ impl<'a, L: Handed<J>, J: Piece> Pieces<'a, L, J> {
         caller.task_enqueue(rt, queue, &args_of(place), attr, group)
     }
 
+    /// Cancels this task, which runs the piece of this place: if it hasn't begun, it won't, and the piece isn't run; if it runs, the piece sees
+    /// it by `TaskContext::should_cancel`; if it has ended, it stays as it is.
+    ///
+    /// # Errors
+    ///
+    /// Those of `task_cancel`. The piece sees nothing of it then.
+    pub fn cancel<R: Wait>(
+        &self,
+        rt: &R,
+        caller: &mut Caller,
+        place: u32,
+        task: TaskHandle,
+    ) -> Result<(), MtapiStatus>
+        ensures { Called mtapi done (TaskCancel task) caller.old caller.new result }
+    {
+        caller.task_cancel(rt, task)?;
+        self.shared.cancels.add(place as usize);
+        Ok(())
+    }
+
     /// Takes the result of this place while the node runs, if its piece has run. It is none of the results in the end.
     pub fn take_done<R: Wait>(&self, rt: &R, place: usize) -> Option<J::Done>
         ensures { IfSome result (λ d. ∥ IsKeptAt J.promise L.pieces place d ∥₁) }
     {
-        self.table.lock(rt).results.take(place)
+        self.shared.table.lock(rt).results.take(place)
     }
 }

@@ -1,24 +1,27 @@
 //! What the workers do: each runs the pieces whose tasks it takes.
 
+use crate::context::TaskContext;
 use crate::piece::Piece;
-use crate::table::{Handed, Table};
+use crate::shared::Shared;
+use crate::table::Handed;
 use action_fn::{ActionSet, ActionSource, Finished, answer_of};
 use mtapi_values::{Args, Kind};
-use std::sync::{Mutex, Wait};
+use std::sync::Wait;
 
 /// Runs the piece whose place the argument of an `echo` names, if it hasn't run, and answers what each kind answers.
 #[derive(Drop)]
 pub struct PieceRunner<'a, L: Handed<J>, J: Piece> {
-    table: &'a Mutex<Table<L, J>>,
+    shared: &'a Shared<L, J>,
 }
 
 impl<'a, L: Handed<J>, J: Piece> PieceRunner<'a, L, J> {
     // The piece runs outside the lock, so that others run beside it.
     fn work<R: Wait>(&self, rt: &R, place: usize) {
-        let taken = self.table.lock(rt).take(place);
+        let Shared { table, cancels } = self.shared;
+        let taken = table.lock(rt).take(place);
         if let Some(piece) = taken {
-            let done = piece.go(rt);
-            self.table.lock(rt).results.put(place, done);
+            let done = piece.go(rt, &TaskContext { cancels, place });
+            table.lock(rt).results.put(place, done);
         }
     }
 }
@@ -35,11 +38,11 @@ impl<'a, L: Handed<J>, J: Piece> ActionSet for PieceRunner<'a, L, J> {
     }
 }
 
-/// Gives each worker a runner over the same table.
+/// Gives each worker a runner of the same pieces.
 #[derive(Drop)]
 pub struct PieceRunners<'a, L: Handed<J>, J: Piece> {
-    /// The table.
-    pub table: &'a Mutex<Table<L, J>>,
+    /// Where the pieces are.
+    pub shared: &'a Shared<L, J>,
 }
 
 impl<'a, L: Handed<J> + Send, J: Piece + Send> ActionSource for PieceRunners<'a, L, J>
@@ -49,6 +52,8 @@ where
     type Set = PieceRunner<'a, L, J>;
 
     fn for_worker(&mut self, _worker: u32) -> PieceRunner<'a, L, J> {
-        PieceRunner { table: self.table }
+        PieceRunner {
+            shared: self.shared,
+        }
     }
 }

@@ -1,0 +1,99 @@
+//! A search that stops early: the workers of a node look for a divisor of a number, each among others. The first that one of them finds ends
+//! the search, and the others are cancelled: by themselves they would look on for hours.
+#![tactic(auto)]
+
+use mtapi_values::{ActionAttr, Kind, MtapiStatus, NodeAttr, TaskAttr, TaskHandle, Timeout};
+use node_with_workers::Failure;
+use sched_workers::Caller;
+use std::alloc::Global;
+use std::io;
+use std::sync::Wait;
+use std::thread::Threads;
+use typed_pieces::{Handed, Piece, PieceClient, Pieces, TaskContext, with_pieces};
+
+const NUMBER: u64 = 998_247_347_733_059;
+
+// So many workers, each with a piece.
+const WORKERS: u64 = 4;
+
+// The job of the action.
+const JOB: u32 = 1;
+
+/// Looks for a divisor from this number on, among those that the others leave out.
+#[derive(Drop)]
+struct Search(u64);
+
+impl Piece for Search {
+    type Done = Option<u64>;
+
+    ghost promise = { λ _ _. Unit {0} };
+
+    fn go<R: Wait>(self, _rt: &R, task: &TaskContext) -> Option<u64> {
+        for divisor in (self.0..NUMBER).step_by(WORKERS as usize) {
+            if NUMBER.checked_rem(divisor) == Some(0) {
+                return Some(divisor);
+            }
+            if task.should_cancel() {
+                break;
+            }
+        }
+        None
+    }
+}
+
+/// Starts all searches, and cancels the others once one has ended.
+#[derive(Drop)]
+struct UntilFound;
+
+impl PieceClient<Search> for UntilFound {
+    type Told = Result<(), MtapiStatus>;
+
+    ghost promise = { λ _ _ _ _ _. Unit {0} };
+
+    #[tactic(auto, using(node_with_workers::proofs::Calls::further_calls))]
+    fn call<R: Wait, L: Handed<Search>>(
+        self,
+        rt: &R,
+        caller: &mut Caller,
+        pieces: &Pieces<L, Search>,
+    ) -> Result<(), MtapiStatus> {
+        caller.action_create(rt, JOB, Kind::Echo, ActionAttr::new())?;
+        let group = caller.group_create(rt)?;
+        let mut tasks = [TaskHandle(0); WORKERS as usize];
+        for place in 0..WORKERS as u32 {
+            let attr = TaskAttr::new();
+            tasks[place as usize] = pieces.start(rt, caller, place, JOB, attr, Some(group))?;
+        }
+        let (first, _) = caller.group_wait_any(rt, group, Timeout::Infinite)?;
+        for other in 0..WORKERS as u32 {
+            if tasks[other as usize] != first {
+                pieces.cancel(rt, caller, other, tasks[other as usize])?;
+            }
+        }
+        caller.group_wait_all(rt, group, Timeout::Infinite)
+    }
+}
+
+fn divisor_of<R: Threads + Wait + Sync>(rt: &R, alloc: Global) -> Result<Option<u64>, Failure> {
+    let mut settings = NodeAttr::new();
+    settings.set(NodeAttr::WORKERS, WORKERS)?;
+    let pieces = (2..2 + WORKERS).map(|first| Search(first)).collect(alloc)?;
+    let worked = with_pieces(rt, alloc, settings, pieces, UntilFound)?;
+    worked.told?;
+    Ok(worked.results.into_iter().flatten().flatten().next())
+}
+
+fn main(rt: HostRuntime) -> io::Result<()> {
+    match divisor_of(&rt, rt.alloc()) {
+        Ok(Some(divisor)) => {
+            let other = NUMBER / divisor.max(1);
+            println!(rt;
+                "{NUMBER} is {} times {}",
+                divisor.min(other),
+                divisor.max(other)
+            )
+        }
+        Ok(None) => println!(rt; "no divisor"),
+        Err(failure) => println!(rt; "{failure}"),
+    }
+}
