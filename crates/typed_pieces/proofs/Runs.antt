@@ -1,9 +1,33 @@
--- Of the run of a node, whatever its client promises.
-use Rattle.mtapi_values.specs.Attributes.{NodeSettings}
+-- Of the run of a node, whatever its client promises, and of calls that were refused.
+use Rattle.std.proofs.Common.{◌≡◌, ℕ, ◌+◌, suc, pos, false, Option, Some, None, List, [], ◌∷◌, ◌++◌, length, Result, Ok, Err, inl, inr, refl, sym, ap, subst, ◌∙◌, append_assoc, take, arith}
+use Rattle.std.proofs.lemmas.List.{length-append}
+use Rattle.std.proofs.lemmas.Bool.Decides.{nat_tests}
+use Rattle.std.specs.Prelude.{IfErr, IfOk}
+use Rattle.history.specs.Histories.{entry}
+use Rattle.mtapi_values.specs.Attributes.{ActionAttributes, NodeSettings, TaskAttributes}
+use Rattle.mtapi_values.specs.declared.handles.ActionHandle.{ActionHandle}
+use Rattle.mtapi_values.specs.declared.handles.GroupHandle.{GroupHandle}
+use Rattle.mtapi_values.specs.declared.handles.TaskHandle.{TaskHandle}
+use Rattle.mtapi_values.specs.declared.kinds.Kind.TheVariants.{Echo}
+use Rattle.mtapi_values.specs.declared.statuses.MtapiStatus.{MtapiStatus}
+use Rattle.mtapi_machine.specs.declared.ops.Op.TheVariants.{ActionCreate, GroupCreate, TaskStart, AllLook}
+use Rattle.mtapi_machine.specs.declared.replies.Reply.{Reply}
+use Rattle.mtapi_machine.specs.declared.replies.Reply.TheVariants as reply
+use Rattle.mtapi_machine.specs.Legal.{NodeEntry}
 use Rattle.node_journals.specs.declared.entries.Journal.{Journal}
-use Rattle.sched_workers.specs.Turns.{Seat}
+use Rattle.workload_runs.specs.declared.calls.Wanted.{Wanted}
+use Rattle.workload_runs.specs.declared.calls.Wanted.TheVariants.{AllMembers}
+use Rattle.workload_runs.specs.Wants.{op_of}
+use Rattle.sched_workers.specs.Answers.{Answers, Called, Waited, start_of, with_number}
+use Rattle.sched_workers.specs.Looks.{pends}
+use Rattle.sched_workers.specs.Replies.{done, handle, mtapi}
+use Rattle.sched_workers.specs.Turns.{SameSeat, Seat}
+use Rattle.node_with_workers.specs.Clients.{GoesOn}
 use Rattle.node_with_workers.specs.Runs.{IsRun}
-use Rattle.typed_pieces.specs.Runs.{HasRun}
+use Rattle.node_with_workers.specs.Told.{WentOn}
+use Rattle.node_with_workers.proofs.Calls.{begins_more, begins_same}
+use Rattle.node_with_workers.proofs.Told.{then_given, went_none}
+use Rattle.typed_pieces.specs.Runs.{EndsRefused, HasAwaited, HasRun, HasRunAll, HasStarted, RefusesPieces, every_worker, starts_of}
 
 pub has_run : {C T : Type 0} (promise : C → Seat → Seat → T → Type 0) (client : C) (settings : NodeSettings) (told : T) (j : Journal) → IsRun promise client settings told j → HasRun settings j
 has_run promise client settings told j r =
@@ -16,3 +40,127 @@ has_run promise client settings told j r =
       called = record { before = c.before; number = c.number; terms = c.terms; opened = c.opened; after = c.after; same = c.same; goes_on = c.goes_on; promised = tt; begins = c.begins };
       ended = r.ended;
     }
+
+refused_done : (r : Reply) (status : MtapiStatus) → Answers mtapi done r (Err status) → r ≡ reply.Mtapi status
+refused_done r status e1 = grind (arith, nat_tests)
+
+-- a wait that is refused ends by a look that was
+pub waited_refused : (w : Wanted) (limit : Option ℕ) (old new : Seat) (x : Result (Unit {0}) MtapiStatus) → Waited mtapi done w limit old new x → IfErr x (λ status. EndsRefused status new)
+waited_refused w limit old new (Ok u) a = tt
+waited_refused w limit old new (Err status) (inl a) =
+    let l = a.1 in
+    let before = old.mine ++ pends old.number w l.pending in
+    let last = λ (n : ℕ) (r : Reply). before ++ entry n (op_of w l.last) r ∷ [] in
+    inl (
+      before,
+      op_of w l.last,
+      l.mine ∙ (sym (append_assoc old.mine (pends old.number w l.pending) (entry old.number (op_of w l.last) a.0 ∷ []))
+          ∙ (ap (λ (n : ℕ). last n a.0) (sym l.same.number) ∙ ap (λ (r : Reply). last new.number r) (refused_done a.0 status a.2))),
+    )
+waited_refused w limit old new (Err status) (inr a) = inr (cc, a.0.shown)
+
+-- The calls of the client of all pieces
+
+starts_more : (who : ℕ) (g : GroupHandle) (place : ℕ) (tasks : List ℕ) (task : ℕ) (n : ℕ) → length tasks + place ≡ n
+    → starts_of who g place tasks ++ entry who (TaskStart 1 (pos n ∷ []) 0 every_worker false (Some g)) (reply.Handle task) ∷ [] ≡ starts_of who g place (tasks ++ task ∷ [])
+starts_more who g place [] task n is =
+    let here : n ≡ place = omega (arith, is) in
+    ap (λ (k : ℕ). entry who (TaskStart 1 (pos k ∷ []) 0 every_worker false (Some g)) (reply.Handle task) ∷ []) here
+starts_more who g place (t ∷ tasks) task n is =
+    ap (λ (l : List NodeEntry). entry who (TaskStart 1 (pos place ∷ []) 0 every_worker false (Some g)) (reply.Handle t) ∷ l) (starts_more who g (suc place) tasks task n (omega (arith, is)))
+
+pub started_none : (g : GroupHandle) (attr : ActionAttributes) (a b c : Seat) (x : Result ActionHandle MtapiStatus) (h : ActionHandle) (y : Result GroupHandle MtapiStatus)
+    → attr ≡ record { global = false; affinity = 18446744073709551615; domain_shared = false }
+    → Called mtapi handle (ActionCreate 1 Echo (record { 0 = attr.affinity })) a b (with_number (λ k. k.0) x) → x ≡ Ok h → Called mtapi handle GroupCreate b c (with_number (λ k. k.0) y) → y ≡ Ok g → HasStarted g 0 a c
+started_none g attr a b c x h y usual made is grouped was =
+    let create = ActionCreate 1 Echo every_worker in
+    let so : Called mtapi handle create a b (with_number (λ k. k.0) x) = subst (λ (u : ActionAttributes). Called mtapi handle (ActionCreate 1 Echo (record { 0 = u.affinity })) a b (with_number (λ k. k.0) x)) usual made in
+    record {
+      action = h.0;
+      tasks = [];
+      many = refl;
+      asked = then_given (λ (k : GroupHandle). k.0) (entry a.number create (reply.Handle h.0) ∷ []) GroupCreate a b c y g (then_given (λ (k : ActionHandle). k.0) [] create a a b x h (went_none a) so is) grouped was;
+    }
+
+pub started_more : (g : GroupHandle) (n : ℕ) (attr : TaskAttributes) (a b c : Seat) (x : Result TaskHandle MtapiStatus) (t : TaskHandle)
+    → attr ≡ record { detached = false; instances = 1; priority = 0; affinity = 18446744073709551615 }
+    → HasStarted g n a b → Called mtapi handle (start_of 1 (pos n ∷ []) attr (Some g)) b c (with_number (λ k. k.0) x) → x ≡ Ok t → HasStarted g (n + 1) a c
+started_more g n attr a b c x t usual s called is =
+    let before = entry a.number (ActionCreate 1 Echo every_worker) (reply.Handle s.action) ∷ entry a.number GroupCreate (reply.Handle g.0) ∷ [] in
+    let start = TaskStart 1 (pos n ∷ []) 0 every_worker false (Some g) in
+    let so : Called mtapi handle start b c (with_number (λ k. k.0) x) = subst (λ (u : TaskAttributes). Called mtapi handle (start_of 1 (pos n ∷ []) u (Some g)) b c (with_number (λ k. k.0) x)) usual called in
+    record {
+      action = s.action;
+      tasks = s.tasks ++ t.0 ∷ [];
+      many = length-append s.tasks (t.0 ∷ []) ∙ ap (λ (k : ℕ). k + 1) s.many;
+      asked =
+          subst (λ (l : List NodeEntry). WentOn (before ++ l) a c) (starts_more a.number g 0 s.tasks t.0 n (omega (arith, s.many)))
+          (then_given (λ (k : TaskHandle). k.0) (before ++ starts_of a.number g 0 s.tasks) start a b c x t s.asked so is);
+    }
+
+-- such a seat is the same, and its entries begin with those that it had
+pub goes_on : (g : GroupHandle) (n : ℕ) (a b : Seat) → HasStarted g n a b → SameSeat a b × GoesOn a b × HasStarted g n a b
+goes_on g n a b s =
+    let w = s.asked in
+    (w.same, subst (λ (es : List NodeEntry). take (length a.mine) es ≡ a.mine) (sym w.mine) (begins_more a.mine a.mine w.more (begins_same a.mine)), s)
+
+all_told : (g : GroupHandle) (old new : Seat) (x : Result (Unit {0}) MtapiStatus) → Waited mtapi done (AllMembers g) None old new x → IfOk x (λ _. WentOn (entry old.number (AllLook g false) reply.Ok ∷ []) old new)
+all_told g old new x e1 = grind (arith, nat_tests)
+
+pub awaited : (g : GroupHandle) (n m : ℕ) (a b c : Seat) (x : Result (Unit {0}) MtapiStatus) → n ≡ m → HasStarted g n a b → Waited mtapi done (AllMembers g) None b c x → IfOk x (λ _. HasAwaited m a c)
+awaited g n m a b c (Err e) same s w = tt
+awaited g n m a b c (Ok u) same s w = record { group = g; before = b; started = subst (λ (k : ℕ). HasStarted g k a b) same s; waited = all_told g b c (Ok u) w }
+
+-- What the client of all pieces promises, of a run
+
+abbrev pub Says : {C : Type 0} → (C → ℕ) → C → Seat → Seat → Result (Unit {0}) MtapiStatus → Type 0
+Says places all old new told = IfOk told (λ _. HasAwaited (places all) old new) × IfErr told (λ status. EndsRefused status new)
+
+pub told_all : {C : Type 0} (places : C → ℕ) (client : C) (settings : NodeSettings) (told : Result (Unit {0}) MtapiStatus) (u : Unit {0}) (j : Journal)
+    → IsRun (Says places) client settings told j → told ≡ Ok u → HasRunAll settings (places client) j
+told_all places client settings told u j r is =
+    let c = r.called in
+    record {
+      history = r.history;
+      legal = r.legal;
+      kept = r.kept;
+      mine = r.mine;
+      called = record {
+        before = c.before;
+        number = c.number;
+        terms = c.terms;
+        opened = c.opened;
+        after = c.after;
+        same = c.same;
+        goes_on = c.goes_on;
+        promised = subst (λ (x : Result (Unit {0}) MtapiStatus). IfOk x (λ _. HasAwaited (places client) c.before c.after)) is c.promised.0;
+        begins = c.begins;
+      };
+      ended = r.ended;
+    }
+
+pub told_why : {C : Type 0} (places : C → ℕ) (client : C) (settings : NodeSettings) (told : Result (Unit {0}) MtapiStatus) (status : MtapiStatus) (j : Journal)
+    → IsRun (Says places) client settings told j → told ≡ Err status → RefusesPieces settings status
+told_why places client settings told status j r is =
+    let c = r.called in
+    inr (
+      j,
+      record {
+        history = r.history;
+        legal = r.legal;
+        kept = r.kept;
+        mine = r.mine;
+        called = record {
+          before = c.before;
+          number = c.number;
+          terms = c.terms;
+          opened = c.opened;
+          after = c.after;
+          same = c.same;
+          goes_on = c.goes_on;
+          promised = subst (λ (x : Result (Unit {0}) MtapiStatus). IfErr x (λ s. EndsRefused s c.after)) is c.promised.1;
+          begins = c.begins;
+        };
+        ended = r.ended;
+      },
+    )

@@ -1,8 +1,70 @@
 -- What a run of pieces says of its node.
+use Rattle.std.specs.Prelude.{◌≡◌, ◌≤◌, ◌-◌, ◌^◌, ◌⊎◌, ℕ, suc, pos, false, List, [], ◌∷◌, ◌++◌, length, Some}
+use Rattle.history.specs.Histories.{entry}
 use Rattle.mtapi_values.specs.Attributes.{NodeSettings}
+use Rattle.mtapi_values.specs.declared.handles.GroupHandle.{GroupHandle}
+use Rattle.mtapi_values.specs.declared.kinds.Kind.TheVariants.{Echo}
+use Rattle.mtapi_values.specs.declared.masks.Mask.{Mask}
+use Rattle.mtapi_values.specs.declared.statuses.MtapiStatus.{MtapiStatus}
+use Rattle.mtapi_values.specs.declared.statuses.MtapiStatus.TheVariants.{ErrSpent}
+use Rattle.mtapi_machine.specs.declared.ops.Op.{Op}
+use Rattle.mtapi_machine.specs.declared.ops.Op.TheVariants.{ActionCreate, GroupCreate, TaskStart, AllLook}
+use Rattle.mtapi_machine.specs.declared.replies.Reply.TheVariants as reply
+use Rattle.mtapi_machine.specs.Legal.{NodeEntry}
 use Rattle.node_journals.specs.declared.entries.Journal.{Journal}
-use Rattle.node_with_workers.specs.Runs.{IsRun}
+use Rattle.sched_workers.specs.Turns.{Seat}
+use Rattle.node_with_workers.specs.Runs.{IsRun, Refuses}
+use Rattle.node_with_workers.specs.Told.{WentOn}
+use Rattle.node_with_workers.specs.declared.failure.Failure.{Failure}
+use Rattle.typed_pieces.specs.declared.unfinished.Unfinished.{Unfinished}
+use Rattle.typed_pieces.specs.declared.unfinished.Unfinished.TheVariants as unfinished
 
 -- There is one legal history of a node with these settings and main alone, which main opened and ended. The journal is what is kept of it.
 abbrev pub HasRun : NodeSettings → Journal → Type 0
 HasRun settings journal = IsRun {C = Unit {0}} {T = Unit {0}} (λ _ _ _ _. Unit {0}) tt settings tt journal
+
+-- the usual affinity: every worker
+abbrev pub every_worker : Mask
+every_worker = record { 0 = 2 ^ 64 - 1 }
+
+-- the starts of the pieces at the places from this one on, each in this group, which gave these tasks
+abbrev pub starts_of : ℕ → GroupHandle → ℕ → List ℕ → List NodeEntry
+starts_of who group place [] = []
+starts_of who group place (task ∷ tasks) =
+    entry who (TaskStart 1 (pos place ∷ []) 0 every_worker false (Some group)) (reply.Handle task) ∷ starts_of who group (suc place) tasks
+
+-- among the further calls of the seat are, in this order: one that made an action of kind echo, one that made this group, and a start in it of the
+-- piece at each of the first places, so many
+pub record HasStarted (group : GroupHandle) (places : ℕ) (old new : Seat) : Type 0 where
+  pub action : ℕ
+  pub tasks : List ℕ
+  pub many : length tasks ≡ places
+  pub asked : WentOn (entry old.number (ActionCreate 1 Echo every_worker) (reply.Handle action) ∷ entry old.number GroupCreate (reply.Handle group.0) ∷ starts_of old.number group 0 tasks) old new
+
+-- the same, and then a wait that was told that all tasks of the group have ended
+pub record HasAwaited (places : ℕ) (old new : Seat) : Type 0 where
+  pub group : GroupHandle
+  pub before : Seat
+  pub started : HasStarted group places old before
+  pub waited : WentOn (entry before.number (AllLook group false) reply.Ok ∷ []) before new
+
+-- the same, and in that history main started a task for the piece at each of so many places, and was told that all of them had ended
+abbrev pub HasRunAll : NodeSettings → ℕ → Journal → Type 0
+HasRunAll settings places journal = IsRun {C = Unit {0}} {T = Unit {0}} (λ _ old new _. HasAwaited places old new) tt settings tt journal
+
+-- the last call of this seat was refused with this status; or a further one wasn't made, since the tickets had run out
+abbrev pub EndsRefused : MtapiStatus → Seat → Type 0
+EndsRefused status s =
+    ((before : List NodeEntry) × (o : Op) × (s.mine ≡ before ++ entry s.number o (reply.Mtapi status) ∷ [])) ⊎ ((status ≡ ErrSpent) × (2 ^ 62 ≤ s.shown))
+
+-- Main's opening of a node with these settings was refused with this status, or its end was; or, in a legal history of such a node that main
+-- opened and ended, the last call between was.
+abbrev pub RefusesPieces : NodeSettings → MtapiStatus → Type 0
+RefusesPieces settings status =
+    Refuses {C = Unit {0}} {T = Unit {0}} (λ _ _ _ _. Unit {0}) tt settings status
+    ⊎ ((j : Journal) × IsRun {C = Unit {0}} {T = MtapiStatus} (λ _ _ s refused. EndsRefused refused s) tt settings status j)
+
+-- this holds of the failure of the node
+abbrev pub IfNode : Unfinished → (Failure → Type 0) → Type 0
+IfNode (unfinished.Node f) P = P f
+IfNode (unfinished.NoResult place) P = Unit {0}

@@ -1,7 +1,8 @@
 //! A node whose workers run the pieces.
 
-ghost use Rattle.std.specs.Prelude.{◌≡◌, IfOk, vec_len};
-ghost use Rattle.node_with_workers.specs.Runs.{IsRun};
+ghost use Rattle.std.specs.Prelude.{◌≡◌, IfOk, IfErr, vec_len};
+ghost use Rattle.node_with_workers.specs.Clients.{IfRefused};
+ghost use Rattle.node_with_workers.specs.Runs.{IsRun, Refuses};
 ghost use Rattle.typed_pieces.specs.Places.{AreKept};
 
 use crate::client::{PieceClient, WithPieces};
@@ -39,7 +40,8 @@ fn over<'a, L: Handed<J> + Send, J: Piece + Send, C: PieceClient<J>, R: Threads 
 ) -> Result<(C::Told, RunJournal), Failure>
 where
     J::Done: Send,
-    ensures { IfOk result (λ r. IsRun (λ c. C.promise c L.pieces) client settings r.0 r.1) }
+    ensures run { IfOk result (λ r. IsRun (λ c. C.promise c L.pieces) client settings r.0 r.1) }
+    ensures causes { IfErr result (λ e. IfRefused e (Refuses (λ c. C.promise c L.pieces) client settings)) }
 {
     let done = with_workers(
         rt,
@@ -63,6 +65,7 @@ where
     J::Done: Send,
     requires { L.pieces ≡ pieces.items }
     ensures run { IfOk result (λ w. IsRun (λ c. C.promise c pieces.items) client settings w.told w.journal) }
+    ensures causes { IfErr result (λ e. IfRefused e (Refuses (λ c. C.promise c pieces.items) client settings)) }
     ensures kept { IfOk result (λ w. AreKept J.promise pieces.items w.results.items) }
     ensures places { IfOk result (λ w. vec_len w.results ≡ vec_len pieces) }
 {
@@ -100,6 +103,7 @@ pub fn with_pieces<J: Piece + Send, C: PieceClient<J>, R: Threads + Wait + Sync>
 where
     J::Done: Send,
     ensures run { IfOk result (λ w. IsRun (λ c. C.promise c pieces.items) client settings w.told w.journal) }
+    ensures causes { IfErr result (λ e. IfRefused e (Refuses (λ c. C.promise c pieces.items) client settings)) }
     ensures kept { IfOk result (λ w. AreKept J.promise pieces.items w.results.items) }
     ensures places { IfOk result (λ w. vec_len w.results ≡ vec_len pieces) }
 {

@@ -68,7 +68,7 @@ impl<'a, L: Handed<J>, J: Piece> Pieces<'a, L, J> {
     }
 
     /// Cancels this task, which runs the piece of this place: if it hasn't begun, it won't, and the piece isn't run; if it runs, the piece sees
-    /// it by `TaskContext::should_cancel`; if it has ended, it stays as it is.
+    /// it by `TaskContext::should_cancel`, and the task completes with what it gives then; if it has ended, it stays as it is.
     ///
     /// # Errors
     ///

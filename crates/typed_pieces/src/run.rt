@@ -1,8 +1,10 @@
 //! Pieces that are all run, and waited for.
 
-ghost use Rattle.std.specs.Prelude.{◌≡◌, Some, IfOk, map, vec_len};
+ghost use Rattle.std.specs.Prelude.{◌≡◌, ◌<◌, ◌^◌, Some, IfOk, IfErr, map, vec_len};
+ghost use Rattle.node_with_workers.specs.Clients.{IfRefused};
+ghost use Rattle.node_with_workers.specs.declared.failure.Failure.TheVariants.{Memory};
 ghost use Rattle.typed_pieces.specs.Places.{AreKept};
-ghost use Rattle.typed_pieces.specs.Runs.{HasRun};
+ghost use Rattle.typed_pieces.specs.Runs.{HasRun, HasRunAll, IfNode, RefusesPieces};
 
 use crate::client::PieceClient;
 use crate::node::{Worked, with_pieces};
@@ -28,11 +30,13 @@ pub struct AllPieces {
 const JOB: u32 = 1;
 
 impl<J: Piece> PieceClient<J> for AllPieces {
+    ghost use Rattle.std.specs.Prelude.{IfOk, IfErr};
     ghost use Rattle.sched_workers.specs.Turns.{SameSeat};
+    ghost use Rattle.typed_pieces.specs.Runs.{EndsRefused, HasAwaited};
 
     type Told = Result<(), MtapiStatus>;
 
-    ghost promise = { λ _ _ _ _ _. Unit {0} };
+    ghost promise = { λ all _ old new told. IfOk told (λ _. HasAwaited all.count old new) × IfErr told (λ status. EndsRefused status new) };
 
     fn call<R: Wait, L: Handed<J>>(
         self,
@@ -51,7 +55,8 @@ impl<J: Piece> PieceClient<J> for AllPieces {
 
 // The results, if each is there.
 fn all_there<D: Drop>(alloc: Global, results: Vec<Option<D>>) -> Result<Vec<D>, Unfinished>
-    ensures { IfOk result (λ v. map Some v.items ≡ results.items) }
+    ensures there { IfOk result (λ v. map Some v.items ≡ results.items) }
+    ensures causes { IfErr result (λ u. IfNode u (λ e. e ≡ Memory)) }
 {
     let mut there = Vec::with_capacity(alloc, results.len())?;
     for result in results {
@@ -83,6 +88,8 @@ pub fn run_pieces<J: Piece + Send, R: Threads + Wait + Sync>(
 where
     J::Done: Send,
     ensures run { IfOk result (λ w. HasRun settings w.journal) }
+    ensures awaited { vec_len pieces < 2 ^ 32 → IfOk result (λ w. HasRunAll settings (vec_len pieces) w.journal) }
+    ensures causes { IfErr result (λ u. IfNode u (λ e. IfRefused e (RefusesPieces settings))) }
     ensures kept { IfOk result (λ w. AreKept J.promise pieces.items (map Some w.results.items)) }
     ensures places { IfOk result (λ w. vec_len w.results ≡ vec_len pieces) }
 {

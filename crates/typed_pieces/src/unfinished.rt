@@ -17,18 +17,35 @@ pub enum Unfinished {
 }
 
 impl From<Failure> for Unfinished {
+    ghost use Rattle.std.specs.Prelude.{◌≡◌};
+    ghost use Rattle.typed_pieces.specs.declared.unfinished.Unfinished.TheVariants.{Node};
+
+    ghost from_gives = { λ failure unfinished. unfinished ≡ Node failure };
+
     fn from(failure: Failure) -> Unfinished {
         Unfinished::Node(failure)
     }
 }
 
 impl From<AllocError> for Unfinished {
+    ghost use Rattle.std.specs.Prelude.{◌≡◌};
+    ghost use Rattle.node_with_workers.specs.declared.failure.Failure.TheVariants.{Memory};
+    ghost use Rattle.typed_pieces.specs.declared.unfinished.Unfinished.TheVariants.{Node};
+
+    ghost from_gives = { λ _ unfinished. unfinished ≡ Node Memory };
+
     fn from(_error: AllocError) -> Unfinished {
         Unfinished::Node(Failure::Memory)
     }
 }
 
 impl From<MtapiStatus> for Unfinished {
+    ghost use Rattle.std.specs.Prelude.{◌≡◌};
+    ghost use Rattle.node_with_workers.specs.declared.failure.Failure.TheVariants.{Refused};
+    ghost use Rattle.typed_pieces.specs.declared.unfinished.Unfinished.TheVariants.{Node};
+
+    ghost from_gives = { λ status unfinished. unfinished ≡ Node (Refused status) };
+
     fn from(status: MtapiStatus) -> Unfinished {
         Unfinished::Node(Failure::Refused(status))
     }

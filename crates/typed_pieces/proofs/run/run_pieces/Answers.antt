@@ -1,7 +1,7 @@
 use Rattle.std.proofs.Common.{◌∙◌, Some, ap, length, rules, subst, sym}
 use Rattle.std.proofs.lemmas.List.{length-map}
 use Rattle.typed_pieces.specs.Places.{AreKept}
-use Rattle.typed_pieces.proofs.Runs.{has_run}
+use Rattle.typed_pieces.proofs.Runs.{has_run, told_why}
 use Rattle.typed_pieces.proofs.run.run_pieces.Goals as goal
 
 pub returns-clause-run : goal.returns-clause-run
@@ -9,9 +9,14 @@ returns-clause-run g c = has_run _ _ _ _ _ c.in_ok-worked.ensures.run
 
 pub returns-clause-kept : goal.returns-clause-kept
 returns-clause-kept g c =
-    subst (λ xs. AreKept g.J.Piece.promise c.args.pieces.items xs) (sym c.in_ok-results.ensures) c.in_ok-worked.ensures.kept
+    subst (λ xs. AreKept g.J.Piece.promise c.args.pieces.items xs) (sym c.in_ok-results.ensures.there) c.in_ok-worked.ensures.kept
 
 pub returns-clause-places : goal.returns-clause-places
 returns-clause-places g c =
-    let same = sym (length-map _ Some) ∙ ap length c.in_ok-results.ensures in
+    let same = sym (length-map _ Some) ∙ ap length c.in_ok-results.ensures.there in
+    search rules
+
+pub returns-in_err-told-clause-causes : goal.returns-in_err-told-clause-causes
+returns-in_err-told-clause-causes g c =
+    let why = told_why (λ a. a.count) _ _ _ c.in_err-told.field-0.0 _ c.in_ok-worked.ensures.run cc in
     search rules

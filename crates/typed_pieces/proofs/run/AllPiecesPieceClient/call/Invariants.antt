@@ -1,6 +1,7 @@
 use Rattle.sched_workers.specs.Turns.{SameSeat}
 use Rattle.node_with_workers.specs.Clients.{GoesOn}
+use Rattle.typed_pieces.specs.Runs.{HasStarted}
 use Rattle.typed_pieces.proofs.run.AllPiecesPieceClient.call.Given as goal
 
 abbrev pub invariant-loop-place : goal.invariant-loop-place
-invariant-loop-place g l = SameSeat l.fn.caller l.caller × GoesOn l.fn.caller l.caller
+invariant-loop-place g l = SameSeat l.fn.caller l.caller × GoesOn l.fn.caller l.caller × HasStarted l.group l.place l.fn.caller l.caller
