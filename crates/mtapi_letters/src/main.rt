@@ -25,10 +25,9 @@ impl<'a> Piece for Part<'a> {
     fn go<R: Wait>(self, _rt: &R, _task: &TaskContext) -> Counts {
         let mut counts = [0u64; 26];
         for byte in self.0 {
-            let letter = byte.to_ascii_lowercase();
-            if letter >= b'a' && letter <= b'z' {
-                let count = &mut counts[(letter - b'a') as usize];
-                *count = count.saturating_add(1);
+            let letter = byte.to_ascii_lowercase().wrapping_sub(b'a') as usize;
+            if letter < 26 {
+                counts[letter] = counts[letter].wrapping_add(1);
             }
         }
         counts
