@@ -2,14 +2,15 @@
 //! the search, and the others are cancelled: by themselves they would look on for hours.
 #![tactic(auto)]
 
-use mtapi_values::{ActionAttr, Kind, MtapiStatus, NodeAttr, TaskAttr, TaskHandle, Timeout};
-use node_with_workers::Failure;
+use mtapi_values::{ActionAttr, Kind, NodeAttr, TaskAttr, TaskHandle, Timeout};
 use sched_workers::Caller;
 use std::alloc::Global;
 use std::io;
 use std::sync::Wait;
 use std::thread::Threads;
-use typed_pieces::{Handed, Piece, PieceClient, Pieces, TaskContext, with_pieces};
+use typed_pieces::{
+    Handed, Piece, PieceClient, Pieces, Refusal, TaskContext, Unfinished, with_pieces,
+};
 
 const NUMBER: u64 = 998_247_347_733_059;
 
@@ -46,7 +47,7 @@ impl Piece for Search {
 struct UntilFound;
 
 impl PieceClient<Search> for UntilFound {
-    type Told = Result<(), MtapiStatus>;
+    type Told = Result<(), Refusal>;
 
     ghost promise = { λ _ _ _ _ _. Unit {0} };
 
@@ -56,7 +57,7 @@ impl PieceClient<Search> for UntilFound {
         rt: &R,
         caller: &mut Caller,
         pieces: &Pieces<L, Search>,
-    ) -> Result<(), MtapiStatus> {
+    ) -> Result<(), Refusal> {
         caller.action_create(rt, JOB, Kind::Echo, ActionAttr::new())?;
         let group = caller.group_create(rt)?;
         let mut tasks = [TaskHandle(0); WORKERS as usize];
@@ -70,11 +71,12 @@ impl PieceClient<Search> for UntilFound {
                 pieces.cancel(rt, caller, other, tasks[other as usize])?;
             }
         }
-        caller.group_wait_all(rt, group, Timeout::Infinite)
+        caller.group_wait_all(rt, group, Timeout::Infinite)?;
+        Ok(())
     }
 }
 
-fn divisor_of<R: Threads + Wait + Sync>(rt: &R, alloc: Global) -> Result<Option<u64>, Failure> {
+fn divisor_of<R: Threads + Wait + Sync>(rt: &R, alloc: Global) -> Result<Option<u64>, Unfinished> {
     let mut settings = NodeAttr::new();
     settings.set(NodeAttr::WORKERS, WORKERS)?;
     let pieces = (2..2 + WORKERS).map(|first| Search(first)).collect(alloc)?;
@@ -94,6 +96,6 @@ fn main(rt: HostRuntime) -> io::Result<()> {
             )
         }
         Ok(None) => println!(rt; "no divisor"),
-        Err(failure) => println!(rt; "{failure}"),
+        Err(unfinished) => println!(rt; "{unfinished}"),
     }
 }

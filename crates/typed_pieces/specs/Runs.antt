@@ -67,4 +67,4 @@ RefusesPieces settings status =
 -- this holds of the failure of the node
 abbrev pub IfNode : Unfinished → (Failure → Type 0) → Type 0
 IfNode (unfinished.Node f) P = P f
-IfNode (unfinished.NoResult place) P = Unit {0}
+IfNode _ P = Unit {0}

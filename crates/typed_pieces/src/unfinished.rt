@@ -1,5 +1,6 @@
 //! Why a run of pieces gave no results.
 
+use crate::refusal::Refusal;
 use mtapi_values::MtapiStatus;
 use node_with_workers::Failure;
 use std::alloc::AllocError;
@@ -11,6 +12,9 @@ pub enum Unfinished {
     /// The node failed.
     #[error("{0}")]
     Node(Failure),
+    /// A call of a client was refused.
+    #[error("{0}")]
+    Refused(Refusal),
     /// The piece of this place has no result. It is the first one.
     #[error("no result of piece {0}")]
     NoResult(usize),
@@ -48,5 +52,16 @@ impl From<MtapiStatus> for Unfinished {
 
     fn from(status: MtapiStatus) -> Unfinished {
         Unfinished::Node(Failure::Refused(status))
+    }
+}
+
+impl From<Refusal> for Unfinished {
+    ghost use Rattle.std.specs.Prelude.{◌≡◌};
+    ghost use Rattle.typed_pieces.specs.declared.unfinished.Unfinished.TheVariants.{Refused};
+
+    ghost from_gives = { λ refusal unfinished. unfinished ≡ Refused refusal };
+
+    fn from(refusal: Refusal) -> Unfinished {
+        Unfinished::Refused(refusal)
     }
 }
