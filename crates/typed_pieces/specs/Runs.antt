@@ -64,7 +64,8 @@ RefusesPieces settings status =
     Refuses {C = Unit {0}} {T = Unit {0}} (λ _ _ _ _. Unit {0}) tt settings status
     ⊎ ((j : Journal) × IsRun {C = Unit {0}} {T = MtapiStatus} (λ _ _ s refused. EndsRefused refused s) tt settings status j)
 
--- this holds of the failure of the node
-abbrev pub IfNode : Unfinished → (Failure → Type 0) → Type 0
-IfNode (unfinished.Node f) P = P f
-IfNode _ P = Unit {0}
+-- the node failed so that this holds of its failure, or a piece has no result
+abbrev pub FailsBy : Unfinished → (Failure → Type 0) → Type 0
+FailsBy (unfinished.Node f) P = P f
+FailsBy (unfinished.Refused refusal) P = ⊥
+FailsBy (unfinished.NoResult place) P = Unit {0}

@@ -4,7 +4,7 @@ ghost use Rattle.std.specs.Prelude.{◌≡◌, ◌<◌, ◌^◌, Some, IfOk, IfE
 ghost use Rattle.node_with_workers.specs.Clients.{IfRefused};
 ghost use Rattle.node_with_workers.specs.declared.failure.Failure.TheVariants.{Memory};
 ghost use Rattle.typed_pieces.specs.Places.{AreKept};
-ghost use Rattle.typed_pieces.specs.Runs.{HasRun, HasRunAll, IfNode, RefusesPieces};
+ghost use Rattle.typed_pieces.specs.Runs.{FailsBy, HasRun, HasRunAll, RefusesPieces};
 
 use crate::client::PieceClient;
 use crate::node::{Worked, with_pieces};
@@ -56,7 +56,7 @@ impl<J: Piece> PieceClient<J> for AllPieces {
 // The results, if each is there.
 fn all_there<D: Drop>(alloc: Global, results: Vec<Option<D>>) -> Result<Vec<D>, Unfinished>
     ensures there { IfOk result (λ v. map Some v.items ≡ results.items) }
-    ensures causes { IfErr result (λ u. IfNode u (λ e. e ≡ Memory)) }
+    ensures causes { IfErr result (λ u. FailsBy u (λ e. e ≡ Memory)) }
 {
     let mut there = Vec::with_capacity(alloc, results.len())?;
     for result in results {
@@ -89,7 +89,7 @@ where
     J::Done: Send,
     ensures run { IfOk result (λ w. HasRun settings w.journal) }
     ensures awaited { vec_len pieces < 2 ^ 32 → IfOk result (λ w. HasRunAll settings (vec_len pieces) w.journal) }
-    ensures causes { IfErr result (λ u. IfNode u (λ e. IfRefused e (RefusesPieces settings))) }
+    ensures causes { IfErr result (λ u. FailsBy u (λ e. IfRefused e (RefusesPieces settings))) }
     ensures kept { IfOk result (λ w. AreKept J.promise pieces.items (map Some w.results.items)) }
     ensures places { IfOk result (λ w. vec_len w.results ≡ vec_len pieces) }
 {
