@@ -1,5 +1,5 @@
 //! Tests of the command: worked workloads with their reports, each status, journals that are kept and judged, generated workloads, each
-//! read, write and thread start refused in turn, malformed workloads, and workloads of many threads. No product stands on this crate.
+//! read, write and thread start refused in turn, and workloads of many threads. No product stands on this crate.
 #![tactic(auto)]
 
 #[cfg(test)]
@@ -18,8 +18,6 @@ mod journals;
 mod judged_journals;
 #[cfg(test)]
 mod judged_runs;
-#[cfg(test)]
-mod malformed;
 #[cfg(test)]
 mod meeting;
 #[cfg(test)]

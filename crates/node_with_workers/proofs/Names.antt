@@ -2,7 +2,7 @@
 pub use Rattle.history.specs.Histories.{StartsWith, entries_of, entry}
 pub use Rattle.mtapi_machine.specs.Legal.{Legal, NodeEntry}
 pub use Rattle.mtapi_machine.specs.declared.ops.Op.{Op}
-pub use Rattle.mtapi_machine.specs.declared.ops.Op.TheVariants.{Close, Final, Initialize, Release, TaskLook}
+pub use Rattle.mtapi_machine.specs.declared.ops.Op.TheVariants.{Close, Final, Initialize, Release}
 pub use Rattle.mtapi_machine.specs.declared.replies.Reply.{Reply}
 pub use Rattle.mtapi_machine.specs.declared.terms.Terms.{Terms}
 pub use Rattle.mtapi_values.specs.Attributes.{NodeSettings}
@@ -12,11 +12,11 @@ pub use Rattle.node_core.specs.declared.journaled.JournaledTerms.{JournaledTerms
 pub use Rattle.node_journals.specs.declared.entries.Journal.{Journal}
 pub use Rattle.node_with_workers.specs.Clients.{CallerEnters, GoesOn, HasCalled, IfRefused, IsKeptOut, IsNotOpened, IsRefused, MadeOne, MainOpens, SaysOf}
 pub use Rattle.node_with_workers.specs.Crews.{AreReady, AreRefused, AreTold, CameBack, HasComeBack, HaveComeBack, IsJoined, IsJoinedBy, IsLostBy, MayCall}
-pub use Rattle.node_with_workers.specs.Runs.{HasAllSeats, HasEnded, HaveCalled, IsRun, IsRunOfAll, Refuses, RefusesOne, Tells, terms_among}
+pub use Rattle.node_with_workers.specs.Runs.{HasAllSeats, HasEnded, HaveCalled, IsRun, IsRunOfAll, Refuses, RefusesOne, terms_among}
 pub use Rattle.node_with_workers.specs.declared.callers.Callers.{Callers}
 pub use Rattle.node_with_workers.specs.declared.crew.Hands.{Hands}
 pub use Rattle.sched_workers.specs.Answers.{Answers, Called, Waited, with_number}
-pub use Rattle.sched_workers.specs.Replies.{Standard, done, ended, handle, mtapi}
+pub use Rattle.sched_workers.specs.Replies.{done, handle, mtapi}
 pub use Rattle.sched_workers.specs.Turns.{SameSeat, Seat}
 pub use Rattle.std.proofs.Common.{Err, List, None, Ok, Option, Result, Some, [], ap, append_assoc, arith, drop, inl, inr, length, refl, rules, subst, suc, sym, take, true, vec_len, zero, ℕ, ◌++◌, ◌+◌, ◌-◌, ◌<◌, ◌^◌, ◌∙◌, ◌∷◌, ◌≡◌, ◌≤◌}
 pub use Rattle.std.proofs.lemmas.Bool.Decides.{nat_tests}
@@ -25,4 +25,4 @@ pub use Rattle.std.proofs.lemmas.Result.{IfErr-weaker, IfOk-at_ok, IfOk-weaker}
 pub use Rattle.std.specs.Prelude.{All, IfErr, IfOk, false}
 pub use Rattle.turn_cell.specs.Lists.{all_of}
 pub use Rattle.turn_cell.specs.Seats.{IsComplete, IsSeatOf, fresh_seat, fresh_seats}
-pub use Rattle.workload_runs.specs.declared.calls.Wanted.TheVariants.{Entrance, Task}
+pub use Rattle.workload_runs.specs.declared.calls.Wanted.TheVariants.{Entrance}

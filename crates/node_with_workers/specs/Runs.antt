@@ -20,7 +20,6 @@ use Rattle.node_with_workers.specs.declared.crew.Crew.{Crew}
 use Rattle.node_with_workers.specs.declared.run.AllDone.{AllDone}
 use Rattle.node_with_workers.specs.Clients.{MainOpens, CallerEnters, HasCalled, IsRefused, IsNotOpened}
 use Rattle.node_with_workers.specs.Crews.{AreRefused}
-use Rattle.node_with_workers.specs.Told.{IsTold}
 
 -- the terms of a node with these settings, main and so many further callers
 abbrev pub terms_among : NodeSettings → ℕ → Terms
@@ -71,16 +70,6 @@ Refuses promise client settings status = IsNotOpened (terms_for settings) settin
 -- The same of a node with so many further callers, or one of them wasn't let in.
 abbrev pub RefusesOne : {C T : Type 0} → (C → Seat → Seat → T → Type 0) → C → ℕ → NodeSettings → MtapiStatus → Type 0
 RefusesOne promise client others settings status = AreRefused (terms_among settings others) others status ⊎ IsNotEnded promise client (terms_among settings others) status
-
--- There is one legal history of a node with so many workers and main alone. The journal is what is kept of it, and by main's entries in it
--- this was told by these calls.
-pub record Tells {H T : Type 0} (calls : ℕ → H → T → List NodeEntry) (workers : ℕ) (t : T) (j : Journal) : Type 0 where
-  pub settings : NodeSettings
-  pub number : settings.workers ≡ workers
-  pub history : List NodeEntry
-  pub legal : Legal (terms_for settings) history
-  pub kept : KeptAs (terms_for settings) j history
-  pub told : IsTold calls workers t (entries_of workers history)
 
 -- the crew has all seats of a new cell
 pub record HasAllSeats {T U A : Type 0} (z : Cell) (c : Crew T U A) : Type 0 where

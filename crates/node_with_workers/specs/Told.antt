@@ -15,8 +15,3 @@ pub record WentOn (calls : List NodeEntry) (old new : Seat) : Type 0 where
   pub more : List NodeEntry
   pub mine : new.mine ≡ old.mine ++ more
   pub asked : InOrder calls more
-
--- by these entries of a seat it was told this: for some handles the calls that lead to it stand among them, in their order
-pub record IsTold {H T : Type 0} (calls : ℕ → H → T → List NodeEntry) (who : ℕ) (told : T) (es : List NodeEntry) : Type 0 where
-  pub given : H
-  pub asked : InOrder (calls who given told) es

@@ -492,6 +492,10 @@ fn long_lines(rt: HostRuntime) -> Result<(), Fail> {
         long
     );
     assert_eq!(rt;
+        told(a, &repeated(a, b"", b'#', 512, b"\t")?)?.as_str(),
+        long
+    );
+    assert_eq!(rt;
         told(a, &repeated(a, b"group g\n# x\n#", b'x', 512, b"\nfoo")?)?.as_str(),
         "line 3: line too long"
     );
