@@ -13,7 +13,7 @@ pub use actions::{
     act_add, act_div, act_echo, act_fail, act_gcd, act_max, act_mul, act_triangle, answer_of,
 };
 pub use finished::{ActEnd, Finished};
-pub use laws::law_gcd;
+pub use laws::{law_gcd, worked_answers};
 pub use sets::{ActionSet, ActionSource};
 pub use standard::StandardActions;
 pub use stored::StoredFn;
