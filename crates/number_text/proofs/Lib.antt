@@ -7,3 +7,4 @@ pub mod Spelling
 pub mod Writing
 pub mod Names
 pub mod KindWords
+pub mod Computed

@@ -6,6 +6,7 @@ ghost use Rattle.std.specs.Fmt.{decimal, signed_decimal};
 ghost use Rattle.number_text.specs.Numbers.{number, whole};
 ghost use Rattle.number_text.specs.Lists.{list_of, list_text};
 ghost use Rattle.number_text.specs.Cores.{cores_of, cores_text};
+ghost use Rattle.number_text.specs.Worked.{WorkedNumbers};
 
 /// A text is the number that it spells, and each number of u64 has one text.
 pub fn law_number()
@@ -35,4 +36,9 @@ pub fn law_cores()
     ensures written { (mask : ℕ) → 0 < mask → mask < 2 ^ 64 → cores_of (cores_text mask) ≡ Some mask }
     ensures read { (text : List ℕ) (mask : ℕ) → cores_of text ≡ Some mask → cores_text mask ≡ text }
     ensures range { (text : List ℕ) (mask : ℕ) → cores_of text ≡ Some mask → (0 < mask) × (mask < 2 ^ 64) }
+{}
+
+/// Worked texts of numbers, lists and sets of cores.
+pub fn worked_numbers()
+    ensures { WorkedNumbers }
 {}

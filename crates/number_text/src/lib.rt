@@ -13,7 +13,7 @@ mod numbers;
 pub use cores::{cores_of, push_cores};
 pub use cut::cut_at;
 pub use kinds::kind_of;
-pub use laws::{law_cores, law_list, law_number, law_whole};
+pub use laws::{law_cores, law_list, law_number, law_whole, worked_numbers};
 pub use lists::{list_of, push_list};
 pub use numbers::{
     decimal_text, number, number_within, push_number, push_whole, signed_text, whole,
