@@ -111,7 +111,7 @@ impl<T> Model for Places<T> {
     ghost invariant = { λ p. (p.made ≡ length p.row.items) × (p.made ≤ p.count) × (p.count ≡ p.row.room) × (0 < p.count) × (p.count ≤ 65536) };
 }
 
-// Drops each value, and gives the block back.
+// Drops each value, and gives the block back. A place that holds none isn't written.
 impl<T: Drop> Drop for Places<T> {
     fn drop(self) {
         let Places {
@@ -121,7 +121,9 @@ impl<T: Drop> Drop for Places<T> {
             alloc,
         } = self;
         for place in 0..made {
-            drop(exchange(row.items_mut(made), place, Place::Retired));
+            if used(row.items(made), place).is_some() {
+                drop(exchange(row.items_mut(made), place, Place::Retired));
+            }
         }
         row.free(&alloc, count);
     }

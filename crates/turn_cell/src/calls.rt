@@ -1,5 +1,5 @@
 //! One turn of the cell: draw a ticket, wait until it is served, call the object, and let the entry into the history.
-ghost use Rattle.std.specs.Prelude.{◌≡◌, ◌≢◌, ℕ, ◌+◌, ◌^◌, ◌<◌, ◌≤◌, true, false, Option, Box, None, List, [], ◌∷◌, ◌++◌, length, IfOk, IfErr, OnOk, OnErr};
+ghost use Rattle.std.specs.Prelude.{◌≡◌, ◌≢◌, ℕ, ◌+◌, ◌^◌, ◌<◌, ◌≤◌, true, false, Option, Box, None, Ok, List, [], ◌∷◌, ◌++◌, length, IfOk, IfErr, OnOk, OnErr};
 ghost use Rattle.std.specs.declared.alloc.Global.{Global};
 ghost use Rattle.history.specs.Histories.{Extends, entries_of, entry};
 ghost use Rattle.turn_cell.specs.declared.parts.Part.{Part};
@@ -138,28 +138,33 @@ impl<O: Object> TurnCell<O> {
         self.table.shared.fetch_add::<Pass<B, C>>(token, 0, 1);
     }
 
-    // Calls the object once, and ends the turn.
+    // Calls the object once, ends the turn, and wakes those that wait for the next one. It has the result of `call`, so
+    // that a reply isn't moved from the one into the other.
     fn turn<B: GhostArgument<O::Op>>(
         &self,
         token: &mut Token<O>,
         number: u32,
+        ticket: u64,
         mut object: Box<O>,
         op: O::Op,
-    ) -> O::Reply
+    ) -> Result<O::Reply, Spent>
         requires own { token.old.table_id ≡ self.now.id }
+        requires room { ticket < 2 ^ 62 }
         requires argument { B.argument ≡ op ∷ [] }
         requires holds { (p : Part O.Terms O.Op O.Reply) × (k : ℕ) × (token.old.me ≡ (p ∷ [], (0, None) ∷ []))
             × (p.stage ≡ Holds k) × (p.number ≡ number) × (O.terms object.value ≡ p.terms)
             × O.stands object.value p.seen × (length p.seen < 2 ^ 62) × (p.number < O.seat_count p.terms) }
         ensures own { token.new.table_id ≡ token.old.table_id }
-        ensures passed { (p : Part O.Terms O.Op O.Reply) → token.old.me ≡ (p ∷ [], (0, None) ∷ [])
-            → token.new.me ≡ (after_pass p (part_entry p op result) ∷ [], []) }
-        ensures legal { (p : Part O.Terms O.Op O.Reply) → token.old.me ≡ (p ∷ [], (0, None) ∷ [])
-            → O.legal p.terms (p.seen ++ part_entry p op result ∷ []) }
+        ensures replied { (reply : O.Reply) × (result ≡ Ok reply)
+            × ((p : Part O.Terms O.Op O.Reply) → token.old.me ≡ (p ∷ [], (0, None) ∷ [])
+            → token.new.me ≡ (after_pass p (part_entry p op reply) ∷ [], []))
+            × ((p : Part O.Terms O.Op O.Reply) → token.old.me ≡ (p ∷ [], (0, None) ∷ [])
+            → O.legal p.terms (p.seen ++ part_entry p op reply ∷ [])) }
     {
         let reply = object.apply(number, op);
         self.pass::<B, Brand>(token, object, &reply);
-        reply
+        self.line.wake(ticket + 1);
+        Ok(reply)
     }
 
     /// One turn: the object is called once by this seat, and the entry comes to the end of the history.
@@ -195,9 +200,7 @@ impl<O: Object> TurnCell<O> {
                 seat.shown = ticket;
                 let object = self.look(rt, &mut seat.token, ticket);
                 let number = seat.number;
-                let reply = self.turn::<Brand>(&mut seat.token, number, object, op);
-                self.line.wake(ticket + 1);
-                Ok(reply)
+                self.turn::<Brand>(&mut seat.token, number, ticket, object, op)
             }
             Err(drawn) => {
                 seat.shown = drawn;

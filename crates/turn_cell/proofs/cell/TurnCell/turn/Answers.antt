@@ -21,9 +21,14 @@ pass-requires-clause-holds g c = let h = c.requires.holds in (
   refl,
 )
 
-pub returns-clause-legal : goal.returns-clause-legal
-returns-clause-legal g c = λ p is.
-    let h = c.requires.holds in
-    let stood = by_number (λ e. g.O.Object.stands c.apply-reply.new.self (h.0.seen ++ e ∷ [])) c.args.number h.0.number c.args.op c.apply-reply.result h.4 (c.apply-reply.ensures.stands h.0.seen (subst (λ o. g.O.Object.stands o h.0.seen) (sym c.deref_mut.ensures.value) h.6)) in
-    let lawful = subst (λ t. g.O.Object.legal t (h.0.seen ++ part_entry h.0 c.args.op c.apply-reply.result ∷ [])) (c.apply-reply.ensures.terms ∙ (ap g.O.Object.terms c.deref_mut.ensures.value ∙ h.5)) (g.met.O.Object.stands_legal c.apply-reply.new.self _ stood) in
-    for_any (λ p. g.O.Object.legal p.terms (p.seen ++ part_entry p c.args.op c.apply-reply.result ∷ [])) c.args.token.now.me h.0 p _ h.2 is lawful
+pub returns-clause-replied : goal.returns-clause-replied
+returns-clause-replied g c = (
+  c.apply-reply.result,
+  refl,
+  (λ p is. c.pass.ensures.passed p c.args.op is c.requires.argument),
+  λ p is.
+      let h = c.requires.holds in
+      let stood = by_number (λ e. g.O.Object.stands c.apply-reply.new.self (h.0.seen ++ e ∷ [])) c.args.number h.0.number c.args.op c.apply-reply.result h.4 (c.apply-reply.ensures.stands h.0.seen (subst (λ o. g.O.Object.stands o h.0.seen) (sym c.deref_mut.ensures.value) h.6)) in
+      let lawful = subst (λ t. g.O.Object.legal t (h.0.seen ++ part_entry h.0 c.args.op c.apply-reply.result ∷ [])) (c.apply-reply.ensures.terms ∙ (ap g.O.Object.terms c.deref_mut.ensures.value ∙ h.5)) (g.met.O.Object.stands_legal c.apply-reply.new.self _ stood) in
+      for_any (λ p. g.O.Object.legal p.terms (p.seen ++ part_entry p c.args.op c.apply-reply.result ∷ [])) c.args.token.now.me h.0 p _ h.2 is lawful,
+)
