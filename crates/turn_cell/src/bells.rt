@@ -14,6 +14,8 @@ pub struct Bell {
     listeners: AtomicU64,
     // Not 0 where somebody may sleep for longer than `SHORT_SLEEP`.
     long: AtomicU64,
+    // How often there may have been work since one that was awake last took some, while others listened.
+    missed: AtomicU64,
 }
 
 impl Bell {
@@ -23,6 +25,7 @@ impl Bell {
             members: AtomicU64::new(0),
             listeners: AtomicU64::new(0),
             long: AtomicU64::new(0),
+            missed: AtomicU64::new(0),
         }
     }
 
@@ -53,9 +56,30 @@ impl Bell {
         members > 0 && self.listeners.load(Ordering::SeqCst) >= members
     }
 
-    /// Whether one has to be woken where there is work: nobody is awake, or somebody may sleep long.
-    pub fn asks_for_ring(&self) -> bool {
+    // Whether one has to be woken where there is work: nobody is awake, or somebody may sleep long.
+    fn asks_for_ring(&self) -> bool {
         self.all_listen() || self.long.load(Ordering::SeqCst) != 0
+    }
+
+    /// There may be work for one more. It rings where nobody is awake, or somebody may sleep long; else it notes it where somebody listens.
+    pub fn call(&self) {
+        if self.asks_for_ring() {
+            self.ring();
+        } else if self.is_heard() {
+            self.missed.fetch_add(1, Ordering::SeqCst);
+        }
+    }
+
+    /// One that was awake has taken work. Where more was noted than this, it rings for another one.
+    pub fn pass_on(&self) {
+        if self.missed.load(Ordering::SeqCst) == 0 {
+            return;
+        }
+        let missed = self.missed.swap(0, Ordering::SeqCst);
+        if missed > 1 && self.is_heard() {
+            self.missed.fetch_add(missed - 2, Ordering::SeqCst);
+            self.ring();
+        }
     }
 
     /// Sleeps where it hasn't rung since, for so many microseconds at most, and tells how often it has rung.
