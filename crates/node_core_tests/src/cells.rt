@@ -1,49 +1,97 @@
-//! Objects in a cell: two threads that count, and a total with its log.
+//! Two threads call one node by its cell.
 
+ghost use Rattle.std.specs.Prelude.{◌≡◌, IfOk};
+ghost use Rattle.turn_cell.specs.Seats.{fresh_seats};
+
+use crate::tests::asking::GROUP;
+use mtapi_machine::{Op, Reply};
+use mtapi_values::{MtapiStatus, NodeAttr};
+use node_core::{Journaled, Node};
+use std::alloc::{AllocError, Global};
+use std::sync::Wait;
 use std::test::Fail;
-use turn_cell::TurnCell;
-use turn_cell_uses::threads::count_together;
-use turn_cell_uses::total::{Change, Total};
+use std::thread::join;
+use turn_cell::{TurnCell, TurnSeat};
 
-#[test]
-fn two_threads_count_and_their_replies_are_all_numbers(rt: HostRuntime) -> Result<(), Fail> {
-    let (count, first, second) = count_together(&rt, rt.alloc(), 1000)?;
-    assert_eq!(rt; count, 2000);
-    assert_eq!(rt; (first.len(), second.len()), (1000, 1000));
-    let mut all = first;
-    for reply in second {
-        all.push(reply)?;
+/// How many groups each thread makes.
+const EACH: u32 = 500;
+
+// A node with one worker and room for all groups.
+fn settings() -> Result<NodeAttr, MtapiStatus>
+    ensures { IfOk result (λ a. a.workers ≡ 1) }
+{
+    let mut attr = NodeAttr::new();
+    attr.set(NodeAttr::WORKERS, 1)?;
+    attr.set(NodeAttr::GROUPS, 1000)?;
+    Ok(attr)
+}
+
+// The seats of the two callers.
+fn callers(
+    cell: &TurnCell<Journaled>,
+    seats: Vec<TurnSeat<Journaled>>,
+) -> (TurnSeat<Journaled>, TurnSeat<Journaled>)
+    requires { seats.items ≡ fresh_seats cell.now.terms cell.now.id 0 3 }
+    ensures first { result.0.cell ≡ cell.now.id }
+    ensures second { result.1.cell ≡ cell.now.id }
+{
+    let _ = cell;
+    let mut seats = seats;
+    let Some(b) = seats.pop() else { unreachable!() };
+    let Some(a) = seats.pop() else { unreachable!() };
+    (a, b)
+}
+
+// Makes groups, and gives their handles.
+fn make_groups<R: Wait>(
+    rt: &R,
+    alloc: Global,
+    cell: &TurnCell<Journaled>,
+    seat: TurnSeat<Journaled>,
+) -> Result<(TurnSeat<Journaled>, Vec<u64>), AllocError>
+    requires { seat.cell ≡ cell.now.id }
+    ensures { IfOk result (λ r. r.0.cell ≡ seat.cell) }
+{
+    let mut seat = seat;
+    let mut handles = Vec::new(alloc);
+    for _ in 0..EACH {
+        if let Ok(Reply::Handle(handle)) = cell.call(rt, &mut seat, Op::GroupCreate) {
+            handles.push(handle)?;
+        }
     }
-    all.sort()?;
-    assert!(rt; (1..=2000).eq(all.iter().copied()));
-    Ok(())
+    Ok((seat, handles))
 }
 
 #[test]
-fn a_total_is_called_met_and_closed(rt: HostRuntime) -> Result<(), Fail> {
-    let object = Total {
-        seats: 2,
-        start: 5,
-        total: 5,
-        log: Some(Vec::new(rt.alloc())),
+fn two_threads_are_given_each_handle_once(rt: HostRuntime) -> Result<(), Fail> {
+    let Ok(settings) = settings() else {
+        return Err(Fail::from("the settings were refused"));
     };
-    let (cell, mut seats) = TurnCell::new(rt.alloc(), object)?;
-    let Some(mut b) = seats.pop() else {
-        unreachable!()
-    };
-    let Some(mut a) = seats.pop() else {
-        unreachable!()
-    };
-    assert_eq!(rt; (a.number(), b.number()), (0, 1));
-    let first = cell.call(&rt, &mut a, Change::Add(7));
-    let second = cell.call(&rt, &mut b, Change::Get);
-    assert_eq!(rt; (first.ok(), second.ok()), (Some(12), Some(12)));
+    let node = Node::init(rt.alloc(), settings, 2)?;
+    let (cell, seats) = TurnCell::new(rt.alloc(), Journaled::without(node))?;
+    let (mut a, b) = callers(&cell, seats);
+    assert_eq!(rt; (a.number(), b.number()), (1, 2));
+    let _ = cell.call(&rt, &mut a, Op::Initialize);
+    let shared = &cell;
+    let runtime = &rt;
+    let (first, second) = join(
+        runtime,
+        move || -> Result<(TurnSeat<Journaled>, Vec<u64>), AllocError>
+            requires { a.cell ≡ shared.now.id }
+            ensures { IfOk result (λ r. r.0.cell ≡ a.cell) }
+        { make_groups(runtime, runtime.alloc(), shared, a) },
+        move || -> Result<(TurnSeat<Journaled>, Vec<u64>), AllocError>
+            requires { b.cell ≡ shared.now.id }
+            ensures { IfOk result (λ r. r.0.cell ≡ b.cell) }
+        { make_groups(runtime, runtime.alloc(), shared, b) },
+    );
+    let (mut a, mut all) = first?;
+    let (mut b, others) = second?;
     cell.meet(&mut a, &mut b);
     assert!(rt; a.spent().is_none());
-    seats.push(b)?;
-    seats.push(a)?;
-    let object = cell.close(seats).into_object();
-    assert_eq!(rt; object.total, 12);
-    assert_eq!(rt; object.log.map(|log| log.len()), Some(2));
+    assert_eq!(rt; (all.len(), others.len()), (500, 500));
+    all.extend_from_slice(others.as_slice())?;
+    all.sort()?;
+    assert!(rt; (GROUP..GROUP + 1000).eq(all.iter().copied()));
     Ok(())
 }
