@@ -12,3 +12,4 @@ pub mod HeadsAgain
 pub mod JournalsAgain
 pub mod Taken
 pub mod Splits
+pub mod Computed

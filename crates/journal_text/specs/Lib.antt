@@ -8,3 +8,4 @@ pub mod Lines
 pub mod Journals
 pub mod Fits
 pub mod Splits
+pub mod Worked

@@ -5,6 +5,7 @@ ghost use Rattle.node_journals.specs.declared.entries.Journal.{Journal};
 ghost use Rattle.journal_text.specs.{Fits.HeadFits, Fits.EntryFits, Fits.JournalFits, Journals.journal_text, Journals.journal_of};
 ghost use Rattle.journal_text.specs.{Ops.op_spelled, Ops.op_of, Replies.reply_spelled, Replies.reply_of, Lines.entry_text, Lines.entry_of};
 ghost use Rattle.journal_text.specs.declared.heads.Head.{Head};
+ghost use Rattle.journal_text.specs.Worked.{WorkedJournals};
 
 /// What is read is written as it was read: each journal has one text, and no other bytes are read as it.
 pub fn law_read()
@@ -26,4 +27,9 @@ pub fn law_lines()
 pub fn law_spelled()
     ensures op { (o : Op) → IsHonest o → op_of (op_spelled o).0 (op_spelled o).1 ≡ Some o }
     ensures reply { (r : Reply) → reply_of (reply_spelled r).0 (reply_spelled r).1 ≡ Some r }
+{}
+
+/// The lines of each op and each reply in both texts, and whole journals, by examples.
+pub fn worked_journals()
+    ensures { WorkedJournals }
 {}

@@ -16,5 +16,5 @@ mod values;
 
 pub use faults::JournalError;
 pub use journals::{read_journal, write_journal};
-pub use laws::{law_lines, law_read, law_spelled, law_written};
+pub use laws::{law_lines, law_read, law_spelled, law_written, worked_journals};
 pub use parts::{InputPart, parts_of};

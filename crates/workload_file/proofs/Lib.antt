@@ -11,3 +11,4 @@ pub mod Optioned
 pub mod Again
 pub mod Alike
 pub mod Taken
+pub mod Computed

@@ -16,3 +16,4 @@ pub mod Formed
 pub mod Written
 pub mod Led
 pub mod Alike
+pub mod Worked

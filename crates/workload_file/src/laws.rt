@@ -8,6 +8,7 @@ ghost use Rattle.workload_file.specs.Faulty.{first_met};
 ghost use Rattle.workload_file.specs.declared.faults.Fault.{Fault};
 ghost use Rattle.workload_file.specs.Formed.{WellFormed};
 ghost use Rattle.workload_file.specs.Written.{canonical};
+ghost use Rattle.workload_file.specs.Worked.{WorkedLines};
 
 use crate::workload::Workload;
 
@@ -59,4 +60,9 @@ pub fn law_lexing()
 pub fn law_inserted()
     ensures { (bytes others text : List ℕ) (load : Workload) → IsInserted bytes others text → AddsNothing text
         → workload_of bytes ≡ Ok load → GivesStill others load }
+{}
+
+/// What lines say and why lines are refused, by examples of each kind of statement and of each cause.
+pub fn worked_lines()
+    ensures { WorkedLines }
 {}

@@ -23,7 +23,9 @@ mod workload;
 
 pub use byte_io::{Failed, MemSink, MemSource, Sink, Source, StdSink, StdSource, write_all};
 pub use faults::{Cause, LoadError};
-pub use laws::{law_again, law_causes, law_formed, law_inserted, law_lexing, law_shared};
+pub use laws::{
+    law_again, law_causes, law_formed, law_inserted, law_lexing, law_shared, worked_lines,
+};
 pub use load::read_workload;
 pub use name::Name;
 pub use names::has_begin;
