@@ -1,5 +1,5 @@
 -- How the program ends, and what each end says of the input.
-use Rattle.std.specs.Prelude.{◌≡◌, ℕ, ◌+◌, ◌≤◌, ◌<◌, Bool, true, false, List, [], ◌∷◌, ◌++◌, length, codes, min, Option, Result, Ok, Err}
+use Rattle.std.specs.Prelude.{◌≡◌, ℕ, ◌≤◌, ◌<◌, Bool, true, false, List, [], ◌∷◌, ◌++◌, length, codes, Option, Result, Ok, Err}
 use Rattle.std.specs.Fmt.{decimal}
 use Rattle.std.specs.Io.KnownBytes.{Appends}
 use Rattle.byte_io.specs.Causes.{AppendsFront, Says}
@@ -7,9 +7,6 @@ use Rattle.node_journals.specs.declared.entries.Journal.{Journal}
 use Rattle.journal_text.specs.declared.faults.TextError.TheVariants as errors
 use Rattle.journal_text.specs.Journals.{journal_of}
 use Rattle.journal_text.specs.Splits.{OfParts}
-use Rattle.run_picture.specs.declared.pictures.Picture.{Picture}
-use Rattle.run_picture.specs.Pictures.{IsPicture}
-use Rattle.run_picture.specs.Page.{svg_text}
 use Rattle.mtapi_picture.specs.declared.command.End.{End}
 use Rattle.mtapi_picture.specs.declared.command.End.TheVariants as end
 
@@ -25,28 +22,15 @@ abbrev pub RestGives : List ℕ → Result Journal End → Type 0
 RestGives rest (Ok j) = journal_of rest ≡ Ok j
 RestGives rest (Err e) = RestFails rest e
 
--- the seats that have a row: the first 16 workers, and the first 9 callers
-abbrev pub workers_drawn : Journal → ℕ
-workers_drawn j = min j.settings.workers 16
+-- what stands there is a journal
+abbrev pub IsJournal : List ℕ → Type 0
+IsJournal rest = (j : Journal) × (journal_of rest ≡ Ok j)
 
-abbrev pub seats_drawn : Journal → ℕ
-seats_drawn j = workers_drawn j + min j.callers 9
-
--- the text is the SVG of the picture of this journal
-pub record IsDrawing (j : Journal) (svg : List ℕ) : Type 0 where
-  pub picture : Picture
-  pub lists : IsPicture (seats_drawn j) j.entries.entries j.entries.skipped picture
-  pub text : svg ≡ svg_text (workers_drawn j) (seats_drawn j) picture
-
--- what stands there is a journal, and this is the SVG of its picture
-abbrev pub HasDrawing : List ℕ → List ℕ → Type 0
-HasDrawing rest svg = (j : Journal) × (journal_of rest ≡ Ok j) × IsDrawing j svg
-
--- What stands in an input that isn't too long is a journal, and what the output held has grown by the SVG of its picture, or by a front of
--- it where a write failed; or else it is refused so.
+-- What stands in an input that isn't too long is a journal, and what the output held has grown by a text, or by a front of one where a write
+-- failed; or else it is refused so.
 abbrev pub EndsOf : Option (List ℕ) → Option (List ℕ) → List ℕ → End → Type 0
-EndsOf old new rest end.Done = (svg : List ℕ) × HasDrawing rest svg × Appends old new svg
-EndsOf old new rest end.WriteFault = (svg : List ℕ) × HasDrawing rest svg × AppendsFront old new svg
+EndsOf old new rest end.Done = IsJournal rest × ((text : List ℕ) × Appends old new text)
+EndsOf old new rest end.WriteFault = IsJournal rest × ((text : List ℕ) × AppendsFront old new text)
 EndsOf old new rest e = RestFails rest e
 
 -- what an end says of the bytes of the input and of the output before and after; want of memory and a failed read say nothing
@@ -75,7 +59,7 @@ Writes _ = ⊥
 
 -- the input isn't too long, and what stands in it from its first journal line on is a journal
 abbrev pub HasJournal : List ℕ → Type 0
-HasJournal bytes = (length bytes ≤ 67108864) × OfParts bytes (λ front rest. (j : Journal) × (journal_of rest ≡ Ok j))
+HasJournal bytes = (length bytes ≤ 67108864) × OfParts bytes (λ front rest. IsJournal rest)
 
 -- what is said on the error output
 unfoldable pub message : End → List ℕ

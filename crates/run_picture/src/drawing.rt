@@ -1,7 +1,5 @@
 //! The bars and ticks in the rows of a picture.
-ghost use Rattle.std.specs.Prelude.{◌≡◌, ◌≤◌, ◌++◌, OnOk, IfOk, flat_map, string_bytes};
-ghost use Rattle.run_picture.specs.Sheet.{column, drawn};
-ghost use Rattle.run_picture.specs.Drawing.{end_place, bar_stroke, told_task, told_turns, bar_width, room, bar_name, bar_text, bar_strokes, bar_mark, bar_path, bars_text, tick_stroke, tick_strokes, quarter_top, tick_top, tick_height, thickness, tick_mark, tick_path, ticks_text};
+ghost use Rattle.std.specs.Prelude.{◌≤◌};
 
 use crate::elements::{
     end_word, is_end, is_sort, object_name, push_across, push_box, push_down, push_path,
@@ -15,7 +13,6 @@ use std::alloc::{AllocError, Global};
 
 /// The column at which a bar ends.
 fn end_column(sheet: Sheet, bar: &Bar) -> u64
-    ensures value { result ≡ column sheet (end_place bar.now.end bar.now.to) }
     ensures within { result ≤ 1310 }
 {
     match bar.end {
@@ -25,9 +22,7 @@ fn end_column(sheet: Sheet, bar: &Bar) -> u64
 }
 
 /// A bar as a stroke, of one pixel at least.
-#[tactic(auto, unfolding(crate::specs::Drawing::bar_stroke))]
 fn bar_stroke(sheet: Sheet, bar: &Bar) -> Stroke
-    ensures value { result ≡ bar_stroke sheet bar.now }
     ensures from { result.from ≤ 1310 }
 {
     let from = column(sheet, u128::from(bar.from as u64));
@@ -39,36 +34,28 @@ fn bar_stroke(sheet: Sheet, bar: &Bar) -> Stroke
     }
 }
 
-#[tactic(auto, unfolding(crate::specs::Drawing::told_task))]
 fn push_told_task(
     alloc: Global,
     out: &mut String,
     task: &str,
     kind: &str,
     word: &str,
-) -> Result<(), AllocError>
-    ensures { OnOk result (string_bytes out.new ≡ string_bytes out.old ++ told_task task.now kind.now word.now) }
-{
+) -> Result<(), AllocError> {
     out.push_str(&format!(in alloc; "<g><title>{task} {kind} {word}: ")?)
 }
 
-#[tactic(auto, unfolding(crate::specs::Drawing::told_turns))]
 fn push_told_turns(
     alloc: Global,
     out: &mut String,
     worker: &str,
     first: u64,
     last: u64,
-) -> Result<(), AllocError>
-    ensures { OnOk result (string_bytes out.new ≡ string_bytes out.old ++ told_turns worker.now first last) }
-{
+) -> Result<(), AllocError> {
     out.push_str(&format!(in alloc; "{worker}, turns {first} to {last}</title>")?)
 }
 
 /// How wide a bar is drawn for itself.
-fn bar_width(stroke: Stroke) -> u64
-    ensures { result ≡ bar_width stroke }
-{
+fn bar_width(stroke: Stroke) -> u64 {
     stroke
         .to
         .saturating_sub(stroke.from)
@@ -78,14 +65,12 @@ fn bar_width(stroke: Stroke) -> u64
 
 /// The room that a word takes.
 fn room(word: &str) -> u128
-    ensures value { result ≡ room word.now }
     ensures within { result ≤ 147573952589676412928 }
 {
     u128::from(word.len() as u64) * 6 + 6
 }
 
 /// The words for which a bar has room.
-#[tactic(auto, unfolding(crate::specs::Drawing::bar_name))]
 fn push_bar_name(
     alloc: Global,
     out: &mut String,
@@ -94,7 +79,6 @@ fn push_bar_name(
     kind: &str,
 ) -> Result<(), AllocError>
     requires { stroke.from ≤ 1310 }
-    ensures { OnOk result (string_bytes out.new ≡ string_bytes out.old ++ bar_name stroke task.now kind.now) }
 {
     let width = u128::from(bar_width(stroke));
     let x = stroke.from + 4;
@@ -110,16 +94,13 @@ fn push_bar_name(
 }
 
 /// A bar that is drawn for itself.
-#[tactic(auto, unfolding(crate::specs::Drawing::bar_text))]
 fn push_bar(
     alloc: Global,
     out: &mut String,
     sheet: Sheet,
     turns: &[u64],
     bar: &Bar,
-) -> Result<(), AllocError>
-    ensures { OnOk result (string_bytes out.new ≡ string_bytes out.old ++ bar_text sheet turns.now bar.now) }
-{
+) -> Result<(), AllocError> {
     let stroke = bar_stroke(sheet, bar);
     let task = object_name(alloc, "t", bar.task)?;
     let worker = seat_name(alloc, sheet.workers, bar.row)?;
@@ -139,9 +120,7 @@ fn push_bar_stroke(
     sheet: Sheet,
     end: BarEnd,
     bar: &Bar,
-) -> Result<(), AllocError>
-    ensures { OnOk result (strokes.new.items ≡ strokes.old.items ++ bar_strokes sheet end bar.now) }
-{
+) -> Result<(), AllocError> {
     if is_end(bar.end, end) {
         strokes.push(bar_stroke(sheet, bar))?;
     }
@@ -153,9 +132,7 @@ fn bar_strokes(
     sheet: Sheet,
     end: BarEnd,
     bars: &[Bar],
-) -> Result<Vec<Stroke>, AllocError>
-    ensures { IfOk result (λ strokes. strokes.items ≡ flat_map (bar_strokes sheet end) bars.now) }
-{
+) -> Result<Vec<Stroke>, AllocError> {
     let mut strokes = Vec::new(alloc);
     for bar in bars {
         push_bar_stroke(&mut strokes, sheet, end, bar)?;
@@ -163,9 +140,7 @@ fn bar_strokes(
     Ok(strokes)
 }
 
-fn push_bar_marks(alloc: Global, out: &mut String, parts: &[Stroke]) -> Result<(), AllocError>
-    ensures { OnOk result (string_bytes out.new ≡ string_bytes out.old ++ flat_map bar_mark parts.now) }
-{
+fn push_bar_marks(alloc: Global, out: &mut String, parts: &[Stroke]) -> Result<(), AllocError> {
     for part in parts {
         let y = row_top(part.row) + 13;
         push_across(alloc, out, part.from, y, part.to.saturating_sub(part.from))?;
@@ -174,16 +149,13 @@ fn push_bar_marks(alloc: Global, out: &mut String, parts: &[Stroke]) -> Result<(
 }
 
 /// The bars of one end, as one path.
-#[tactic(auto, unfolding(crate::specs::Drawing::bar_path))]
 fn push_bar_path(
     alloc: Global,
     out: &mut String,
     sheet: Sheet,
     bars: &[Bar],
     end: BarEnd,
-) -> Result<(), AllocError>
-    ensures { OnOk result (string_bytes out.new ≡ string_bytes out.old ++ bar_path sheet bars.now end) }
-{
+) -> Result<(), AllocError> {
     push_path(alloc, out, end_word(end), " line")?;
     let strokes = bar_strokes(alloc, sheet, end, bars)?;
     let parts = drawn(alloc, &strokes)?;
@@ -197,9 +169,7 @@ fn push_each_bar(
     sheet: Sheet,
     turns: &[u64],
     bars: &[Bar],
-) -> Result<(), AllocError>
-    ensures { OnOk result (string_bytes out.new ≡ string_bytes out.old ++ flat_map (bar_text sheet turns.now) bars.now) }
-{
+) -> Result<(), AllocError> {
     for bar in bars {
         push_bar(alloc, out, sheet, turns, bar)?;
     }
@@ -207,15 +177,12 @@ fn push_each_bar(
 }
 
 /// All bars: each for itself, or those of each end together.
-#[tactic(auto, unfolding(crate::specs::Drawing::bars_text))]
 pub fn push_bars(
     alloc: Global,
     out: &mut String,
     sheet: Sheet,
     picture: &Picture,
-) -> Result<(), AllocError>
-    ensures { OnOk result (string_bytes out.new ≡ string_bytes out.old ++ bars_text sheet picture.now) }
-{
+) -> Result<(), AllocError> {
     let bars = picture.bars.as_slice();
     if is_detailed(sheet) {
         push_each_bar(alloc, out, sheet, picture.turns.as_slice(), bars)
@@ -228,10 +195,7 @@ pub fn push_bars(
 }
 
 /// A tick as a stroke.
-#[tactic(auto, unfolding(crate::specs::Drawing::tick_stroke))]
-fn tick_stroke(sheet: Sheet, tick: &Tick) -> Stroke
-    ensures { result ≡ tick_stroke sheet tick.now }
-{
+fn tick_stroke(sheet: Sheet, tick: &Tick) -> Stroke {
     let from = column(sheet, u128::from(tick.at as u64));
     let middle = from + next_column(sheet, tick.at).saturating_sub(from) / 2;
     Stroke {
@@ -248,9 +212,7 @@ fn push_tick_stroke(
     sheet: Sheet,
     sort: TickSort,
     tick: &Tick,
-) -> Result<(), AllocError>
-    ensures { OnOk result (strokes.new.items ≡ strokes.old.items ++ tick_strokes sheet sort tick.now) }
-{
+) -> Result<(), AllocError> {
     if is_sort(tick.sort, sort) {
         strokes.push(tick_stroke(sheet, tick))?;
     }
@@ -262,9 +224,7 @@ fn tick_strokes(
     sheet: Sheet,
     sort: TickSort,
     ticks: &[Tick],
-) -> Result<Vec<Stroke>, AllocError>
-    ensures { IfOk result (λ strokes. strokes.items ≡ flat_map (tick_strokes sheet sort) ticks.now) }
-{
+) -> Result<Vec<Stroke>, AllocError> {
     let mut strokes = Vec::new(alloc);
     for tick in ticks {
         push_tick_stroke(&mut strokes, sheet, sort, tick)?;
@@ -274,7 +234,6 @@ fn tick_strokes(
 
 /// Where a tick stands in its row.
 fn tick_top(sheet: Sheet, sort: TickSort) -> u64
-    ensures value { result ≡ tick_top sheet sort }
     ensures within { result ≤ 19 }
 {
     if is_detailed(sheet) {
@@ -288,15 +247,11 @@ fn tick_top(sheet: Sheet, sort: TickSort) -> u64
     }
 }
 
-fn tick_height(sheet: Sheet) -> u64
-    ensures { result ≡ tick_height sheet }
-{
+fn tick_height(sheet: Sheet) -> u64 {
     if is_detailed(sheet) { 22 } else { 6 }
 }
 
-fn thickness(sheet: Sheet) -> &'static str
-    ensures { result.now ≡ thickness sheet }
-{
+fn thickness(sheet: Sheet) -> &'static str {
     if is_detailed(sheet) {
         " thick"
     } else {
@@ -310,9 +265,7 @@ fn push_tick_marks(
     sheet: Sheet,
     sort: TickSort,
     parts: &[Stroke],
-) -> Result<(), AllocError>
-    ensures { OnOk result (string_bytes out.new ≡ string_bytes out.old ++ flat_map (tick_mark sheet sort) parts.now) }
-{
+) -> Result<(), AllocError> {
     for part in parts {
         let y = row_top(part.row) + tick_top(sheet, sort);
         push_down(alloc, out, part.from, y, tick_height(sheet))?;
@@ -321,16 +274,13 @@ fn push_tick_marks(
 }
 
 /// The ticks of one sort, as one path.
-#[tactic(auto, unfolding(crate::specs::Drawing::tick_path))]
 fn push_tick_path(
     alloc: Global,
     out: &mut String,
     sheet: Sheet,
     ticks: &[Tick],
     sort: TickSort,
-) -> Result<(), AllocError>
-    ensures { OnOk result (string_bytes out.new ≡ string_bytes out.old ++ tick_path sheet ticks.now sort) }
-{
+) -> Result<(), AllocError> {
     push_path(alloc, out, sort_word(sort), thickness(sheet))?;
     let strokes = tick_strokes(alloc, sheet, sort, ticks)?;
     let parts = drawn(alloc, &strokes)?;
@@ -339,15 +289,12 @@ fn push_tick_path(
 }
 
 /// The ticks of all sorts.
-#[tactic(auto, unfolding(crate::specs::Drawing::ticks_text))]
 pub fn push_ticks(
     alloc: Global,
     out: &mut String,
     sheet: Sheet,
     ticks: &[Tick],
-) -> Result<(), AllocError>
-    ensures { OnOk result (string_bytes out.new ≡ string_bytes out.old ++ ticks_text sheet ticks.now) }
-{
+) -> Result<(), AllocError> {
     push_tick_path(alloc, out, sheet, ticks, TickSort::Start)?;
     push_tick_path(alloc, out, sheet, ticks, TickSort::Enqueue)?;
     push_tick_path(alloc, out, sheet, ticks, TickSort::Give)?;

@@ -1,7 +1,5 @@
 //! The grounds and names of the rows and lanes of a picture, and the axis over them.
-ghost use Rattle.std.specs.Prelude.{◌≡◌, ◌≤◌, ◌<◌, ◌++◌, OnOk, flat_map, string_bytes};
-ghost use Rattle.std.specs.List.{range_with_len};
-ghost use Rattle.run_picture.specs.Page.{ground, swatch, row_ground, queue_ground, mutex_ground, grounds_text, rows, marks, mark_place, guide, mark_text, axis_text};
+ghost use Rattle.std.specs.Prelude.{◌≤◌};
 
 use crate::elements::{
     decimal, mutex_name, owner_class, push_across, push_box, push_line, push_path, push_words,
@@ -13,7 +11,6 @@ use crate::sheet::{Sheet, column, lane_top, lanes_end, mutex_place, row_top};
 use std::alloc::{AllocError, Global};
 
 /// The ground and the name of a row or lane.
-#[tactic(auto, unfolding(crate::specs::Page::ground))]
 fn push_ground(
     alloc: Global,
     out: &mut String,
@@ -22,7 +19,6 @@ fn push_ground(
     name: &str,
 ) -> Result<(), AllocError>
     requires { y ≤ 4398046511104 }
-    ensures { OnOk result (string_bytes out.new ≡ string_bytes out.old ++ ground even y name.now) }
 {
     let class = if even { "even" } else { "odd" };
     push_box(alloc, out, class, 110, y, 1_200, 26, "/>")?;
@@ -30,50 +26,38 @@ fn push_ground(
 }
 
 /// The colour of a seat as the owner of a mutex.
-#[tactic(auto, unfolding(crate::specs::Page::swatch))]
-fn push_swatch(alloc: Global, out: &mut String, y: u64, seat: u32) -> Result<(), AllocError>
-    ensures { OnOk result (string_bytes out.new ≡ string_bytes out.old ++ swatch y seat) }
-{
+fn push_swatch(alloc: Global, out: &mut String, y: u64, seat: u32) -> Result<(), AllocError> {
     let class = owner_class(alloc, seat)?;
     push_path(alloc, out, class.as_str(), "\" stroke-width=\"8")?;
     push_across(alloc, out, 4, y, 8)?;
     out.push_str("\"/>\n")
 }
 
-#[tactic(auto, unfolding(crate::specs::Page::row_ground))]
 fn push_row_ground(
     alloc: Global,
     out: &mut String,
     sheet: Sheet,
     seat: u32,
-) -> Result<(), AllocError>
-    ensures { OnOk result (string_bytes out.new ≡ string_bytes out.old ++ row_ground sheet seat) }
-{
+) -> Result<(), AllocError> {
     let name = seat_name(alloc, sheet.workers, seat)?;
     let top = row_top(seat);
     push_ground(alloc, out, seat % 2 == 0, top, name.as_str())?;
     push_swatch(alloc, out, top + 13, seat)
 }
 
-#[tactic(auto, using(crate::proofs::Ranges::range_more))]
-fn push_row_grounds(alloc: Global, out: &mut String, sheet: Sheet) -> Result<(), AllocError>
-    ensures { OnOk result (string_bytes out.new ≡ string_bytes out.old ++ flat_map (row_ground sheet) (rows sheet)) }
-{
+fn push_row_grounds(alloc: Global, out: &mut String, sheet: Sheet) -> Result<(), AllocError> {
     for seat in 0..sheet.seats {
         push_row_ground(alloc, out, sheet, seat)?;
     }
     Ok(())
 }
 
-#[tactic(auto, unfolding(crate::specs::Page::queue_ground))]
 fn push_queue_ground(
     alloc: Global,
     out: &mut String,
     sheet: Sheet,
     lane: &QueueLane,
-) -> Result<(), AllocError>
-    ensures { OnOk result (string_bytes out.new ≡ string_bytes out.old ++ queue_ground sheet lane.now) }
-{
+) -> Result<(), AllocError> {
     let name = queue_name(alloc, lane)?;
     let top = lane_top(sheet, u128::from(lane.lane));
     push_ground(alloc, out, lane.lane % 2 == 0, top, name.as_str())
@@ -84,24 +68,19 @@ fn push_queue_grounds(
     out: &mut String,
     sheet: Sheet,
     lanes: &[QueueLane],
-) -> Result<(), AllocError>
-    ensures { OnOk result (string_bytes out.new ≡ string_bytes out.old ++ flat_map (queue_ground sheet) lanes.now) }
-{
+) -> Result<(), AllocError> {
     for lane in lanes {
         push_queue_ground(alloc, out, sheet, lane)?;
     }
     Ok(())
 }
 
-#[tactic(auto, unfolding(crate::specs::Page::mutex_ground))]
 fn push_mutex_ground(
     alloc: Global,
     out: &mut String,
     sheet: Sheet,
     lane: &MutexLane,
-) -> Result<(), AllocError>
-    ensures { OnOk result (string_bytes out.new ≡ string_bytes out.old ++ mutex_ground sheet lane.now) }
-{
+) -> Result<(), AllocError> {
     let name = mutex_name(alloc, lane)?;
     let place = mutex_place(sheet, lane.lane);
     push_ground(
@@ -118,9 +97,7 @@ fn push_mutex_grounds(
     out: &mut String,
     sheet: Sheet,
     lanes: &[MutexLane],
-) -> Result<(), AllocError>
-    ensures { OnOk result (string_bytes out.new ≡ string_bytes out.old ++ flat_map (mutex_ground sheet) lanes.now) }
-{
+) -> Result<(), AllocError> {
     for lane in lanes {
         push_mutex_ground(alloc, out, sheet, lane)?;
     }
@@ -128,55 +105,40 @@ fn push_mutex_grounds(
 }
 
 /// The grounds of all rows and lanes.
-#[tactic(auto, unfolding(crate::specs::Page::grounds_text))]
 pub fn push_grounds(
     alloc: Global,
     out: &mut String,
     sheet: Sheet,
     picture: &Picture,
-) -> Result<(), AllocError>
-    ensures { OnOk result (string_bytes out.new ≡ string_bytes out.old ++ grounds_text sheet picture.now) }
-{
+) -> Result<(), AllocError> {
     push_row_grounds(alloc, out, sheet)?;
     push_queue_grounds(alloc, out, sheet, picture.queues.as_slice())?;
     push_mutex_grounds(alloc, out, sheet, picture.mutexes.as_slice())
 }
 
 /// How many entries are marked on the axis.
-fn marks(sheet: Sheet) -> u64
-    ensures value { result ≡ marks sheet }
-    ensures within { result ≤ sheet.entries }
-{
+fn marks(sheet: Sheet) -> u64 {
     sheet.entries.min(12)
 }
 
 /// The place of such an entry.
-fn mark_place(sheet: Sheet, mark: u64) -> usize
-    requires { mark < marks sheet }
-    ensures { result ≡ mark_place sheet mark }
-{
-    (u128::from(mark) * u128::from(sheet.entries) / u128::from(marks(sheet).max(1))) as usize
+fn mark_place(sheet: Sheet, mark: u64) -> usize {
+    let entries = u128::from(sheet.entries);
+    (u128::from(mark) * entries / u128::from(marks(sheet).max(1))).min(entries) as usize
 }
 
-#[tactic(auto, unfolding(crate::specs::Page::guide))]
-fn push_guide(alloc: Global, out: &mut String, x: u64, bottom: u64) -> Result<(), AllocError>
-    ensures { OnOk result (string_bytes out.new ≡ string_bytes out.old ++ guide x bottom) }
-{
+fn push_guide(alloc: Global, out: &mut String, x: u64, bottom: u64) -> Result<(), AllocError> {
     out.push_str(&format!(in alloc; "<path class=\"guide\" d=\"M{x} 84V{bottom}\"/>\n")?)
 }
 
 /// The number of a turn, and the line under it.
-#[tactic(auto, unfolding(crate::specs::Page::mark_text))]
 fn push_mark(
     alloc: Global,
     out: &mut String,
     sheet: Sheet,
     turns: &[u64],
     mark: u64,
-) -> Result<(), AllocError>
-    requires { mark < marks sheet }
-    ensures { OnOk result (string_bytes out.new ≡ string_bytes out.old ++ mark_text sheet turns.now mark) }
-{
+) -> Result<(), AllocError> {
     let place = mark_place(sheet, mark);
     let x = column(sheet, u128::from(place as u64));
     let turn = decimal(alloc, turn_at(turns, place))?;
@@ -184,15 +146,12 @@ fn push_mark(
     push_guide(alloc, out, x, lanes_end(sheet))
 }
 
-#[tactic(auto, using(crate::proofs::Ranges::range_more))]
 fn push_marks(
     alloc: Global,
     out: &mut String,
     sheet: Sheet,
     turns: &[u64],
-) -> Result<(), AllocError>
-    ensures { OnOk result (string_bytes out.new ≡ string_bytes out.old ++ flat_map (mark_text sheet turns.now) (range_with_len 0 (marks sheet))) }
-{
+) -> Result<(), AllocError> {
     for mark in 0..marks(sheet) {
         push_mark(alloc, out, sheet, turns, mark)?;
     }
@@ -200,15 +159,12 @@ fn push_marks(
 }
 
 /// The numbers of turns above the rows, and the lines under them.
-#[tactic(auto, unfolding(crate::specs::Page::axis_text))]
 pub fn push_axis(
     alloc: Global,
     out: &mut String,
     sheet: Sheet,
     turns: &[u64],
-) -> Result<(), AllocError>
-    ensures { OnOk result (string_bytes out.new ≡ string_bytes out.old ++ axis_text sheet turns.now) }
-{
+) -> Result<(), AllocError> {
     push_line(alloc, out, " class=\"note\"", 16, 76, "turn")?;
     push_marks(alloc, out, sheet, turns)
 }

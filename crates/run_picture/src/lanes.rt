@@ -1,6 +1,5 @@
 //! The lanes of queues and mutexes in a picture.
-ghost use Rattle.std.specs.Prelude.{◌≡◌, ◌≤◌, ◌++◌, OnOk, IfOk, map, flat_map, string_bytes};
-ghost use Rattle.run_picture.specs.Drawing.{height_of, points_of, no_step, step_with, step_before, steps_from, step_text, line_begin, line_end, queue_text, span_stroke, owner_name, owner_text, spans_text};
+ghost use Rattle.std.specs.Prelude.{◌≤◌};
 
 use crate::elements::{owner_class, push_across, push_line, push_path, seat_name};
 use crate::shapes::{Level, QueueLane, Span};
@@ -29,10 +28,7 @@ pub struct Step {
 }
 
 /// How high a count stands in a lane where the greatest is as high as the lane.
-#[tactic(auto, unfolding(crate::specs::Drawing::height_of))]
-fn height_of(count: u64, longest: u64) -> u64
-    ensures { result ≡ height_of count longest }
-{
+fn height_of(count: u64, longest: u64) -> u64 {
     (u128::from(count) * 20 / u128::from(longest.max(1))).min(20) as u64
 }
 
@@ -42,9 +38,7 @@ fn push_point(
     sheet: Sheet,
     lane: &QueueLane,
     level: &Level,
-) -> Result<(), AllocError>
-    ensures { OnOk result (points.new.items ≡ points.old.items ++ points_of sheet lane.now level.now) }
-{
+) -> Result<(), AllocError> {
     if level.lane == lane.lane {
         points.push(Point {
             at: column(sheet, u128::from(level.at as u64)),
@@ -59,9 +53,7 @@ fn points_of(
     sheet: Sheet,
     lane: &QueueLane,
     levels: &[Level],
-) -> Result<Vec<Point>, AllocError>
-    ensures { IfOk result (λ points. points.items ≡ flat_map (points_of sheet lane.now) levels.now) }
-{
+) -> Result<Vec<Point>, AllocError> {
     let mut points = Vec::new(alloc);
     for level in levels {
         push_point(&mut points, sheet, lane, level)?;
@@ -70,10 +62,7 @@ fn points_of(
 }
 
 /// Goes on to a point, and adds the step that it ends.
-fn push_step(steps: &mut Vec<Step>, step: Step, point: Point) -> Result<Step, AllocError>
-    ensures steps { OnOk result (steps.new.items ≡ steps.old.items ++ step_before step point) }
-    ensures next { IfOk result (λ next. next ≡ step_with step point) }
-{
+fn push_step(steps: &mut Vec<Step>, step: Step, point: Point) -> Result<Step, AllocError> {
     if step.at < point.at {
         steps.push(step)?;
         Ok(Step {
@@ -90,9 +79,7 @@ fn push_step(steps: &mut Vec<Step>, step: Step, point: Point) -> Result<Step, Al
     }
 }
 
-fn steps_of(alloc: Global, points: &[Point]) -> Result<Vec<Step>, AllocError>
-    ensures { IfOk result (λ steps. steps.items ≡ steps_from no_step points.now) }
-{
+fn steps_of(alloc: Global, points: &[Point]) -> Result<Vec<Step>, AllocError> {
     let mut steps = Vec::new(alloc);
     let mut step = Step {
         at: 110,
@@ -106,10 +93,12 @@ fn steps_of(alloc: Global, points: &[Point]) -> Result<Vec<Step>, AllocError>
     Ok(steps)
 }
 
-#[tactic(auto, unfolding(crate::specs::Drawing::step_text))]
-fn push_step_text(alloc: Global, out: &mut String, base: u64, step: &Step) -> Result<(), AllocError>
-    ensures { OnOk result (string_bytes out.new ≡ string_bytes out.old ++ step_text base step.now) }
-{
+fn push_step_text(
+    alloc: Global,
+    out: &mut String,
+    base: u64,
+    step: &Step,
+) -> Result<(), AllocError> {
     let x = step.at;
     let last = base.saturating_sub(step.last);
     if step.high == step.last {
@@ -120,40 +109,34 @@ fn push_step_text(alloc: Global, out: &mut String, base: u64, step: &Step) -> Re
     }
 }
 
-fn push_steps(alloc: Global, out: &mut String, base: u64, steps: &[Step]) -> Result<(), AllocError>
-    ensures { OnOk result (string_bytes out.new ≡ string_bytes out.old ++ flat_map (step_text base) steps.now) }
-{
+fn push_steps(
+    alloc: Global,
+    out: &mut String,
+    base: u64,
+    steps: &[Step],
+) -> Result<(), AllocError> {
     for step in steps {
         push_step_text(alloc, out, base, step)?;
     }
     Ok(())
 }
 
-#[tactic(auto, unfolding(crate::specs::Drawing::line_begin))]
-fn push_line_begin(alloc: Global, out: &mut String, base: u64) -> Result<(), AllocError>
-    ensures { OnOk result (string_bytes out.new ≡ string_bytes out.old ++ line_begin base) }
-{
+fn push_line_begin(alloc: Global, out: &mut String, base: u64) -> Result<(), AllocError> {
     out.push_str(&format!(in alloc; "M110 {base}")?)
 }
 
-#[tactic(auto, unfolding(crate::specs::Drawing::line_end))]
-fn push_line_end(alloc: Global, out: &mut String, base: u64) -> Result<(), AllocError>
-    ensures { OnOk result (string_bytes out.new ≡ string_bytes out.old ++ line_end base) }
-{
+fn push_line_end(alloc: Global, out: &mut String, base: u64) -> Result<(), AllocError> {
     out.push_str(&format!(in alloc; "H1310V{base}Z")?)
 }
 
 /// How many tasks waited in a queue.
-#[tactic(auto, unfolding(crate::specs::Drawing::queue_text))]
 fn push_queue(
     alloc: Global,
     out: &mut String,
     sheet: Sheet,
     levels: &[Level],
     lane: &QueueLane,
-) -> Result<(), AllocError>
-    ensures { OnOk result (string_bytes out.new ≡ string_bytes out.old ++ queue_text sheet levels.now lane.now) }
-{
+) -> Result<(), AllocError> {
     let base = lane_top(sheet, u128::from(lane.lane)) + 23;
     let points = points_of(alloc, sheet, lane, levels)?;
     let steps = steps_of(alloc, &points)?;
@@ -171,9 +154,7 @@ pub fn push_queues(
     sheet: Sheet,
     levels: &[Level],
     lanes: &[QueueLane],
-) -> Result<(), AllocError>
-    ensures { OnOk result (string_bytes out.new ≡ string_bytes out.old ++ flat_map (queue_text sheet levels.now) lanes.now) }
-{
+) -> Result<(), AllocError> {
     for lane in lanes {
         push_queue(alloc, out, sheet, levels, lane)?;
     }
@@ -181,10 +162,7 @@ pub fn push_queues(
 }
 
 /// A span as a stroke, of one pixel at least.
-#[tactic(auto, unfolding(crate::specs::Drawing::span_stroke))]
-fn span_stroke(sheet: Sheet, span: &Span) -> Stroke
-    ensures { result ≡ span_stroke sheet span.now }
-{
+fn span_stroke(sheet: Sheet, span: &Span) -> Stroke {
     let from = column(sheet, u128::from(span.from as u64));
     Stroke {
         row: span.lane,
@@ -194,9 +172,7 @@ fn span_stroke(sheet: Sheet, span: &Span) -> Stroke
     }
 }
 
-fn span_strokes(alloc: Global, sheet: Sheet, spans: &[Span]) -> Result<Vec<Stroke>, AllocError>
-    ensures { IfOk result (λ strokes. strokes.items ≡ map (span_stroke sheet) spans.now) }
-{
+fn span_strokes(alloc: Global, sheet: Sheet, spans: &[Span]) -> Result<Vec<Stroke>, AllocError> {
     let mut strokes = Vec::new(alloc);
     for span in spans {
         strokes.push(span_stroke(sheet, span))?;
@@ -213,7 +189,6 @@ fn push_owner_name(
     stroke: &Stroke,
 ) -> Result<(), AllocError>
     requires { y ≤ 4398046511104 }
-    ensures { OnOk result (string_bytes out.new ≡ string_bytes out.old ++ owner_name sheet y stroke.now) }
 {
     if 24 <= stroke.to.saturating_sub(stroke.from) {
         let name = seat_name(alloc, sheet.workers, stroke.owner)?;
@@ -224,15 +199,12 @@ fn push_owner_name(
 }
 
 /// An owner's part of a lane, in its colour.
-#[tactic(auto, unfolding(crate::specs::Drawing::owner_text))]
 fn push_owner(
     alloc: Global,
     out: &mut String,
     sheet: Sheet,
     stroke: &Stroke,
-) -> Result<(), AllocError>
-    ensures { OnOk result (string_bytes out.new ≡ string_bytes out.old ++ owner_text sheet stroke.now) }
-{
+) -> Result<(), AllocError> {
     let y = lane_top(sheet, mutex_place(sheet, stroke.row)) + 13;
     let class = owner_class(alloc, stroke.owner)?;
     push_path(alloc, out, class.as_str(), " line")?;
@@ -252,9 +224,7 @@ fn push_owners(
     out: &mut String,
     sheet: Sheet,
     parts: &[Stroke],
-) -> Result<(), AllocError>
-    ensures { OnOk result (string_bytes out.new ≡ string_bytes out.old ++ flat_map (owner_text sheet) parts.now) }
-{
+) -> Result<(), AllocError> {
     for part in parts {
         push_owner(alloc, out, sheet, part)?;
     }
@@ -262,15 +232,12 @@ fn push_owners(
 }
 
 /// Who owned each mutex.
-#[tactic(auto, unfolding(crate::specs::Drawing::spans_text))]
 pub fn push_spans(
     alloc: Global,
     out: &mut String,
     sheet: Sheet,
     spans: &[Span],
-) -> Result<(), AllocError>
-    ensures { OnOk result (string_bytes out.new ≡ string_bytes out.old ++ spans_text sheet spans.now) }
-{
+) -> Result<(), AllocError> {
     let strokes = span_strokes(alloc, sheet, spans)?;
     let parts = drawn(alloc, &strokes)?;
     push_owners(alloc, out, sheet, &parts)

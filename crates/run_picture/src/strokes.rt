@@ -1,8 +1,4 @@
 //! Strokes in rows and lanes, and what of them isn't drawn yet.
-ghost use Rattle.std.specs.Prelude.{◌≡◌, ℕ, ◌==◌, ◌++◌, [], max, nat_eq, OnOk, IfOk, if◌then◌else◌};
-ghost use Rattle.std.specs.HashMap.{get};
-ghost use Rattle.run_picture.specs.Sheet.{drawn, part_behind};
-ghost use Rattle.run_picture.specs.Strokes.{or_none, reached_with, Draws};
 
 use std::alloc::{AllocError, Global};
 use std::collections::HashMap;
@@ -21,9 +17,7 @@ pub struct Stroke {
 }
 
 /// How far to the right a row is drawn.
-fn reached(columns: &HashMap<u32, u64>, row: u32) -> u64
-    ensures { result ≡ or_none (get nat_eq columns.now row) }
-{
+fn reached(columns: &HashMap<u32, u64>, row: u32) -> u64 {
     match columns.get(&row) {
         Some(column) => *column,
         None => 0,
@@ -35,11 +29,7 @@ fn push_part(
     parts: &mut Vec<Stroke>,
     columns: &mut HashMap<u32, u64>,
     stroke: Stroke,
-) -> Result<(), AllocError>
-    ensures parts { OnOk result (parts.new.items ≡ parts.old.items ++ part_behind (or_none (get nat_eq columns.old stroke.row)) stroke) }
-    ensures columns { OnOk result ((row : ℕ)
-        → or_none (get nat_eq columns.new row) ≡ reached_with stroke (λ r. or_none (get nat_eq columns.old r)) row) }
-{
+) -> Result<(), AllocError> {
     let at = reached(columns, stroke.row);
     if at < stroke.to {
         columns.insert(stroke.row, stroke.to)?;
@@ -54,9 +44,7 @@ fn push_part(
 }
 
 /// Of each of these strokes what lies right of all before it in its row.
-pub fn drawn(alloc: Global, strokes: &[Stroke]) -> Result<Vec<Stroke>, AllocError>
-    ensures { IfOk result (λ parts. parts.items ≡ drawn [] strokes.now) }
-{
+pub fn drawn(alloc: Global, strokes: &[Stroke]) -> Result<Vec<Stroke>, AllocError> {
     let mut parts = Vec::new(alloc);
     let mut columns = HashMap::new(alloc);
     for stroke in strokes {

