@@ -30,14 +30,34 @@ PROVED_WITHIN = 7200  # and a proof
 USAGE = re.search(r'^message end\.Usage = codes "(.*)" \+\+', open(f"{TOP}/crates/mtapi_top/specs/Command.antt").read(), re.M)[1]
 FIRST = "examples/first.workload"
 ACTION = "action a job=1 kind=add\n"
+# Words that are none, and what the error output then begins with.
+FAULTY = [
+    ("", USAGE), ("it", "mtapi: no word 'it'"), ("Run", "mtapi: no word 'Run': perhaps run\n"),
+    ("rnu", "mtapi: no word 'rnu': perhaps run\n" + USAGE), ("explian", "mtapi: no word 'explian': perhaps explain\n"),
+    ("run --jurnal", "mtapi: no option '--jurnal': perhaps --journal\n"), ("run a b", "usage: mtapi run [FILE]\n"),
+    ("gen", "usage: mtapi gen N [W]\n"), ("gen 5 4 3", "usage: mtapi gen N [W]\n"),
+    *[(f"gen {it}", f"mtapi: no number of tasks: {it}: 1 to 19,000\n") for it in ("0", "20000", "05", "+5")],
+    *[(f"gen 5 {it}", f"mtapi: no number of workers: {it}: 1 to 16\n") for it in (0, 17)],
+    ("check a b c", "usage: mtapi check [FILE [KEPT]]\n"), ("picture a b c", "usage: mtapi picture [FILE [KEPT]]\n"),
+    ("prove it", "mtapi: no option 'it': perhaps --command\n"), ("test it", "usage: mtapi test\n"),
+    ("verify", "usage: mtapi verify [-v] FILE\n"), ("expect FILE", "usage: mtapi expect [-v] FILE REPORT\n"),
+    ("bounded", "usage: mtapi bounded [-v] FILE [LOOKS]\n"), ("bounded FILE 1000001", "mtapi: no number of looks: 1000001: 0 to "),
+    ("new", "usage: mtapi new FOLDER [NAME]\n"), ("install a b", "usage: mtapi install [PREFIX]\n"),
+]
 # A call: its name, the command line of a shell, and the status, the output and what the error output says.
-FAULTY = ["", "it", "Run", "run it", "run --journal it", "gen", "gen 0", "gen 19001", "gen 05", "gen +5", "gen 5 0", "gen 5 17",
-          "gen 5 4 3", "check it", "prove it", "test it", "verify", "expect FILE", "bounded", "bounded FILE 1000001"]
 TOLD = [
     ("help", "./mtapi --help", 0, USAGE, ""),
     ("-h", "./mtapi -h", 0, USAGE, ""),
     ("version", "./mtapi --version", 0, "mtapi ", ""),
-    ("words of the picture", "./mtapi picture it", 2, "", "usage: mtapi picture\n"),
+    ("run, of no file", "./mtapi run nothing", 4, "", "mtapi: read fault: nothing\n"),
+    ("picture, of no file", "./mtapi picture nothing", 4, "", "mtapi: read fault: nothing\n"),
+    ("check, of no journal", f"./mtapi check {FIRST}", 3, "", f"mtapi: {FIRST}: no journal here: use run --journal\n"),
+    ("picture, of no journal", f"./mtapi picture <{FIRST}", 3, "", "mtapi: standard input: no journal here: use run --journal\n"),
+    ("install, of nothing proved", "./mtapi install installed; status=$?; ! [ -e installed ] && exit $status", 1, "",
+     "nothing was installed: mtapi_cli isn't proved"),
+    ("new", "./mtapi new ../own own_node", 0, "../own: a repository with the program crates/own_node and the ", ""),
+    ("new, of a folder in use", "./mtapi new ../own", 1, "", "mtapi: ../own isn't empty\n"),
+    ("new, of a name in use", "./mtapi new ../other while", 1, "", "while can't be the name of the program"),
 ]
 HANGS = "mutex m id=1\\nlock m timeout=inf\\nbegin\\ncaller c\\nmutex_get m id=1\\nlock m timeout=inf\\n"
 CALLS = [
@@ -52,6 +72,14 @@ CALLS = [
     ("a closed output", f"./mtapi run <{FIRST} >&-", 5, "", "mtapi: write fault"),
     ("a journal that is judged", f"cat {FIRST} journal | ./mtapi check", 0, "yes\n", ""),
     ("a journal of another run", f"(printf '{ACTION}'; cat journal) | ./mtapi check", 9, "no: not a run\n", ""),
+    ("a file", f"./mtapi run {FIRST}", 0, "main.t completed 6\n", ""),
+    ("a journal that is kept", f"./mtapi run --journal {FIRST} >kept; ./mtapi check {FIRST} kept", 0, "yes\n", ""),
+    ("a journal in a pipe", f"./mtapi run --journal {FIRST} | ./mtapi check {FIRST} -", 0, "yes\n", ""),
+    ("a picture", f"./mtapi picture {FIRST}", 0, "<svg ", ""),
+    ("a picture of a pipe", "./mtapi picture <kept", 0, "<svg ", ""),
+    ("a picture of what was kept", f"./mtapi picture {FIRST} kept", 0, "<svg ", ""),
+    ("explain", "./mtapi explain README.md", 3, "README.md:1:", ""),
+    ("explain, of a pipe", "./mtapi explain <README.md", 3, "line 1, column ", ""),
     ("verify", f"./mtapi verify {FIRST}", 0, "main.t completed 6\nyes\n", ""),
     ("verify, of a pipe", f"./mtapi verify <(cat {FIRST})", 0, "main.t completed 6\nyes\n", ""),
     ("verify, of no workload", "./mtapi verify README.md", 3, "", "mtapi: line 1: "),
@@ -59,7 +87,8 @@ CALLS = [
     ("expect", f"./mtapi expect {FIRST} examples/first.report", 0, "", "mtapi: as expected\n"),
     ("expect another report", f"./mtapi expect {FIRST} /dev/null", 1, "--- /dev/null\n", ""),
     ("bounded", f"printf '{HANGS}' >hangs; ./mtapi bounded hangs 500", 0, "= main 2 1\n! c 6 MRAPI_TIMEOUT\n",
-     "mtapi: line 6: lock of c ran out of its 500 looks; it waits for the mutex m of line 5 (mutex_get m id=1)\n"),
+     "mtapi: line 6: lock of c ran out of its 500 looks; it waits for the mutex m of line 5 (mutex_get m id=1)"
+     "; main has held it since line 2 (lock m timeout=inf)\n"),
     ("more output than is shown", "python3 bench/generated.py 19000 >many; ./mtapi run --journal <many", 126, "", "mtapi: no answer: "),
 ]
 faults = []
@@ -84,12 +113,12 @@ def call(clone, name, line, status, output, errors, within=WITHIN):
 
 def told(clone):
     """Words that need no program: faulty ones at once."""
-    for words in FAULTY:
+    for words, begins in FAULTY:
         begin = time.monotonic()
         done = subprocess.run(["./mtapi", *words.split()], cwd=clone, capture_output=True, text=True)
         seconds = time.monotonic() - begin
-        right = done.returncode == 2 and done.stdout == "" and done.stderr.startswith(USAGE + "\n") and seconds <= MOST_WORDS
-        report(f"words: {words}", right, seconds)
+        right = done.returncode == 2 and done.stdout == "" and done.stderr.startswith(begins) and seconds <= MOST_WORDS
+        report(f"words: {words}", right, seconds, "" if right else repr(done.stderr))
     for it in TOLD:
         call(clone, *it)
 
@@ -206,7 +235,7 @@ def gated(clone):
     """Runs the gate, and asks for a proof of what it proved."""
     call(clone, "the gate", ".ci/run >gate.log 2>&1", 0, "", "", PROVED_WITHIN)
     begin = time.monotonic()
-    done = subprocess.run(["./mtapi", "prove"], cwd=clone, capture_output=True, text=True, timeout=WITHIN)
+    done = subprocess.run(["./mtapi", "prove", "--command"], cwd=clone, capture_output=True, text=True, timeout=WITHIN)
     seconds = time.monotonic() - begin
     report("prove after the gate", done.returncode == 0 and "proving" not in done.stderr and seconds < 10, seconds, done.stderr)
     call(clone, "the gate's program", f"./mtapi run <{FIRST}", 0, "main.t completed 6\n", "")

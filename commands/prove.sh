@@ -11,13 +11,14 @@ most_jobs=4         # of one crate; a small one has one
 small=20000         # bytes of sources
 
 lanes=$top/out/lanes
-order=() left_to_do=() # the crates to prove, and the programs among them
-ended=0                # of the crates
-at_once=1 jobs_taken=0
-declare -A below size_of state crate_of lock_of jobs_of
+left_to_do=() # the crates that were asked for
+jobs_taken=0
+toolchain='' processor=$default_processor
+declare -A below size_of crate_of lock_of jobs_of sums
 
-# The crates of these programs, each with its size and those below it: first the one for which the most code waits. Most of
-# the time goes into functions, and hardly any into lemmas.
+# The crates of these, each with the weight of the longest chain of crates that begins with it, its own weight, its size and
+# those below it: the longest chain first. Most of the time goes into functions and hardly any into lemmas, some into each
+# crate, and some into reading the proofs below.
 crates_by_chain() {
     (cd "$top/crates" && find . \( -path '*/src/*' -o -path '*/proofs/*' \) \( -name '*.rt' -o -name '*.antt' \) -printf '%P %s\n') |
         awk -v wanted="$*" '
@@ -34,7 +35,7 @@ crates_by_chain() {
                     length_of = chain(user)
                     if (length_of > most) most = length_of
                 }
-                return chains[name] = most + size[name] + 10000
+                return chains[name] = most + weight[name]
             }
             NR == FNR { counted = /\.rt / ? $2 : $2 / 10; sub(/\/.*/, "", $1); size[$1] += counted; next }
             { sub(/#.*/, "") }
@@ -45,16 +46,35 @@ crates_by_chain() {
                 for (name in needed) {
                     split("", seen)
                     visit(name, seen)
-                    for (low in seen) if (low != name) { is_below[name, low] = 1; lows[name] = lows[name] " " low }
+                    weight[name] = size[name] + 10000
+                    for (low in seen) if (low != name) {
+                        is_below[name, low] = 1
+                        lows[name] = lows[name] " " low
+                        weight[name] += size[low] / 25
+                    }
                 }
-                for (name in needed) printf "%d %s %d%s\n", chain(name), name, size[name], lows[name]
-            }' - "$top/crates.txt" | sort -k 1,1nr -k 2 | cut -d ' ' -f 2-
+                for (name in needed) printf "%d %s %d %d%s\n", chain(name), name, weight[name], size[name], lows[name]
+            }' - "$top/crates.txt" | sort -k 1,1nr -k 2
 }
 
+# Whether a crate is proved as its sources stand, and of use here: a library that this toolchain built, or a program that this
+# processor runs.
+stands() {
+    is_proved "$1" || return
+    if is_program "$1"; then runs_here "$1"; else [ "$(kind_of "$1")" = "$toolchain" ]; fi
+}
+
+# Fills the list of the crates to prove.
 read_order() {
-    local name size lows
-    while read -r name size lows; do
-        order+=("$name") size_of[$name]=$size below[$name]=$lows
+    local chain name weight size lows
+    while read -r chain name weight size lows; do
+        below[$name]=$lows
+        if ! is_program "$name" && stands "$name"; then
+            pass_over "$name"
+            continue
+        fi
+        add_part "$name" "$weight" "$chain"
+        size_of[$name]=$size
     done < <(crates_by_chain "$@")
 }
 
@@ -109,10 +129,8 @@ make_lane() {
     rm -rf "$lane"
     mkdir -p "$lane/crates"
     if [ -e "$top/HANDLES" ]; then cp -a "$top/HANDLES" "$lane/"; fi
-    awk -v names="$crate ${below[$crate]}" '
-        BEGIN { n = split(names, list, " "); for (i = 1; i <= n; i++) wanted[list[i]] = 1 }
-        { name = $1; sub(/:.*/, "", name) }
-        name in wanted' "$top/crates.txt" >"$lane/crates.txt" || return
+    # shellcheck disable=SC2086 # the names are words of their own
+    lines_of "$crate" ${below[$crate]} >"$lane/crates.txt" || return
     for each in $crate ${below[$crate]}; do
         mkdir "$lane/crates/$each" || return
         for part in src specs proofs; do
@@ -126,33 +144,32 @@ make_lane() {
     mkdir -p "$top/crates/$crate/out" && mv "$top/crates/$crate/out" "$lane/crates/$crate/out"
 }
 
-is_program() {
-    [ -e "$top/crates/$1/src/main.rt" ]
-}
-
 # Begins the proof of a crate with so many jobs, unless somebody else's rt works on it. Of a program the old one goes first,
 # so that what stands there afterwards was made now: it is run once without words, and then only writes its usage text.
 begin_crate() {
-    local crate=$1 jobs=$2 lock each verb=lib
+    local crate=$1 jobs=$2 lock each words=(lib)
     exec {lock}<"$top/crates/$crate" || give_up "$crate" "its folder could not be read"
     if ! flock -n "$lock"; then
         exec {lock}<&-
         return
     fi
     lock_of[$crate]=$lock
+    sums[$crate]=${sums[$crate]-$(sum_of_sources "$crate")}
     make_lane "$crate" || give_up "$crate" "its files could not be copied"
     if is_program "$crate"; then
-        verb=run
+        words=(run)
+        if [ "$processor" != "$default_processor" ]; then words+=(--cpu "$processor"); fi
         rm -f "$lanes/$crate/crates/$crate/out/$crate" "$lanes/$crate/crates/$crate/out/$crate.proved"
     fi
     (
         exec 9>&-
         for each in "${lock_of[@]}"; do exec {each}<&-; done
-        cd "$lanes/$crate/crates/$crate" && exec setsid rt "$verb" --jobs "$jobs" </dev/null >"$scratch/$crate.log" 2>&1
+        cd "$lanes/$crate/crates/$crate" && exec setsid rt "${words[@]}" --jobs "$jobs" </dev/null >"$scratch/$crate.log" 2>&1
     ) &
     processes+=("$!")
     crate_of[$!]=$crate
-    jobs_of[$crate]=$jobs state[$crate]=running
+    jobs_of[$crate]=$jobs
+    begin_part "$crate"
     jobs_taken=$((jobs_taken + jobs))
 }
 
@@ -168,7 +185,7 @@ is_ready() {
 begin_ready() {
     local ready=() each free jobs
     [ "$jobs_taken" -lt "$at_once" ] || return
-    for each in "${order[@]}"; do
+    for each in "${parts[@]}"; do
         if is_ready "$each"; then ready+=("$each"); fi
     done
     for each in "${!ready[@]}"; do
@@ -181,7 +198,19 @@ begin_ready() {
     done
 }
 
-# The status of `rt run` is the program's own; rt leaves a stamp beside a program where no source changed in the meantime.
+# Whether rt has made this program since it began. The status of `rt run` is the program's own.
+was_built() {
+    [ -x "$(program_of "$1")" ] && grep -q '^logic=proved ' "$scratch/$1.log"
+}
+
+# Notes that a crate is proved as its sources stand, if they stand as they did when it began.
+note_crate() {
+    local crate=$1 kind=$toolchain
+    if is_program "$crate"; then kind=$processor; fi
+    [ "$(sum_of_sources "$crate")" = "${sums[$crate]}" ] || give_up "$crate" "a source changed in the meantime"
+    keep_note "$crate" "${sums[$crate]}" "$kind" || give_up "$crate" "its note could not be kept"
+}
+
 end_crate() {
     local crate=${crate_of[$1]} status lock
     wait "$1"
@@ -192,10 +221,13 @@ end_crate() {
     unset "lock_of[$crate]"
     if is_program "$crate"; then
         status=1
-        if [ -x "$(program_of "$crate")" ] && [ -e "$(program_of "$crate").stamp" ]; then status=0; fi
+        if was_built "$crate"; then status=0; fi
     fi
     [ "$status" -eq 0 ] || give_up "$crate"
-    state[$crate]=ended ended=$((ended + 1)) jobs_taken=$((jobs_taken - jobs_of[$crate]))
+    end_part "$crate" "${jobs_of[$crate]}"
+    jobs_taken=$((jobs_taken - jobs_of[$crate]))
+    note_crate "$crate"
+    if is_program "$crate"; then tell "$crate is proved and built for $processor"; fi
 }
 
 look_at_crates() {
@@ -206,11 +238,12 @@ look_at_crates() {
     processes=("${left[@]}")
     for pid in "${gone[@]}"; do end_crate "$pid"; done
 }
+
 tell_progress() {
     local pid now=''
     for pid in "${processes[@]}"; do now+="${now:+, }${crate_of[$pid]}"; done
-    tell "$(printf '%d of %d crates proved, %d:%02d so far' "$ended" "${#order[@]}" \
-        $((SECONDS / 60)) $((SECONDS % 60)))${now:+, now at $now}"
+    tell "$(printf '%d of %d crates proved, %d:%02d so far, %s left' "$ended" "${#parts[@]}" \
+        $((SECONDS / 60)) $((SECONDS % 60)) "$(time_left)")${now:+, now at $now}"
 }
 
 end_processes() {
@@ -224,8 +257,8 @@ end_processes() {
 # shellcheck disable=SC2317 # called by the traps
 tell_stopped() {
     put_own_back
-    [ "${#order[@]}" -gt 0 ] || return
-    tell "stopped with $ended of ${#order[@]} crates proved; they are kept, and the next './mtapi prove' goes on from there"
+    [ "${#parts[@]}" -gt 0 ] || return
+    tell "stopped with $ended of ${#parts[@]} crates proved; they are kept, and the next './mtapi prove' goes on from there"
 }
 
 # The crate, and why if its log doesn't say it.
@@ -239,8 +272,7 @@ give_up() {
 prove_crates() {
     local told=-1 next=0
     SECONDS=0
-    at_once=$(count_at_once "$memory_each")
-    while [ "$ended" -lt "${#order[@]}" ]; do
+    while [ "$ended" -lt "${#parts[@]}" ]; do
         begin_ready
         if [ "$ended" -ne "$told" ] || [ "$SECONDS" -ge "$next" ]; then
             tell_progress
@@ -264,28 +296,36 @@ take_lock() {
     fi
 }
 
-prove_all() {
+# What was asked for: `--command` stands for the programs alone.
+wanted_crates() {
+    if [ "${1-}" = --command ]; then echo "${programs[@]}"; else echo "${programs[@]}" "${libraries[@]}"; fi
+}
+
+read_wanted() {
     local each
-    declare -A sums
+    if are_new "$(words_of_processor)"; then processor=$new_processor; fi
+    toolchain=$(rt version)
+    for each in $(wanted_crates "$@"); do
+        if ! stands "$each"; then left_to_do+=("$each") sums[$each]=$(sum_of_sources "$each"); fi
+    done
+    if [ "${#left_to_do[@]}" -gt 0 ]; then read_order "${left_to_do[@]}"; fi
+}
+
+prove_all() {
     need_toolchain
     make_scratch
     on_signals tell_stopped
     take_lock
     wait_for_lanes
     put_all_back
-    for each in "${programs[@]}"; do
-        if ! is_proved "$each"; then left_to_do+=("$each") sums[$each]=$(sum_of_sources "$each"); fi
-    done
-    if [ "${#left_to_do[@]}" -gt 0 ]; then
-        read_order "${left_to_do[@]}"
-        tell "proving the ${#order[@]} crates of ${left_to_do[*]}, and building these: $takes"
+    expect_rate 100000 250
+    read_wanted "$@"
+    at_once=$(count_at_once "$memory_each")
+    if [ "${#parts[@]}" -gt 0 ]; then
+        tell "proving ${#parts[@]} crates, for ${left_to_do[*]}: $(time_left) with $at_once jobs at a time"
         prove_crates
     fi
-    for each in "${left_to_do[@]}"; do
-        [ "$(sum_of_sources "$each")" = "${sums[$each]}" ] || give_up "$each" "a source changed in the meantime"
-        keep_note "$each" "${sums[$each]}" || give_up "$each" "its note could not be kept"
-    done
     rmdir "$lanes" 2>/dev/null
-    tell "proved and built: './mtapi WORDS' runs the proved program from now on, until a source changes"
+    tell "proved and built for $(processor_of "$command_crate"): './mtapi WORDS' runs the proved program, until a source changes"
     leave 0
 }

@@ -4,10 +4,10 @@
 test_seconds=300        # that one crate's tests, or one program, may take once they are compiled
 test_memory=1500000     # kB that one of them may take
 tests_passed=0 tests_failed=0
-declare -A test_of begun_at
+declare -A test_of
 
 # Each crate with tests as NAME:tests, each program as NAME:program, and as NAME:cases one that has further inputs in a folder
-# cases/; the one with the most code to compile first.
+# cases/, each behind the bytes to compile; the one with the most first.
 test_runs() {
     (cd "$top/crates" && find . -path '*/src/*' -name '*.rt' -printf '%P %s\n') |
         awk '
@@ -22,10 +22,10 @@ test_runs() {
             { sub(/#.*/, "") }
             /:/ { name = $1; sub(/:.*/, "", name); sub(/^[^:]*:/, ""); below[name] = $0 }
             END { for (name in below) { split("", seen); sum = 0; visit(name); print sum, name } }' - "$top/crates.txt" |
-        sort -k 1,1nr -k 2 | while read -r _ name; do
-        if grep -qrs --include='*.rt' '#\[test\]' "$top/crates/$name/src"; then echo "$name:tests"; fi
-        if [ -e "$top/crates/$name/src/main.rt" ]; then echo "$name:program"; fi
-        if [ -d "$top/crates/$name/cases" ]; then echo "$name:cases"; fi
+        sort -k 1,1nr -k 2 | while read -r size name; do
+        if grep -qrs --include='*.rt' '#\[test\]' "$top/crates/$name/src"; then echo "$size $name:tests"; fi
+        if [ -e "$top/crates/$name/src/main.rt" ]; then echo "$size $name:program"; fi
+        if [ -d "$top/crates/$name/cases" ]; then echo "$size $name:cases"; fi
     done
 }
 
@@ -60,7 +60,8 @@ begin_run() {
     *) begin_program "${1%:*}" ;;
     esac
     processes+=("$!")
-    test_of[$!]=$1 begun_at[$!]=$SECONDS
+    test_of[$!]=$1
+    begin_part "$1"
     end_the_look_at_names "$!" </dev/null >/dev/null 2>&1 &
 }
 
@@ -126,34 +127,40 @@ end_cases() {
     grep -ah '^case=' "$scratch/$1.out" "$scratch/$1.err" | sed 's/^/    /'
 }
 
-# Tells of each run that has ended since the last look.
+# Tells of a run that has ended, and of what is left.
+end_run() {
+    local seconds=$((SECONDS - began_at[$1]))
+    end_part "$1" 1
+    case $1 in
+    *:tests) end_tests "$1" "$seconds" ;;
+    *:cases) end_cases "$1" "$seconds" ;;
+    *) end_program "$1" "$seconds" ;;
+    esac
+    if [ "$ended" -lt "${#parts[@]}" ]; then tell "$ended of ${#parts[@]} ended, $(time_left) left"; fi
+}
+
 look_at_ended() {
-    local pid left=()
+    local pid left=() gone=()
     for pid in "${processes[@]}"; do
-        if kill -0 "$pid" 2>/dev/null; then
-            left+=("$pid")
-            continue
-        fi
-        case ${test_of[$pid]} in
-        *:tests) end_tests "${test_of[$pid]}" $((SECONDS - begun_at[$pid])) ;;
-        *:cases) end_cases "${test_of[$pid]}" $((SECONDS - begun_at[$pid])) ;;
-        *) end_program "${test_of[$pid]}" $((SECONDS - begun_at[$pid])) ;;
-        esac
+        if kill -0 "$pid" 2>/dev/null; then left+=("$pid"); else gone+=("$pid"); fi
     done
     processes=("${left[@]}")
+    for pid in "${gone[@]}"; do end_run "${test_of[$pid]}"; done
 }
 
 test_all() {
-    local runs most each
+    local size name each
     need_toolchain
     make_scratch
     on_signals true
-    mapfile -t runs < <(test_runs)
-    most=$(count_at_once "$test_memory")
-    echo "every test and every program, unproved, $most at a time. This proves nothing: .ci/run does, and runs them again."
+    expect_rate 1000000 80
+    while read -r size name; do add_part "$name" "$size" "$size"; done < <(test_runs)
+    at_once=$(count_at_once "$test_memory")
+    echo "every test and every program, unproved, $at_once at a time. This proves nothing: .ci/run does, and runs them again."
     SECONDS=0
-    for each in "${runs[@]}"; do
-        while [ "${#processes[@]}" -ge "$most" ]; do
+    tell "${#parts[@]} crates and programs: $(time_left)"
+    for each in "${parts[@]}"; do
+        while [ "${#processes[@]}" -ge "$at_once" ]; do
             sleep 0.2
             look_at_ended
         done
@@ -163,7 +170,7 @@ test_all() {
         sleep 0.2
         look_at_ended
     done
-    echo "${#runs[@]} crates and programs in $SECONDS s"
+    echo "${#parts[@]} crates and programs in $SECONDS s"
     echo "$tests_passed passed, $tests_failed failed"
     if [ "$tests_failed" -ne 0 ] || [ "$tests_passed" -eq 0 ]; then leave 1; fi
     leave 0

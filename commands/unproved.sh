@@ -1,9 +1,7 @@
 # A run of a program as it is written, unproved and with the toolchain's checks at run time. Sourced by `mtapi`.
 # shellcheck shell=bash disable=SC2154,SC2034 # what isn't set here is of the script that sources this
 
-most_seconds=300    # that an unproved run may take once it is compiled
-most_input=67108864 # bytes; what an unproved run is given has to be shorter
-page_of_waits="docs/tutorial.md, 'When nothing comes'"
+most_seconds=300 # that an unproved run may take once it is compiled
 
 # Without these words the command doesn't read its input, and nobody has to give one.
 reads_input() {
@@ -75,13 +73,8 @@ tell_why_stopped() {
     if [ -z "$why" ]; then cat "$scratch/err" >&2; fi
     tell "no answer: the toolchain stopped the unproved run${why:+: $why}"
     case $why in
-    *'time limit'*) tell "a wait that can't end: see $page_of_waits" ;;
+    *'time limit'*) tell "if a wait can't end, '$called bounded $workload' names it ($page_of_waits)" ;;
     esac
-}
-
-# shellcheck disable=SC2317 # called by the traps
-tell_where_waits_are() {
-    tell "stopped; if a wait can't end, see $page_of_waits"
 }
 
 pass_on() {

@@ -1,20 +1,107 @@
-# What `mtapi` says of its own words: which it takes, the usage text, the help and the version. Sourced by `mtapi`.
-# shellcheck shell=bash disable=SC2154 # `top` is of the script that sources this
+# What `mtapi` says of its own words: which it takes, what each does, the help and the version. Sourced by `mtapi`.
+# shellcheck shell=bash disable=SC2154 # what isn't set here is of the script that sources this
 
 usage='usage: mtapi run [--journal] | mtapi gen N [W] | mtapi check' # as the command says it
 most_tasks=19000 most_workers=16                                     # of `gen`
 default_looks=2000                                                   # of `bounded`: some two seconds, and more give little more
 most_looks=1000000                                                   # of a timeout
 
-# The usage text of the command, or of the further program that the first word names.
-tell_usage() {
+# Each use of a word: its group, how it is called, and what it does. The help and the manual page are made of this. The words
+# of the group `repository` are of no use to an installed command.
+word_table() {
+    cat <<END
+command|run [FILE]|runs the workload in FILE and writes its report
+command|run --journal [FILE]|writes behind it each call of the run and its answer
+command|check [FILE [KEPT]]|judges a workload with a journal behind it; or FILE by what 'run --journal' wrote into KEPT
+command|gen N [W]|runs a workload of N tasks (1 to $most_tasks) with W workers (1 to $most_workers, or 4)
+beside|explain [FILE]|tells every mistake for which FILE is no workload
+beside|verify [-v] FILE|runs the workload in FILE and checks its journal; writes report and verdict
+beside|expect [-v] FILE REPORT|runs the workload in FILE; status 1 and the difference if it doesn't write REPORT
+beside|bounded [-v] FILE [LOOKS]|runs it with LOOKS looks ($default_looks if not given) in place of each timeout=inf, and names the waits that ran out
+beside|picture [FILE [KEPT]]|draws a run as an SVG: of what 'run --journal' wrote, or of the workload in FILE, which it runs unless KEPT has the journal
+beside|trace [FILE [KEPT]]|writes such a run as Trace Event JSON, which Perfetto and chrome://tracing open
+repository|test|runs every test and every program, unproved, in minutes; proves nothing
+repository|prove|proves and builds the programs, which run from then on, until a source changes, and proves the libraries on which a program of one's own stands
+repository|prove --command|proves and builds the programs alone
+repository|new FOLDER [NAME]|makes a repository with a program NAME of one's own, with all that it stands on
+repository|install [PREFIX]|puts the proved programs below PREFIX (/usr/local if not given), where they need no toolchain
+repository|uninstall [PREFIX]|removes them there
+END
+}
+
+# The statuses, with when each comes.
+status_table() {
+    cat <<END
+0|if all was written; with check the verdict is yes
+1|with expect if the report is another one; with test, new, install and uninstall if they failed
+2|if the words are none
+3|if the input is refused
+4, 5|if a read failed; if a write failed
+6, 7, 8|if memory ran out; if a thread was refused; if the turns of the run are used up
+9|with check and verify if the verdict isn't yes
+126|if there is no answer, which is told
+127|if the toolchain isn't there, or the program was built for a newer processor
+END
+}
+
+# The words that this script takes: all, or those of an installed command.
+all_words() {
+    word_table | awk -F '|' -v installed="$installed" '!installed || $1 != "repository" { sub(/ .*/, "", $2); if (!seen[$2]++) print $2 }'
+}
+
+# The uses of a word, each as a line of usage; of another one the usage text of the command.
+usage_of() {
+    local uses
+    uses=$(word_table | awk -F '|' -v word="$1" '{ first = $2; sub(/ .*/, "", first) } first == word { print "usage: mtapi " $2 }')
+    echo "${uses:-$usage}"
+}
+
+# The word of these that is nearest to the first one, if it is near: two letters away at most, where exchanged neighbours are
+# one.
+nearest() {
+    printf '%s\n' "${@:2}" | LC_ALL=C awk -v word="$1" '
+        function least(a, b) { return a < b ? a : b }
+        function steps(a, b,    i, j, d, same) {
+            for (i = 0; i <= length(a); i++) d[i, 0] = i
+            for (j = 0; j <= length(b); j++) d[0, j] = j
+            for (i = 1; i <= length(a); i++) for (j = 1; j <= length(b); j++) {
+                same = substr(a, i, 1) == substr(b, j, 1)
+                d[i, j] = least(least(d[i - 1, j], d[i, j - 1]) + 1, d[i - 1, j - 1] + !same)
+                if (i > 1 && j > 1 && substr(a, i, 1) == substr(b, j - 1, 1) && substr(a, i - 1, 1) == substr(b, j, 1))
+                    d[i, j] = least(d[i, j], d[i - 2, j - 2] + 1)
+            }
+            return d[length(a), length(b)]
+        }
+        BEGIN { most = least(3, length(word)) }
+        length(word) < 30 { it = steps(tolower(word), $0); if (it < most) { most = it; found = $0 } }
+        END { print found }'
+}
+
+# Why these words are none, where that can be said in a line.
+tell_why() {
+    local near words
+    mapfile -t words < <(all_words)
+    if ! grep -qxF -e "$1" <(all_words); then
+        near=$(nearest "$1" "${words[@]}" --help --version)
+        tell "no word '$1'${near:+: perhaps $near}"
+        return
+    fi
     case $1 in
-    picture) usage='usage: mtapi picture' ;;
-    explain) usage='usage: mtapi explain [FILE]' ;;
+    gen)
+        if [ $# -gt 1 ] && ! is_number "$2" "$most_tasks"; then tell "no number of tasks: $2: 1 to 19,000"; fi
+        if [ $# -gt 2 ] && ! is_number "$3" "$most_workers"; then tell "no number of workers: $3: 1 to $most_workers"; fi
+        ;;
+    bounded) if [ $# -eq 3 ] && ! is_look_count "$3"; then tell "no number of looks: $3: 0 to 1,000,000"; fi ;;
+    run) if [ $# -gt 1 ] && ! is_file "$2"; then tell "no option '$2': perhaps --journal"; fi ;;
+    prove) if [ $# -gt 1 ]; then tell "no option '$2': perhaps --command"; fi ;;
     esac
-    echo "$usage" >&2
-    echo "a workload comes from standard input: ./mtapi run < FILE" >&2
-    echo "./mtapi --help tells all words, ./mtapi test runs the tests, ./mtapi prove proves and builds the program" >&2
+}
+
+# Ends with the usage of the first word, or of the command.
+tell_usage() {
+    if [ $# -gt 0 ]; then tell_why "$@"; fi
+    usage_of "${1-}" >&2
+    echo "$called --help tells all words" >&2
     exit 2
 }
 
@@ -24,69 +111,107 @@ is_number() {
     [[ $1 =~ ^[1-9][0-9]{0,4}$ ]] && [ "$1" -le "$2" ]
 }
 
-# Whether the command itself takes these words.
-are_of_command() {
-    case $1 in
-    run) [ $# -eq 1 ] || { [ $# -eq 2 ] && [ "$2" = --journal ]; } ;;
-    check) [ $# -eq 1 ] ;;
-    gen) { [ $# -eq 2 ] || [ $# -eq 3 ]; } && is_number "$2" "$most_tasks" && is_number "${3-1}" "$most_workers" ;;
-    *) false ;;
-    esac
+is_look_count() {
+    local LC_ALL=C
+    [[ $1 =~ ^(0|[1-9][0-9]{0,6})$ ]] && [ "$1" -le "$most_looks" ]
+}
+
+# Whether a word stands where a file is named: - is standard input.
+is_file() {
+    [[ $1 = - || $1 != -* ]]
+}
+
+# Whether there are at most so many further words, and each can name a file.
+are_files() {
+    local most=$1 each
+    shift
+    [ $# -le "$most" ] || return
+    for each in "$@"; do is_file "$each" || return; done
 }
 
 # Whether the script takes these words: each has a case in `mtapi` too.
 are_known() {
-    case $1 in
-    -h | --help | --version | prove | test | picture) [ $# -eq 1 ] ;;
-    explain) [ $# -eq 1 ] || [ $# -eq 2 ] ;;
-    verify) [ $# -eq 2 ] ;;
-    expect) [ $# -eq 3 ] ;;
-    bounded) [ $# -eq 2 ] || { [ $# -eq 3 ] && is_look_count "$3"; } ;;
-    *) are_of_command "$@" ;;
+    local word=$1
+    shift
+    if [ -n "$installed" ] && ! grep -qxF -e "$word" <(all_words; printf '%s\n' -h --help --version); then return 1; fi
+    case $word in
+    verify | expect | bounded) if [ "${1-}" = -v ]; then shift; fi ;;
+    run) if [ "${1-}" = --journal ]; then shift; fi ;;
+    esac
+    case $word in
+    -h | --help | --version | test) [ $# -eq 0 ] ;;
+    run | explain) are_files 1 "$@" ;;
+    check | picture | trace) are_files 2 "$@" ;;
+    gen) { [ $# -eq 1 ] || [ $# -eq 2 ]; } && is_number "$1" "$most_tasks" && is_number "${2-1}" "$most_workers" ;;
+    verify) [ $# -eq 1 ] && is_file "$1" ;;
+    expect) [ $# -eq 2 ] && are_files 2 "$@" ;;
+    bounded) { [ $# -eq 1 ] || { [ $# -eq 2 ] && is_look_count "$2"; }; } && is_file "$1" ;;
+    prove) [ $# -eq 0 ] || { [ $# -eq 1 ] && [ "$1" = --command ]; } ;;
+    new) [ $# -ge 1 ] && are_files 2 "$@" ;;
+    install | uninstall) are_files 1 "$@" ;;
+    *) false ;;
     esac
 }
 
-is_look_count() {
-    local LC_ALL=C
-    [[ $1 =~ ^(0|[1-9][0-9]{0,6})$ ]] && [ "$1" -le "$most_looks" ]
+# A text in lines of at most 118 bytes, each word in its place, behind so many bytes that are its beginning.
+in_columns() {
+    LC_ALL=C awk -F '|' -v width="$1" '{
+        n = split($2, words, " ")
+        line = sprintf("%-" width "s", $1)
+        for (i = 1; i <= n; i++) {
+            if (length(line) + length(words[i]) > 118) { print line; line = sprintf("%-" width "s", "") }
+            line = line (line ~ / $/ ? "" : " ") words[i]
+        }
+        print line
+    }'
+}
+
+# The lines of the help on the words of a group.
+help_on() {
+    word_table | awk -F '|' -v group="$1" -v called="$called" '$1 == group { print "  " called " " $2 "|" $3 }' | in_columns 38
 }
 
 tell_help() {
     cat <<END
 $usage
 
-The command, which reads standard input and writes standard output:
-  ./mtapi run < FILE                 runs the workload in FILE and writes its report
-  ./mtapi run --journal < FILE       writes behind it each call of the run and its answer
-  ./mtapi check < FILE               judges a workload with a journal behind it
-  ./mtapi gen N [W]                  runs a workload of N tasks (1 to $most_tasks) with W workers (1 to $most_workers, or 4)
+The command, which reads FILE, or else standard input, and writes standard output:
+$(help_on command)
 
 Beside the command:
-  ./mtapi explain [FILE]             tells every mistake for which FILE, or standard input, is no workload
-  ./mtapi verify FILE                runs the workload in FILE and checks its journal; prints report and verdict
-  ./mtapi expect FILE REPORT         runs the workload in FILE; status 1 and the difference if it doesn't write REPORT
-  ./mtapi bounded FILE [LOOKS]       runs it with LOOKS looks ($default_looks if not given) in place of each timeout=inf, and
-                                     names the waits that ran out
-  ./mtapi picture < FILE             draws what 'run --journal' wrote as an SVG
+$(help_on beside)
+$(help_on_repository)
+
+Statuses:
+$(status_table | sed 's/^/  /' | in_columns 12)
+
+- as FILE or KEPT is standard input.
+END
+}
+
+help_on_repository() {
+    [ -z "$installed" ] || return
+    cat <<END
 
 The repository:
-  ./mtapi test                       runs every test and every program, unproved, in minutes; proves nothing
-  ./mtapi prove                      proves and builds the programs, which run from then on, until a source changes
-  .ci/run                            proves everything and runs every test: the merge gate
+$(help_on repository)
+  .ci/run                             proves everything and runs every test: the merge gate
   ./mtapi --help, ./mtapi --version
 
 Until the program is proved, each call compiles and runs it unproved, which takes about a minute and is said on standard
-error. The statuses stand in README.md. 126 says that there is no answer, 127 that the toolchain isn't there.
-
-Workloads to run: examples/, crates/mtapi_examples/data/
+error. Workloads to run: examples/, crates/mtapi_examples/data/
 Pages: README.md, docs/tutorial.md (to begin), docs/workload-text.md (what a workload may say),
 docs/report.md (what the output means), docs/checking.md (check), docs/picture.md (picture)
 END
 }
 
-# The version of the newest release in the changelog, and the line of the toolchain.
+# The version of the newest release in the changelog, and the line of the toolchain; of an installed command, as it was noted.
 tell_version() {
     local version toolchain
+    if [ -n "$installed" ]; then
+        cat "$top/version"
+        return
+    fi
     version=$(sed -n 's/^## //p' "$top/CHANGELOG.md" | head -n 1)
     toolchain=$(rt version 2>/dev/null) || toolchain="no toolchain: 'rt' isn't on the PATH"
     printf 'mtapi %s\n%s\n' "$version" "$toolchain"

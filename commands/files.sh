@@ -1,0 +1,194 @@
+# The words that take files: `run`, `check`, `picture`, `trace` and `explain`. Sourced by `mtapi`.
+# shellcheck shell=bash disable=SC2154,SC2034 # what isn't set here is of the script that sources this
+
+most_input=67108864 # bytes of an input; what an unproved run is given has to be shorter
+page_of_waits="docs/tutorial.md, 'When nothing comes'"
+if [ -n "$installed" ]; then page_of_waits='man mtapi'; fi
+workload=FILE # as `run` was given it, for what is told of waits
+
+# From now on standard input is this file.
+read_from() {
+    [ "$1" != - ] || return 0
+    if ! [ -r "$1" ] || ! exec <"$1"; then
+        tell "read fault: $1"
+        leave "$read_fault"
+    fi
+}
+
+# Copies a file that is named, a pipe too, into the scratch folder: a byte more than an input may have is enough.
+take_file() {
+    if [ "$1" = - ]; then
+        head -c $((most_input + 1)) 2>/dev/null <&0 >"$scratch/$2" &
+    else
+        head -c $((most_input + 1)) 2>/dev/null -- "$1" >"$scratch/$2" &
+    fi
+    processes=($!)
+    if ! wait "$!"; then
+        tell "read fault: $(name_of "$1")"
+        leave "$read_fault"
+    fi
+    processes=()
+}
+
+name_of() {
+    if [ "$1" = - ]; then echo "standard input"; else echo "$1"; fi
+}
+
+show() {
+    if ! cat "$@" 2>/dev/null; then
+        echo "mtapi: write fault" >&2
+        leave "$write_fault"
+    fi
+}
+
+# What stands behind a text begins in a line of its own.
+end_last_line() {
+    if [ -n "$(tail -c 1 "$1")" ]; then echo >>"$1"; fi
+}
+
+has_journal() {
+    LC_ALL=C grep -aq '^mtapi-journal ' "$scratch/$1"
+}
+
+need_journal() {
+    if ! has_journal "$1"; then
+        tell "$(name_of "$2"): no journal here: use run --journal"
+        leave "$refused"
+    fi
+}
+
+# The journal of a file, without what stands before it.
+journal_in() {
+    LC_ALL=C sed -n '/^mtapi-journal /,$p' "$scratch/$1"
+}
+
+text_before_journal() {
+    LC_ALL=C sed '/^mtapi-journal /,$d' "$scratch/$1"
+}
+
+# Whether what stands before the journal is a report and no workload, whose lines begin with a word of letters.
+begins_with_report() {
+    text_before_journal "$1" | LC_ALL=C awk 'NF && $1 !~ /^#/ { found = $1 ~ /^[!=]$/ || $1 ~ /\./; exit } END { exit !found }'
+}
+
+# Makes one input of the workload in a file and the journal in another one.
+join_journal() {
+    end_last_line "$scratch/$1"
+    journal_in "$2" | cat "$scratch/$1" - >"$scratch/$3"
+}
+
+# shellcheck disable=SC2317 # called by the traps
+tell_where_waits_are() {
+    tell "stopped; if a wait can't end, '$called bounded $workload' names it ($page_of_waits)"
+}
+
+# Runs the proved program of a crate with the words that follow, in place of this process.
+become_program() {
+    GLIBC_TUNABLES=${GLIBC_TUNABLES-$heap_steps} exec "${within[@]}" "$(program_of "$1")" "${@:2}"
+}
+
+# Runs the program of a crate on a file of the scratch folder, into another one, and sets `ended_with` to its status. The
+# unproved program says itself that it is.
+program_on() {
+    local crate=$1 in=$2 out=$3
+    shift 3
+    if is_proved "$crate"; then
+        need_processor "$crate"
+        (become_program "$crate" "$@") <"$scratch/$in" >"$scratch/$out" &
+    else
+        (run_unproved "$crate" "$@") <"$scratch/$in" >"$scratch/$out" &
+    fi
+    processes=($!)
+    wait "$!"
+    ended_with=$?
+    processes=()
+}
+
+# `run [--journal] [FILE]`. For the end of the proved program the script waits, to tell of waits if it is stopped; where
+# standard input is closed it can't, as what runs in the background is given another one.
+run() {
+    local words=(run)
+    if [ "${1-}" = --journal ]; then words+=("$1") && shift; fi
+    if [ $# -gt 0 ]; then read_from "$1"; fi
+    if [ "${1--}" != - ]; then workload=$1; fi
+    if ! is_proved "$command_crate"; then run_unproved "$command_crate" "${words[@]}"; fi
+    need_processor "$command_crate"
+    if ! { : <&0; } 2>/dev/null; then become_program "$command_crate" "${words[@]}"; fi
+    on_signals tell_where_waits_are
+    (become_program "$command_crate" "${words[@]}") <&0 &
+    processes=($!)
+    wait "$!"
+    leave "$?"
+}
+
+# `check [FILE [KEPT]]`.
+check() {
+    if [ $# -eq 0 ]; then run_program "$command_crate" check; fi
+    make_scratch
+    on_signals true
+    take_file "$1" input
+    if [ $# -eq 2 ]; then
+        take_file "$2" kept
+        need_journal kept "$2"
+        join_journal input kept whole
+    else
+        need_journal input "$1"
+        mv "$scratch/input" "$scratch/whole"
+    fi
+    program_on "$command_crate" whole verdict check
+    show "$scratch/verdict"
+    leave "$ended_with"
+}
+
+# Fills `whole` with a journal, behind its workload where that is known: of the files, or of a run of the first one.
+take_run() {
+    take_file "${1--}" input
+    if [ $# -eq 2 ]; then
+        take_file "$2" kept
+        need_journal kept "$2"
+        join_journal input kept whole
+    elif begins_with_report input; then
+        need_journal input "${1--}"
+        journal_in input >"$scratch/whole"
+    elif [ "${1--}" = - ] || has_journal input; then
+        need_journal input "${1--}"
+        mv "$scratch/input" "$scratch/whole"
+    else
+        command_on input ran run --journal
+        join_journal input ran whole
+    fi
+}
+
+# `picture` and `trace`: the words of the program, how many these are before, and the files behind them.
+draw() {
+    local words=("${@:2:$1}")
+    shift $(($1 + 1))
+    make_scratch
+    on_signals true
+    take_run "$@"
+    program_on mtapi_picture whole drawn "${words[@]}"
+    show "$scratch/drawn"
+    leave "$ended_with"
+}
+
+# `explain [FILE]`: of a file each mistake stands behind the file's name, as compilers have it.
+explain() {
+    if [ $# -eq 0 ]; then run_program mtapi_explain; fi
+    make_scratch
+    on_signals true
+    take_file "$1" text
+    program_on mtapi_explain text told
+    place_mistakes "$(name_of "$1")" >"$scratch/placed"
+    show "$scratch/placed"
+    leave "$ended_with"
+}
+
+place_mistakes() {
+    LC_ALL=C name=$1 awk -v bold="$bold" -v plain="$plain" '
+        match($0, /^line [0-9]+, column [0-9]+: /) {
+            split($0, words, /[ ,:]+/)
+            print bold ENVIRON["name"] ":" words[2] ":" words[4] ":" plain " " substr($0, RLENGTH + 1)
+            next
+        }
+        { print }' "$scratch/told"
+}
