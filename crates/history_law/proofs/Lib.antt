@@ -17,6 +17,8 @@ pub mod Order
 pub mod Ordered
 pub mod Refused
 pub mod RefusedRuns
+pub mod RefusedCauses
+pub mod RefusedClauses
 pub mod Behind
 pub mod Answered
 pub mod OnceIssued

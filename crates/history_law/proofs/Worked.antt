@@ -19,7 +19,7 @@ ends_once : EndsOnce usual one_task first_handle
 unfolding one_task opened start run
 ends_once = accepted_end usual one_task (opened ++ start ∷ run) 1 one_task-legal refl opened (run ++ main op.Final reply.Ok ∷ []) start first_handle refl refl
 
-computed : end_at (after usual one_task).tasks first_handle ≡ Some (Completed (pos 5 ∷ []))
+pub computed : end_at (after usual one_task).tasks first_handle ≡ Some (Completed (pos 5 ∷ []))
 unfolding one_task end_at after_from live_of issue change listed issued_at retired is_full may_issue has_worker end_each is_ready can_take has_better
 computed = refl
 

@@ -10,6 +10,8 @@ pub mod Order
 pub mod Ordered
 pub mod Refused
 pub mod RefusedRuns
+pub mod RefusedCauses
+pub mod RefusedClauses
 pub mod Exclusion
 pub mod Told
 pub mod Tally

@@ -1,6 +1,7 @@
 pub mod Names
 mod Replays
 mod Worked
+mod WorkedWords
 mod BoxLemmas
 mod Relisted
 mod RingLemmas

@@ -10,3 +10,4 @@ pub mod Fifo
 pub mod Laws
 pub mod Legal
 pub mod Worked
+pub mod WorkedWords

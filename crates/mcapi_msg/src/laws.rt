@@ -5,6 +5,7 @@ ghost use Rattle.mcapi_msg.specs.Fifo.{sent_to, received_at};
 ghost use Rattle.mcapi_msg.specs.Laws.{RefusalsStay};
 ghost use Rattle.mcapi_msg.specs.Legal.{Legal};
 ghost use Rattle.mcapi_msg.specs.Worked.{WorkedHistories};
+ghost use Rattle.mcapi_msg.specs.WorkedWords.{WorkedWords};
 
 use crate::messages::EndpointHandle;
 use crate::ops::MsgEntry;
@@ -32,7 +33,9 @@ pub fn law_refused()
     ensures { RefusalsStay }
 {}
 
-/// The worked histories are legal or not, as they should be.
+/// The worked histories are legal or not, as they should be; what the words of the laws say of worked lists, and which lists the laws
+/// refuse; and the numbers of the statuses.
 pub fn worked_histories()
-    ensures { WorkedHistories }
+    ensures histories { WorkedHistories }
+    ensures words { WorkedWords }
 {}

@@ -21,6 +21,7 @@ pub mod WorkedWork
 pub mod WorkedTallies
 pub mod WorkedResources
 pub mod WorkedLayouts
+pub mod WorkedLimits
 pub mod Alone
 pub mod EachKind
 pub mod Derived

@@ -1,6 +1,7 @@
 -- A table of worked lines is decided by computing: its replay is the history that it tells, and at each line the machine's own reply
 -- differs from the wrong ones.
 use Rattle.mtapi_machine.proofs.Names.{◌≡◌, ℕ, ◌≤◌, Bool, true, false, List, ◌∷◌, ◌++◌, Option, Some, None, refl, ◌∙◌, ap, arith, ℤ, pos, negsuc, ◌&&◌, ◌==◌, if◌then◌else◌, nat_tests, TaskEnd, Completed, Cancelled, Failed, kind_number, entry, Terms, Reply, Ok, Handle, Number, Given, Pending, Picked, Idle, Stop, Asked, Mtapi, Mrapi, State, opening, NodeEntry, IsNext, Fits, row_of, next, LegalFrom, after_from, Legal, answer, replay, Line, reported, NoneIsLegal, WrongIsIllegal, Works, node_of, small, one_generation, single, []}
+use Rattle.mtapi_machine.specs.WorkedLimits.{unlike}
 use Rattle.mtapi_values.specs.Statuses.{mtapi_number, mrapi_number}
 use Rattle.mtapi_machine.specs.declared.replies.Reply.TheVariants.{Ended}
 use Rattle.mtapi_machine.proofs.Replays.{answer-allowed, legal_if}
@@ -103,3 +104,6 @@ fits_one_generation = grind (arith, nat_tests)
 
 pub fits_single : Fits single
 fits_single = grind (arith, nat_tests)
+
+pub fits_unlike : Fits unlike
+fits_unlike = grind (arith, nat_tests)

@@ -28,3 +28,4 @@ pub mod WorkedWork
 pub mod WorkedTallies
 pub mod WorkedResources
 pub mod WorkedLayouts
+pub mod WorkedLimits

@@ -171,8 +171,22 @@ too_great =
     ∷ line 2 (op.MutexLook (mutex h1) false) (reply.Number (pos 1)) (reply.Pending ∷ [])
     ∷ []
 
+-- a tally with five arguments
+unfoldable pub five_arguments : List Line
+five_arguments =
+    asks op.Initialize reply.Ok
+    ∷ asks (action_of kind.Tally) (reply.Handle h1)
+    ∷ asks (op.MutexCreate 1 false) (reply.Handle h1)
+    ∷ asks (op.ShmemCreate 2 1) (reply.Handle h1)
+    ∷ asks (start (pos 1 ∷ pos 2 ∷ pos 0 ∷ pos 5 ∷ pos 7 ∷ [])) (reply.Handle h1)
+    ∷ line 0 op.Pick (picked h1 kind.Tally (pos 1 ∷ pos 2 ∷ pos 0 ∷ pos 5 ∷ pos 7 ∷ [])) []
+    ∷ line 0 (lock h1) (reply.Asked false) (reply.Asked true ∷ [])
+    ∷ line 0 (end h1) (reply.Ended (Failed status.ErrArgSize)) (reply.Ended (Failed status.ErrActionFailed) ∷ [])
+    ∷ []
+
 pub record WorkedTallies : Type 0 where
   pub both_added : Works (node_of 2 4 2) both_added
   pub no_cell : Works (node_of 2 4 2) no_cell
   pub bad_tallies : Works (node_of 2 4 2) bad_tallies
   pub too_great : Works (node_of 2 4 2) too_great
+  pub five_arguments : Works (node_of 2 4 2) five_arguments

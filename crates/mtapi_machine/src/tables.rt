@@ -11,6 +11,7 @@ ghost use Rattle.mtapi_machine.specs.WorkedWork.{WorkedWork};
 ghost use Rattle.mtapi_machine.specs.WorkedTallies.{WorkedTallies};
 ghost use Rattle.mtapi_machine.specs.WorkedResources.{WorkedResources};
 ghost use Rattle.mtapi_machine.specs.WorkedLayouts.{WorkedLayouts};
+ghost use Rattle.mtapi_machine.specs.WorkedLimits.{WorkedLimits};
 
 /// Two whole runs of a node.
 pub fn worked_histories()
@@ -60,4 +61,9 @@ pub fn worked_resources()
 /// Layout two, in which a handle names the kind of its object.
 pub fn worked_layouts()
     ensures { WorkedLayouts }
+{}
+
+/// How many objects of each kind a node may have, where its settings all differ; and the ranges of the settings.
+pub fn worked_limits()
+    ensures { WorkedLimits }
 {}

@@ -1,5 +1,5 @@
 -- Worked rows of the objects: what calls on one are refused for and what they leave. Each is decided by computing.
-use Rattle.std.specs.Prelude.{◌≡◌, ℕ, Bool, true, false, List, [], ◌∷◌, Some, None, pos}
+use Rattle.std.specs.Prelude.{◌≡◌, ℕ, Bool, true, false, List, [], ◌∷◌, map, Some, None, pos, negsuc}
 use Rattle.mtapi_values.specs.declared.kinds.Kind.TheVariants as kind
 use Rattle.mtapi_values.specs.declared.statuses.MrapiStatus.TheVariants.{ErrMutexLocked, ErrMutexNotlocked, ErrMutexKey, ErrMutexLockorder, ErrSemNotlocked, ErrRwlLocked, ErrRwlNotlocked, ErrShmNotattached, ErrShmAttached, ErrParameter}
 use Rattle.mtapi_values.specs.declared.statuses.MtapiStatus.TheVariants.{ErrWaitPending, ErrArgSize, ErrActionFailed, ErrTaskCancelled}
@@ -7,12 +7,12 @@ use Rattle.mtapi_values.specs.declared.ends.TaskEnd.TheVariants.{Completed, Canc
 use Rattle.mtapi_values.specs.Conditions.{first}
 use Rattle.handle_pool.specs.Issued.{Listed}
 use Rattle.mtapi_objects.specs.Actions.{new_action, has_worker}
-use Rattle.mtapi_objects.specs.Tasks.{Task, NewTask, Running, Ended, new_task, with_state, with_notes, with_waiter, end_each, is_unstarted, task_look_refusals, watch_end}
+use Rattle.mtapi_objects.specs.Tasks.{Task, NewTask, Running, Ended, new_task, with_state, with_notes, with_waiter, end_each, is_unstarted, task_look_refusals, kind_number, watch_end, tally_args}
 use Rattle.mtapi_objects.specs.Groups.{endings, first_fault}
 use Rattle.mtapi_objects.specs.Queues.{Queue, lets, opened}
 use Rattle.mtapi_objects.specs.Mutexes.{Mutex, new_mutex, mutex_look_refusals, mutex_busy, locked_by, mutex_unlock_refusals, unlocked}
 use Rattle.mtapi_objects.specs.Sems.{Sem, new_sem, sem_busy, sem_taken, sem_unlock_refusals}
-use Rattle.mtapi_objects.specs.Rwls.{Rwl, new_rwl, rwl_busy, rwl_look_refusals, rwl_taken, rwl_unlock_refusals}
+use Rattle.mtapi_objects.specs.Rwls.{Rwl, new_rwl, rwl_busy, rwl_create_refusals, rwl_look_refusals, rwl_taken, rwl_unlock_refusals}
 use Rattle.mtapi_objects.specs.Segments.{Segment, new_segment, cell_refusals, with_cell, with_attached, shmem_delete_refusals}
 
 -- a recursive mutex that seat 3 has locked twice
@@ -27,6 +27,8 @@ pub record WorkedMutexes : Type 0 where
   pub another : first (mutex_unlock_refusals 4 2 locked_twice) ≡ Some ErrMutexNotlocked
   pub once_more : first (mutex_look_refusals 3 locked_twice) ≡ None
   pub not_recursive : first (mutex_look_refusals 3 (locked_by 3 (new_mutex 1 false))) ≡ Some ErrMutexLocked
+  pub deepest : first (mutex_look_refusals 3 (record locked_twice { depth = 63 })) ≡ None
+  pub too_deep : first (mutex_look_refusals 3 (record locked_twice { depth = 64 })) ≡ Some ErrMutexLocked
   pub busy : mutex_busy 4 locked_twice ≡ true
   pub once : (unlocked locked_twice).owner ≡ Some 3
   pub free : unlocked (unlocked locked_twice) ≡ new_mutex 1 true
@@ -46,6 +48,9 @@ pub record WorkedRwls : Type 0 where
   pub writer_beside_writer : rwl_busy true with_writer ≡ true
   pub reads_twice : first (rwl_look_refusals 0 with_reader) ≡ Some ErrRwlLocked
   pub other_mode : first (rwl_unlock_refusals 0 true with_reader) ≡ Some ErrRwlNotlocked
+  pub no_readers : first (rwl_create_refusals 0) ≡ Some ErrParameter
+  pub most_readers : first (rwl_create_refusals 32) ≡ None
+  pub more_readers : first (rwl_create_refusals 33) ≡ Some ErrParameter
 
 -- a semaphore of two that seats 0 and 1 hold
 abbrev pub held : Sem
@@ -96,6 +101,15 @@ pub record WorkedTasks : Type 0 where
   pub seen : watch_end (with_notes (λ n. record n { seen = true }) (task_of 0)) ≡ Cancelled
   pub too_long : watch_end (record (task_of 0) { args = pos 65 ∷ [] }) ≡ Failed ErrActionFailed
   pub no_args : watch_end (record (task_of 0) { args = [] }) ≡ Failed ErrArgSize
+  pub longest : watch_end (record (task_of 0) { args = pos 64 ∷ [] }) ≡ Completed (pos 64 ∷ [])
+  -- each kind has a number of its own; a tally takes four arguments, of which the last alone may be negative
+  pub kinds : map kind_number (kind.Add ∷ kind.Mul ∷ kind.Max ∷ kind.Div ∷ kind.Gcd ∷ kind.Echo ∷ kind.Triangle ∷ kind.Fail ∷ kind.Watch ∷ kind.Tally ∷ []) ≡ (1 ∷ 2 ∷ 3 ∷ 4 ∷ 5 ∷ 6 ∷ 7 ∷ 8 ∷ 9 ∷ 10 ∷ [])
+  pub four : tally_args (pos 1 ∷ pos 2 ∷ pos 3 ∷ negsuc 4 ∷ []) ≡ Some (record { mutex = 1; segment = 2; cell = 3; number = negsuc 4 })
+  pub three : tally_args (pos 1 ∷ pos 2 ∷ pos 3 ∷ []) ≡ None
+  pub five : tally_args (pos 1 ∷ pos 2 ∷ pos 3 ∷ pos 4 ∷ pos 5 ∷ []) ≡ None
+  pub negative_mutex : tally_args (negsuc 1 ∷ pos 2 ∷ pos 3 ∷ pos 4 ∷ []) ≡ None
+  pub negative_segment : tally_args (pos 1 ∷ negsuc 2 ∷ pos 3 ∷ pos 4 ∷ []) ≡ None
+  pub negative_cell : tally_args (pos 1 ∷ pos 2 ∷ negsuc 3 ∷ pos 4 ∷ []) ≡ None
 
 -- the second member ended first, and was cancelled; then the first one failed
 abbrev pub two_ended : List (ℕ × Task)

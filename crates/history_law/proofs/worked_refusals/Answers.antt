@@ -1,5 +1,7 @@
 use Rattle.history_law.proofs.Refused.{laws_refuse}
 use Rattle.history_law.proofs.RefusedRuns.{run_laws_refuse}
+use Rattle.history_law.proofs.RefusedCauses.{causes_refuse}
+use Rattle.history_law.proofs.RefusedClauses.{clauses_refuse}
 use Rattle.history_law.proofs.worked_refusals.Goals as goal
 
 pub returns-clause-of_lists : goal.returns-clause-of_lists
@@ -7,3 +9,9 @@ returns-clause-of_lists c = laws_refuse
 
 pub returns-clause-of_runs : goal.returns-clause-of_runs
 returns-clause-of_runs c = run_laws_refuse
+
+pub returns-clause-of_causes : goal.returns-clause-of_causes
+returns-clause-of_causes c = causes_refuse
+
+pub returns-clause-of_clauses : goal.returns-clause-of_clauses
+returns-clause-of_clauses c = clauses_refuse

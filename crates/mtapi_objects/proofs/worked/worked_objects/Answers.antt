@@ -14,6 +14,8 @@ mutexes = record {
   another = refl;
   once_more = refl;
   not_recursive = refl;
+  deepest = refl;
+  too_deep = refl;
   busy = refl;
   once = refl;
   free = refl;
@@ -28,6 +30,9 @@ rwls = record {
   writer_beside_writer = refl;
   reads_twice = refl;
   other_mode = refl;
+  no_readers = refl;
+  most_readers = refl;
+  more_readers = refl;
 }
 
 sems : WorkedSems
@@ -58,6 +63,14 @@ tasks = record {
   seen = refl;
   too_long = refl;
   no_args = refl;
+  longest = refl;
+  kinds = refl;
+  four = refl;
+  three = refl;
+  five = refl;
+  negative_mutex = refl;
+  negative_segment = refl;
+  negative_cell = refl;
 }
 
 groups : WorkedGroups
