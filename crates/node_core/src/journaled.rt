@@ -135,7 +135,8 @@ impl Object for Journaled {
 
     fn apply(&mut self, who: u32, op: Op) -> Reply {
         let alike = self.node.pends_alike(who, &op);
-        let reply = self.node.execute(who, &op);
+        let mut reply = Reply::Idle;
+        self.node.execute(who, &op, &mut reply);
         self.log.add(who, op, &reply, alike);
         reply
     }

@@ -99,21 +99,22 @@ impl Node {
         ensures terms { terms_of self.new ≡ terms_of self.old }
         ensures stands { (L : List NodeEntry) → Stands self.old L → Stands self.new (L ++ entry who op result ∷ []) }
     {
-        self.execute(who, &op)
+        let mut reply = Reply::Idle;
+        self.execute(who, &op, &mut reply);
+        reply
     }
 
-    // The same. The op is read where it stands.
-    pub(crate) fn execute(&mut self, who: u32, op: &Op) -> Reply
+    // The same. The op is read where it stands, and the reply put where it is wanted.
+    pub(crate) fn execute(&mut self, who: u32, op: &Op, reply: &mut Reply)
         requires seat { who < seat_count (terms_of self.old) }
         requires room { (L : List NodeEntry) × Stands self.old L × (length L < 2 ^ 62 + 16) }
         ensures terms { terms_of self.new ≡ terms_of self.old }
         ensures stands { (L : List NodeEntry) → Stands self.old L
-            → Stands self.new (L ++ entry who op.now result ∷ []) }
+            → Stands self.new (L ++ entry who op.now reply.new ∷ []) }
     {
         let kind = answered_kind(op);
-        let mut reply = self.inner.step_inward(who, op);
-        turn_outward(kind, &mut reply);
-        reply
+        self.inner.step_inward(who, op, reply);
+        turn_outward(kind, reply);
     }
 
     /// What a node is that stands for a list: it agrees with the state that its callers see, kind by kind and index by index. It

@@ -61,18 +61,17 @@ impl Node {
     }
 
     /// Executes the op that a caller asked, with each handle as the pool of its kind has it: it does
-    /// what `step` does with that op. The op is read where it stands.
-    pub fn step_inward(&mut self, who: u32, op: &Op) -> Reply
+    /// what `step` does with that op. The op is read where it stands, and the reply put where it is wanted.
+    pub fn step_inward(&mut self, who: u32, op: &Op, reply: &mut Reply)
         requires seat { who < seat_count (terms_of self.old) }
         requires room { (L : List NodeEntry) × Stands self.old L × (length L < 2 ^ 62 + 16) }
         ensures terms { terms_of self.new ≡ terms_of self.old }
         ensures stands { (L : List NodeEntry) → Stands self.old L
-            → Stands self.new (L ++ entry who (inward_op op.now) result ∷ []) }
-        ensures small { IssuesSmall (inward_op op.now) result }
+            → Stands self.new (L ++ entry who (inward_op op.now) reply.new ∷ []) }
+        ensures small { IssuesSmall (inward_op op.now) reply.new }
     {
-        let reply = self.dispatch(&Inwards, who, op);
+        *reply = self.dispatch(&Inwards, who, op);
         self.board.is_kept();
-        reply
     }
 
     /// Tells whether the state would stay as it is, were this op answered Pending.

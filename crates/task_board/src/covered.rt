@@ -17,11 +17,13 @@ struct KnownCover {
     cover: Cover,
 }
 
-/// Actions, and the cover of a job that was asked to be kept, until an action changes.
+/// Actions, and the covers of the last two jobs whose covers were asked to be kept, until an action changes.
 #[derive(Drop)]
 pub(crate) struct CoveredActions {
     actions: Actions,
     known: Option<KnownCover>,
+    // The one that was kept before.
+    earlier: Option<KnownCover>,
 }
 
 impl Model for CoveredActions {
@@ -34,7 +36,7 @@ impl Model for CoveredActions {
 
     ghost view = { λ a. a.actions };
 
-    ghost invariant = { λ a. IfSome a.known (λ k. Covers a.actions k.job k.cover) };
+    ghost invariant = { λ a. IfSome a.known (λ k. Covers a.actions k.job k.cover) × IfSome a.earlier (λ k. Covers a.actions k.job k.cover) };
 }
 
 impl CoveredActions {
@@ -53,6 +55,7 @@ impl CoveredActions {
         Ok(CoveredActions {
             actions: Actions::new(alloc, max, generations)?,
             known: None,
+            earlier: None,
         })
     }
 
@@ -66,6 +69,7 @@ impl CoveredActions {
         ensures { Creates self.old job kind cores.0 result self.new }
     {
         self.known = None;
+        self.earlier = None;
         self.actions.create(job, kind, cores)
     }
 
@@ -97,6 +101,7 @@ impl CoveredActions {
         ensures err { OnErr result (self.new ≡ self.old) }
     {
         self.known = None;
+        self.earlier = None;
         self.actions.delete(a)
     }
 
@@ -106,6 +111,7 @@ impl CoveredActions {
         ensures new { self.new ≡ changed self.old a.0 (with_enabled true) }
     {
         self.known = None;
+        self.earlier = None;
         self.actions.enable(a)
     }
 
@@ -115,6 +121,7 @@ impl CoveredActions {
         ensures new { self.new ≡ changed self.old a.0 (with_enabled false) }
     {
         self.known = None;
+        self.earlier = None;
         self.actions.disable(a)
     }
 
@@ -124,16 +131,32 @@ impl CoveredActions {
     {
         match self.known {
             Some(known) if known.job == job => known.cover,
+            _ => self.earlier_cover(job),
+        }
+    }
+
+    // The same, by what was kept before the last.
+    fn earlier_cover(&self, job: u32) -> Cover
+        ensures { Covers self.now job result }
+    {
+        match self.earlier {
+            Some(known) if known.job == job => known.cover,
             _ => self.actions.cover(job),
         }
     }
 
-    // Keeps the cover of a job in place of the one that was kept.
+    // Keeps the cover of a job beside the one that was kept last. One that was kept before that is given up.
     pub(crate) fn keep_cover(&mut self, job: u32)
         ensures { self.new ≡ self.old }
     {
         let cover = self.cover(job);
-        self.known = Some(KnownCover { job, cover });
+        match self.known {
+            Some(known) if known.job == job => {}
+            _ => {
+                self.earlier = self.known;
+                self.known = Some(KnownCover { job, cover });
+            }
+        }
     }
 
     // An action for the worker, as `Actions::choice` says it.

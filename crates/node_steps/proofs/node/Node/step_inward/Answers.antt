@@ -3,20 +3,20 @@ use Rattle.node_steps.proofs.InitSteps.{goes_on, few_starts, few_seats, same_ter
 use Rattle.node_steps.proofs.NewHandles.{issues_small}
 use Rattle.node_steps.proofs.node.Node.step_inward.Goals as goal
 
-pub dispatch-reply-requires-clause-few_starts : goal.dispatch-reply-requires-clause-few_starts
-dispatch-reply-requires-clause-few_starts c = few_starts c.args.self.now c.requires.room.0 c.requires.room.1 (omega (arith, c.requires.room.2))
+pub dispatch-requires-clause-few_starts : goal.dispatch-requires-clause-few_starts
+dispatch-requires-clause-few_starts c = few_starts c.args.self.now c.requires.room.0 c.requires.room.1 (omega (arith, c.requires.room.2))
 
-pub dispatch-reply-requires-clause-seat : goal.dispatch-reply-requires-clause-seat
-dispatch-reply-requires-clause-seat c = few_seats c.args.self.now c.requires.room.0 c.args.who c.requires.room.1 c.requires.seat
+pub dispatch-requires-clause-seat : goal.dispatch-requires-clause-seat
+dispatch-requires-clause-seat c = few_seats c.args.self.now c.requires.room.0 c.args.who c.requires.room.1 c.requires.seat
 
 pub returns-clause-terms : goal.returns-clause-terms
-returns-clause-terms c = same_terms c.args.self.now c.dispatch-reply.new.self _ _ _ c.requires.room.0 c.requires.room.1 c.dispatch-reply.ensures
+returns-clause-terms c = same_terms c.args.self.now c.dispatch.new.self _ _ _ c.requires.room.0 c.requires.room.1 c.dispatch.ensures
 
 pub returns-clause-stands : goal.returns-clause-stands
-returns-clause-stands c L st = goes_on c.args.self.now c.dispatch-reply.new.self L c.args.who (inward_op c.args.op.now) c.dispatch-reply.result st c.requires.seat (c.dispatch-reply.ensures st.lists st.live (sound c.args.self.now L st)) c.is_kept.ensures
+returns-clause-stands c L st = goes_on c.args.self.now c.dispatch.new.self L c.args.who (inward_op c.args.op.now) c.dispatch.result st c.requires.seat (c.dispatch.ensures st.lists st.live (sound c.args.self.now L st)) c.is_kept.ensures
 
 pub returns-clause-small : goal.returns-clause-small
 returns-clause-small c =
     let L = c.requires.room.0 in
     let st = c.requires.room.1 in
-    issues_small c.args.self.now c.dispatch-reply.new.self st.lists c.args.who (inward_op c.args.op.now) c.dispatch-reply.result (c.dispatch-reply.ensures st.lists st.live (sound c.args.self.now L st))
+    issues_small c.args.self.now c.dispatch.new.self st.lists c.args.who (inward_op c.args.op.now) c.dispatch.result (c.dispatch.ensures st.lists st.live (sound c.args.self.now L st))
