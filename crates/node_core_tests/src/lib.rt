@@ -1,5 +1,5 @@
-//! Tests of the node and its cell: worked histories, journals, a long one too, the laws of one that a node kept, resources; objects in a
-//! cell, messages, and ends that are read without a turn. No product stands on this crate.
+//! Tests of the node and its cell: first handles, journals, a long one too, the laws of one that a node kept, resources; threads that call
+//! one node, messages, and ends that are read without a turn. No product stands on this crate.
 #![tactic(auto)]
 
 #[cfg(test)]

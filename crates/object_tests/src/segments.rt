@@ -9,6 +9,7 @@ fn cells_are_zero_again_in_a_new_segment(rt: HostRuntime) -> Result<(), Fail> {
     assert!(rt; segments.attach(s, 0) == Ok(()));
     assert!(rt; segments.write(s, 0, 0, 7) == Ok(()));
     assert!(rt; segments.read(s, 0, 0) == Ok(7));
+    assert!(rt; segments.delete(s) == Err(MrapiStatus::ErrShmAttached));
     assert!(rt; segments.detach(s, 0) == Ok(()));
     assert!(rt; segments.delete(s) == Ok(()));
     let r = segments.create(1, 1).ok().ok_or("refused")?;

@@ -44,7 +44,7 @@ use workload_runs::Wanted;
 /// # Examples
 ///
 /// Main opens the node, starts a task, and waits for it with as many looks as it takes. The crate
-/// `mtapi_embedding` is a whole program with a node, its cell, two workers and such a caller.
+/// `mtapi_two_callers` is a whole program with a node and such callers.
 ///
 /// ```text
 /// let mut caller = Caller::new(cell, seat);
