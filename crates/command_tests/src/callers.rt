@@ -8,7 +8,7 @@ use mtapi_values::{
     TaskAttr, TaskEnd, Timeout,
 };
 use node_core::{Journaled, Node};
-use sched_workers::callers::Caller;
+use sched_workers::Caller;
 use std::sync::Wait;
 use std::test::Fail;
 use turn_cell::{TurnCell, TurnSeat};

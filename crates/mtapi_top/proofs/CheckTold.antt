@@ -1,8 +1,7 @@
--- What the ends of `check` say of the outcome.
-use Rattle.mtapi_top.proofs.Names.{◌≡◌, ◌⊎◌, ℕ, List, Option, Some, None, refl, sym, ap, subst, inl, inr, IfSome, Rose, Workload, Journal, Verdict, IsVerdict, End, Outcome, status_of, verdict_status, Channels, Checks, IsInput, IsRefusedInput}
+-- What the ends of `check` say of the status.
+use Rattle.mtapi_top.proofs.Names.{◌≡◌, ◌⊎◌, ℕ, List, Option, Some, None, refl, ap, subst, inl, inr, IfSome, Rose, Workload, Journal, Verdict, IsVerdict, End, status_of, verdict_status, Channels, Checks, IsInput, IsRefusedInput}
 use Rattle.journal_check.specs.declared.verdicts.Verdict.TheVariants as verdict
 use Rattle.mtapi_top.specs.declared.ends.End.TheVariants as end
-use Rattle.mtapi_top.proofs.Refused.{Told, told_status}
 use Rattle.mtapi_top.proofs.Judged.{input_not_refused, same_load, same_journal, same_verdict, unjudged_refused}
 
 -- with 3 the input is refused
@@ -14,7 +13,7 @@ not_three t verdict.Yes q = absurd (cc)
 not_three t (verdict.Illegal n) q = absurd (cc)
 not_three t verdict.NotRun q = absurd (cc)
 
-refused_input : (bytes : Option (List ℕ)) (a b : Channels) (e : End) → Checks bytes a b e → SaysRefused bytes (status_of e)
+pub refused_input : (bytes : Option (List ℕ)) (a b : Channels) (e : End) → Checks bytes a b e → SaysRefused bytes (status_of e)
 refused_input None a b e h = λ q. tt
 refused_input (Some t) a b (end.Judged v) h = not_three t v
 refused_input (Some t) a b (end.VerdictFault v) h = λ q. absurd (cc)
@@ -26,10 +25,6 @@ refused_input (Some t) a b end.JournalCut h = λ q. unjudged_refused t end.Journ
 refused_input (Some t) a b end.ReadFault h = λ q. absurd (cc)
 refused_input (Some t) a b end.Memory h = λ q. absurd (cc)
 refused_input (Some t) a b _ h = absurd h
-
-pub refused_told : (bytes : Option (List ℕ)) (a b : Channels) (e : End) (f f' : ℕ) (p p' : Option (List ℕ)) (outcome : Outcome) → Checks bytes a b e → Told e f f' p p' outcome
-    → outcome.status ≡ 3 → IfSome bytes IsRefusedInput
-refused_told bytes a b e f f' p p' outcome h t = told_status (SaysRefused bytes) e f f' p p' outcome (refused_input bytes a b e h) (λ six. absurd (cc)) t
 
 -- what is refused has the status 3, but for want of memory
 abbrev RefusedOrMemory : ℕ → Type 0
@@ -47,10 +42,9 @@ refused_status t a b end.ReadFault h r i = absurd (r h.0)
 refused_status t a b end.Memory h r i = inr refl
 refused_status t a b _ h r i = absurd h
 
-pub refused_where : (bytes : Option (List ℕ)) (a b : Channels) (e : End) (f f' : ℕ) (p p' : Option (List ℕ)) (outcome : Outcome) → Checks bytes a b e → Told e f f' p p' outcome
-    → (Rose a.reads b.reads → ⊥) → IfSome bytes (λ t. IsRefusedInput t → RefusedOrMemory outcome.status)
-refused_where None a b e f f' p p' outcome h t r = tt
-refused_where (Some x) a b e f f' p p' outcome h t r = λ i. told_status RefusedOrMemory e f f' p p' outcome (refused_status x a b e h r i) (inr refl) t
+pub refused_where : (bytes : Option (List ℕ)) (a b : Channels) (e : End) → Checks bytes a b e → (Rose a.reads b.reads → ⊥) → IfSome bytes (λ t. IsRefusedInput t → RefusedOrMemory (status_of e))
+refused_where None a b e h r = tt
+refused_where (Some x) a b e h r = λ i. refused_status x a b e h r i
 
 -- the verdict on the input decides, but for want of memory
 decided : (t : List ℕ) (a b : Channels) (e : End) → Checks (Some t) a b e → (Rose a.reads b.reads → ⊥) → (Rose a.writes b.writes → ⊥)
@@ -70,9 +64,7 @@ decided t a b end.ReadFault h r o load j v i is = absurd (r h.0)
 decided t a b end.Memory h r o load j v i is = inr refl
 decided t a b _ h r o load j v i is = absurd h
 
-pub check_decides : (bytes : Option (List ℕ)) (a b : Channels) (e : End) (f f' : ℕ) (p p' : Option (List ℕ)) (outcome : Outcome) → Checks bytes a b e → Told e f f' p p' outcome
-    → (Rose a.reads b.reads → ⊥) → (Rose a.writes b.writes → ⊥)
-    → IfSome bytes (λ t. (load : Workload) (j : Journal) (v : Verdict) → IsInput t load j → IsVerdict load j v → (outcome.status ≡ verdict_status v) ⊎ (outcome.status ≡ 6))
-check_decides None a b e f f' p p' outcome h t r w = tt
-check_decides (Some x) a b e f f' p p' outcome h t r w = λ load j v i is.
-    told_status (λ (n : ℕ). (n ≡ verdict_status v) ⊎ (n ≡ 6)) e f f' p p' outcome (decided x a b e h r w load j v i is) (inr refl) t
+pub check_decides : (bytes : Option (List ℕ)) (a b : Channels) (e : End) → Checks bytes a b e → (Rose a.reads b.reads → ⊥) → (Rose a.writes b.writes → ⊥)
+    → IfSome bytes (λ t. (load : Workload) (j : Journal) (v : Verdict) → IsInput t load j → IsVerdict load j v → (status_of e ≡ verdict_status v) ⊎ (status_of e ≡ 6))
+check_decides None a b e h r w = tt
+check_decides (Some x) a b e h r w = λ load j v i is. decided x a b e h r w load j v i is

@@ -6,7 +6,7 @@ use Rattle.journal_text.specs.declared.heads.Head.{Head}
 use Rattle.journal_text.specs.Fits.{HasPlace, IsWritable}
 use Rattle.journal_text.specs.Lines.{has_words}
 use Rattle.journal_text.specs.Journals.{journal_of}
-use Rattle.journal_check.specs.declared.verdicts.Verdict.TheVariants.{Yes, Illegal, NotRun}
+use Rattle.journal_check.specs.declared.verdicts.Verdict.TheVariants.{Yes}
 use Rattle.journal_check.proofs.Prefixes.{legal_front}
 use Rattle.journal_text.specs.Splits.{IsSplit}
 use Rattle.mtapi_top.proofs.Carried.{has_part, told_legal}

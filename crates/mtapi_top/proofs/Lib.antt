@@ -7,3 +7,5 @@ mod Judged
 mod CheckTold
 mod Ended
 mod Kept
+mod Comes
+mod Told

@@ -13,7 +13,7 @@ pub use Rattle.mtapi_machine.specs.Legal.{Legal, NodeEntry}
 pub use Rattle.mtapi_machine.specs.State.{opening, terms_with}
 pub use Rattle.mtapi_top.specs.Check.{Channels, Checks, FrontFails, IsInput, IsRefusedInput, IsUnjudged, RestFails}
 pub use Rattle.mtapi_top.specs.Command.{Ends, HasRead, IsRefused, IsTold, IsWorkload, Outside, has_line, status_of, verdict_status}
-pub use Rattle.mtapi_top.specs.Ended.{HasEnded, IsPastReading, IsReadFor, StartsNothing, Streams, channels, outside}
+pub use Rattle.mtapi_top.specs.Ended.{HasEnded, IsPastReading, IsReadFor, StartsNothing}
 pub use Rattle.mtapi_top.specs.Headline.{IsLoadOf, IsRead, IsReadAgain, IsTextTwo, Ran, output}
 pub use Rattle.mtapi_top.specs.Settled.{GeneratedIsSettled, IsPlainOutput, generated_summary}
 pub use Rattle.mtapi_top.specs.Words.{InRange, asked_of, judges, reads, texts}
@@ -23,7 +23,7 @@ pub use Rattle.mtapi_top.specs.declared.words.Asked.{Asked}
 pub use Rattle.mtapi_values.specs.declared.handles.Layout.{Layout}
 pub use Rattle.mtapi_values.specs.declared.handles.Layout.TheVariants.{Two}
 pub use Rattle.node_journals.specs.declared.entries.Journal.{Journal}
-pub use Rattle.sched_workers.specs.Runs.{IsRun, terms_for}
+pub use Rattle.workload_runners.specs.Runs.{IsRun, terms_for}
 pub use Rattle.settled_runs.specs.Plain.{action_in, actions_in, plain_report, queue_in}
 pub use Rattle.settled_runs.specs.Settled.{both, fault_in, has_new_id, has_room, makes_action, makes_group, makes_task, puts_into, serves}
 pub use Rattle.workload_file.specs.Formed.{MainFirst, WellFormed}

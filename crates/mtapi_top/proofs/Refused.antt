@@ -3,7 +3,6 @@ use Rattle.mtapi_top.proofs.Names.{◌≡◌, ◌⊎◌, ℕ, true, List, Option
 use Rattle.workload_file.specs.declared.faults.LoadError.{LoadError}
 use Rattle.mtapi_top.specs.declared.words.Asked.TheVariants as asks
 use Rattle.mtapi_top.specs.declared.ends.End.TheVariants as end
-use Rattle.mtapi_top.specs.Command.{journal_of}
 
 -- what was told of an end
 abbrev pub Told : End → ℕ → ℕ → Option (List ℕ) → Option (List ℕ) → Outcome → Type 0
@@ -14,12 +13,7 @@ pub told_status : (Q : ℕ → Type 0) (e : End) (f f' : ℕ) (p p' : Option (Li
 told_status Q e f f' p p' outcome q six (inl t) = subst Q (sym t.status) q
 told_status Q e f f' p p' outcome q six (inr t) = subst Q (sym t.1.status) six
 
--- What holds of the journal of the end, and of none, holds of the one that was told.
-pub told_journal : (Q : Option Journal → Type 0) (e : End) (f f' : ℕ) (p p' : Option (List ℕ)) (outcome : Outcome) → Q (journal_of e) → Q None → Told e f f' p p' outcome → Q outcome.journal
-told_journal Q e f f' p p' outcome q none (inl t) = subst Q (sym t.journal) q
-told_journal Q e f f' p p' outcome q none (inr t) = subst Q (sym t.1.journal) none
-
-refused_end : (words : Option Asked) (bytes : Option (List ℕ)) (a b : Outside) (e : End) → Ends words bytes a b e → status_of e ≡ 3 → IfSome bytes IsRefused
+pub refused_end : (words : Option Asked) (bytes : Option (List ℕ)) (a b : Outside) (e : End) → Ends words bytes a b e → status_of e ≡ 3 → IfSome bytes IsRefused
 refused_end words None a b e h q = tt
 refused_end words (Some t) a b (end.Refused line cause) h q = inr (h.1.0, record { line = line; cause = cause }, h.1.1)
 refused_end words (Some t) a b end.TooLong h q = inl h.1
@@ -31,10 +25,6 @@ refused_end words (Some t) a b end.Memory h q = absurd (cc)
 refused_end words (Some t) a b end.NoThread h q = absurd (cc)
 refused_end words (Some t) a b (end.Spent s) h q = absurd (cc)
 refused_end words (Some t) a b _ h q = absurd h
-
-pub refused_told : (words : Option Asked) (bytes : Option (List ℕ)) (a b : Outside) (e : End) (f f' : ℕ) (p p' : Option (List ℕ)) (outcome : Outcome) → Ends words bytes a b e → Told e f f' p p' outcome → outcome.status ≡ 3 → IfSome bytes IsRefused
-refused_told words bytes a b e f f' p p' outcome h (inl t) q = refused_end words bytes a b e h (sym t.status ∙ q)
-refused_told words bytes a b e f f' p p' outcome h (inr t) q = absurd (let m = sym t.1.status ∙ q in cc)
 
 -- what was run was no refused text
 not_refused : (words : Option Asked) (t : List ℕ) (j : Journal) (P : List ℕ → Type 0) → Ran words (Some t) j P → reads words ≡ true → IsRefused t → ⊥
@@ -55,7 +45,7 @@ pub not_workload : (t : List ℕ) → IsWorkload t → IsRefused t → ⊥
 not_workload t x (inl long) = omega (arith, x.0)
 not_workload t x (inr none) = let both = sym none.2 ∙ x.2 in cc
 
-nothing_asked : (words : Option Asked) → words ≡ None → reads words ≡ true → ⊥
+pub nothing_asked : (words : Option Asked) → words ≡ None → reads words ≡ true → ⊥
 nothing_asked words e q = let none = ap reads (sym e) ∙ q in cc
 
 refused_status : (words : Option Asked) (t : List ℕ) (a b : Outside) (e : End) → Ends words (Some t) a b e → reads words ≡ true → (Rose a.reads b.reads → ⊥) → IsRefused t → (status_of e ≡ 3) ⊎ (status_of e ≡ 6)
@@ -70,14 +60,9 @@ refused_status words t a b end.NoThread h r n i = absurd (not_workload t (h.2 r)
 refused_status words t a b (end.Spent s) h r n i = absurd (not_workload t (h.2 r) i)
 refused_status words t a b _ h r n i = absurd h
 
-one_of : (x y : ℕ) → x ≡ y → (y ≡ 3) ⊎ (y ≡ 6) → (x ≡ 3) ⊎ (x ≡ 6)
-one_of x y e (inl q) = inl (e ∙ q)
-one_of x y e (inr q) = inr (e ∙ q)
-
-pub refused_has : (words : Option Asked) (bytes : Option (List ℕ)) (a b : Outside) (e : End) (f f' : ℕ) (p p' : Option (List ℕ)) (outcome : Outcome) → Ends words bytes a b e → Told e f f' p p' outcome → reads words ≡ true → (Rose a.reads b.reads → ⊥) → IfSome bytes (λ t. IsRefused t → (outcome.status ≡ 3) ⊎ (outcome.status ≡ 6))
-refused_has words None a b e f f' p p' outcome h t r n = tt
-refused_has words (Some x) a b e f f' p p' outcome h (inl t) r n = λ i. one_of outcome.status (status_of e) t.status (refused_status words x a b e h r n i)
-refused_has words (Some x) a b e f f' p p' outcome h (inr t) r n = λ i. inr t.1.status
+pub refused_has : (words : Option Asked) (bytes : Option (List ℕ)) (a b : Outside) (e : End) → Ends words bytes a b e → reads words ≡ true → (Rose a.reads b.reads → ⊥) → IfSome bytes (λ t. IsRefused t → (status_of e ≡ 3) ⊎ (status_of e ≡ 6))
+refused_has words None a b e h r n = tt
+refused_has words (Some x) a b e h r n = λ i. refused_status words x a b e h r n i
 
 -- and what was read as a workload is one
 pub read_is_workload : (words : Option Asked) (bytes left : Option (List ℕ)) (result : Result Workload LoadError) → IfSome bytes (λ t. Loads t left result) → IfOk result (λ load. HasRead words bytes)

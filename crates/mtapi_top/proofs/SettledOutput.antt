@@ -1,5 +1,5 @@
 -- What the command writes of a settled workload is told by the workload's statements alone.
-use Rattle.mtapi_top.proofs.Names.{◌≡◌, ℕ, true, List, length, ◌++◌, Option, Some, None, refl, sym, ◌∙◌, ap, subst, inl, inr, IfSome, Result, Ok, Appends, AppendsFront, Layout, Workload, workload_of, WellFormed, Legal, Journal, journal_text, terms_with, IsLegal, plain_report, is_settled, Asked, End, Outcome, InRange, generated, IsRun, Ran, IsLoadOf, output, generated_summary, IsPlainOutput, Outside, Ends, status_of}
+use Rattle.mtapi_top.proofs.Names.{◌≡◌, ℕ, true, List, length, ◌++◌, Option, Some, None, refl, sym, ◌∙◌, ap, subst, IfSome, Result, Ok, Appends, AppendsFront, Layout, Workload, workload_of, WellFormed, Legal, Journal, journal_text, terms_with, IsLegal, plain_report, is_settled, Asked, End, InRange, generated, IsRun, Ran, IsLoadOf, output, generated_summary, IsPlainOutput, Outside, Ends, status_of}
 use Rattle.workload_file.specs.declared.faults.Fault.{Fault}
 use Rattle.mtapi_machine.specs.declared.terms.Terms.{Terms}
 use Rattle.run_report.specs.Report.{report}
@@ -12,7 +12,6 @@ use Rattle.mtapi_top.specs.declared.words.Asked.TheVariants as asks
 use Rattle.mtapi_top.specs.declared.ends.End.TheVariants as end
 use Rattle.mtapi_top.specs.Command.{journal_of}
 use Rattle.mtapi_top.proofs.GeneratedSettled.{generated_settled}
-use Rattle.mtapi_top.proofs.Refused.{Told}
 
 settled_run : (load : Workload) (j : Journal) → WellFormed load → IsRun load j → is_settled load ≡ true → SettledRun j.layout load j.entries.entries j.entries.skipped
 settled_run load j f r e = record {
@@ -65,21 +64,12 @@ module _ (j : Journal) (P : List ℕ → Type 0) where
 -- An end with the status 0, or 5
 
 module _ (words : Option Asked) (bytes : Option (List ℕ)) (a b : Outside) where
-  done_plainly : (e : End) → Ends words bytes a b e → IfSome words InRange → status_of e ≡ 0 → IfSome (journal_of e) (λ j. IsPlainOutput words bytes j (Appends a.held b.held))
+  pub done_plainly : (e : End) → Ends words bytes a b e → IfSome words InRange → status_of e ≡ 0 → IfSome (journal_of e) (λ j. IsPlainOutput words bytes j (Appends a.held b.held))
   done_plainly (end.Done j) h g q = plain_output j (Appends a.held b.held) words bytes h g
   done_plainly (end.WriteFault j) h g q = absurd (cc)
   done_plainly _ h g q = tt
 
-  cut_plainly : (e : End) → Ends words bytes a b e → IfSome words InRange → status_of e ≡ 5 → IfSome (journal_of e) (λ j. IsPlainOutput words bytes j (AppendsFront a.held b.held))
+  pub cut_plainly : (e : End) → Ends words bytes a b e → IfSome words InRange → status_of e ≡ 5 → IfSome (journal_of e) (λ j. IsPlainOutput words bytes j (AppendsFront a.held b.held))
   cut_plainly (end.WriteFault j) h g q = plain_output j (AppendsFront a.held b.held) words bytes h.1 g
   cut_plainly (end.Done j) h g q = absurd (cc)
   cut_plainly _ h g q = tt
-
-  module _ (e : End) (f f' : ℕ) (p p' : Option (List ℕ)) (outcome : Outcome) (h : Ends words bytes a b e) (g : IfSome words InRange) where
-    pub written_plainly : Told e f f' p p' outcome → outcome.status ≡ 0 → IfSome outcome.journal (λ j. IsPlainOutput words bytes j (Appends a.held b.held))
-    written_plainly (inl t) q = subst (λ (x : Option Journal). IfSome x (λ j. IsPlainOutput words bytes j (Appends a.held b.held))) (sym t.journal) (done_plainly e h g (sym t.status ∙ q))
-    written_plainly (inr t) q = absurd (let m = sym t.1.status ∙ q in cc)
-
-    pub cut_off_plainly : Told e f f' p p' outcome → outcome.status ≡ 5 → IfSome outcome.journal (λ j. IsPlainOutput words bytes j (AppendsFront a.held b.held))
-    cut_off_plainly (inl t) q = subst (λ (x : Option Journal). IfSome x (λ j. IsPlainOutput words bytes j (AppendsFront a.held b.held))) (sym t.journal) (cut_plainly e h g (sym t.status ∙ q))
-    cut_off_plainly (inr t) q = absurd (let m = sym t.1.status ∙ q in cc)

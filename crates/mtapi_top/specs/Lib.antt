@@ -4,4 +4,4 @@ pub mod Command
 pub mod Settled
 pub mod Check
 pub mod Ended
-pub mod Reasons
+pub mod PartEnds

@@ -2,20 +2,21 @@
 //! journal that was kept.
 #![tactic(auto)]
 
-mod carry;
 mod checking;
 mod ends;
 mod input;
 pub mod laws;
-mod pieces;
 mod report;
+mod run_output;
 mod telling;
+mod whole_command;
 mod words;
 
-pub use carry::command;
 pub use ends::{End, Outcome};
 pub use generated_workload::generated;
 pub use report::report_of;
-pub use sched_workers::{Beside, FewThreads, Threads, run_node};
+pub use run_beside::{Beside, FewThreads, Threads};
 pub use telling::tell;
+pub use whole_command::command;
 pub use words::Asked;
+pub use workload_runners::run_node;

@@ -1,7 +1,7 @@
 //! What the words of the command ask for.
 ghost use Rattle.std.specs.Prelude.{◌≡◌, ◌≤◌, IfSome};
 ghost use Rattle.number_text.specs.Numbers.{number_within};
-ghost use Rattle.mtapi_top.specs.Words.{texts, asked_of, run_asks, gen_asks, check_asks, generated_asks, judges, InRange};
+ghost use Rattle.mtapi_top.specs.Words.{texts, asked_of, run_asks, gen_asks, check_asks, generated_asks, InRange};
 
 use number_text::number_within;
 
@@ -92,15 +92,5 @@ pub fn asked_of(words: &[&str]) -> Option<Asked>
         [word, options @ ..] if word.as_bytes() == b"gen".as_slice() => gen_asks(options),
         [word, options @ ..] if word.as_bytes() == b"check".as_slice() => check_asks(options),
         _ => None,
-    }
-}
-
-/// Whether the words ask for a journal to be judged, and for no run.
-pub(crate) fn judges(words: &[&str]) -> bool
-    ensures { result ≡ judges (asked_of (texts words.now)) }
-{
-    match asked_of(words) {
-        None | Some(Asked::Report | Asked::Journal | Asked::Generated { .. }) => false,
-        Some(Asked::Check) => true,
     }
 }

@@ -1,7 +1,7 @@
 //! A program with a node that two callers share: each adds numbers to a cell of a segment, under a mutex.
 #![tactic(auto)]
 
-ghost use Rattle.sched_workers.specs.Turns.{SameSeat};
+ghost use Rattle.workload_runners.specs.Turns.{SameSeat};
 ghost use Rattle.node_with_workers.specs.Clients.{StillBegins};
 
 use action_fn::StandardActions;

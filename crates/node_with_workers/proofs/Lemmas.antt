@@ -8,8 +8,8 @@ use Rattle.mtapi_values.specs.declared.handles.Layout.TheVariants.{Two}
 use Rattle.mtapi_machine.specs.declared.replies.Reply.TheVariants as reply
 use Rattle.mtapi_machine.specs.State.{terms_with}
 use Rattle.sched_workers.specs.Answers.{Called as Asked}
-use Rattle.sched_workers.specs.Crews.{Cell, IsIdle, GaveUp}
-use Rattle.sched_workers.proofs.Starts.{new_at_rest}
+use Rattle.workload_runners.specs.Crews.{Cell, IsIdle, GaveUp}
+use Rattle.workload_runners.proofs.Starts.{new_at_rest}
 use Rattle.node_with_workers.specs.declared.client.Called.{Called}
 use Rattle.node_with_workers.specs.declared.callers.Company.{Company}
 use Rattle.node_with_workers.specs.declared.crew.Crew.{Crew}

@@ -16,8 +16,8 @@ pub use Rattle.node_with_workers.specs.Runs.{HasAllSeats, HasEnded, HaveCalled, 
 pub use Rattle.node_with_workers.specs.declared.callers.Callers.{Callers}
 pub use Rattle.node_with_workers.specs.declared.crew.Hands.{Hands}
 pub use Rattle.sched_workers.specs.Answers.{Answers, Called, Waited, with_number}
-pub use Rattle.sched_workers.specs.Replies.{done, handle, mtapi}
-pub use Rattle.sched_workers.specs.Turns.{SameSeat, Seat}
+pub use Rattle.workload_runners.specs.Replies.{done, handle, mtapi}
+pub use Rattle.workload_runners.specs.Turns.{SameSeat, Seat}
 pub use Rattle.std.proofs.Common.{Err, List, None, Ok, Option, Result, Some, [], ap, append_assoc, arith, drop, inl, inr, length, refl, rules, subst, suc, sym, take, true, vec_len, zero, ℕ, ◌++◌, ◌+◌, ◌-◌, ◌<◌, ◌^◌, ◌∙◌, ◌∷◌, ◌≡◌, ◌≤◌}
 pub use Rattle.std.proofs.lemmas.Bool.Decides.{nat_tests}
 pub use Rattle.std.proofs.lemmas.List.{append-nil, length-take, same_from_push, take-append-drop, take-append-le, take_all}

@@ -7,7 +7,7 @@ use Rattle.mtapi_machine.specs.declared.ops.Op.TheVariants.{Initialize, Release,
 use Rattle.mtapi_machine.specs.declared.replies.Reply.TheVariants as reply
 use Rattle.mtapi_machine.specs.declared.terms.Terms.{Terms}
 use Rattle.mtapi_machine.specs.Legal.{NodeEntry, Legal}
-use Rattle.sched_workers.specs.Turns.{Seat, SameSeat}
+use Rattle.workload_runners.specs.Turns.{Seat, SameSeat}
 use Rattle.node_with_workers.specs.declared.failure.Failure.{Failure}
 use Rattle.node_with_workers.specs.declared.failure.Failure.TheVariants as failure
 

@@ -5,8 +5,8 @@ use Rattle.turn_cell.specs.Seats.{fresh_seat, fresh_seats}
 use Rattle.mtapi_values.specs.declared.statuses.MtapiStatus.{MtapiStatus}
 use Rattle.mtapi_machine.specs.declared.terms.Terms.{Terms}
 use Rattle.mtapi_machine.specs.Legal.{NodeEntry}
-use Rattle.sched_workers.specs.Turns.{Seat, SameSeat}
-use Rattle.sched_workers.specs.Crews.{Cell, IsIdle}
+use Rattle.workload_runners.specs.Turns.{Seat, SameSeat}
+use Rattle.workload_runners.specs.Crews.{Cell, IsIdle}
 use Rattle.node_with_workers.specs.declared.client.Called.{Called}
 use Rattle.node_with_workers.specs.declared.callers.Callers.{Callers}
 use Rattle.node_with_workers.specs.declared.callers.Company.{Company}

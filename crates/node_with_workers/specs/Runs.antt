@@ -14,8 +14,8 @@ use Rattle.mtapi_machine.specs.State.{terms_with}
 use Rattle.mtapi_machine.specs.Legal.{NodeEntry, Legal}
 use Rattle.node_journals.specs.declared.entries.Journal.{Journal}
 use Rattle.node_core.specs.Logs.{KeptAs}
-use Rattle.sched_workers.specs.Turns.{Seat, SameSeat}
-use Rattle.sched_workers.specs.Crews.{Cell}
+use Rattle.workload_runners.specs.Turns.{Seat, SameSeat}
+use Rattle.workload_runners.specs.Crews.{Cell}
 use Rattle.node_with_workers.specs.declared.crew.Crew.{Crew}
 use Rattle.node_with_workers.specs.declared.run.AllDone.{AllDone}
 use Rattle.node_with_workers.specs.Clients.{MainOpens, CallerEnters, HasCalled, IsRefused, IsNotOpened}

@@ -1,7 +1,7 @@
 -- Words for what a client promises of its seat's own entries.
 use Rattle.std.specs.Prelude.{◌≡◌, ℕ, List, [], ◌∷◌, ◌++◌}
 use Rattle.mtapi_machine.specs.Legal.{NodeEntry}
-use Rattle.sched_workers.specs.Turns.{Seat, SameSeat}
+use Rattle.workload_runners.specs.Turns.{Seat, SameSeat}
 
 -- these calls stand among the entries, in this order
 abbrev pub InOrder : List NodeEntry → List NodeEntry → Type 0

@@ -2,8 +2,8 @@
 
 ghost use Rattle.std.specs.Prelude.{◌≡◌, ◌≤◌, [], IfOk, IfErr};
 ghost use Rattle.mtapi_machine.specs.declared.ops.Op.TheVariants.{Final};
-ghost use Rattle.sched_workers.specs.Turns.{Seat, SameSeat};
-ghost use Rattle.sched_workers.specs.Crews.{GaveUp};
+ghost use Rattle.workload_runners.specs.Turns.{Seat, SameSeat};
+ghost use Rattle.workload_runners.specs.Crews.{GaveUp};
 ghost use Rattle.node_with_workers.specs.Clients.{GoesOn, MainOpens, CallerEnters, MadeOne, IfRefused, IsRefused, IsNotOpened, IsKeptOut, SaysOf};
 ghost use Rattle.node_with_workers.specs.Crews.{HasComeBack};
 

@@ -1,14 +1,13 @@
 //! What the threads of a worker and of a further caller do.
 
 ghost use Rattle.std.specs.Prelude.{◌≡◌, ◌≤◌, []};
-ghost use Rattle.sched_workers.specs.Rounds.{AtRest};
+ghost use Rattle.workload_runners.specs.Rounds.{AtRest};
 
 use crate::client::{Called, Client, call_inside};
 use crate::failure::Failure;
 use action_fn::ActionSet;
 use node_core::Journaled;
-use sched_workers::Worker;
-use sched_workers::beside::Job;
+use sched_workers::{Job, Worker};
 use std::sync::Wait;
 use turn_cell::{TurnCell, TurnSeat};
 
@@ -30,7 +29,7 @@ pub struct Over<A: Drop> {
 }
 
 impl<'a, A: ActionSet + Drop + Send> Job for Waiting<'a, A> {
-    ghost use Rattle.sched_workers.specs.Turns.{SameSeat};
+    ghost use Rattle.workload_runners.specs.Turns.{SameSeat};
 
     type Done = Over<A>;
 

@@ -2,8 +2,7 @@
 
 ghost use Rattle.std.specs.Prelude.{◌<◌};
 
-use sched_workers::Threads;
-use sched_workers::beside::Beside;
+use sched_workers::{Beside, Threads};
 use std::fmt;
 
 /// That the system had no thread. It holds a count of refused threads, which a refusal alone raises.

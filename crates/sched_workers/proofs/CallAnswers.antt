@@ -1,12 +1,23 @@
 -- What the calls of a caller answer follows from the rows of their ops.
 use Rattle.std.proofs.lemmas.Bool.Decides.{nat_tests}
-use Rattle.sched_workers.proofs.Names.{◌≡◌, AnsweredBy, Bool, Called, IfOk, IfOk-weaker, IsTimed, List, Looked, MtapiStatus, None, OnErr, Op, Option, Reply, Result, Seat, Some, Standard, State, StillLooking, Turned, Unturned, Waited, Wanted, ap, arith, cond, found, is_some, refl, self_is, true, ℕ}
+use Rattle.std.proofs.Common.{◌≡◌, Bool, List, None, Option, Result, Some, ap, arith, cond, refl, true, ℕ}
+use Rattle.std.specs.Prelude.{IfOk, OnErr, is_some}
+use Rattle.std.proofs.lemmas.Result.{IfOk-weaker}
+use Rattle.mtapi_machine.specs.State.{State}
+use Rattle.mtapi_machine.specs.declared.ops.Op.{Op}
+use Rattle.mtapi_machine.specs.declared.replies.Reply.{Reply}
+use Rattle.workload_runs.specs.Wants.{IsTimed}
+use Rattle.workload_runs.specs.declared.calls.Wanted.{Wanted}
+use Rattle.turn_looks.proofs.OwnEntries.{self_is}
 use Rattle.mtapi_values.specs.declared.statuses.MtapiStatus.TheVariants as m
 use Rattle.mtapi_machine.specs.declared.ops.Op.TheVariants as op
 use Rattle.mtapi_machine.specs.declared.replies.Reply.TheVariants as reply
 use Rattle.workload_runs.specs.declared.calls.Wanted.TheVariants as want
-use Rattle.sched_workers.specs.Replies.{fits}
-use Rattle.sched_workers.proofs.OwnEntries.{turned_next, state_at}
+use Rattle.workload_runners.specs.Looks.{Looked, StillLooking}
+use Rattle.workload_runners.specs.Replies.{Standard, fits, found}
+use Rattle.workload_runners.specs.Turns.{Seat, Turned, Unturned}
+use Rattle.sched_workers.specs.Answers.{AnsweredBy, Called, Waited}
+use Rattle.workload_runners.proofs.OwnEntries.{turned_next, state_at}
 use Rattle.mtapi_machine.specs.Answers.{Answers, refuses_with}
 use Rattle.mtapi_machine.specs.Answers as is
 use Rattle.mtapi_machine.proofs.Answered.{answered}

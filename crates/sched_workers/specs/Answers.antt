@@ -7,9 +7,9 @@ use Rattle.mtapi_machine.specs.declared.ops.Op.{Op}
 use Rattle.mtapi_machine.specs.declared.ops.Op.TheVariants as op
 use Rattle.mtapi_machine.specs.declared.replies.Reply.{Reply}
 use Rattle.workload_runs.specs.declared.calls.Wanted.{Wanted}
-use Rattle.sched_workers.specs.Replies.{Standard}
-use Rattle.sched_workers.specs.Turns.{Seat, Turned, Unturned}
-use Rattle.sched_workers.specs.Looks.{Looked, StillLooking}
+use Rattle.workload_runners.specs.Replies.{Standard}
+use Rattle.workload_runners.specs.Turns.{Seat, Turned, Unturned}
+use Rattle.workload_runners.specs.Looks.{Looked, StillLooking}
 
 module _ {S A : Type 0} (standard : Standard S) (read : Reply → Option A) where
   abbrev by_value : Option A → Result A S → Type 0

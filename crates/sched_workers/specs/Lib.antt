@@ -1,12 +1,2 @@
-pub mod Turns
-pub mod Replies
-pub mod Looks
 pub mod Answers
-pub mod Rounds
-pub mod Steps
-pub mod Pairs
-pub mod Carries
-pub mod Crews
-pub mod Bridges
-pub mod Runs
 pub mod Worked

@@ -16,21 +16,20 @@ ghost use Rattle.mtapi_machine.specs.declared.ops.Op.TheVariants as op;
 ghost use Rattle.workload_runs.specs.declared.calls.Wanted.TheVariants.{Entrance};
 ghost use Rattle.mtapi_values.specs.Timeouts.{looks_of};
 ghost use Rattle.mtapi_machine.specs.declared.replies.Reply.{Reply};
-ghost use Rattle.sched_workers.specs.Turns.{Turned, Unturned};
-ghost use Rattle.sched_workers.specs.Looks.{Looked, StillLooking};
+ghost use Rattle.workload_runners.specs.Turns.{Turned, Unturned};
+ghost use Rattle.workload_runners.specs.Looks.{Looked, StillLooking};
 ghost use Rattle.workload_runs.specs.Wants.{op_of, IsTimed};
-ghost use Rattle.sched_workers.specs.Replies.{done, handle, the_job, mtapi, mrapi, says, fits, found};
+ghost use Rattle.workload_runners.specs.Replies.{done, handle, the_job, mtapi, mrapi, says, fits, found};
 ghost use Rattle.sched_workers.specs.Answers.{Called, Waited};
 
 use crate::callers::answers::{done, handle, resource_done, resource_handle, the_job};
-use crate::looks::look;
-use crate::statements::wake;
 use mtapi_values::{MrapiStatus, MtapiStatus, Timeout};
 use node_core::{Journaled, Op, Reply};
 use std::marker::Model;
 use std::sync::Wait;
 use turn_cell::{Spent, TurnCell, TurnSeat};
 use turn_looks::turn;
+use workload_runners::{look, wake};
 use workload_runs::Wanted;
 
 /// A caller of a node: main, or a further one. Contracts see it as its seat.
@@ -61,7 +60,7 @@ pub struct Caller<'a> {
 
 impl<'a> Model for Caller<'a> {
     ghost use Rattle.std.specs.Prelude.{◌≡◌};
-    ghost use Rattle.sched_workers.specs.Turns.{Seat};
+    ghost use Rattle.workload_runners.specs.Turns.{Seat};
 
     ghost Value = { Seat };
 

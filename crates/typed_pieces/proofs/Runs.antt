@@ -19,9 +19,9 @@ use Rattle.workload_runs.specs.declared.calls.Wanted.{Wanted}
 use Rattle.workload_runs.specs.declared.calls.Wanted.TheVariants.{AllMembers}
 use Rattle.workload_runs.specs.Wants.{op_of}
 use Rattle.sched_workers.specs.Answers.{Answers, Called, Waited, start_of, with_number}
-use Rattle.sched_workers.specs.Looks.{pends}
-use Rattle.sched_workers.specs.Replies.{done, handle, mtapi}
-use Rattle.sched_workers.specs.Turns.{SameSeat, Seat}
+use Rattle.workload_runners.specs.Looks.{pends}
+use Rattle.workload_runners.specs.Replies.{done, handle, mtapi}
+use Rattle.workload_runners.specs.Turns.{SameSeat, Seat}
 use Rattle.node_with_workers.specs.Clients.{GoesOn}
 use Rattle.node_with_workers.specs.Runs.{IsRun}
 use Rattle.node_with_workers.specs.Told.{WentOn}

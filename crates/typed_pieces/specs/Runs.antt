@@ -12,7 +12,7 @@ use Rattle.mtapi_machine.specs.declared.ops.Op.TheVariants.{ActionCreate, GroupC
 use Rattle.mtapi_machine.specs.declared.replies.Reply.TheVariants as reply
 use Rattle.mtapi_machine.specs.Legal.{NodeEntry}
 use Rattle.node_journals.specs.declared.entries.Journal.{Journal}
-use Rattle.sched_workers.specs.Turns.{Seat}
+use Rattle.workload_runners.specs.Turns.{Seat}
 use Rattle.node_with_workers.specs.Runs.{IsRun, Refuses}
 use Rattle.node_with_workers.specs.Told.{WentOn}
 use Rattle.node_with_workers.specs.declared.failure.Failure.{Failure}

@@ -1,7 +1,7 @@
 //! The client of a node whose workers run pieces.
 
 ghost use Rattle.std.specs.Prelude.{List};
-ghost use Rattle.sched_workers.specs.Turns.{Seat, SameSeat};
+ghost use Rattle.workload_runners.specs.Turns.{Seat, SameSeat};
 ghost use Rattle.node_with_workers.specs.Clients.{GoesOn};
 
 use crate::piece::Piece;

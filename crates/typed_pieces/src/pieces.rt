@@ -3,7 +3,7 @@
 ghost use Rattle.std.specs.Prelude.{◌≡◌, [], ◌∷◌, pos, IfSome};
 ghost use Rattle.typed_pieces.specs.Places.{IsKeptAt};
 ghost use Rattle.sched_workers.specs.Answers.{Called, with_number, enqueue_of, start_of};
-ghost use Rattle.sched_workers.specs.Replies.{done, handle, mtapi};
+ghost use Rattle.workload_runners.specs.Replies.{done, handle, mtapi};
 ghost use Rattle.mtapi_machine.specs.declared.ops.Op.TheVariants.{TaskCancel};
 
 use crate::piece::Piece;

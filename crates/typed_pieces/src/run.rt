@@ -31,7 +31,7 @@ const JOB: u32 = 1;
 
 impl<J: Piece> PieceClient<J> for AllPieces {
     ghost use Rattle.std.specs.Prelude.{IfOk, IfErr};
-    ghost use Rattle.sched_workers.specs.Turns.{SameSeat};
+    ghost use Rattle.workload_runners.specs.Turns.{SameSeat};
     ghost use Rattle.typed_pieces.specs.Runs.{EndsRefused, HasAwaited};
 
     type Told = Result<(), MtapiStatus>;

@@ -2,7 +2,7 @@
 
 ghost use Rattle.std.specs.Prelude.{◌≡◌};
 ghost use Rattle.mtapi_machine.specs.declared.ops.Op.TheVariants as op;
-ghost use Rattle.sched_workers.specs.Replies.{done, handle, the_job, mtapi};
+ghost use Rattle.workload_runners.specs.Replies.{done, handle, the_job, mtapi};
 ghost use Rattle.sched_workers.specs.Answers.{Called, with_number};
 
 use crate::callers::Caller;

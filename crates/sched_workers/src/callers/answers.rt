@@ -1,7 +1,7 @@
 //! What a caller reads from the reply to its call.
 
 ghost use Rattle.std.specs.Prelude.{◌≡◌, true, IfOk};
-ghost use Rattle.sched_workers.specs.Replies.{done, handle, the_job, key, number, ended, given, mtapi, mrapi, says};
+ghost use Rattle.workload_runners.specs.Replies.{done, handle, the_job, key, number, ended, given, mtapi, mrapi, says};
 ghost use Rattle.sched_workers.specs.Answers.{AnsweredBy};
 
 use mtapi_values::{MrapiStatus, MtapiStatus, TaskEnd, TaskHandle};

@@ -3,7 +3,7 @@
 ghost use Rattle.mtapi_values.specs.Timeouts.{looks_of};
 ghost use Rattle.workload_runs.specs.declared.calls.Wanted.TheVariants.{AllMembers, FirstMember};
 ghost use Rattle.mtapi_machine.specs.declared.ops.Op.TheVariants as op;
-ghost use Rattle.sched_workers.specs.Replies.{done, handle, given, mtapi};
+ghost use Rattle.workload_runners.specs.Replies.{done, handle, given, mtapi};
 ghost use Rattle.sched_workers.specs.Answers.{Called, Waited, with_number};
 
 use crate::callers::Caller;

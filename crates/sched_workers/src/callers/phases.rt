@@ -3,7 +3,7 @@
 ghost use Rattle.std.specs.Prelude.{None};
 ghost use Rattle.workload_runs.specs.declared.calls.Wanted.TheVariants.{Entrance};
 ghost use Rattle.mtapi_machine.specs.declared.ops.Op.TheVariants as op;
-ghost use Rattle.sched_workers.specs.Replies.{done, mtapi};
+ghost use Rattle.workload_runners.specs.Replies.{done, mtapi};
 ghost use Rattle.sched_workers.specs.Answers.{Called, Waited};
 
 use crate::callers::Caller;

@@ -1,7 +1,7 @@
 //! The calls on queues.
 
 ghost use Rattle.mtapi_machine.specs.declared.ops.Op.TheVariants as op;
-ghost use Rattle.sched_workers.specs.Replies.{done, handle, mtapi};
+ghost use Rattle.workload_runners.specs.Replies.{done, handle, mtapi};
 ghost use Rattle.sched_workers.specs.Answers.{Called, with_number, queue_of};
 
 use crate::callers::Caller;

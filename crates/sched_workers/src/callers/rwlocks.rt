@@ -4,7 +4,7 @@ ghost use Rattle.std.specs.Prelude.{Some};
 ghost use Rattle.mtapi_values.specs.Timeouts.{looks_of};
 ghost use Rattle.workload_runs.specs.declared.calls.Wanted.TheVariants.{Rwl};
 ghost use Rattle.mtapi_machine.specs.declared.ops.Op.TheVariants as op;
-ghost use Rattle.sched_workers.specs.Replies.{done, handle, mrapi};
+ghost use Rattle.workload_runners.specs.Replies.{done, handle, mrapi};
 ghost use Rattle.sched_workers.specs.Answers.{Called, Waited, with_number};
 
 use crate::callers::Caller;

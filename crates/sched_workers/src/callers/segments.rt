@@ -1,7 +1,7 @@
 //! The calls on shared memory segments.
 
 ghost use Rattle.mtapi_machine.specs.declared.ops.Op.TheVariants as op;
-ghost use Rattle.sched_workers.specs.Replies.{done, handle, number, mrapi};
+ghost use Rattle.workload_runners.specs.Replies.{done, handle, number, mrapi};
 ghost use Rattle.sched_workers.specs.Answers.{Called, with_number};
 
 use crate::callers::Caller;

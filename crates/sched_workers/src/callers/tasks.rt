@@ -3,7 +3,7 @@
 ghost use Rattle.mtapi_values.specs.Timeouts.{looks_of};
 ghost use Rattle.workload_runs.specs.declared.calls.Wanted.TheVariants.{Task};
 ghost use Rattle.mtapi_machine.specs.declared.ops.Op.TheVariants as op;
-ghost use Rattle.sched_workers.specs.Replies.{done, handle, ended, mtapi};
+ghost use Rattle.workload_runners.specs.Replies.{done, handle, ended, mtapi};
 ghost use Rattle.sched_workers.specs.Answers.{Called, Waited, with_number, start_of, enqueue_of};
 
 use crate::callers::Caller;

@@ -1,4 +1,4 @@
-use Rattle.sched_workers.specs.Turns.{SameSeat}
+use Rattle.workload_runners.specs.Turns.{SameSeat}
 use Rattle.node_with_workers.specs.Clients.{GoesOn}
 use Rattle.mtapi_pipeline.proofs.StagesClient.call.Given as goal
 

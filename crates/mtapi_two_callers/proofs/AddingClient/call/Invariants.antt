@@ -1,5 +1,5 @@
 use Rattle.node_with_workers.specs.Clients.{GoesOn}
-use Rattle.sched_workers.specs.Turns.{SameSeat}
+use Rattle.workload_runners.specs.Turns.{SameSeat}
 use Rattle.mtapi_two_callers.proofs.AddingClient.call.Given as goal
 
 abbrev pub invariant-loop-number : goal.invariant-loop-number

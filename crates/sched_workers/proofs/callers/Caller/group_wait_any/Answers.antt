@@ -1,4 +1,6 @@
-use Rattle.sched_workers.proofs.Names.{FirstMember, given, looks_of, mtapi}
+use Rattle.mtapi_values.specs.Timeouts.{looks_of}
+use Rattle.workload_runs.specs.declared.calls.Wanted.TheVariants.{FirstMember}
+use Rattle.workload_runners.specs.Replies.{given, mtapi}
 use Rattle.sched_workers.proofs.CallAnswers.{waited}
 use Rattle.sched_workers.proofs.callers.Caller.group_wait_any.Goals as goal
 

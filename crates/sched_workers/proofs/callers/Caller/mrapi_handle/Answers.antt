@@ -1,4 +1,4 @@
-use Rattle.sched_workers.specs.Replies.{mrapi, handle}
+use Rattle.workload_runners.specs.Replies.{mrapi, handle}
 use Rattle.sched_workers.proofs.CallAnswers.{called}
 use Rattle.sched_workers.proofs.callers.Caller.mrapi_handle.Goals as goal
 

@@ -1,4 +1,4 @@
-use Rattle.sched_workers.specs.Replies.{mtapi, handle}
+use Rattle.workload_runners.specs.Replies.{mtapi, handle}
 use Rattle.sched_workers.proofs.CallAnswers.{called}
 use Rattle.sched_workers.proofs.callers.Caller.mtapi_handle.Goals as goal
 

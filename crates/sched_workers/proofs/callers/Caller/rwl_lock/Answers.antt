@@ -1,4 +1,6 @@
-use Rattle.sched_workers.proofs.Names.{Rwl, done, looks_of, mrapi}
+use Rattle.mtapi_values.specs.Timeouts.{looks_of}
+use Rattle.workload_runs.specs.declared.calls.Wanted.TheVariants.{Rwl}
+use Rattle.workload_runners.specs.Replies.{done, mrapi}
 use Rattle.sched_workers.proofs.CallAnswers.{waited}
 use Rattle.sched_workers.proofs.callers.Caller.rwl_lock.Goals as goal
 

@@ -1,4 +1,6 @@
-use Rattle.sched_workers.proofs.Names.{Sem, Some, done, mrapi}
+use Rattle.std.specs.Prelude.{Some}
+use Rattle.workload_runs.specs.declared.calls.Wanted.TheVariants.{Sem}
+use Rattle.workload_runners.specs.Replies.{done, mrapi}
 use Rattle.sched_workers.proofs.CallAnswers.{waited}
 use Rattle.sched_workers.proofs.callers.Caller.sem_trylock.Goals as goal
 

@@ -1,6 +1,6 @@
-use Rattle.sched_workers.proofs.Names.{looks_of, mtapi}
+use Rattle.mtapi_values.specs.Timeouts.{looks_of}
 use Rattle.workload_runs.specs.declared.calls.Wanted.TheVariants.{Task}
-use Rattle.sched_workers.specs.Replies.{ended}
+use Rattle.workload_runners.specs.Replies.{ended, mtapi}
 use Rattle.sched_workers.proofs.CallAnswers.{waited}
 use Rattle.sched_workers.proofs.callers.Caller.task_wait.Goals as goal
 

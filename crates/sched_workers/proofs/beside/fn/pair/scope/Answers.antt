@@ -1,7 +1,0 @@
-use Rattle.std.proofs.Common.{rules}
-use Rattle.sched_workers.proofs.PairRuns.{ran_of}
-use Rattle.sched_workers.proofs.beside.fn.pair.scope.Goals as goal
-
-pub returns-in-Ok : goal.returns-in-Ok
-returns-in-Ok g c =
-    record { same = search rules; done = search rules; ran = ran_of g.F.FnOnce g.B.Beside.refusals c.captures.b c.captures.carry c.b-t.result _ _ _ _ c.b-t.ensures (search rules) (search rules); refused = tt }

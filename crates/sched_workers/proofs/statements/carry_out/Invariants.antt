@@ -1,7 +1,0 @@
-use Rattle.std.proofs.Common.{take}
-use Rattle.sched_workers.specs.Turns.{AddsOwn}
-use Rattle.sched_workers.proofs.CarryLemmas.{SoFar}
-use Rattle.sched_workers.proofs.statements.carry_out.Given as goal
-
-abbrev pub invariant-loop-statement : goal.invariant-loop-statement
-invariant-loop-statement g l = AddsOwn (SoFar l.fn.bound.items l.bound.items (take l.statement-index l.statements)) l.fn.seat l.seat

@@ -1,5 +1,0 @@
-use Rattle.sched_workers.proofs.TallySeat.{ends_tally}
-use Rattle.sched_workers.proofs.tallies.end_tally.Goals as goal
-
-pub returns-in-Ok-clause-ended : goal.returns-in-Ok-clause-ended
-returns-in-Ok-clause-ended g c = ends_tally c.args.seat.now c.turn.new.seat c.in-Ok.field-0 c.args.task c.args.args.now c.requires.may c.in-Ok.ensures.turned

@@ -1,5 +1,0 @@
-use Rattle.sched_workers.proofs.SeatSteps.{picks_end}
-use Rattle.sched_workers.proofs.workers.pick.Goals as goal
-
-pub returns-in-Ok-clause-picked : goal.returns-in-Ok-clause-picked
-returns-in-Ok-clause-picked g c = picks_end c.args.seat.now c.turn.new.seat c.in-Ok.reply c.requires.rest c.in-Ok.ensures.turned

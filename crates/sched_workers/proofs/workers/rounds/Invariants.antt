@@ -1,6 +1,0 @@
-use Rattle.sched_workers.proofs.SeatSteps.{Rounds}
-use Rattle.sched_workers.proofs.workers.rounds.Given as goal
-
-abbrev pub invariant-loop : goal.invariant-loop
-invariant-loop g l =
-    Rounds l.fn.seat l.seat × ((goal.iterator-loop g).can_next l.iterator' × (goal.iterator-loop g).is_finite l.iterator')

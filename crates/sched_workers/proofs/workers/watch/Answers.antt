@@ -1,6 +1,0 @@
-use Rattle.std.proofs.lemmas.Result.{IfOk-weaker}
-use Rattle.sched_workers.proofs.SeatSteps.{watches_at_once}
-use Rattle.sched_workers.proofs.workers.watch.Goals as goal
-
-pub returns-in-None-clause-watched : goal.returns-in-None-clause-watched
-returns-in-None-clause-watched g c = IfOk-weaker c.end_watch-in-None.result _ _ (λ x y. watches_at_once c.args.seat.now c.end_watch-in-None.new.seat c.args.task y) c.end_watch-in-None.ensures.ended

@@ -1,0 +1,5 @@
+use Rattle.workload_runners.proofs.TallySeat.{ends_tally}
+use Rattle.workload_runners.proofs.tallies.end_tally.Goals as goal
+
+pub returns-in-Ok-clause-ended : goal.returns-in-Ok-clause-ended
+returns-in-Ok-clause-ended g c = ends_tally c.args.seat.now c.turn.new.seat c.in-Ok.field-0 c.args.task c.args.args.now c.requires.may c.in-Ok.ensures.turned

@@ -1,0 +1,10 @@
+pub mod Turns
+pub mod Replies
+pub mod Looks
+pub mod Rounds
+pub mod Steps
+pub mod Carries
+pub mod Crews
+pub mod Bridges
+pub mod Runs
+pub mod Reasons

@@ -1,0 +1,40 @@
+-- What the looks of one call add to a seat's own entries.
+use Rattle.std.specs.Prelude.{◌≡◌, ℕ, ◌+◌, ◌<◌, ◌≤◌, ◌^◌, Bool, true, false, List, [], ◌∷◌, ◌++◌, Option, MatchOption, replicate, ◌==◌}
+use Rattle.history.specs.Histories.{entry}
+use Rattle.mtapi_machine.specs.declared.replies.Reply.{Reply}
+use Rattle.mtapi_machine.specs.declared.replies.Reply.TheVariants.{Pending}
+use Rattle.mtapi_machine.specs.State.{State}
+use Rattle.mtapi_machine.specs.Row.{Allows}
+use Rattle.mtapi_machine.specs.Rows.{row}
+use Rattle.mtapi_machine.specs.Legal.{NodeEntry}
+use Rattle.mtapi_machine.specs.Kept.{is_pending}
+use Rattle.workload_runs.specs.Lines.{is_timeout}
+use Rattle.workload_runs.specs.declared.calls.Wanted.{Wanted}
+use Rattle.workload_runs.specs.Wants.{op_of}
+use Rattle.turn_looks.specs.Looks as looks
+use Rattle.node_core.specs.Logs.{journal_legal}
+use Rattle.workload_runners.specs.Turns.{Seat, SameSeat}
+use Rattle.workload_runners.specs.Replies.{found}
+
+-- so many looks that found the thing not ready, none of them the last
+abbrev pub pends : ℕ → Wanted → ℕ → List NodeEntry
+pends who w n = replicate n (entry who (op_of w false) Pending)
+
+-- some looks found the thing not ready, and one more had the answer. Where there is a limit they are at most so many, and the
+-- answer came with `last` exactly at the limit; where there is none, no look is the last. TIMEOUT comes with `last` alone, and the
+-- status for want of tickets never
+pub record Looked (w : Wanted) (limit : Option ℕ) (old new : Seat) (answer : Reply) : Type 0 where
+  pub same : SameSeat old new
+  pub pending : ℕ
+  pub last : Bool
+  pub mine : new.mine ≡ old.mine ++ (pends old.number w pending ++ entry old.number (op_of w last) answer ∷ [])
+  pub bound : MatchOption limit (last ≡ false) (λ n. (pending < n) × (last ≡ (pending + 1 == n)))
+  pub decides : last ≡ false → is_pending answer ≡ false
+  pub late : is_timeout answer ≡ true → last ≡ true
+  pub found : is_pending answer ≡ false → found w answer ≡ true
+  pub state : State
+  pub allowed : Allows (row state old.number (op_of w last) answer) answer
+
+-- some looks found the thing not ready, fewer than the limit where there is one, and then the tickets had run out
+abbrev pub StillLooking : Wanted → Option ℕ → Seat → Seat → Type 0
+StillLooking w limit old new = looks.StillLooking journal_legal (op_of w) Pending limit old new

@@ -1,0 +1,18 @@
+//! The run of a workload on a node: the threads of its workers and callers, each of which holds a seat of the node's cell, and what each
+//! does there.
+#![tactic(auto)]
+
+pub mod crew;
+pub mod laws;
+pub mod looks;
+pub mod run;
+pub mod statements;
+pub mod tallies;
+pub mod workers;
+
+pub use crew::back::Back;
+pub use crew::jobs::WorkerJob;
+pub use looks::look;
+pub use run::{NoRun, RunError, run_node, without_seat};
+pub use statements::{Stop, wake};
+pub use workers::Worker;
