@@ -2,6 +2,7 @@
 # shellcheck shell=bash disable=SC2154,SC2034 # what isn't set here is of the script that sources this
 
 most_input=67108864 # bytes of an input; what an unproved run is given has to be shorter
+most_seconds=300    # that an unproved run may take once it is compiled, and a run of `verify` and the like
 page_of_waits="docs/tutorial.md, 'When nothing comes'"
 if [ -n "$installed" ]; then page_of_waits='man mtapi'; fi
 workload=FILE # as `run` was given it, for what is told of waits
@@ -104,8 +105,7 @@ program_on() {
     processes=()
 }
 
-# `run [--journal] [FILE]`. For the end of the proved program the script waits, to tell of waits if it is stopped; where
-# standard input is closed it can't, as what runs in the background is given another one.
+# `run [--journal] [FILE]`. For the end of the proved program the script waits, to tell of waits if it is stopped.
 run() {
     local words=(run)
     if [ "${1-}" = --journal ]; then words+=("$1") && shift; fi
@@ -113,7 +113,6 @@ run() {
     if [ "${1--}" != - ]; then workload=$1; fi
     if ! is_proved "$command_crate"; then run_unproved "$command_crate" "${words[@]}"; fi
     need_processor "$command_crate"
-    if ! { : <&0; } 2>/dev/null; then become_program "$command_crate" "${words[@]}"; fi
     on_signals tell_where_waits_are
     (become_program "$command_crate" "${words[@]}") <&0 &
     processes=($!)

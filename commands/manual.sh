@@ -17,7 +17,7 @@ manual_text() {
 .SH NAME
 mtapi \\- runs workloads on a task runtime that is proved, and judges, draws and explains their runs
 .SH SYNOPSIS
-$(word_table | awk -F '|' -v installed="$installed" '!installed || $1 != "repository" { if (n++) print ".br"; print ".B mtapi " $2 }' | sed 's/-/\\-/g')
+$(used_words | awk -F '|' '{ if (NR > 1) print ".br"; print ".B mtapi " $2 }' | sed 's/-/\\-/g')
 .SH DESCRIPTION
 A workload is the text of one run: settings, and what each caller asks, in order. A
 .I FILE

@@ -67,10 +67,10 @@ begin_run() {
 
 # Counts a run that ended: its name, its seconds, how many passed and failed, and what was wrong.
 count_run() {
-    local word=ok
-    if [ "$4" -ne 0 ]; then word=FAILED; fi
+    local word=ok colour=$good
+    if [ "$4" -ne 0 ]; then word=FAILED colour=$bad; fi
     tests_passed=$((tests_passed + $3)) tests_failed=$((tests_failed + $4))
-    printf '%-6s %4d s  %s: %d passed, %d failed%s\n' "$word" "$2" "$1" "$3" "$4" "${5:+: $5}"
+    printf '%s%-6s%s %4d s  %s: %d passed, %d failed%s\n' "$colour" "$word" "$plain" "$2" "$1" "$3" "$4" "${5:+: $5}"
 }
 
 show_run() {

@@ -1,8 +1,6 @@
 # A run of a program as it is written, unproved and with the toolchain's checks at run time. Sourced by `mtapi`.
 # shellcheck shell=bash disable=SC2154,SC2034 # what isn't set here is of the script that sources this
 
-most_seconds=300 # that an unproved run may take once it is compiled
-
 # Without these words the command doesn't read its input, and nobody has to give one.
 reads_input() {
     case "$*" in

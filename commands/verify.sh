@@ -65,5 +65,5 @@ bounded() {
     text_before_journal ran >"$scratch/report"
     show "$scratch/report"
     waits_that_ran_out "$looks" >&2
-    leave "$command_status"
+    leave "$ended_with"
 }

@@ -44,15 +44,24 @@ status_table() {
 END
 }
 
-# The words that this script takes: all, or those of an installed command.
+# The table without what an installed command hasn't.
+used_words() {
+    word_table | awk -F '|' -v installed="$installed" '!installed || $1 != "repository"'
+}
+
+# The words that this script takes.
 all_words() {
-    word_table | awk -F '|' -v installed="$installed" '!installed || $1 != "repository" { sub(/ .*/, "", $2); if (!seen[$2]++) print $2 }'
+    used_words | awk -F '|' '{ sub(/ .*/, "", $2); if (!seen[$2]++) print $2 }'
+}
+
+is_word() {
+    all_words | grep -xF -e "$1" >/dev/null
 }
 
 # The uses of a word, each as a line of usage; of another one the usage text of the command.
 usage_of() {
     local uses
-    uses=$(word_table | awk -F '|' -v word="$1" '{ first = $2; sub(/ .*/, "", first) } first == word { print "usage: mtapi " $2 }')
+    uses=$(used_words | awk -F '|' -v word="$1" '{ first = $2; sub(/ .*/, "", first) } first == word { print "usage: mtapi " $2 }')
     echo "${uses:-$usage}"
 }
 
@@ -80,8 +89,8 @@ nearest() {
 # Why these words are none, where that can be said in a line.
 tell_why() {
     local near words
-    mapfile -t words < <(all_words)
-    if ! grep -qxF -e "$1" <(all_words); then
+    if ! is_word "$1"; then
+        mapfile -t words <<<"$(all_words)"
         near=$(nearest "$1" "${words[@]}" --help --version)
         tell "no word '$1'${near:+: perhaps $near}"
         return
@@ -133,7 +142,7 @@ are_files() {
 are_known() {
     local word=$1
     shift
-    if [ -n "$installed" ] && ! grep -qxF -e "$word" <(all_words; printf '%s\n' -h --help --version); then return 1; fi
+    if [ -n "$installed" ] && [[ $word != -* ]] && ! is_word "$word"; then return 1; fi
     case $word in
     verify | expect | bounded) if [ "${1-}" = -v ]; then shift; fi ;;
     run) if [ "${1-}" = --journal ]; then shift; fi ;;
@@ -172,6 +181,8 @@ help_on() {
 }
 
 tell_help() {
+    local repository
+    repository=$(help_on_repository)
     cat <<END
 $usage
 
@@ -180,9 +191,10 @@ $(help_on command)
 
 Beside the command:
 $(help_on beside)
-$(help_on_repository)
 
-Statuses:
+${repository:+$repository
+
+}Statuses:
 $(status_table | sed 's/^/  /' | in_columns 12)
 
 - as FILE or KEPT is standard input.
@@ -192,7 +204,6 @@ END
 help_on_repository() {
     [ -z "$installed" ] || return
     cat <<END
-
 The repository:
 $(help_on repository)
   .ci/run                             proves everything and runs every test: the merge gate
