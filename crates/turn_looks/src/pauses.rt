@@ -60,6 +60,11 @@ impl Pause {
         }
     }
 
+    /// Whether it hasn't waited since there was something to do.
+    pub fn is_new(&self) -> bool {
+        self.short == 0
+    }
+
     /// Begins anew, after there was something to do.
     pub fn reset(&mut self) {
         self.backoff.reset();

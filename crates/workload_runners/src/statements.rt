@@ -35,10 +35,28 @@ fn handle_of(reply: &Reply) -> u64
     }
 }
 
-/// Where every worker sleeps, one is woken, and all where some may sleep long: there may be work.
-pub fn wake(cell: &TurnCell<Journaled>) {
-    if cell.work().asks_for_ring() {
-        cell.work().ring();
+/// Whether this op may leave a worker something to do: a task that may begin, or the end of the node. An op that ends tasks may, since the
+/// next one of an ordered queue begins then.
+pub fn gives_work(op: &Op) -> bool {
+    matches!(
+        op,
+        Op::TaskStart { .. }
+            | Op::TaskEnqueue { .. }
+            | Op::TaskCancel { .. }
+            | Op::ActionEnable { .. }
+            | Op::ActionDisable { .. }
+            | Op::ActionDelete { .. }
+            | Op::QueueEnable { .. }
+            | Op::QueueDisable { .. }
+            | Op::QueueDelete { .. }
+            | Op::Close
+    )
+}
+
+/// After a call that may have left work, a worker that sleeps is called.
+pub fn wake(cell: &TurnCell<Journaled>, gives_work: bool) {
+    if gives_work {
+        cell.work().call();
     }
 }
 
@@ -53,9 +71,10 @@ fn once<R: Wait>(
     ensures stated { IfOk result (λ h. AddsOwn (StatedAs (Once op) h) seat.old seat.new) }
     ensures spent { OnErr result (Stranded seat.old seat.new) }
 {
+    let is_work = gives_work(&op);
     match turn(rt, cell, seat, op) {
         Ok(reply) => {
-            wake(cell);
+            wake(cell, is_work);
             Ok(handle_of(&reply))
         }
         Err(spent) => Err(spent),

@@ -196,11 +196,12 @@ fn act<R: Wait, A: ActionSet>(
     }
 }
 
-// A worker that found no task waits once. Where it goes to sleep next, it tells those that wait for ends.
+// A worker that found no task waits once. Before its first wait since it ended one, it tells those that wait for ends.
 fn rest<R: Wait>(rt: &R, cell: &TurnCell<Journaled>, pause: &mut Pause) {
-    if pause.wait_for(rt, cell.work()) && cell.ends().is_heard() {
+    if pause.is_new() && cell.ends().is_heard() {
         cell.ends().ring_all();
     }
+    pause.wait_for(rt, cell.work());
 }
 
 // One round: the worker picks, runs what it took, and ends it. False where it was told to stop.
@@ -226,6 +227,7 @@ fn round<R: Wait, A: ActionSet>(
             },
         ) => {
             pause.leave(cell.work());
+            cell.work().pass_on();
             match act(rt, cell, seat, acts, task, kind, args) {
                 Ok(()) => Ok(true),
                 Err(spent) => Err(spent),
