@@ -4,6 +4,7 @@ use Rattle.mtapi_values.specs.declared.statuses.MtapiStatus.TheVariants as m
 use Rattle.mtapi_machine.specs.declared.replies.Reply.TheVariants as reply
 use Rattle.mtapi_machine.specs.declared.ops.Op.TheVariants as op
 use Rattle.mtapi_values.specs.Seats.{is_seat}
+use Rattle.mtapi_objects.specs.Tasks.{Ended}
 use Rattle.mtapi_machine.proofs.Refusals.{entry_stays, idle_stays}
 use Rattle.mtapi_machine.proofs.Changes.{some_same, update-same, at-update}
 

@@ -12,6 +12,7 @@ use Rattle.mtapi_values.specs.declared.handles.ShmemHandle.{ShmemHandle}
 use Rattle.mtapi_values.specs.contracts.kinds.Kind as kind
 use Rattle.mtapi_values.specs.contracts.statuses.MtapiStatus as mtapi
 use Rattle.mtapi_values.specs.contracts.statuses.MrapiStatus as mrapi
+use Rattle.mtapi_values.specs.contracts.ends.TaskEnd as end
 use Rattle.mtapi_values.specs.contracts.ends.TaskEndPartialEq.TheImpl as end_eq
 use Rattle.action_fn.specs.declared.finished.Finished.{Finished}
 use Rattle.mtapi_machine.specs.declared.ops.Op.TheVariants as ops
