@@ -2,7 +2,7 @@
 
 ghost use Rattle.std.specs.Prelude.{◌≤◌, OnOk, OnErr};
 ghost use Rattle.std.specs.Io.KnownBytes.{Appends};
-ghost use Rattle.byte_io.specs.Causes.{Rose, AppendsFront, HasCause, Says};
+ghost use Rattle.byte_io.specs.Causes.{Rose, AppendsFront, HasCause, WritesText};
 
 use crate::{Failed, Sink};
 
@@ -28,7 +28,7 @@ pub fn write_all<W: Sink>(out: &mut W, bytes: &[u8]) -> Result<(), Failed>
 /// Writes a message, whose failure changes nothing else: if the count of faults didn't rise, all
 /// of it was written, and else a prefix.
 pub fn say<E: Sink>(err: &mut E, text: &[u8])
-    ensures { Says (E.faults err.old) (E.faults err.new) (E.held err.old) (E.held err.new) text.now }
+    ensures { WritesText (E.faults err.old) (E.faults err.new) (E.held err.old) (E.held err.new) text.now }
 {
     let _ = write_all(err, text);
 }

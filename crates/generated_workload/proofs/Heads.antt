@@ -1,9 +1,9 @@
 -- The lines of the generated text before its first task.
-use Rattle.generated_workload.proofs.Names.{◌≡◌, ℕ, ◌≤◌, List, [], ◌∷◌, ◌++◌, true, Some, Ok, refl, ◌∙◌, ap, arith, codes, list_all, decimal, and_from, length-decimal-le, Reading, Statement, fields, values_in, change_of, settings_by, line_text, AllFit, IsRead, node_settings, is_word, binding, all_cores, first_statements, generated_settings, node_words, first_lines, Change, Value}
+use Rattle.generated_workload.proofs.Names.{◌≡◌, ℕ, ◌≤◌, List, [], ◌∷◌, ◌++◌, true, Some, Ok, refl, ◌∙◌, ap, arith, codes, list_all, decimal, and_from, length-decimal-le, Reading, Statement, fields, values_in, change_of, settings_by, line_text, AllFit, IsRead, node_settings, is_word, binding, all_cores, first_statements, generated_settings, node_words, first_lines, LineEffect, OptionValue}
 use Rattle.mtapi_values.specs.declared.kinds.Kind.TheVariants as kind
 use Rattle.mtapi_values.specs.Kinds.{kind_named}
 use Rattle.workload_file.specs.declared.table.Word.TheVariants as word
-use Rattle.workload_file.specs.declared.reading.Change.TheVariants as change
+use Rattle.workload_file.specs.declared.reading.LineEffect.TheVariants as change
 use Rattle.workload_file.specs.declared.workload.Deed.TheVariants as deed
 use Rattle.workload_file.specs.Cuts.{words_of}
 use Rattle.workload_file.specs.Table.{row, key_text, word_of}
@@ -78,13 +78,13 @@ node_good n w le most =
 
 node_change : (n w : ℕ) → 1 ≤ n → n ≤ 19000 → 1 ≤ w → w ≤ 16 → change_of start 1 word.Node [] (options n w) ≡ change.Node (generated_settings n w)
 unfolding change_with
-node_change n w a b c d = ap (λ (vs : List Value). change.Node (settings_by vs)) (node_values n w a b c d) ∙ ap change.Node (node_settings [] (generated_settings n w) (settings_fit n w a b c d))
+node_change n w a b c d = ap (λ (vs : List OptionValue). change.Node (settings_by vs)) (node_values n w a b c d) ∙ ap change.Node (node_settings [] (generated_settings n w) (settings_fit n w a b c d))
 
 node_adds : (n w : ℕ) → 1 ≤ n → n ≤ 19000 → 1 ≤ w → w ≤ 16 → line_adds start 1 (line_text (node_words n w)) ≡ Ok (state n w [] 1)
 node_adds n w a b c d =
     let g = node_good n w b d in
     words_add start 1 (codes "node") (options n w) word.Node [] (options n w) g.good (omega (arith, g.few)) (node_is n w a b c d)
-    ∙ ap Ok (ap (λ (x : Change). with_change start 1 (Some x)) (node_change n w a b c d) ∙ node_state n w)
+    ∙ ap Ok (ap (λ (x : LineEffect). with_change start 1 (Some x)) (node_change n w a b c d) ∙ node_state n w)
 
 -- ---- the actions and the group
 

@@ -20,7 +20,7 @@ pub use Rattle.workload_file.specs.Formed.{AllFit, AreStatements, IsBoundAt, IsN
 pub use Rattle.workload_file.specs.Names.{bound_at, is_called, use_in}
 pub use Rattle.workload_file.specs.Table.{fields, naming}
 pub use Rattle.workload_file.specs.Written.{line_text}
-pub use Rattle.workload_file.specs.declared.reading.Change.{Change}
+pub use Rattle.workload_file.specs.declared.reading.LineEffect.{LineEffect}
 pub use Rattle.workload_file.specs.declared.reading.Reading.{Reading}
-pub use Rattle.workload_file.specs.declared.values.Value.{Value}
+pub use Rattle.workload_file.specs.declared.values.OptionValue.{OptionValue}
 pub use Rattle.workload_file.specs.declared.workload.Statement.{Statement}

@@ -1,7 +1,7 @@
 -- The generated text is read as the generated workload.
 use Rattle.generated_workload.proofs.Names.{◌≡◌, ℕ, zero, suc, ◌+◌, ◌*◌, ◌≤◌, true, eqb, List, [], ◌∷◌, ◌++◌, length, Some, Ok, refl, ap, ◌∙◌, arith, codes, drop, list_all, join_with_byte, and_parts, and_from, eq-eqb, decimal_digit, length-append, between, Reading, line_text, line_printable, printable_lacks, all_append, first_statements, last_statement, node_words, task_words, first_lines, last_line, generated_text}
 use Rattle.std.proofs.lemmas.List.Splits.{slice_split_at, slice_split_none}
-use Rattle.workload_file.specs.declared.reading.Change.TheVariants as change
+use Rattle.workload_file.specs.declared.reading.LineEffect.TheVariants as change
 use Rattle.workload_file.specs.Reading.{with_change, lines_add, start, finished, workload_of}
 use Rattle.generated_workload.specs.Generated.{tasks, generated}
 use Rattle.generated_workload.specs.Text.{task_lines}

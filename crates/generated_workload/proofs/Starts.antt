@@ -1,11 +1,11 @@
 -- The lines of the generated text that start a task, and the wait for all of them.
-use Rattle.generated_workload.proofs.Names.{◌≡◌, ℕ, ℤ, suc, pos, ◌+◌, ◌%◌, ◌^◌, ◌≤◌, ◌<◌, Bool, true, false, cond, eqb, List, [], ◌∷◌, ◌++◌, length, Some, None, Ok, refl, ap, ◌∙◌, arith, codes, nat_le, position, Option, list_all, list_any, position_or_len, decimal, and_from, or_parts, lt-ltb, le-ltb, lt-leb, length-decimal-le, list_of, list_text, list_written, Value, Reading, Statement, fields, naming, bound_at, is_called, use_in, values_in, change_of, line_text, IsRead, is_inner, is_word, all_append, binding, all_cores, first_statements, task_name, task_statement, last_statement, start_words, task_words, last_line, Change}
+use Rattle.generated_workload.proofs.Names.{◌≡◌, ℕ, ℤ, suc, pos, ◌+◌, ◌%◌, ◌^◌, ◌≤◌, ◌<◌, Bool, true, false, cond, eqb, List, [], ◌∷◌, ◌++◌, length, Some, None, Ok, refl, ap, ◌∙◌, arith, codes, nat_le, position, Option, list_all, list_any, position_or_len, decimal, and_from, or_parts, lt-ltb, le-ltb, lt-leb, length-decimal-le, list_of, list_text, list_written, OptionValue, Reading, Statement, fields, naming, bound_at, is_called, use_in, values_in, change_of, line_text, IsRead, is_inner, is_word, all_append, binding, all_cores, first_statements, task_name, task_statement, last_statement, start_words, task_words, last_line, LineEffect}
 use Rattle.std.proofs.Common.{length-append}
 use Rattle.mtapi_values.specs.declared.timeouts.Timeout.TheVariants as timeout
 use Rattle.workload_file.specs.declared.table.Word.TheVariants as word
 use Rattle.workload_file.specs.declared.table.Sort.TheVariants as sort
-use Rattle.workload_file.specs.declared.values.Value.TheVariants as given
-use Rattle.workload_file.specs.declared.reading.Change.TheVariants as change
+use Rattle.workload_file.specs.declared.values.OptionValue.TheVariants as given
+use Rattle.workload_file.specs.declared.reading.LineEffect.TheVariants as change
 use Rattle.workload_file.specs.Table.{row, key_text, word_of}
 use Rattle.workload_file.specs.Values.{is_name, timeout_of}
 use Rattle.workload_file.specs.Options.{has_twice, text_of}
@@ -43,7 +43,7 @@ group_place xs = rw (lt-ltb 2 (length (first_statements ++ xs)) (omega arith)) r
 abbrev options : ℕ → List ℤ → List (List ℕ)
 options job args = (codes "job=" ++ decimal job) ∷ (codes "args=" ++ list_text args) ∷ codes "group=g" ∷ []
 
-abbrev values : ℕ → List ℤ → List Value
+abbrev values : ℕ → List ℤ → List OptionValue
 values job args = given.Number job ∷ given.Args args ∷ given.Number 0 ∷ given.Cores all_cores ∷ given.Flag false ∷ given.Place (Some 2) ∷ []
 
 -- what the numbers and the name of a start have to be
@@ -82,7 +82,7 @@ start_made line name job args place = refl
 start_change : (r : Reading) (line : ℕ) (name : List ℕ) (job : ℕ) (args : List ℤ) → values_in r.current.statements (options job args) (fields word.Start) ≡ values job args → change_of r line word.Start name (options job args) ≡ change.Statement (binding line name (start job args))
 start_change r line name job args e =
     let place = use_in r.current.statements (naming word.Start) name in
-    ap (λ (vs : List Value). change_with line word.Start name place vs) e ∙ start_made line name job args place
+    ap (λ (vs : List OptionValue). change_with line word.Start name place vs) e ∙ start_made line name job args place
 
 start_adds : (n w i : ℕ) (name : List ℕ) (job : ℕ) (args : List ℤ) → i < 19000 → Fit name job args → bound_at name (first_statements ++ tasks i) ≡ None → list_all is_word (start_words name job args) ≡ true → total (start_words name job args) ≤ 513 → line_adds (state n w (first_statements ++ tasks i) (i + 4)) (i + 5) (line_text (start_words name job args)) ≡ Ok (with_change (state n w (first_statements ++ tasks i) (i + 4)) (i + 5) (Some (change.Statement (binding (i + 5) name (start job args)))))
 start_adds n w i name job args lt f new words few =
@@ -90,7 +90,7 @@ start_adds n w i name job args lt f new words few =
     let room : nat_le 20000 (i + 4) ≡ false = lt-leb 20000 (i + 4) (omega arith) in
     let group = group_place (tasks i) in
     words_add r (i + 5) (codes "start") (name ∷ options job args) word.Start name (options job args) words few (start_is r name job args f room new group)
-    ∙ ap (λ (x : Change). Ok (with_change r (i + 5) (Some x))) (start_change r (i + 5) name job args (start_values r.current.statements name job args f group))
+    ∙ ap (λ (x : LineEffect). Ok (with_change r (i + 5) (Some x))) (start_change r (i + 5) name job args (start_values r.current.statements name job args f group))
 
 -- ---- a task
 
@@ -167,7 +167,7 @@ last_made n = refl
 last_change : (r : Reading) (n : ℕ) → place_of sort.Group (codes "g") r.current.statements ≡ Some 2 → change_of r (n + 5) word.WaitAll (codes "g") waits ≡ change.Statement (last_statement n)
 last_change r n group =
     ap (λ (o : Option ℕ). change_with (n + 5) word.WaitAll (codes "g") o (values_in r.current.statements waits (fields word.WaitAll))) (last_used r.current.statements group)
-    ∙ (ap (λ (vs : List Value). change_with (n + 5) word.WaitAll (codes "g") (Some 2) vs) (last_values r.current.statements) ∙ last_made n)
+    ∙ (ap (λ (vs : List OptionValue). change_with (n + 5) word.WaitAll (codes "g") (Some 2) vs) (last_values r.current.statements) ∙ last_made n)
 
 last_few : total (codes "wait_all" ∷ codes "g" ∷ waits) ≤ 513
 unfolding total
@@ -178,4 +178,4 @@ last_adds n w le =
     let r = state n w (first_statements ++ tasks n) (n + 4) in
     let group = group_place (tasks n) in
     words_add r (n + 5) (codes "wait_all") (codes "g" ∷ waits) word.WaitAll (codes "g") waits refl last_few (last_is r (lt-leb 20000 (n + 4) (omega arith)) group)
-    ∙ ap (λ (x : Change). Ok (with_change r (n + 5) (Some x))) (last_change r n group)
+    ∙ ap (λ (x : LineEffect). Ok (with_change r (n + 5) (Some x))) (last_change r n group)

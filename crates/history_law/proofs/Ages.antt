@@ -1,7 +1,7 @@
 -- What each move does to the objects of one kind: they stay listed, none comes back to life, and a new one has a new handle.
-use Rattle.history_law.proofs.Names.{nat_tests, ◌≡◌, ℕ, ◌+◌, ◌≤◌, Bool, true, false, cond, List, [], ◌∷◌, Some, refl, sym, ◌∙◌, ap, subst, arith, ◌==◌, ◌&&◌, is_some, cond_both, ObjectKind, TaskEnd, Failed, Op, Listed, live_of, live_object, listed, change, change_all, issue, with_fields, gone, Action, with_enabled, Queue, Task, Notes, TaskState, Ended, Running, with_state, with_notes, ended, end_each, new_task, NewTask, is_member, freed, let_go, State, FieldsOf, objects_of, is_open, Sort, Fields, all_of, Move, Groups, Queues, Mutexes, Sems, Rwls, Segments, makes_action, enables, withdraws, starts_task, runs_task, ends_task, ends_waiting, notes, leaves, frees_members, lets_members_go, is_fresh, apply, IsMade, WithdrawsAction, AltersObject, MakesAction, StartsTask, makes_kind, snd_true, rest_keeps, some_same, and_left}
+use Rattle.history_law.proofs.Names.{nat_tests, ◌≡◌, ℕ, ◌+◌, ◌≤◌, Bool, true, false, cond, List, [], ◌∷◌, Some, refl, sym, ◌∙◌, ap, subst, arith, ◌==◌, ◌&&◌, is_some, cond_both, ObjectKind, TaskEnd, Failed, Op, Listed, live_of, live_object, listed, change, change_all, issue, with_fields, gone, Action, with_enabled, Queue, Task, Notes, TaskState, Ended, Running, with_state, with_notes, ended, end_each, new_task, NewTask, is_member, freed, let_go, State, FieldsOf, objects_of, is_open, Sort, Fields, all_of, Move, Groups, Queues, Mutexes, Sems, Rwls, Segments, makes_action, enables, withdraws, starts_task, runs_task, ends_task, ends_waiting, notes, leaves, frees_members, lets_members_go, is_fresh, apply, IsMade, WithdrawsAction, AltersObject, MakesAction, StartsTask, makes_of_sort, snd_true, rest_keeps, some_same, and_left}
 use Rattle.mtapi_values.specs.declared.handles.ObjectKind.TheVariants as kind
-use Rattle.history_law.specs.Words.{makes as makes_object}
+use Rattle.history_law.specs.Words.{makes_object}
 use Rattle.history_law.proofs.Moves.{opens_fresh}
 use Rattle.history_law.proofs.Sorts.{sort_move}
 use Rattle.history_law.proofs.Answered.{true_false}
@@ -117,7 +117,7 @@ altered_same h f o e1 x = grind (arith, nat_tests)
 
 -- so it is of the kinds that no rule of tasks speaks of
 sort_ages : (k : Sort) (K : Fields k → Fields k → Type 0) → ((x : Fields k) → K x x) → (s : State) (o : Op) → ((j : ℕ) (f : Fields k → Fields k) → AltersObject k j f o → (x : Fields k) → K x (f x)) → (Q : List (Listed (Fields k)) → Type 0)
-    → ((h : ℕ) (x : Fields k) → makes_kind k o ≡ true → is_fresh (all_of k) s h ≡ true → Q ((all_of k).list s) → Q (issue h x ((all_of k).list s)))
+    → ((h : ℕ) (x : Fields k) → makes_of_sort k o ≡ true → is_fresh (all_of k) s h ≡ true → Q ((all_of k).list s) → Q (issue h x ((all_of k).list s)))
     → ((m : List (Listed (Fields k))) → AgesEach K ((all_of k).list s) m → Q ((all_of k).list s) → Q m)
     → (m : Move) → IsMade s o m → Q ((all_of k).list s) → Q ((all_of k).list (apply m s))
 sort_ages k K same s o alter Q new old m e v =
@@ -139,7 +139,7 @@ kind_of Sems = kind.Sem
 kind_of Rwls = kind.Rwl
 kind_of Segments = kind.Shmem
 
-makes_sort : (k : Sort) (o : Op) → makes_kind k o ≡ true → makes_object (kind_of k) o ≡ true
+makes_sort : (k : Sort) (o : Op) → makes_of_sort k o ≡ true → makes_object (kind_of k) o ≡ true
 makes_sort k o e1 = grind (arith, nat_tests)
 
 -- what a new object, by an op that makes it, and ageing keep, each move keeps

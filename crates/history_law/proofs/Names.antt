@@ -44,7 +44,7 @@ pub use Rattle.mtapi_machine.proofs.Replays.{legal_if}
 pub use Rattle.mtapi_machine.proofs.Worked.{one_task-legal}
 pub use Rattle.mtapi_machine.specs.Ends.{end_in}
 pub use Rattle.mtapi_machine.specs.KeyedRows.{alters_one, deletes, looks_one, mrapi, mrapi_open, mrapi_unless}
-pub use Rattle.mtapi_machine.specs.Laws.{AltersObject, AreMade, DropsToSame, EndsTask, Grows, IsMade, MakesAction, RemovesObject, StartsTask, WithdrawsAction, all_live, ends_many, is_pick, leads_to, makes_kind, may}
+pub use Rattle.mtapi_machine.specs.Laws.{AltersObject, AreMade, DropsToSame, EndsTask, Grows, IsMade, MakesAction, RemovesObject, StartsTask, WithdrawsAction, all_live, ends_many, is_pick, leads_to, makes_of_sort, may}
 pub use Rattle.mtapi_machine.specs.Legal.{IsHonest, IsNext, Legal, NodeEntry, after, next, row_of}
 pub use Rattle.mtapi_machine.specs.Moves.{Fields, Groups, Move, Mutexes, Queues, Rwls, Segments, Sems, Sort, after_moves, all_of, alters, apply, enables, ends_task, ends_waiting, frees_members, is_fresh, is_served, leaves, lets_members_go, makes, makes_action, notes, phase_is, released, removes, runs_task, starts_task, stops, withdraws}
 pub use Rattle.mtapi_machine.specs.QueueRows.{new_queue}

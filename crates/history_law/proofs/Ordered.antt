@@ -2,7 +2,7 @@
 use Rattle.history_law.proofs.Names.{◌≡◌, ℕ, ◌+◌, ◌≤◌, ◌<◌, Bool, true, false, cond, List, [], ◌∷◌, ◌++◌, Option, Some, None, refl, sym, ◌∙◌, ap, subst, arith, ◌==◌, ◌&&◌, ◌||◌, not, nat_lt, IsSome, eqb-true, eq-eqb, false_from_ne_true, nat_tests, holds, TaskEnd, Listed, live_of, live_object, any_live, listed, Task, NewTask, is_unstarted, is_unended, new_task, Queue, is_in, is_unended_in, is_head, lets, Terms, Op, Reply, Picked, State, opening, Move, starts_task, apply, is_ready, NodeEntry, IsNext, next, LegalFrom, Legal, after_from, after, StartsTask, end_in, end_at, Legal-front, Legal-rest, after-append, fst_true, snd_true, not_true, along, rest_keeps, after_grows, some_entry, is_handle, issues, asks_ordered, makes_ordered, puts_into, puts, is_picked, RunsInOrder, some_same, Answers}
 use Rattle.mtapi_values.specs.declared.handles.ObjectKind.TheVariants as kind
 use Rattle.mtapi_machine.specs.declared.ops.Op.TheVariants as op
-use Rattle.history_law.specs.Words.{makes as makes_kind}
+use Rattle.history_law.specs.Words.{makes_object}
 use Rattle.history_law.specs.Ordered.{is_pick, picks}
 use Rattle.history_law.proofs.Held.{DeadEnded}
 use Rattle.history_law.proofs.Moves.{Stands, once_along, once_from}
@@ -78,19 +78,19 @@ never_picked s (z ∷ zs) h e l o i =
 
 -- What was put
 
-put_issues : (q h : ℕ) (o : Op) → puts_into q o ≡ true → makes_kind kind.Task o ≡ true
+put_issues : (q h : ℕ) (o : Op) → puts_into q o ≡ true → makes_object kind.Task o ≡ true
 put_issues q h (op.TaskEnqueue x args cores detached group) e = refl
 put_issues q h _ e = true_false e refl
 
 puts_issues : (q h : ℕ) (e : NodeEntry) → puts q h e ≡ true → issues kind.Task h e ≡ true
-puts_issues q h e i = grind (arith, nat_tests, makes_kind, put_issues, fst_true, puts_into, is_handle)
+puts_issues q h e i = grind (arith, nat_tests, makes_object, put_issues, fst_true, puts_into, is_handle)
 
 put_queue : (q : ℕ) (n : NewTask) (o : Op) → puts_into q o ≡ true → StartsTask n o → n.queue ≡ Some q
 put_queue q n (op.TaskEnqueue x args cores detached group) e b = ap (λ (y : NewTask). y.queue) b.1 ∙ ap Some (eqb-true x.0 q e)
 put_queue q n _ e b = true_false e refl
 
 ordered_issues : (q : ℕ) (e : NodeEntry) → makes_ordered q e ≡ true → issues kind.Queue q e ≡ true
-ordered_issues q e i = grind (arith, nat_tests, makes_kind, fst_true, asks_ordered, is_handle, snd_true)
+ordered_issues q e i = grind (arith, nat_tests, makes_object, fst_true, asks_ordered, is_handle, snd_true)
 
 -- an ordered queue stays one
 abbrev IsOrdered : Queue → Type 0

@@ -1,7 +1,7 @@
 -- No handle is used again, and in layout two none names objects of two kinds.
 use Rattle.history_law.proofs.Names.{nat_tests, ◌≡◌, ℕ, ◌+◌, ◌≤◌, Bool, true, false, cond, List, [], ◌∷◌, ◌++◌, refl, sym, ◌∙◌, ap, subst, arith, ◌==◌, eqb-true, eq-eqb, false_from_ne_true, true_from_ne_false, ObjectKind, Layout, Two, object_number, named_kind, names_kind, Terms, Op, Reply, Handle, Listed, listed, may_issue, issue, Objects, FieldsOf, objects_of, State, opening, Move, is_fresh, apply, Allows, live, after_row, row, NodeEntry, IsNext, next, LegalFrom, Legal, after_from, after, IsMade, Legal-front, Legal-rest, after-append, fst_true, snd_true, own_kind, at_opening, along, by_moves, rest_keeps, some_entry, times, is_live, is_handle, issues, NeverAgain, NotInBoth, released, Answers, after_moves, ◌&&◌, answered}
 use Rattle.mtapi_values.specs.declared.handles.ObjectKind.TheVariants as kind
-use Rattle.history_law.specs.Words.{makes as makes_kind}
+use Rattle.history_law.specs.Words.{makes_object}
 use Rattle.mtapi_machine.specs.Answers as is
 use Rattle.history_law.proofs.SeatMoves.{kept_without}
 use Rattle.history_law.proofs.Ages.{SameFields, kind_move, listed_ages, Dead, dead_ages, dead_issue, dead_none, none_dead, live_listed}
@@ -48,7 +48,7 @@ gone_move k h s o m e v =
 
 -- An entry that issues a handle finds it unlisted
 
-fresh_by : (k : ObjectKind) (s : State) (who : ℕ) (o : Op) (h : ℕ) (ms : List Move) → makes_kind k o ≡ true → Answers s who o (Handle h) ms → is_fresh (objects_of k) s h ≡ true
+fresh_by : (k : ObjectKind) (s : State) (who : ℕ) (o : Op) (h : ℕ) (ms : List Move) → makes_object k o ≡ true → Answers s who o (Handle h) ms → is_fresh (objects_of k) s h ≡ true
 fresh_by kind.Action s who _ _ _ e (is.creates_action job x cores h f) = f
 fresh_by kind.Task s who _ _ _ e (is.starts job args priority cores detached group h f) = f.fresh
 fresh_by kind.Task s who _ _ _ e (is.enqueues q args cores detached group h x d p f n) = f.fresh
@@ -60,11 +60,11 @@ fresh_by kind.Rwl s who _ _ _ e (is.creates_rwl id limit h n f) = f
 fresh_by kind.Shmem s who _ _ _ e (is.creates_segment id cells h n f) = f
 fresh_by _ s who _ _ _ e _ = true_false e refl
 
-issue_fresh : (k : ObjectKind) (s : State) (who : ℕ) (o : Op) (h : ℕ) → makes_kind k o ≡ true → Allows (row s who o (Handle h)) (Handle h) → is_fresh (objects_of k) s h ≡ true
+issue_fresh : (k : ObjectKind) (s : State) (who : ℕ) (o : Op) (h : ℕ) → makes_object k o ≡ true → Allows (row s who o (Handle h)) (Handle h) → is_fresh (objects_of k) s h ≡ true
 issue_fresh k s who o h e a = fresh_by k s who o h _ e (answered s who o (Handle h) a)
 
 -- an entry that issues a handle has the row of this reply, so what holds after that row holds after the entry
-pub issued_as : (k : ObjectKind) (h : ℕ) (s : State) (P : Op → State → Type 0) → ((who : ℕ) (o : Op) → makes_kind k o ≡ true → Allows (row s who o (Handle h)) (Handle h) → P o (after_row s (row s who o (Handle h)))) → (e : NodeEntry) → IsNext s e → issues k h e ≡ true → P e.op (next s e)
+pub issued_as : (k : ObjectKind) (h : ℕ) (s : State) (P : Op → State → Type 0) → ((who : ℕ) (o : Op) → makes_object k o ≡ true → Allows (row s who o (Handle h)) (Handle h) → P o (after_row s (row s who o (Handle h)))) → (e : NodeEntry) → IsNext s e → issues k h e ≡ true → P e.op (next s e)
 issued_as k h s P e1 e e2 e3 = grind (arith, nat_tests)
 
 pub issues_fresh : (k : ObjectKind) (s : State) (e : NodeEntry) (h : ℕ) → IsNext s e → issues k h e ≡ true → is_fresh (objects_of k) s h ≡ true
@@ -85,13 +85,13 @@ unfolding listed
 none_times k h terms = at_opening (λ T l. listed h l ≡ 0) (λ T. refl) terms k
 
 -- an entry whose op makes no object of the kind lists none
-listed_same : (k : ObjectKind) (h : ℕ) (s : State) (e : NodeEntry) → makes_kind k e.op ≡ false → times k h (next s e) ≡ times k h s
+listed_same : (k : ObjectKind) (h : ℕ) (s : State) (e : NodeEntry) → makes_object k e.op ≡ false → times k h (next s e) ≡ times k h s
 listed_same k h s e z =
     by_moves (λ t. times k h t ≡ times k h s) s e
     (λ t m y w. kind_move k t e.op (λ l. listed h l ≡ times k h s) (λ j x b i u. true_false b z) (λ l a u. listed_ages (SameFields k) h _ l a ∙ u) m y w) refl
 
 -- nor does one that answers with another handle, or with none
-beside_issue : (k : ObjectKind) (h : ℕ) (s : State) (who : ℕ) (o : Op) (r : Reply) (ms : List Move) → makes_kind k o ≡ true → is_handle h r ≡ false → Answers s who o r ms → times k h (after_moves ms s) ≡ times k h s
+beside_issue : (k : ObjectKind) (h : ℕ) (s : State) (who : ℕ) (o : Op) (r : Reply) (ms : List Move) → makes_object k o ≡ true → is_handle h r ≡ false → Answers s who o r ms → times k h (after_moves ms s) ≡ times k h s
 beside_issue kind.Action h s who _ _ _ e n (is.creates_action job x cores j f) = listed_new h j _ s.actions n
 beside_issue kind.Task h s who _ _ _ e n (is.starts job args priority cores detached group j f) = listed_new h j _ s.tasks n
 beside_issue kind.Task h s who _ _ _ e n (is.enqueues q args cores detached group j x d p f m) = listed_new h j _ s.tasks n
@@ -107,7 +107,7 @@ beside_issue _ h s who _ _ _ e n _ = true_false e refl
 
 -- so no entry lists the handle but the one that issues it
 unissued : (k : ObjectKind) (h : ℕ) (s : State) (e : NodeEntry) → IsNext s e → issues k h e ≡ false → times k h (next s e) ≡ times k h s
-unissued k h s e i n = on_test (λ b. (b && is_handle h e.reply) ≡ false → times k h (next s e) ≡ times k h s) (makes_kind k e.op)
+unissued k h s e i n = on_test (λ b. (b && is_handle h e.reply) ≡ false → times k h (next s e) ≡ times k h s) (makes_object k e.op)
     (λ m j. beside_issue k h s e.who e.op e.reply _ m j (answered s e.who e.op e.reply i.allowed))
     (λ m j. listed_same k h s e m) n
 

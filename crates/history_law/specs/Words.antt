@@ -29,17 +29,17 @@ abbrev pub is_live : ObjectKind → ℕ → State → Bool
 is_live k h s = is_some (live_object ((objects_of k).list s) h)
 
 -- the op makes an object of the kind
-abbrev pub makes : ObjectKind → Op → Bool
-makes kind.Action (ActionCreate job kind cores) = true
-makes kind.Task (TaskStart job args priority cores detached group) = true
-makes kind.Task (TaskEnqueue q args cores detached group) = true
-makes kind.Group GroupCreate = true
-makes kind.Queue (QueueCreate id job priority limit ordered retain) = true
-makes kind.Mutex (MutexCreate id recursive) = true
-makes kind.Sem (SemCreate id limit) = true
-makes kind.Rwl (RwlCreate id limit) = true
-makes kind.Shmem (ShmemCreate id cells) = true
-makes _ _ = false
+abbrev pub makes_object : ObjectKind → Op → Bool
+makes_object kind.Action (ActionCreate job kind cores) = true
+makes_object kind.Task (TaskStart job args priority cores detached group) = true
+makes_object kind.Task (TaskEnqueue q args cores detached group) = true
+makes_object kind.Group GroupCreate = true
+makes_object kind.Queue (QueueCreate id job priority limit ordered retain) = true
+makes_object kind.Mutex (MutexCreate id recursive) = true
+makes_object kind.Sem (SemCreate id limit) = true
+makes_object kind.Rwl (RwlCreate id limit) = true
+makes_object kind.Shmem (ShmemCreate id cells) = true
+makes_object _ _ = false
 
 -- the reply is this handle
 abbrev pub is_handle : ℕ → Reply → Bool
@@ -48,4 +48,4 @@ is_handle h _ = false
 
 -- the entry issues the handle to an object of the kind
 abbrev pub issues : ObjectKind → ℕ → NodeEntry → Bool
-issues k h e = makes k e.op && is_handle h e.reply
+issues k h e = makes_object k e.op && is_handle h e.reply

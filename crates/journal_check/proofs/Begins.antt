@@ -1,5 +1,5 @@
 -- A follower before the first entry; and what an entry needs beside that its row allows its reply.
-use Rattle.journal_check.proofs.Names.{◌≡◌, ℕ, ◌+◌, ◌≤◌, ◌<◌, Bool, false, List, [], refl, sym, ◌∙◌, ap, subst, arith, ObjectKind, slot_of, issued_at, Terms, opening, seats, NodeEntry, IsHonest, after_from, after, Node, Stands, seat_count, OtherHandles, Renaming, nothing, terms_in, renamed, Follows, made_in, made_at, lasts_in, lasts_of, taken_in, renaming_of, Following, Made, count_in, last_handles, made_count, gone_count, freed_count, of_kind, Laws, room_of, HasFollowed, Judges, JudgesNext}
+use Rattle.journal_check.proofs.Names.{◌≡◌, ℕ, ◌+◌, ◌≤◌, ◌<◌, Bool, false, List, [], refl, sym, ◌∙◌, ap, subst, arith, ObjectKind, slot_of, issued_at, Terms, opening, seats, NodeEntry, IsHonest, after_from, after, PoolNode, Stands, seat_count, OtherHandles, Renaming, nothing, terms_in, renamed, Follows, made_in, made_at, lasts_in, lasts_of, taken_in, renaming_of, Following, Made, count_in, last_handles, made_count, gone_count, freed_count, of_kind, Laws, room_of, HasFollowed, Judges, JudgesNext}
 use Rattle.mtapi_values.specs.declared.handles.ObjectKind.TheVariants as kind
 use Rattle.node_steps.specs.Stands.{terms_of}
 
@@ -45,7 +45,7 @@ none_yet kind.Sem terms = omega arith
 none_yet kind.Rwl terms = omega arith
 none_yet kind.Shmem terms = omega arith
 
-pub begun : (w : Laws) (terms : Terms) (n : Node) (names : OtherHandles) (made : Made) → Stands n [] → terms_of n ≡ terms_in (room_of terms) terms → renaming_of names ≡ nothing →
+pub begun : (w : Laws) (terms : Terms) (n : PoolNode) (names : OtherHandles) (made : Made) → Stands n [] → terms_of n ≡ terms_in (room_of terms) terms → renaming_of names ≡ nothing →
     ((k : ObjectKind) (slot : ℕ) → count_in (of_kind made k) slot ≡ 0) → ((k : ObjectKind) → last_handles (of_kind made k) ≡ []) → ((k : ObjectKind) → made_count (of_kind made k) ≡ 0) →
     ((k : ObjectKind) → gone_count (of_kind made k) ≡ 0) → ((k : ObjectKind) → freed_count (of_kind made k) ≡ 0) → HasFollowed (record { terms = terms; node = n; names = names; made = made }) []
 unfolding after_from

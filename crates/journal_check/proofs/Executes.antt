@@ -1,5 +1,5 @@
 -- An entry whose op makes nothing.
-use Rattle.journal_check.proofs.Names.{◌≡◌, ℕ, ◌≤◌, Bool, true, false, List, [], ◌∷◌, ◌++◌, Option, None, length, refl, sym, ◌∙◌, subst, arith, Decides, ObjectKind, entry, Op, Reply, Picked, State, Allows, after_row, row, NodeEntry, row_of, next, after, Node, Stands, Renaming, renamed, renamed_op, renamed_answer, renamed_reply, made_kind, takes_task, StepRenames, made_in, MakesNone, AreGone, renaming_of, Following, gone_count, freed_count, of_kind, Tells, Laws, room_of, HasFollowed, Judges}
+use Rattle.journal_check.proofs.Names.{◌≡◌, ℕ, ◌≤◌, Bool, true, false, List, [], ◌∷◌, ◌++◌, Option, None, length, refl, sym, ◌∙◌, subst, arith, Decides, ObjectKind, entry, Op, Reply, Picked, State, Allows, after_row, row, NodeEntry, row_of, next, after, PoolNode, Stands, Renaming, renamed, renamed_op, renamed_answer, renamed_reply, made_kind, takes_task, StepRenames, made_in, MakesNone, AreGone, renaming_of, Following, gone_count, freed_count, of_kind, Tells, Laws, room_of, HasFollowed, Judges}
 use Rattle.mtapi_machine.specs.declared.ops.Op.TheVariants.{Pick}
 use Rattle.node_steps.specs.Stands.{terms_of}
 use Rattle.journal_check.proofs.Goes.{node_allows, mirrors_on, followed_on}
@@ -34,7 +34,7 @@ tells_none w f s who o r idle gone t =
       freed = λ k. freed_on (gone k) (freed_count (of_kind f.made k)) (t.freed k);
     }
 
-module _ (w : Laws) (f : Following) (e : NodeEntry) (m : Node) (given : Reply) (idle : made_kind e.op ≡ None) where
+module _ (w : Laws) (f : Following) (e : NodeEntry) (m : PoolNode) (given : Reply) (idle : made_kind e.op ≡ None) where
   abbrev g : Renaming
   g = renaming_of f.names
 

@@ -1,8 +1,8 @@
 -- What an entry of the follower's node says, and how a follower comes one entry further.
-use Rattle.journal_check.proofs.Names.{◌≡◌, ℕ, ◌+◌, ◌≤◌, List, [], ◌∷◌, ◌++◌, length, sym, ◌∙◌, ap, subst, arith, length-append, ObjectKind, entry, Terms, Op, Reply, State, opening, Allows, after_row, row, NodeEntry, LegalFrom, next, after, Legal-rest, after-one, Node, Stands, Renaming, terms_in, renamed, Follows, made_in, renaming_of, OtherHandles, Made, Tells, room_of, Mirrors, HasFollowed}
+use Rattle.journal_check.proofs.Names.{◌≡◌, ℕ, ◌+◌, ◌≤◌, List, [], ◌∷◌, ◌++◌, length, sym, ◌∙◌, ap, subst, arith, length-append, ObjectKind, entry, Terms, Op, Reply, State, opening, Allows, after_row, row, NodeEntry, LegalFrom, next, after, Legal-rest, after-one, PoolNode, Stands, Renaming, terms_in, renamed, Follows, made_in, renaming_of, OtherHandles, Made, Tells, room_of, Mirrors, HasFollowed}
 use Rattle.node_steps.specs.Stands.{terms_of}
 
-module _ (n m : Node) (own : List NodeEntry) (who : ℕ) (o : Op) (given : Reply) (t : terms_of m ≡ terms_of n) where
+module _ (n m : PoolNode) (own : List NodeEntry) (who : ℕ) (o : Op) (given : Reply) (t : terms_of m ≡ terms_of n) where
   -- the node's row allows what it answered
   pub node_allows : Stands m (own ++ entry who o given ∷ []) → Allows (row (after (terms_of n) own) who o given) given
   unfolding LegalFrom
@@ -15,7 +15,7 @@ module _ (n m : Node) (own : List NodeEntry) (who : ℕ) (o : Op) (given : Reply
   node_leads = after-one (opening (terms_of m)) own (entry who o given) ∙ ap (λ (u : Terms). after_row (after u own) (row (after u own) who o given)) t
 
 -- the node's own entry is behind those before it
-pub mirrors_on : {n m : Node} {g h : Renaming} {terms : Terms} {s t : State} {count : ℕ} (a : Mirrors n g terms s count) (who : ℕ) (o : Op) (given : Reply) → terms_of m ≡ terms_of n →
+pub mirrors_on : {n m : PoolNode} {g h : Renaming} {terms : Terms} {s t : State} {count : ℕ} (a : Mirrors n g terms s count) (who : ℕ) (o : Op) (given : Reply) → terms_of m ≡ terms_of n →
     Stands m (a.own ++ entry who o given ∷ []) → after_row (renamed g (room_of terms) s) (row (renamed g (room_of terms) s) who o given) ≡ renamed h (room_of terms) t → Mirrors m h terms t (count + 1)
 mirrors_on {n} {m} {g} {h} {terms} {s} {t} {count} a who o given e stands leads = record {
   own = a.own ++ entry who o given ∷ [];
@@ -25,7 +25,7 @@ mirrors_on {n} {m} {g} {h} {terms} {s} {t} {count} a who o given e stands leads 
 }
 
 -- the follower with these parts has come one entry further
-pub followed_on : (terms : Terms) (n : Node) (names : OtherHandles) (made : Made) (L : List NodeEntry) (e : NodeEntry) →
+pub followed_on : (terms : Terms) (n : PoolNode) (names : OtherHandles) (made : Made) (L : List NodeEntry) (e : NodeEntry) →
     Mirrors n (renaming_of names) terms (next (after terms L) e) (length L + 1) → terms_of n ≡ terms_in (room_of terms) terms → Follows (renaming_of names) (next (after terms L) e) →
     Tells made (next (after terms L) e) → ((k : ObjectKind) → made_in k (next (after terms L) e) ≤ length L + 1) →
     HasFollowed (record { terms = terms; node = n; names = names; made = made }) (L ++ e ∷ [])

@@ -1,5 +1,5 @@
 -- An entry whose op makes an object.
-use Rattle.journal_check.proofs.Names.{◌≡◌, ◌↔◌, ℕ, ◌+◌, ◌≤◌, ◌<◌, Bool, true, false, cond, List, [], ◌∷◌, ◌++◌, Option, Some, None, refl, sym, ◌∙◌, ap, subst, arith, length, MatchBool, eqb-true, eq-eqb, ◌==◌, ◌&&◌, nat_le, nat_tests, ObjectKind, names_kind, slot_of, generation_of, entry, Terms, Op, Reply, Handle, State, Allows, after_row, handle_of, row, NodeEntry, row_of, next, after, Node, Stands, OtherHandles, Renaming, with_pair, renamed, Follows, renamed_op, made_kind, limit_of, CanBe, live_in, is_full_of, is_fresh_of, CreateRenames, made_in, made_at, most_of, is_next_of, MakesOne, refusal_of, CanAnswer, lasts_of, gone_of, with_last, MakesLast, gone_in, taken_in, AreGone, renaming_of, Following, Made, MadeOfKind, count_in, last_handles, made_count, gone_count, freed_count, of_kind, Notes, Tells, Laws, last_generation, room_of, HasFollowed, Judges}
+use Rattle.journal_check.proofs.Names.{◌≡◌, ◌↔◌, ℕ, ◌+◌, ◌≤◌, ◌<◌, Bool, true, false, cond, List, [], ◌∷◌, ◌++◌, Option, Some, None, refl, sym, ◌∙◌, ap, subst, arith, length, MatchBool, eqb-true, eq-eqb, ◌==◌, ◌&&◌, nat_le, nat_tests, ObjectKind, names_kind, slot_of, generation_of, entry, Terms, Op, Reply, Handle, State, Allows, after_row, handle_of, row, NodeEntry, row_of, next, after, PoolNode, Stands, OtherHandles, Renaming, with_pair, renamed, Follows, renamed_op, made_kind, limit_of, CanBe, live_in, is_full_of, is_fresh_of, CreateRenames, made_in, made_at, most_of, is_next_of, MakesOne, refusal_of, CanAnswer, lasts_of, gone_of, with_last, MakesLast, gone_in, taken_in, AreGone, renaming_of, Following, Made, MadeOfKind, count_in, last_handles, made_count, gone_count, freed_count, of_kind, Notes, Tells, Laws, last_generation, room_of, HasFollowed, Judges}
 use Rattle.mtapi_machine.proofs.Made.{snd_true}
 use Rattle.node_steps.specs.Stands.{terms_of}
 use Rattle.journal_check.proofs.Goes.{node_allows, mirrors_on, followed_on}
@@ -76,7 +76,7 @@ module _ (w : Laws) (f : Following) (e : NodeEntry) (k : ObjectKind) (makes : ma
   given_here L h = by_room w f e k makes accepted L h false (more L h)
 
   -- the reply isn't allowed
-  pub judged_never : (m : Node) → ((L : List NodeEntry) → HasFollowed f L → length L < last_generation → Allows (row_of (after f.terms L) e) e.reply → ⊥) → Judges f e false (record f { node = m })
+  pub judged_never : (m : PoolNode) → ((L : List NodeEntry) → HasFollowed f L → length L < last_generation → Allows (row_of (after f.terms L) e) e.reply → ⊥) → Judges f e false (record f { node = m })
   judged_never m never = record {
     terms = refl;
     exact = λ L h short. (λ p. absurd (cc), λ i. absurd (never L h short i));
@@ -93,7 +93,7 @@ module _ (w : Laws) (f : Following) (e : NodeEntry) (k : ObjectKind) (makes : ma
     pub judged_stale : ((L : List NodeEntry) → HasFollowed f L → is_next_of k (after f.terms L) handle ≡ false) → Judges f e false f
     judged_stale stale = judged_never f.node (λ L h short i. let a = ((given_here L h).0 i).0 in let b = fresh_here L in let d = stale L h in absurd (cc))
 
-    module _ (fresh : (L : List NodeEntry) → HasFollowed f L → is_next_of k (after f.terms L) handle ≡ true) (m : Node) (terms : terms_of m ≡ terms_of f.node) where
+    module _ (fresh : (L : List NodeEntry) → HasFollowed f L → is_next_of k (after f.terms L) handle ≡ true) (m : PoolNode) (terms : terms_of m ≡ terms_of f.node) where
       -- the node has room
       room_there : (L : List NodeEntry) (h : HasFollowed f L) → length L < last_generation → is_full_of k (renamed g (room_of f.terms) (after f.terms L)) ≡ false
       room_there L h short =

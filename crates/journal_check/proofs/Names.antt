@@ -36,7 +36,7 @@ pub use Rattle.mtapi_renaming.specs.declared.maps.OtherHandles.{OtherHandles}
 pub use Rattle.mtapi_values.specs.Layouts.{names_kind, object_number}
 pub use Rattle.mtapi_values.specs.declared.handles.ObjectKind.{ObjectKind}
 pub use Rattle.node_steps.specs.Stands.{Stands, seat_count}
-pub use Rattle.node_steps.specs.declared.node.Node.{Node}
+pub use Rattle.node_steps.specs.declared.node.PoolNode.{PoolNode}
 unfoldable pub use Rattle.handle_pool.specs.Issued.{issued_at}
 unfoldable pub use Rattle.mtapi_machine.specs.Legal.{LegalFrom, after_from}
 unfoldable pub use Rattle.mtapi_renaming.specs.Lasts.{lasts_in}

@@ -1,11 +1,11 @@
 -- How many of a kind are live, and how many of its last handles aren't, as the node tells it.
-use Rattle.journal_check.proofs.Names.{◌≡◌, ℕ, ◌+◌, ◌≤◌, ◌<◌, Bool, true, false, cond, List, length, refl, sym, ◌∙◌, ap, arith, ◌==◌, ◌-◌, not, take, get_or, nat_tests, ObjectKind, Terms, State, NodeEntry, after, Node, Stands, Renaming, renamed, Follows, live_in, is_live_of, is_full_of, made_in, most_of, lasts_of, gone_of, gone_in, taken_in, renaming_of, Following, Made, of_kind, last_handles, made_count, gone_count, freed_count, Ends, Laws, room_of, Mirrors, HasFollowed, Same}
+use Rattle.journal_check.proofs.Names.{◌≡◌, ℕ, ◌+◌, ◌≤◌, ◌<◌, Bool, true, false, cond, List, length, refl, sym, ◌∙◌, ap, arith, ◌==◌, ◌-◌, not, take, get_or, nat_tests, ObjectKind, Terms, State, NodeEntry, after, PoolNode, Stands, Renaming, renamed, Follows, live_in, is_live_of, is_full_of, made_in, most_of, lasts_of, gone_of, gone_in, taken_in, renaming_of, Following, Made, of_kind, last_handles, made_count, gone_count, freed_count, Ends, Laws, room_of, Mirrors, HasFollowed, Same}
 use Rattle.node_steps.specs.Stands.{terms_of}
 use Rattle.journal_check.proofs.Lists.{how_many-next}
 use Rattle.journal_check.proofs.Ends.{told_more, told_less}
 
 -- a handle names a live object where its other one does
-pub live_here : (w : Laws) (n : Node) (g : Renaming) (k : ObjectKind) (h : ℕ) (b : Bool) → ((L : List NodeEntry) → Stands n L → is_live_of k (after (terms_of n) L) (g k h) ≡ b) →
+pub live_here : (w : Laws) (n : PoolNode) (g : Renaming) (k : ObjectKind) (h : ℕ) (b : Bool) → ((L : List NodeEntry) → Stands n L → is_live_of k (after (terms_of n) L) (g k h) ≡ b) →
     (terms : Terms) (s : State) (count : ℕ) → Mirrors n g terms s count → Follows g s → is_live_of k s h ≡ b
 live_here w n g k h b told terms s count m f =
     let a : is_live_of k (after (terms_of n) m.own) (g k h) ≡ b = told m.own m.stands in

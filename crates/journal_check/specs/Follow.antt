@@ -6,7 +6,7 @@ use Rattle.mtapi_machine.specs.declared.terms.Terms.{Terms}
 use Rattle.mtapi_machine.specs.State.{State}
 use Rattle.mtapi_machine.specs.Row.{Allows}
 use Rattle.mtapi_machine.specs.Legal.{NodeEntry, row_of, IsNext, after}
-use Rattle.node_steps.specs.declared.node.Node.{Node}
+use Rattle.node_steps.specs.declared.node.PoolNode.{PoolNode}
 use Rattle.node_steps.specs.Stands.{Stands, terms_of}
 use Rattle.mtapi_renaming.specs.Renaming.{Renaming}
 use Rattle.mtapi_renaming.specs.Renamed.{Room, terms_in, renamed}
@@ -33,7 +33,7 @@ room_of terms = record {
 }
 
 -- the node stands for entries of its own, no more than these many, which lead to the state with other handles
-pub record Mirrors (n : Node) (g : Renaming) (terms : Terms) (s : State) (count : ℕ) : Type 0 where
+pub record Mirrors (n : PoolNode) (g : Renaming) (terms : Terms) (s : State) (count : ℕ) : Type 0 where
   pub own : List NodeEntry
   pub stands : Stands n own
   pub renames : after (terms_of n) own ≡ renamed g (room_of terms) s

@@ -19,7 +19,7 @@ use mtapi_layouts::answered_kind;
 use mtapi_machine::{Entry, Op, Reply, Terms};
 use mtapi_renaming::{OtherHandles, renamed_answer, renamed_op, same_reply};
 use mtapi_values::{Layout, NodeAttr, ObjectKind};
-use node_steps::Node;
+use node_steps::PoolNode;
 use std::alloc::{AllocError, Global};
 
 /// A node with the journal's settings whose slots don't end, its handle beside each one of the journal, and what was made of each kind.
@@ -27,7 +27,7 @@ use std::alloc::{AllocError, Global};
 pub(crate) struct Following {
     // The journal's own terms.
     pub(crate) terms: Terms,
-    pub(crate) node: Node,
+    pub(crate) node: PoolNode,
     pub(crate) names: OtherHandles,
     pub(crate) made: Made,
 }
@@ -81,7 +81,7 @@ fn is_honest(op: &Op)
 
 // What the node answers to an op that makes nothing; where the wanted answer is that a worker takes
 // some task, it takes this one if it may.
-fn answer(node: &mut Node, who: u32, op: Op, wanted: &Reply) -> Reply
+fn answer(node: &mut PoolNode, who: u32, op: Op, wanted: &Reply) -> Reply
     requires seat { who < seat_count (terms_of node.old) }
     requires room { (L : List NodeEntry) × Stands node.old L × (length L < 4294967295) }
     ensures terms { terms_of node.new ≡ terms_of node.old }
@@ -111,7 +111,7 @@ impl Following {
         laws();
         let mut own = settings;
         let _ = own.set(NodeAttr::GENERATIONS, 4_294_967_295);
-        let node = Node::init(alloc, own, callers)?;
+        let node = PoolNode::init(alloc, own, callers)?;
         Ok(Following {
             terms: Terms {
                 layout,

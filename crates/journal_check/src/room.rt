@@ -17,7 +17,7 @@ use crate::made::generation_of;
 use mtapi_machine::{Reply, Terms};
 use mtapi_renaming::{OtherHandles, Rename};
 use mtapi_values::{Layout, MrapiStatus, MtapiStatus, NodeAttr, ObjectKind};
-use node_steps::Node;
+use node_steps::PoolNode;
 
 /// What is answered where no further object of a kind can be made.
 pub(crate) fn limit_of(kind: ObjectKind) -> Reply
@@ -62,7 +62,7 @@ fn names_kind(layout: Layout, kind: ObjectKind, handle: u64) -> bool
 }
 
 // How many of these handles of the journal don't name a live object of a kind any more.
-fn gone_of(node: &Node, names: &OtherHandles, kind: ObjectKind, handles: &[u64]) -> u64
+fn gone_of(node: &PoolNode, names: &OtherHandles, kind: ObjectKind, handles: &[u64]) -> u64
     ensures few { result ≤ length handles.now }
     ensures told { (terms : Terms) (s : State) (count : ℕ) → Mirrors node.now (renaming_of names.now) terms s count
         → Follows (renaming_of names.now) s → gone_of kind s handles.now ≡ result }

@@ -13,14 +13,14 @@ use Rattle.handle_pool.proofs.GetLemmas.{get-insert_same, get-insert_before, get
 use Rattle.handle_pool.proofs.CountLemmas.{live_count-new, max_of-new, live_count-insert, max_of-insert, live_count-with_value, max_of-with_value, live_count-without, max_of-without}
 use Rattle.handle_pool.proofs.StandsLemmas.{get-fresh}
 use Rattle.keyed_pool.specs.Index.{AreRising, Locates, IsIndexed}
-use Rattle.keyed_pool.specs.declared.Entry.{Entry}
+use Rattle.keyed_pool.specs.declared.IndexEntry.{IndexEntry}
 use Rattle.keyed_pool.proofs.EntryLemmas.{same_place, contains-new, contains-old, contained, rising-insert, kept, contains-left}
 
 module _ {T : Type 0} (id : T → ℕ) where
-  abbrev entry : T → ℕ → Entry
+  abbrev entry : T → ℕ → IndexEntry
   entry v handle = record { id = id v; handle = handle }
 
-  pub IsIndexed-new : (p : Slots T) (max len room : ℕ) (entries : List Entry) → p.slots ≡ replicate max (free_slot 1) → entries ≡ [] → len ≡ 0 → max ≤ room → IsIndexed id p entries len room
+  pub IsIndexed-new : (p : Slots T) (max len room : ℕ) (entries : List IndexEntry) → p.slots ≡ replicate max (free_slot 1) → entries ≡ [] → len ≡ 0 → max ≤ room → IsIndexed id p entries len room
   IsIndexed-new p max len room entries fresh empty none fits = record {
     rising = subst AreRising (sym empty) (λ i j d before within. absurd (omega (arith, within)));
     live = λ e there. absurd (omega (arith, ap length empty, there.1));
@@ -30,9 +30,9 @@ module _ {T : Type 0} (id : T → ℕ) where
     fits = omega (arith, fits, max_of-new p max fresh);
   }
 
-  module _ (p : Slots T) (entries : List Entry) (len room : ℕ) (index : IsIndexed id p entries len room) where
+  module _ (p : Slots T) (entries : List IndexEntry) (len room : ℕ) (index : IsIndexed id p entries len room) where
     -- the entry of a live value
-    pub entry_at : (handle : ℕ) (v : T) (d : Entry) → slot_value p handle ≡ Some v → (k : ℕ) × (k < length entries) × (slice_index_or entries k d ≡ entry v handle)
+    pub entry_at : (handle : ℕ) (v : T) (d : IndexEntry) → slot_value p handle ≡ Some v → (k : ℕ) × (k < length entries) × (slice_index_or entries k d ≡ entry v handle)
     entry_at handle v d found =
         let there = index.listed handle v found in
         (there.0, there.1, get_or_default entries there.0 d (entry v handle) there.1 ∙ there.2)
@@ -42,20 +42,20 @@ module _ {T : Type 0} (id : T → ℕ) where
       only = λ h k v w found other same.
           let a = entry_at h v (entry v h) found in
           let b = entry_at k w (entry v h) other in
-          let here = same_place entries index.rising a.0 b.0 (entry v h) a.1 b.1 (ap (λ (e : Entry). e.id) a.2 ∙ same ∙ sym (ap (λ (e : Entry). e.id) b.2)) in
-          ap (λ (e : Entry). e.handle) (sym a.2 ∙ ap (λ n. slice_index_or entries n (entry v h)) here ∙ b.2);
+          let here = same_place entries index.rising a.0 b.0 (entry v h) a.1 b.1 (ap (λ (e : IndexEntry). e.id) a.2 ∙ same ∙ sym (ap (λ (e : IndexEntry). e.id) b.2)) in
+          ap (λ (e : IndexEntry). e.handle) (sym a.2 ∙ ap (λ n. slice_index_or entries n (entry v h)) here ∙ b.2);
     }
 
     -- what a search finds is live, and where it finds nothing, none is
-    pub found_live : (n place : ℕ) (e : Entry) → Locates entries n (Ok place) → e ≡ slice_index_or entries place e → HasLive p e.handle (λ v. id v ≡ n)
+    pub found_live : (n place : ℕ) (e : IndexEntry) → Locates entries n (Ok place) → e ≡ slice_index_or entries place e → HasLive p e.handle (λ v. id v ≡ n)
     found_live n place e located is =
         let live = index.live e (place, located.0, sym is) in
-        (live.0, live.1, live.2 ∙ ap (λ (x : Entry). x.id) is ∙ located.1 e)
+        (live.0, live.1, live.2 ∙ ap (λ (x : IndexEntry). x.id) is ∙ located.1 e)
 
     pub found_none : (n place : ℕ) → Locates entries n (Err place) → NoneLive (slot_value p) (λ v. id v ≡ n)
     found_none n place located handle v found same =
         let there = entry_at handle v (entry v handle) found in
-        let is = ap (λ (e : Entry). e.id) there.2 in
+        let is = ap (λ (e : IndexEntry). e.id) there.2 in
         let parts = located.1 index.rising in
         elim (cases_lt there.0 place) [
           | inl below ↦ omega (arith, is, same, parts.0 there.0 (entry v handle) below)
@@ -73,7 +73,7 @@ module _ {T : Type 0} (id : T → ℕ) where
         record {
           rising = rising-insert entries place (entry v handle) within index.rising parts.0 parts.1;
           live = λ e there. elim (contained entries place (entry v handle) within e there) [
-            | inl is ↦ (v, ap (slot_value new) (ap (λ (x : Entry). x.handle) is) ∙ get-insert_same p new handle v inserts, sym (ap (λ (x : Entry). x.id) is))
+            | inl is ↦ (v, ap (slot_value new) (ap (λ (x : IndexEntry). x.handle) is) ∙ get-insert_same p new handle v inserts, sym (ap (λ (x : IndexEntry). x.id) is))
             | inr old ↦
                 let was = index.live e old in
                 let differs : e.handle ≢ handle = λ same. let no = ap (slot_value p) same ∙ dead in absurd (cc (no, was.1)) in
@@ -92,10 +92,10 @@ module _ {T : Type 0} (id : T → ℕ) where
         }
 
     -- with the answer of an insert that has room
-    pub IsIndexed-grown : {E : Type 0} (r : Result Unit E) (new : Slots T) (handle n place : ℕ) (v : T) (items : List Entry) (more space : ℕ) → IsOk r → items ≡ cond (is_ok r) (insert entries place (record { id = n; handle = handle })) entries → more ≡ cond (is_ok r) (len + 1) len → room ≤ space → n ≡ id v → Inserts p new handle v → Locates entries n (Err place) → IsIndexed id new items more space
+    pub IsIndexed-grown : {E : Type 0} (r : Result Unit E) (new : Slots T) (handle n place : ℕ) (v : T) (items : List IndexEntry) (more space : ℕ) → IsOk r → items ≡ cond (is_ok r) (insert entries place (record { id = n; handle = handle })) entries → more ≡ cond (is_ok r) (len + 1) len → room ≤ space → n ≡ id v → Inserts p new handle v → Locates entries n (Err place) → IsIndexed id new items more space
     IsIndexed-grown (Err e) new handle n place v items more space ok grown one wide same inserts located = absurd (cc)
     IsIndexed-grown (Ok u) new handle n place v items more space ok grown one wide same inserts located =
-        subst (λ (xs : List Entry). IsIndexed id new xs more space) (sym grown)
+        subst (λ (xs : List IndexEntry). IsIndexed id new xs more space) (sym grown)
         (subst (λ (m : ℕ). IsIndexed id new (insert entries place (record { id = m; handle = handle })) more space) (sym same)
         (IsIndexed-insert new handle v place more space inserts (subst (λ (m : ℕ). Locates entries m (Err place)) same located) one wide))
 
@@ -129,17 +129,17 @@ module _ {T : Type 0} (id : T → ℕ) where
         let within = located.0 in
         let e = entry v handle in
         let own = entry_at handle v e found in
-        let at : place ≡ own.0 = same_place entries index.rising place own.0 e within own.1 (located.1 e ∙ sym (ap (λ (x : Entry). x.id) own.2)) in
+        let at : place ≡ own.0 = same_place entries index.rising place own.0 e within own.1 (located.1 e ∙ sym (ap (λ (x : IndexEntry). x.id) own.2)) in
         let here : slice_index_or entries place e ≡ e = ap (λ n. slice_index_or entries n e) at ∙ own.2 in
         record {
-          rising = all_pairs_remove (λ (a b : Entry). a.id < b.id) entries place within index.rising;
+          rising = all_pairs_remove (λ (a b : IndexEntry). a.id < b.id) entries place within index.rising;
           live = λ x there.
               let left = kept entries place within x there in
               let was = index.live x (left.0, left.1, left.3) in
               let differs : x.handle ≢ handle = λ same.
               let read = ap (slot_value p) same ∙ found in
               let is : was.0 ≡ v = cc (read, was.1) in
-              left.2 (same_place entries index.rising left.0 place x left.1 within (ap (λ (y : Entry). y.id) left.3 ∙ sym was.2 ∙ ap id is ∙ sym (located.1 x)))
+              left.2 (same_place entries index.rising left.0 place x left.1 within (ap (λ (y : IndexEntry). y.id) left.3 ∙ sym was.2 ∙ ap id is ∙ sym (located.1 x)))
               in
               (was.0, get-without_other p handle x.handle v found differs ∙ was.1, was.2);
           listed = λ h w live. elim (cases_eq h handle) [
@@ -147,7 +147,7 @@ module _ {T : Type 0} (id : T → ℕ) where
             | inr differs ↦
                 let there = index.listed h w (sym (get-without_other p handle h v found differs) ∙ live) in
                 let apart : there.0 ≢ place = λ same.
-                differs (ap (λ (x : Entry). x.handle) (sym there.2 ∙ ap (λ n. slice_index_or entries n (entry w h)) same ∙ get_or_default entries place (entry w h) e within ∙ here))
+                differs (ap (λ (x : IndexEntry). x.handle) (sym there.2 ∙ ap (λ n. slice_index_or entries n (entry w h)) same ∙ get_or_default entries place (entry w h) e within ∙ here))
                 in
                 contains-left entries place within (entry w h) there.0 there.1 apart there.2
           ];

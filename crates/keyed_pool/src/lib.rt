@@ -31,7 +31,7 @@ pub enum InsertError {
 
 // The handle of the live value of an id.
 #[derive(Clone, Copy, Drop)]
-struct Entry {
+struct IndexEntry {
     id: u64,
     handle: u64,
 }
@@ -41,7 +41,7 @@ struct Entry {
 pub struct KeyedPool<T: HasId + Drop> {
     pool: Pool<T>,
     // One entry for each live value, in the order of the ids.
-    entries: Vec<Entry>,
+    entries: Vec<IndexEntry>,
 }
 
 impl<T: HasId + Drop> Model for KeyedPool<T> {
@@ -96,7 +96,7 @@ impl<T: HasId + Drop> KeyedPool<T> {
             return Err(InsertError::Full);
         };
         // There is room, so this takes no memory.
-        let _ = self.entries.insert(place, Entry { id, handle });
+        let _ = self.entries.insert(place, IndexEntry { id, handle });
         Ok(handle)
     }
 
@@ -183,7 +183,7 @@ impl<T: HasId + Drop> KeyedPool<T> {
 }
 
 // The place of the entry of an id, or the one where it would stand.
-fn position(entries: &[Entry], id: u64) -> Result<usize, usize>
+fn position(entries: &[IndexEntry], id: u64) -> Result<usize, usize>
     ensures { Locates entries.now id result }
 {
     entries.binary_search_by_key(&id, |entry| entry.id)

@@ -16,7 +16,7 @@ use mtapi_values::Timeout;
 use std::marker::Model;
 use std::sync::Wait;
 use turn_cell::{Spent, TurnCell, TurnSeat};
-use turn_looks::{Wanted, look, turn};
+use turn_looks::{LookFor, look, turn};
 
 /// A message for this endpoint.
 #[derive(Clone, Copy, Debug, Drop, PartialEq, Eq)]
@@ -24,7 +24,7 @@ struct Arrival {
     at: EndpointHandle,
 }
 
-impl Wanted<Post> for Arrival {
+impl LookFor<Post> for Arrival {
     ghost use Rattle.std.specs.Prelude.{Bool};
     ghost use Rattle.mcapi_msg.specs.declared.ops.MsgOp.TheVariants.{Recv};
     ghost use Rattle.mcapi_msg.specs.declared.ops.MsgReply.TheVariants.{Pending};

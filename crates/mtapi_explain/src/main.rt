@@ -5,15 +5,15 @@ use std::env;
 use std::io::ErrorKind;
 use std::process::ExitCode;
 use workload_file::{StdSink, StdSource, write_all};
-use workload_mistakes::{End, explain};
+use workload_mistakes::{ExplainEnd, explain};
 
 /// Whether there are words behind the program's name: it takes none.
-fn has_words(rt: &HostRuntime) -> Result<bool, End> {
+fn has_words(rt: &HostRuntime) -> Result<bool, ExplainEnd> {
     match env::args(rt) {
         Ok(words) => Ok(words.skip(1).next().is_some()),
         Err(error) => {
             if error.kind() == ErrorKind::OutOfMemory {
-                return Err(End::Memory);
+                return Err(ExplainEnd::Memory);
             }
             Ok(true)
         }
@@ -21,14 +21,14 @@ fn has_words(rt: &HostRuntime) -> Result<bool, End> {
 }
 
 /// The status of an end, and what is said of it on standard error.
-fn said_of(end: End) -> (u8, &'static [u8]) {
+fn said_of(end: ExplainEnd) -> (u8, &'static [u8]) {
     match end {
-        End::Clean => (0, b""),
-        End::Faulty => (3, b""),
-        End::TooLong => (3, b"mtapi: workload too long\n"),
-        End::ReadFault => (4, b"mtapi: read fault\n"),
-        End::WriteFault => (5, b"mtapi: write fault\n"),
-        End::Memory => (6, b"mtapi: out of memory\n"),
+        ExplainEnd::Clean => (0, b""),
+        ExplainEnd::Faulty => (3, b""),
+        ExplainEnd::TooLong => (3, b"mtapi: workload too long\n"),
+        ExplainEnd::ReadFault => (4, b"mtapi: read fault\n"),
+        ExplainEnd::WriteFault => (5, b"mtapi: write fault\n"),
+        ExplainEnd::Memory => (6, b"mtapi: out of memory\n"),
     }
 }
 

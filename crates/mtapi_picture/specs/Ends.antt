@@ -2,7 +2,7 @@
 use Rattle.std.specs.Prelude.{◌≡◌, ℕ, ◌≤◌, ◌<◌, Bool, true, false, List, [], ◌∷◌, ◌++◌, length, codes, Option, Result, Ok, Err}
 use Rattle.std.specs.Fmt.{decimal}
 use Rattle.std.specs.Io.KnownBytes.{Appends}
-use Rattle.byte_io.specs.Causes.{AppendsFront, Says}
+use Rattle.byte_io.specs.Causes.{AppendsFront, WritesText}
 use Rattle.node_journals.specs.declared.entries.Journal.{Journal}
 use Rattle.journal_text.specs.declared.faults.TextError.TheVariants as errors
 use Rattle.journal_text.specs.Journals.{journal_of}
@@ -80,4 +80,4 @@ has_line _ = false
 -- the end is told by its status, and by its message on the error output
 pub record IsTold (e : End) (before now : ℕ) (old new : Option (List ℕ)) (status : ℕ) : Type 0 where
   pub answered : status ≡ status_of e
-  pub said : Says before now old new (message e)
+  pub said : WritesText before now old new (message e)

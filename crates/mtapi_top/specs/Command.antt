@@ -2,7 +2,7 @@
 use Rattle.std.specs.Prelude.{◌≡◌, ◌⊎◌, ℕ, ◌≤◌, ◌<◌, ◌^◌, List, [], ◌∷◌, ◌++◌, length, codes, Bool, true, false, Option, Some, None, IfSome, is_some, Ok, Err}
 use Rattle.std.specs.Fmt.{decimal}
 use Rattle.std.specs.Io.KnownBytes.{Appends}
-use Rattle.byte_io.specs.Causes.{Rose, AppendsFront, Says}
+use Rattle.byte_io.specs.Causes.{Rose, AppendsFront, WritesText}
 use Rattle.workload_file.specs.declared.workload.Workload.{Workload}
 use Rattle.workload_file.specs.declared.faults.Fault.{Fault}
 use Rattle.workload_file.specs.declared.faults.LoadError.{LoadError}
@@ -148,4 +148,4 @@ pub record IsTold (end : End) (e e' : ℕ) (o o' : Option (List ℕ)) (outcome :
   pub status : outcome.status ≡ status_of end
   pub journal : outcome.journal ≡ journal_of end
   pub spent : outcome.spent ≡ spent_of end
-  pub said : Says e e' o o' (message end)
+  pub said : WritesText e e' o o' (message end)

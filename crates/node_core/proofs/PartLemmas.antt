@@ -9,7 +9,7 @@ use Rattle.handle_pool.proofs.ListedLemmas.{issued_at-slot}
 use Rattle.mtapi_layouts.specs.Inward.{inward}
 use Rattle.mtapi_layouts.proofs.Handles.{outer-inward, inward-outer}
 use Rattle.mtapi_layouts.proofs.Lists.{found-turned, found-named, found-room}
-use Rattle.task_board.specs.Board.{records_of, group_slots}
+use Rattle.task_board.specs.Scheduler.{records_of, group_slots}
 use Rattle.node_resources.specs.Holds.{Holds}
 use Rattle.node_steps.specs.Stands.{Lists, Pools, state_of, terms_of as terms_inside}
 use Rattle.node_steps.specs.Keeps.{Keeps}
@@ -59,19 +59,19 @@ module _ {T : Type 0} (k : ObjectKind) (f : T → T) (P : T → Type 0) where
 pub agrees : (n : Node) (L : List NodeEntry) → Stands n L → Agrees n (after (terms_of n) L)
 agrees n L st = record {
   beside = same ∙ ap (state_of n.inner) (sym (ap lists_in same));
-  actions = agrees-in kind.Action same_fields NoHandle attr.actions attr.generations n.inner.board.actions s.actions names.actions live.actions;
-  tasks = agrees-in kind.Task turned_task TaskIsNamed attr.tasks attr.generations n.inner.board.tasks.pool s.tasks names.tasks live.tasks;
-  groups = agrees-in kind.Group same_fields NoHandle attr.groups attr.generations (group_slots n.inner.board) s.groups names.groups live.groups;
-  queues = agrees-in kind.Queue same_fields NoHandle attr.queues attr.generations (records_of n.inner.board.queues.pool) s.queues names.queues live.queues;
+  actions = agrees-in kind.Action same_fields NoHandle attr.actions attr.generations n.inner.scheduler.actions s.actions names.actions live.actions;
+  tasks = agrees-in kind.Task turned_task TaskIsNamed attr.tasks attr.generations n.inner.scheduler.tasks.pool s.tasks names.tasks live.tasks;
+  groups = agrees-in kind.Group same_fields NoHandle attr.groups attr.generations (group_slots n.inner.scheduler) s.groups names.groups live.groups;
+  queues = agrees-in kind.Queue same_fields NoHandle attr.queues attr.generations (records_of n.inner.scheduler.queues.pool) s.queues names.queues live.queues;
   mutexes = agrees-in kind.Mutex same_fields NoHandle attr.objects attr.generations n.inner.resources.mutexes s.mutexes names.mutexes live.resources.mutexes;
   sems = agrees-in kind.Sem same_fields NoHandle attr.objects attr.generations n.inner.resources.sems s.sems names.sems live.resources.sems;
   rwls = agrees-in kind.Rwl same_fields NoHandle attr.objects attr.generations n.inner.resources.rwls s.rwls names.rwls live.resources.rwls;
   segments = agrees-in kind.Shmem same_fields NoHandle attr.objects attr.generations n.inner.resources.segments s.segments names.segments live.resources.segments;
-  keeps = subst (λ (x : State). Keeps x n.inner.board) (sym leads) st.inside.keeps;
+  keeps = subst (λ (x : State). Keeps x n.inner.scheduler) (sym leads) st.inside.keeps;
 }
   where
     attr : NodeSettings
-    attr = n.inner.board.settings
+    attr = n.inner.scheduler.settings
 
     s : State
     s = after (terms_of n) L
@@ -85,5 +85,5 @@ agrees n L st = record {
     names : Named s
     names = subst (λ (K : List NodeEntry). Named (after (terms_of n) K)) st.seen (named (terms_of n) st.entries refl)
 
-    live : Pools attr n.inner.board.actions n.inner.board.tasks.pool (group_slots n.inner.board) (records_of n.inner.board.queues.pool) n.inner.resources (lists_in (turned s))
-    live = subst (λ (l : Lists). Pools attr n.inner.board.actions n.inner.board.tasks.pool (group_slots n.inner.board) (records_of n.inner.board.queues.pool) n.inner.resources l) (sym (ap lists_in same)) st.inside.live
+    live : Pools attr n.inner.scheduler.actions n.inner.scheduler.tasks.pool (group_slots n.inner.scheduler) (records_of n.inner.scheduler.queues.pool) n.inner.resources (lists_in (turned s))
+    live = subst (λ (l : Lists). Pools attr n.inner.scheduler.actions n.inner.scheduler.tasks.pool (group_slots n.inner.scheduler) (records_of n.inner.scheduler.queues.pool) n.inner.resources l) (sym (ap lists_in same)) st.inside.live

@@ -10,7 +10,7 @@ use Rattle.handle_pool.specs.Stands.{generation_after}
 use Rattle.mtapi_machine.specs.State.{State}
 use Rattle.mtapi_layouts.specs.Inward.{inward}
 use Rattle.mtapi_layouts.specs.Turned.{turned, turned_list, turned_task}
-use Rattle.task_board.specs.Board.{records_of, group_slots}
+use Rattle.task_board.specs.Scheduler.{records_of, group_slots}
 use Rattle.node_resources.specs.Holds.{resource_lists}
 use Rattle.node_steps.specs.Stands.{Lists, state_of}
 use Rattle.node_steps.specs.Keeps.{Keeps}
@@ -46,13 +46,13 @@ pub record Agrees (n : Node) (s : State) : Type 0 where
   -- the terms, the phase, the release, the stopped workers and the two counts are the node's: all but the lists
   pub beside : turned s ≡ state_of n.inner (lists_in (turned s))
   -- the pool of each kind
-  pub actions : AgreesIn kind.Action same_fields (terms_of n).settings.generations n.inner.board.actions s.actions
-  pub tasks : AgreesIn kind.Task turned_task (terms_of n).settings.generations n.inner.board.tasks.pool s.tasks
-  pub groups : AgreesIn kind.Group same_fields (terms_of n).settings.generations (group_slots n.inner.board) s.groups
-  pub queues : AgreesIn kind.Queue same_fields (terms_of n).settings.generations (records_of n.inner.board.queues.pool) s.queues
+  pub actions : AgreesIn kind.Action same_fields (terms_of n).settings.generations n.inner.scheduler.actions s.actions
+  pub tasks : AgreesIn kind.Task turned_task (terms_of n).settings.generations n.inner.scheduler.tasks.pool s.tasks
+  pub groups : AgreesIn kind.Group same_fields (terms_of n).settings.generations (group_slots n.inner.scheduler) s.groups
+  pub queues : AgreesIn kind.Queue same_fields (terms_of n).settings.generations (records_of n.inner.scheduler.queues.pool) s.queues
   pub mutexes : AgreesIn kind.Mutex same_fields (terms_of n).settings.generations n.inner.resources.mutexes s.mutexes
   pub sems : AgreesIn kind.Sem same_fields (terms_of n).settings.generations n.inner.resources.sems s.sems
   pub rwls : AgreesIn kind.Rwl same_fields (terms_of n).settings.generations n.inner.resources.rwls s.rwls
   pub segments : AgreesIn kind.Shmem same_fields (terms_of n).settings.generations n.inner.resources.segments s.segments
   -- the marks of the ready index, the tasks that run and wait, and the lists of groups and of queues, each task as the pool has it
-  pub keeps : Keeps (turned s) n.inner.board
+  pub keeps : Keeps (turned s) n.inner.scheduler

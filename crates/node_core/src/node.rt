@@ -22,7 +22,7 @@ use std::alloc::{AllocError, Global};
 /// here, at an op and at its reply, and nowhere else: the node inside has the handles of its pools.
 #[derive(Drop)]
 pub struct Node {
-    inner: node_steps::Node,
+    inner: node_steps::PoolNode,
 }
 
 impl Object for Node {
@@ -80,7 +80,7 @@ impl Node {
         ensures terms { IfOk result (λ n. terms_of n ≡ record { layout = Two; settings = attr; callers = callers }) }
         ensures stands { IfOk result (λ n. Stands n []) }
     {
-        let inner = node_steps::Node::init(alloc, attr, callers)?;
+        let inner = node_steps::PoolNode::init(alloc, attr, callers)?;
         Ok(Node { inner })
     }
 

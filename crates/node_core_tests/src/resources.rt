@@ -1,7 +1,7 @@
 //! A handle that names nothing, in every op on a resource and in every phase.
 
 ghost use Rattle.std.specs.Prelude.{◌≡◌, ◌<◌, true};
-ghost use Rattle.node_resources.specs.Steps.{is_resource_op};
+ghost use Rattle.mtapi_machine.specs.Answers.{is_mrapi};
 
 use mtapi_machine::{Op, Phase, Reply};
 use mtapi_renaming::Rename;
@@ -18,7 +18,7 @@ const OPS: u32 = 22;
 
 // The op of this number, on an object of the id 9 or of this handle.
 fn numbered(op: u32, handle: u64) -> Op
-    ensures { is_resource_op result ≡ true }
+    ensures { is_mrapi result ≡ true }
 {
     let mutex = MutexHandle(handle);
     let sem = SemHandle(handle);

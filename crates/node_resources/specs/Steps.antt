@@ -1,42 +1,15 @@
 -- What an op on resources does, in the machine's words.
-use Rattle.std.specs.Prelude.{◌≡◌, ℕ, Bool, true, false, not, nat_lt, List, [], ◌∷◌}
+use Rattle.std.specs.Prelude.{◌≡◌, ℕ, Bool, not, nat_lt, List, [], ◌∷◌}
 use Rattle.mtapi_values.specs.declared.handles.Layout.TheVariants.{One}
 use Rattle.mtapi_values.specs.declared.statuses.MrapiStatus.{MrapiStatus}
 use Rattle.mtapi_values.specs.declared.statuses.MrapiStatus.TheVariants.{ErrNodeNotinit, ErrParameter}
 use Rattle.mtapi_machine.specs.declared.ops.Op.{Op}
-use Rattle.mtapi_machine.specs.declared.ops.Op.TheVariants.{MutexCreate, MutexGet, MutexDelete, MutexLook, MutexUnlock, SemCreate, SemGet, SemDelete, SemLook, SemUnlock, RwlCreate, RwlGet, RwlDelete, RwlLook, RwlUnlock, ShmemCreate, ShmemGet, ShmemDelete, ShmemAttach, ShmemDetach, ShmemRead, ShmemWrite}
 use Rattle.mtapi_machine.specs.declared.replies.Reply.{Reply}
 use Rattle.mtapi_machine.specs.State.{State, workers}
 use Rattle.mtapi_machine.specs.Row.{Allows, after_row}
 use Rattle.mtapi_machine.specs.Rows.{row}
 use Rattle.node_resources.specs.declared.gate.Gate.{Gate}
 use Rattle.node_resources.specs.Holds.{ResourceTable, Stands}
-
--- the op is one on mutexes, semaphores, reader-writer locks or segments
-abbrev pub is_resource_op : Op → Bool
-is_resource_op (MutexCreate id recursive) = true
-is_resource_op (MutexGet id) = true
-is_resource_op (MutexDelete x) = true
-is_resource_op (MutexLook x last) = true
-is_resource_op (MutexUnlock x key) = true
-is_resource_op (SemCreate id limit) = true
-is_resource_op (SemGet id) = true
-is_resource_op (SemDelete x) = true
-is_resource_op (SemLook x last) = true
-is_resource_op (SemUnlock x) = true
-is_resource_op (RwlCreate id limit) = true
-is_resource_op (RwlGet id) = true
-is_resource_op (RwlDelete x) = true
-is_resource_op (RwlLook x writer last) = true
-is_resource_op (RwlUnlock x writer) = true
-is_resource_op (ShmemCreate id cells) = true
-is_resource_op (ShmemGet id) = true
-is_resource_op (ShmemDelete x) = true
-is_resource_op (ShmemAttach x) = true
-is_resource_op (ShmemDetach x) = true
-is_resource_op (ShmemRead x cell) = true
-is_resource_op (ShmemWrite x cell value) = true
-is_resource_op _ = false
 
 -- handles have layout one, and the gate has the phase of the state and its number of workers
 pub record IsAt (s : State) (g : Gate) : Type 0 where

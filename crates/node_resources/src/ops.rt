@@ -2,7 +2,8 @@
 
 ghost use Rattle.std.specs.Prelude.{◌≡◌, ◌<◌, true};
 ghost use Rattle.mtapi_renaming.specs.Ops.{renamed_op};
-ghost use Rattle.node_resources.specs.Steps.{Steps, is_resource_op};
+ghost use Rattle.mtapi_machine.specs.Answers.{is_mrapi};
+ghost use Rattle.node_resources.specs.Steps.{Steps};
 
 use crate::Resources;
 use crate::gate::Gate;
@@ -13,7 +14,7 @@ impl Resources {
     /// One op on resources, for a seat below 25. The pools have other handles for those that it names.
     pub fn execute<R: Rename>(&mut self, names: &R, gate: Gate, who: u32, op: &Op) -> Reply
         requires seat { who < 25 }
-        requires resource { is_resource_op op.now ≡ true }
+        requires resource { is_mrapi op.now ≡ true }
         ensures { Steps self.old gate who (renamed_op (R.renaming names.now) op.now) result self.new }
     {
         match op {

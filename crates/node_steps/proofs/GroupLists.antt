@@ -1,5 +1,5 @@
 -- The members of a group in the machine's words, and moves of all of them.
-use Rattle.node_steps.proofs.Names.{◌≡◌, ◌≢◌, ℕ, ◌<◌, Bool, true, false, cond, List, [], ◌∷◌, Option, Some, None, refl, sym, ◌∙◌, ap, subst, inl, inr, arith, ◌==◌, ◌&&◌, ◌||◌, nat_lt, eqb_tells, nat_tests, TaskEnd, Slots, slot_value, with_value, without, NoneLive, Listed, live_of, lookup, live_object, any_live, any_listed, change, change_all, with_fields, gone, Distinct, any-none, any-live, has_handle, without_handle, Task, end_of, is_unended, with_notes, Ending, is_member, is_unended_member, insert, insert_ended, endings, freed, let_go, in_no_group, without_group, Members, no_members, RisesBy, AreKeyed, membership, members_in, end_in, BoardTable, IsBoard, is_ended_member, end_at, ending_of, endings_of, Each, frees, lets_go, has-self, or-right, unended-so, unended-member, ended-member, Holds}
+use Rattle.node_steps.proofs.Names.{◌≡◌, ◌≢◌, ℕ, ◌<◌, Bool, true, false, cond, List, [], ◌∷◌, Option, Some, None, refl, sym, ◌∙◌, ap, subst, inl, inr, arith, ◌==◌, ◌&&◌, ◌||◌, nat_lt, eqb_tells, nat_tests, TaskEnd, Slots, slot_value, with_value, without, NoneLive, Listed, live_of, lookup, live_object, any_live, any_listed, change, change_all, with_fields, gone, Distinct, any-none, any-live, has_handle, without_handle, Task, end_of, is_unended, with_notes, Ending, is_member, is_unended_member, insert, insert_ended, endings, freed, let_go, in_no_group, without_group, Members, no_members, RisesBy, AreKeyed, membership, members_in, end_in, SchedulerTable, IsScheduler, is_ended_member, end_at, ending_of, endings_of, Each, frees, lets_go, has-self, or-right, unended-so, unended-member, ended-member, Holds}
 use Rattle.std.proofs.lemmas.Bool.{false≢true}
 use Rattle.handle_pool.specs.Stands.{Stands as SlotsStand}
 use Rattle.task_board.proofs.KeyedLemmas.{keyed-same, keyed-leave}
@@ -202,22 +202,22 @@ endings-keyed at g (e ∷ es) hs d is keyed = by_key (end_in g (membership (Some
         ∙ insert-back at (λ h. end_in g (membership (lookup (e ∷ es) h))) e.0 n x.e hs keyed.rises have here (ap end_at (is e.0 e.1 (lookup-here e es)) ∙ x.end) (keyed.listed e.0 n here))
 
 -- the ends of a group's members, in the order of their numbers, are those of its list
-pub endings-are : (b : BoardTable) (l : List (Listed Task)) (g : ℕ) (m : Members) → IsBoard b → SlotsStand b.tasks.pool l → slot_value b.groups.pool g ≡ Some m → endings g (live_of l) ≡ endings_of (slot_value b.tasks.pool) m.ended
+pub endings-are : (b : SchedulerTable) (l : List (Listed Task)) (g : ℕ) (m : Members) → IsScheduler b → SlotsStand b.tasks.pool l → slot_value b.groups.pool g ≡ Some m → endings g (live_of l) ≡ endings_of (slot_value b.tasks.pool) m.ended
 endings-are b l g m e1 e2 e3 = grind (arith, nat_tests, endings-keyed, slot_value, live_of, keyed-same, end_in, members_in)
 
 -- whether members are left that haven't ended, and whether any are
-pub none-unended : (b : BoardTable) (l : List (Listed Task)) (g : ℕ) (m : Members) → IsBoard b → SlotsStand b.tasks.pool l → slot_value b.groups.pool g ≡ Some m → m.unended ≡ [] → any_listed (is_unended_member g) l ≡ false
+pub none-unended : (b : SchedulerTable) (l : List (Listed Task)) (g : ℕ) (m : Members) → IsScheduler b → SlotsStand b.tasks.pool l → slot_value b.groups.pool g ≡ Some m → m.unended ≡ [] → any_listed (is_unended_member g) l ≡ false
 none-unended b l g m k s live none = any-none b.tasks.pool l (is_unended_member g) s (none-unended-left b g m k live none)
 
-pub some-unended : (b : BoardTable) (l : List (Listed Task)) (g h : ℕ) (m : Members) (rest : List ℕ) → IsBoard b → SlotsStand b.tasks.pool l → slot_value b.groups.pool g ≡ Some m → m.unended ≡ h ∷ rest → any_listed (is_unended_member g) l ≡ true
+pub some-unended : (b : SchedulerTable) (l : List (Listed Task)) (g h : ℕ) (m : Members) (rest : List ℕ) → IsScheduler b → SlotsStand b.tasks.pool l → slot_value b.groups.pool g ≡ Some m → m.unended ≡ h ∷ rest → any_listed (is_unended_member g) l ≡ true
 some-unended b l g h m rest k s live is =
     let x = unended-member b g h m rest k live is in
     any-live b.tasks.pool l (is_unended_member g) h x.t s x.live ((λ i. x.member i && is_unended x.t) ∙ unended-so x.t.state x.end)
 
-pub none-listed : (b : BoardTable) (l : List (Listed Task)) (g : ℕ) → IsBoard b → SlotsStand b.tasks.pool l → slot_value b.groups.pool g ≡ Some no_members → any_listed (is_member g) l ≡ false
+pub none-listed : (b : SchedulerTable) (l : List (Listed Task)) (g : ℕ) → IsScheduler b → SlotsStand b.tasks.pool l → slot_value b.groups.pool g ≡ Some no_members → any_listed (is_member g) l ≡ false
 none-listed b l g k s live = any-none b.tasks.pool l (is_member g) s (none-left-in b g k live)
 
-pub some-listed : (b : BoardTable) (l : List (Listed Task)) (g : ℕ) (m : Members) → IsBoard b → SlotsStand b.tasks.pool l → slot_value b.groups.pool g ≡ Some m → ((m ≡ no_members) → ⊥) → any_listed (is_member g) l ≡ true
+pub some-listed : (b : SchedulerTable) (l : List (Listed Task)) (g : ℕ) (m : Members) → IsScheduler b → SlotsStand b.tasks.pool l → slot_value b.groups.pool g ≡ Some m → ((m ≡ no_members) → ⊥) → any_listed (is_member g) l ≡ true
 some-listed b l g m k s live some = by_lists m.unended refl m.ended refl
   where
     by_lists : (us : List ℕ) → m.unended ≡ us → (es : List ℕ) → m.ended ≡ es → any_listed (is_member g) l ≡ true

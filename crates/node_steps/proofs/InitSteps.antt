@@ -1,6 +1,6 @@
 -- A new node stands for the empty list, and each step goes on with the list.
-use Rattle.node_steps.proofs.Names.{nat_tests, ◌≡◌, ℕ, ◌+◌, ◌<◌, ◌≤◌, false, List, [], ◌∷◌, ◌++◌, ◌^◌, length, length-append, refl, sym, ◌∙◌, ap, subst, arith, map, replicate, NodeSettings, AreNodeSettings, Slot, Slots, free_slot, no_marks, HeldQueue, mapped_slot, mapped-new, BoardTable, IsBoard, records_of, group_slots, Keeps, Op, Reply, New, State, opening, start_numbers, Sound, NodeEntry, IsNext, next, LegalFrom, Legal, after_from, after, ResourceTable, HoldsAll, Node, Lists, Holds, Pools, Live, Steps, state_of, terms_of, seat_count}
-use Rattle.node_steps.proofs.KeepLemmas.{keeps-board}
+use Rattle.node_steps.proofs.Names.{nat_tests, ◌≡◌, ℕ, ◌+◌, ◌<◌, ◌≤◌, false, List, [], ◌∷◌, ◌++◌, ◌^◌, length, length-append, refl, sym, ◌∙◌, ap, subst, arith, map, replicate, NodeSettings, AreNodeSettings, Slot, Slots, free_slot, no_marks, HeldQueue, mapped_slot, mapped-new, SchedulerTable, IsScheduler, records_of, group_slots, Keeps, Op, Reply, New, State, opening, start_numbers, Sound, NodeEntry, IsNext, next, LegalFrom, Legal, after_from, after, ResourceTable, HoldsAll, PoolNode, Lists, Holds, Pools, Live, Steps, state_of, terms_of, seat_count}
+use Rattle.node_steps.proofs.KeepLemmas.{keeps-scheduler}
 use Rattle.history.specs.Histories.{entry}
 use Rattle.mtapi_machine.specs.declared.terms.Terms.{Terms}
 use Rattle.mtapi_machine.proofs.Served.{served, after_served}
@@ -14,13 +14,13 @@ pub records_new : (p : Slots HeldQueue) (size : ℕ) → p.slots ≡ replicate s
 records_new p size e = ap (λ (l : List (Slot HeldQueue)). map (mapped_slot (λ (x : HeldQueue). x.queue)) l) e ∙ mapped-new (λ (x : HeldQueue). x.queue) size
 
 -- a node as it is made, and no objects
-abbrev made : ℕ → BoardTable → ResourceTable → Node
-made callers b r = record { core = record { callers = callers; phase = New; released = false; stopped = no_marks }; board = b; resources = r }
+abbrev made : ℕ → SchedulerTable → ResourceTable → PoolNode
+made callers b r = record { core = record { callers = callers; phase = New; released = false; stopped = no_marks }; scheduler = b; resources = r }
 
 abbrev none : Lists
 none = record { actions = []; tasks = []; groups = []; queues = []; resources = record { mutexes = []; sems = []; rwls = []; segments = [] } }
 
-pub new_node : (attr : NodeSettings) (callers : ℕ) (b : BoardTable) (r : ResourceTable) → AreNodeSettings attr → 1 ≤ callers → callers ≤ 9 → b.settings ≡ attr → Holds attr.actions attr.generations b.actions [] → Holds attr.tasks attr.generations b.tasks.pool [] → Holds attr.groups attr.generations (group_slots b) [] → Holds attr.queues attr.generations (records_of b.queues.pool) [] → HoldsAll attr r none.resources → b.tasks.starts ≡ 0 → b.tasks.ends ≡ 0 → IsBoard b → Stands (made callers b r) []
+pub new_node : (attr : NodeSettings) (callers : ℕ) (b : SchedulerTable) (r : ResourceTable) → AreNodeSettings attr → 1 ≤ callers → callers ≤ 9 → b.settings ≡ attr → Holds attr.actions attr.generations b.actions [] → Holds attr.tasks attr.generations b.tasks.pool [] → Holds attr.groups attr.generations (group_slots b) [] → Holds attr.queues attr.generations (records_of b.queues.pool) [] → HoldsAll attr r none.resources → b.tasks.starts ≡ 0 → b.tasks.ends ≡ 0 → IsScheduler b → Stands (made callers b r) []
 unfolding LegalFrom after_from
 new_node attr callers b r s some few is x y g z u starts ends kept = record {
   legal = record { fits = record { settings = subst (λ (t : NodeSettings). AreNodeSettings t) (sym is) s; some_caller = some; callers = few }; from = tt };
@@ -28,7 +28,7 @@ new_node attr callers b r s some few is x y g z u starts ends kept = record {
   state = same;
   live = live;
   starts = omega arith;
-  keeps = subst (λ (t : State). Keeps t b) (sym same) (keeps-board (made callers b r) none live kept);
+  keeps = subst (λ (t : State). Keeps t b) (sym same) (keeps-scheduler (made callers b r) none live kept);
 }
   where
     live : Live (made callers b r) none
@@ -41,10 +41,10 @@ one_more : (L : List NodeEntry) (e : NodeEntry) → length (L ++ e ∷ []) ≡ l
 one_more L e = simp length-append refl
 
 -- one more entry
-pub goes_on : (n m : Node) (L : List NodeEntry) (who : ℕ) (op : Op) (r : Reply) (st : Stands n L) → who < seat_count (terms_of n) → Steps n st.lists who op r m → IsBoard m.board → Stands m (L ++ entry who op r ∷ [])
+pub goes_on : (n m : PoolNode) (L : List NodeEntry) (who : ℕ) (op : Op) (r : Reply) (st : Stands n L) → who < seat_count (terms_of n) → Steps n st.lists who op r m → IsScheduler m.scheduler → Stands m (L ++ entry who op r ∷ [])
 goes_on n m L who op r st seat s kept =
     subst (λ (t : Terms). Legal t (L ++ e ∷ []) → after t (L ++ e ∷ []) ≡ state_of m s.0 → Stands m (L ++ e ∷ [])) s.1.terms
-    (λ legal leads. record { legal = legal; lists = s.0; state = leads; live = live; starts = starts; keeps = subst (λ (x : State). Keeps x m.board) (sym leads) (keeps-board m s.0 live kept) })
+    (λ legal leads. record { legal = legal; lists = s.0; state = leads; live = live; starts = starts; keeps = subst (λ (x : State). Keeps x m.scheduler) (sym leads) (keeps-scheduler m s.0 live kept) })
     (record { fits = st.legal.fits; from = Legal-append _ L (e ∷ []) st.legal.from (Legal-one (after (terms_of n) L) e may) })
     (after-one _ L e ∙ (ap (λ (x : State). next x e) st.state ∙ s.1.leads))
   where
@@ -55,21 +55,21 @@ goes_on n m L who op r st seat s kept =
     may = subst (λ (x : State). IsNext x (entry who op r)) (sym st.state) (record { seat = seat; honest = s.1.honest; allowed = s.1.allowed })
 
     live : Live m s.0
-    live = subst (λ (t : Terms). Pools t.settings m.board.actions m.board.tasks.pool (group_slots m.board) (records_of m.board.queues.pool) m.resources s.0) (sym s.1.terms) s.1.live
+    live = subst (λ (t : Terms). Pools t.settings m.scheduler.actions m.scheduler.tasks.pool (group_slots m.scheduler) (records_of m.scheduler.queues.pool) m.resources s.0) (sym s.1.terms) s.1.live
 
-    starts : m.board.tasks.starts ≤ length (L ++ entry who op r ∷ [])
+    starts : m.scheduler.tasks.starts ≤ length (L ++ entry who op r ∷ [])
     starts = omega (arith, one_more L (entry who op r), st.starts, s.1.starts)
 
 -- few tasks were started
-pub few_starts : (n : Node) (L : List NodeEntry) → Stands n L → length L < 2 ^ 62 + 16 → n.board.tasks.starts < 2 ^ 63
+pub few_starts : (n : PoolNode) (L : List NodeEntry) → Stands n L → length L < 2 ^ 62 + 16 → n.scheduler.tasks.starts < 2 ^ 63
 few_starts n L st l = omega (arith, st.starts)
 
 -- and there are few seats
-pub few_seats : (n : Node) (L : List NodeEntry) (who : ℕ) → Stands n L → who < seat_count (terms_of n) → who < 25
+pub few_seats : (n : PoolNode) (L : List NodeEntry) (who : ℕ) → Stands n L → who < seat_count (terms_of n) → who < 25
 few_seats n L who st seat = omega (arith, st.legal.fits.settings.workers.1, st.legal.fits.callers)
 
 -- the state of a node is one that a history leads to
-pub sound : (n : Node) (L : List NodeEntry) (st : Stands n L) → Sound (state_of n st.lists)
+pub sound : (n : PoolNode) (L : List NodeEntry) (st : Stands n L) → Sound (state_of n st.lists)
 sound n L st = subst Sound st.state (record {
   served = served s (after_served (opening (terms_of n)) L tt);
   ordered = rises-front (start_numbers s.tasks) (s.starts ∷ []) (after_numbered (opening (terms_of n)) L (tt, tt));
@@ -80,9 +80,9 @@ sound n L st = subst Sound st.state (record {
     s = after (terms_of n) L
 
 -- a step keeps the terms
-pub same_terms : (n m : Node) (who : ℕ) (op : Op) (r : Reply) (L : List NodeEntry) (st : Stands n L) → ((l : Lists) → Live n l → Sound (state_of n l) → Steps n l who op r m) → terms_of m ≡ terms_of n
+pub same_terms : (n m : PoolNode) (who : ℕ) (op : Op) (r : Reply) (L : List NodeEntry) (st : Stands n L) → ((l : Lists) → Live n l → Sound (state_of n l) → Steps n l who op r m) → terms_of m ≡ terms_of n
 same_terms n m who op r L st s = (s st.lists st.live (sound n L st)).1.terms
 
 -- a step from a node whose pools stand for some lists leads to such a node, and starts one task at most
-pub stepped : (n m : Node) (c who : ℕ) (op : Op) (r : Reply) → ((l : Lists) × Live n l × (n.board.tasks.starts ≤ c)) → ((l : Lists) → Live n l → Steps n l who op r m) → (l : Lists) × Live m l × (m.board.tasks.starts ≤ c + 1)
+pub stepped : (n m : PoolNode) (c who : ℕ) (op : Op) (r : Reply) → ((l : Lists) × Live n l × (n.scheduler.tasks.starts ≤ c)) → ((l : Lists) → Live n l → Steps n l who op r m) → (l : Lists) × Live m l × (m.scheduler.tasks.starts ≤ c + 1)
 stepped n m c who op r e1 e2 = grind (arith, nat_tests)

@@ -1,5 +1,5 @@
--- The queues of a board as the machine's list says them.
-use Rattle.node_steps.proofs.Names.{◌≡◌, ℕ, ◌+◌, ◌<◌, Bool, true, false, not, cond, List, [], ◌∷◌, length, Option, Some, None, refl, sym, ◌∙◌, ap, subst, arith, ◌&&◌, ◌||◌, ◌==◌, nat_lt, is_none, option_map, nat_tests, holds, Slots, slot_value, Listed, live_of, lookup, live_object, count_listed, how_many, any_live, Distinct, any-none, any-live, same_tests, pairs_without, lookup-without, Distinct-without, how_many-without, passing, has_handle, Task, TaskState, Scheduled, Running, Ended, end_of, is_unended, Queue, is_in, is_unended_in, is_head, lets, HeldQueue, Seen, seen_as, seen, seen_in, InOrder, begins_in, IsBoard, records_of, some_same, seen-as, value-mapped, Node, Lists, Live}
+-- The queues of a scheduler as the machine's list says them.
+use Rattle.node_steps.proofs.Names.{◌≡◌, ℕ, ◌+◌, ◌<◌, Bool, true, false, not, cond, List, [], ◌∷◌, length, Option, Some, None, refl, sym, ◌∙◌, ap, subst, arith, ◌&&◌, ◌||◌, ◌==◌, nat_lt, is_none, option_map, nat_tests, holds, Slots, slot_value, Listed, live_of, lookup, live_object, count_listed, how_many, any_live, Distinct, any-none, any-live, same_tests, pairs_without, lookup-without, Distinct-without, how_many-without, passing, has_handle, Task, TaskState, Scheduled, Running, Ended, end_of, is_unended, Queue, is_in, is_unended_in, is_head, lets, HeldQueue, Seen, seen_as, seen, seen_in, InOrder, begins_in, IsScheduler, records_of, some_same, seen-as, value-mapped, PoolNode, Lists, Live}
 use Rattle.queue_ready.specs.Ready.{is_first, may_begin}
 use Rattle.node_steps.proofs.StartSteps.{and_true, and_left, and_right, false≢true}
 
@@ -49,17 +49,17 @@ is_in-named q o e1 = grind (arith, nat_tests)
 named-is_in : (q : ℕ) (o : Option ℕ) → o ≡ Some q → holds (λ h. h == q) o ≡ true
 named-is_in q o e = ap (λ (z : Option ℕ). holds (λ h. h == q) z) e ∙ itself q
 
-module _ (n : Node) (l : Lists) (v : Live n l) (k : IsBoard n.board) (q : ℕ) (x : HeldQueue) (live : slot_value n.board.queues.pool q ≡ Some x) where
+module _ (n : PoolNode) (l : Lists) (v : Live n l) (k : IsScheduler n.scheduler) (q : ℕ) (x : HeldQueue) (live : slot_value n.scheduler.queues.pool q ≡ Some x) where
   -- an unended task of the queue stands in its list, and what stands there is one
-  pub in-list : (h : ℕ) (t : Task) → slot_value n.board.tasks.pool h ≡ Some t → is_unended_in q t ≡ true → has_handle h x.tasks ≡ true
+  pub in-list : (h : ℕ) (t : Task) → slot_value n.scheduler.tasks.pool h ≡ Some t → is_unended_in q t ≡ true → has_handle h x.tasks ≡ true
   in-list h t g e =
       let s = unended-seen t t.state refl (and_right (is_in q t) _ e) in
       k.queued.listed h q s.s x (ap seen g ∙ s.is) (s.queue ∙ is_in-named q t.queue (and_left (is_in q t) _ e)) live
 
-  pub of-list : (h : ℕ) → has_handle h x.tasks ≡ true → (t : Task) × (slot_value n.board.tasks.pool h ≡ Some t) × (is_unended_in q t ≡ true)
+  pub of-list : (h : ℕ) → has_handle h x.tasks ≡ true → (t : Task) × (slot_value n.scheduler.tasks.pool h ≡ Some t) × (is_unended_in q t ≡ true)
   of-list h e1 = grind (arith, nat_tests)
 
-  start-of : (h : ℕ) (t : Task) (s : Seen) → slot_value n.board.tasks.pool h ≡ Some t → seen_in n.board.tasks.pool h ≡ Some s → s.start ≡ t.start
+  start-of : (h : ℕ) (t : Task) (s : Seen) → slot_value n.scheduler.tasks.pool h ≡ Some t → seen_in n.scheduler.tasks.pool h ≡ Some s → s.start ≡ t.start
   start-of h t s g e = (seen-as t t.state s (sym (ap seen g) ∙ e)).start
 
   abbrev earlier : ℕ → Task → Bool
@@ -72,20 +72,20 @@ module _ (n : Node) (l : Lists) (v : Live n l) (k : IsBoard n.board) (q : ℕ) (
   so-less a b e = grind (arith, nat_tests)
 
   -- the first of the list has none before it
-  first-head : (h : ℕ) (t : Task) → slot_value n.board.tasks.pool h ≡ Some t → (hs : List ℕ) → x.tasks ≡ hs → InOrder (seen_in n.board.tasks.pool) hs → is_first h hs ≡ true → is_head q t (live_of l.tasks) ≡ true
+  first-head : (h : ℕ) (t : Task) → slot_value n.scheduler.tasks.pool h ≡ Some t → (hs : List ℕ) → x.tasks ≡ hs → InOrder (seen_in n.scheduler.tasks.pool) hs → is_first h hs ≡ true → is_head q t (live_of l.tasks) ≡ true
   first-head h t g [] is o e = false≢true e
-  first-head h t g (a ∷ hs) is o e = ap not (any-none n.board.tasks.pool l.tasks (earlier t.start) v.tasks.stands none)
+  first-head h t g (a ∷ hs) is o e = ap not (any-none n.scheduler.tasks.pool l.tasks (earlier t.start) v.tasks.stands none)
     where
       same : a ≡ h
       same = equal a h e
 
-      none : (j : ℕ) (u : Task) → slot_value n.board.tasks.pool j ≡ Some u → earlier t.start u ≡ true → ⊥
+      none : (j : ℕ) (u : Task) → slot_value n.scheduler.tasks.pool j ≡ Some u → earlier t.start u ≡ true → ⊥
       none j u f p = by_handle (a == j) refl
         where
-          s : (s : Seen) × (seen_in n.board.tasks.pool j ≡ Some s)
+          s : (s : Seen) × (seen_in n.scheduler.tasks.pool j ≡ Some s)
           s = let z = unended-seen u u.state refl (and_right (is_in q u) _ (and_left (is_unended_in q u) _ p)) in (z.s, ap seen f ∙ z.is)
 
-          z : (s : Seen) × (seen_in n.board.tasks.pool a ≡ Some s)
+          z : (s : Seen) × (seen_in n.scheduler.tasks.pool a ≡ Some s)
           z = let w = k.queued.names a q x live (ap (has_handle a) is ∙ ap (λ (b : Bool). b || has_handle a hs) (itself a)) in (w.0, w.1)
 
           less : u.start < t.start
@@ -93,18 +93,18 @@ module _ (n : Node) (l : Lists) (v : Live n l) (k : IsBoard n.board) (q : ℕ) (
 
           by_handle : (b : Bool) → (a == j) ≡ b → ⊥
           by_handle true here =
-              let one : u ≡ t = some_same (sym f ∙ ap (slot_value n.board.tasks.pool) (sym (equal a j here) ∙ same) ∙ g) in
+              let one : u ≡ t = some_same (sym f ∙ ap (slot_value n.scheduler.tasks.pool) (sym (equal a j here) ∙ same) ∙ g) in
               let no : u.start < u.start = subst (λ (y : Task). u.start < y.start) (sym one) less in
               omega (arith, no)
           by_handle false off =
               let has = or_only (a == j) _ off (sym (ap (has_handle j) is) ∙ in-list j u f (and_left (is_unended_in q u) _ p)) in
               let after = o.0 j z.0 s.0 has z.1 s.1 in
-              let zt = start-of h t z.0 g (ap (seen_in n.board.tasks.pool) (sym same) ∙ z.1) in
+              let zt = start-of h t z.0 g (ap (seen_in n.scheduler.tasks.pool) (sym same) ∙ z.1) in
               let su = start-of j u s.0 f s.1 in
               omega (arith, after, zt, su, less)
 
   -- what has none before it is the first
-  head-first : (h : ℕ) (t : Task) → slot_value n.board.tasks.pool h ≡ Some t → is_unended_in q t ≡ true → (hs : List ℕ) → x.tasks ≡ hs → InOrder (seen_in n.board.tasks.pool) hs → is_head q t (live_of l.tasks) ≡ true → is_first h hs ≡ true
+  head-first : (h : ℕ) (t : Task) → slot_value n.scheduler.tasks.pool h ≡ Some t → is_unended_in q t ≡ true → (hs : List ℕ) → x.tasks ≡ hs → InOrder (seen_in n.scheduler.tasks.pool) hs → is_head q t (live_of l.tasks) ≡ true → is_first h hs ≡ true
   head-first h t g p [] is o e = false≢true (sym (ap (has_handle h) is) ∙ in-list h t g p)
   head-first h t g p (a ∷ hs) is o e = by_handle (a == h) refl
     where
@@ -120,26 +120,26 @@ module _ (n : Node) (l : Lists) (v : Live n l) (k : IsBoard n.board) (q : ℕ) (
           let ea = start-of a u.0 sa.0 u.1 sa.1 in
           let eh = start-of h t sh.0 g sh.1 in
           let less : u.0.start < t.start = omega (arith, after, ea, eh) in
-          let any = any-live n.board.tasks.pool l.tasks (earlier t.start) a u.0 v.tasks.stands u.1 (and_true _ _ u.2 (so-less u.0.start t.start less)) in
+          let any = any-live n.scheduler.tasks.pool l.tasks (earlier t.start) a u.0 v.tasks.stands u.1 (and_true _ _ u.2 (so-less u.0.start t.start less)) in
           absurd (false≢true (sym (ap not any) ∙ e))
 
-  pub head-is-first : (h : ℕ) (t : Task) → slot_value n.board.tasks.pool h ≡ Some t → is_unended_in q t ≡ true → is_head q t (live_of l.tasks) ≡ is_first h x.tasks
+  pub head-is-first : (h : ℕ) (t : Task) → slot_value n.scheduler.tasks.pool h ≡ Some t → is_unended_in q t ≡ true → is_head q t (live_of l.tasks) ≡ is_first h x.tasks
   head-is-first h t g p = grind (arith, nat_tests, same_tests, head-first, first-head)
 
 -- A queue lets the same tasks begin
 
-pub lets-begin : (n : Node) (l : Lists) → Live n l → IsBoard n.board → (h : ℕ) (t : Task) → slot_value n.board.tasks.pool h ≡ Some t → is_unended t ≡ true → (is_none t.queue || holds (λ q. holds (lets q t (live_of l.tasks)) (live_object l.queues q)) t.queue) ≡ begins_in n.board.queues.pool h t.queue
+pub lets-begin : (n : PoolNode) (l : Lists) → Live n l → IsScheduler n.scheduler → (h : ℕ) (t : Task) → slot_value n.scheduler.tasks.pool h ≡ Some t → is_unended t ≡ true → (is_none t.queue || holds (λ q. holds (lets q t (live_of l.tasks)) (live_object l.queues q)) t.queue) ≡ begins_in n.scheduler.queues.pool h t.queue
 lets-begin n l v k h t g u = by_queue t.queue refl
   where
-    by_live : (q : ℕ) → t.queue ≡ Some q → (o : Option HeldQueue) → slot_value n.board.queues.pool q ≡ o → holds (lets q t (live_of l.tasks)) (live_object l.queues q) ≡ holds (λ y. may_begin h y.queue y.tasks) o
-    by_live q names None dead = ap (holds (lets q t (live_of l.tasks))) (sym (v.queues.stands.found q) ∙ record-none n.board.queues.pool q dead)
+    by_live : (q : ℕ) → t.queue ≡ Some q → (o : Option HeldQueue) → slot_value n.scheduler.queues.pool q ≡ o → holds (lets q t (live_of l.tasks)) (live_object l.queues q) ≡ holds (λ y. may_begin h y.queue y.tasks) o
+    by_live q names None dead = ap (holds (lets q t (live_of l.tasks))) (sym (v.queues.stands.found q) ∙ record-none n.scheduler.queues.pool q dead)
     by_live q names (Some x) live =
-        ap (holds (lets q t (live_of l.tasks))) (sym (v.queues.stands.found q) ∙ record-value n.board.queues.pool q x live)
+        ap (holds (lets q t (live_of l.tasks))) (sym (v.queues.stands.found q) ∙ record-value n.scheduler.queues.pool q x live)
         ∙ ap (λ (b : Bool). x.queue.enabled && (not x.queue.ordered || b)) (head-is-first n l v k q x live h t g (and_true _ _ (named-is_in q t.queue names) u))
 
-    by_queue : (o : Option ℕ) → t.queue ≡ o → (is_none o || holds (λ q. holds (lets q t (live_of l.tasks)) (live_object l.queues q)) o) ≡ begins_in n.board.queues.pool h o
+    by_queue : (o : Option ℕ) → t.queue ≡ o → (is_none o || holds (λ q. holds (lets q t (live_of l.tasks)) (live_object l.queues q)) o) ≡ begins_in n.scheduler.queues.pool h o
     by_queue None names = refl
-    by_queue (Some q) names = by_live q names (slot_value n.board.queues.pool q) refl
+    by_queue (Some q) names = by_live q names (slot_value n.scheduler.queues.pool q) refl
 
 -- How many unended tasks a queue has
 
@@ -206,10 +206,10 @@ how_many-live q (r ∷ rs) = pick r.live (how_many-live q rs)
     pick true more = ap (λ n. cond (q r.fields) 1 0 + n) more
     pick false more = omega (arith, more)
 
-pub count-queued : (n : Node) (l : Lists) → Live n l → IsBoard n.board → (q : ℕ) (x : HeldQueue) → slot_value n.board.queues.pool q ≡ Some x → count_listed (is_unended_in q) l.tasks ≡ length x.tasks
+pub count-queued : (n : PoolNode) (l : Lists) → Live n l → IsScheduler n.scheduler → (q : ℕ) (x : HeldQueue) → slot_value n.scheduler.queues.pool q ≡ Some x → count_listed (is_unended_in q) l.tasks ≡ length x.tasks
 count-queued n l v k q x live =
     how_many-live (is_unended_in q) l.tasks
     ∙ count-list (is_unended_in q) x.tasks (live_of l.tasks) v.tasks.stands.distinct
-    (order-once (seen_in n.board.tasks.pool) x.tasks (λ h e. let s = k.queued.names h q x live e in (s.0, s.1)) (k.queued.ordered q x live))
+    (order-once (seen_in n.scheduler.tasks.pool) x.tasks (λ h e. let s = k.queued.names h q x live e in (s.0, s.1)) (k.queued.ordered q x live))
     (λ h e. let t = of-list n l v k q x live h e in (t.0, sym (v.tasks.stands.found h) ∙ t.1, t.2))
     (λ h t g p. in-list n l v k q x live h t (v.tasks.stands.found h ∙ g) p)

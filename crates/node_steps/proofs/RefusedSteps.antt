@@ -1,5 +1,5 @@
 -- Why an op that makes an object is refused before it is asked whether there is room, by the conditions of its row.
-use Rattle.node_steps.proofs.Names.{arith, nat_tests, ◌≡◌, ℕ, Bool, true, false, not, cond, List, [], ◌∷◌, ◌++◌, Option, Some, None, refl, sym, ◌∙◌, ap, subst, ◌&&◌, ◌||◌, ◌==◌, nat_lt, nat_le, ℤ, IsNone, option_map, IfSome, first, GroupHandle, QueueHandle, Kind, Mask, MtapiStatus, slot_value, SomeLive, NoneLive, any_listed, live_object, count_listed, any-none, any-live, new_action, has_job, action_create_refusals, new_group, Queue, is_unended_in, put_refusals, new_mutex, new_sem, new_rwl, new_segment, Op, Reply, State, is_open, actions, tasks, groups, queues, mutexes, sems, rwls, segments, Move, Groups, Queues, Mutexes, Sems, Rwls, Segments, makes_action, starts_task, makes, Row, says, live, creates, mtapi_unless, Allows, row, new_queue, asked_for, start_refusals, is_detached_member, IsHonest, makes_or_not, refusal_in, refusal_of, CanAnswer, HeldQueue, HasId, facts_of, QueueFacts, IsBoard, records_of, Node, Lists, Live, Steps, state_of}
+use Rattle.node_steps.proofs.Names.{arith, nat_tests, ◌≡◌, ℕ, Bool, true, false, not, cond, List, [], ◌∷◌, ◌++◌, Option, Some, None, refl, sym, ◌∙◌, ap, subst, ◌&&◌, ◌||◌, ◌==◌, nat_lt, nat_le, ℤ, IsNone, option_map, IfSome, first, GroupHandle, QueueHandle, Kind, Mask, MtapiStatus, slot_value, SomeLive, NoneLive, any_listed, live_object, count_listed, any-none, any-live, new_action, has_job, action_create_refusals, new_group, Queue, is_unended_in, put_refusals, new_mutex, new_sem, new_rwl, new_segment, Op, Reply, State, is_open, actions, tasks, groups, queues, mutexes, sems, rwls, segments, Move, Groups, Queues, Mutexes, Sems, Rwls, Segments, makes_action, starts_task, makes, Row, says, live, creates, mtapi_unless, Allows, row, new_queue, asked_for, start_refusals, is_detached_member, IsHonest, makes_or_not, refusal_in, refusal_of, CanAnswer, HeldQueue, HasId, facts_of, QueueFacts, IsScheduler, records_of, PoolNode, Lists, Live, Steps, state_of}
 use Rattle.mtapi_values.specs.declared.handles.ObjectKind.{ObjectKind}
 use Rattle.mtapi_values.specs.declared.statuses.MtapiStatus.TheVariants as m
 use Rattle.mtapi_values.specs.declared.statuses.MrapiStatus.{MrapiStatus}
@@ -66,7 +66,7 @@ none_found o e1 = grind (arith, nat_tests)
 
 -- A step that is refused
 
-pub refused : (n : Node) (l : Lists) (who : ℕ) (o : Op) (k : ObjectKind) (c : MtapiStatus) → Live n l → made_kind o ≡ Some k → IsHonest o → refusal_of (state_of n l) who o ≡ Some (reply.Mtapi c) → Steps n l who o (reply.Mtapi c) n
+pub refused : (n : PoolNode) (l : Lists) (who : ℕ) (o : Op) (k : ObjectKind) (c : MtapiStatus) → Live n l → made_kind o ≡ Some k → IsHonest o → refusal_of (state_of n l) who o ≡ Some (reply.Mtapi c) → Steps n l who o (reply.Mtapi c) n
 refused n l who o k c v made honest e =
     let s = state_of n l in
     let said : CanAnswer (refusal_of s who o) k s (reply.Mtapi c) = subst (λ (x : Option Reply). CanAnswer x k s (reply.Mtapi c)) (sym e) refl in
@@ -75,7 +75,7 @@ refused n l who o k c v made honest e =
 
 -- The ops
 
-module _ (n : Node) (l : Lists) (who : ℕ) where
+module _ (n : PoolNode) (l : Lists) (who : ℕ) where
   abbrev s : State
   s = state_of n l
 
@@ -97,7 +97,7 @@ module _ (n : Node) (l : Lists) (who : ℕ) where
   -- what is known of a start that isn't refused, and what it is refused for at last
   module _ (job : ℕ) (args : List ℤ) (priority : ℕ) (cores : Mask) (detached : Bool) (group : Option GroupHandle) where
     abbrev wrong : Bool
-    wrong = not (nat_lt priority n.board.settings.priorities) || is_detached_member detached group
+    wrong = not (nat_lt priority n.scheduler.settings.priorities) || is_detached_member detached group
 
     abbrev last : List (Bool × MtapiStatus)
     last = start_refusals s (asked_for job args priority cores detached group)
@@ -119,7 +119,7 @@ module _ (n : Node) (l : Lists) (who : ℕ) where
   -- the same of a create of a queue, but for its id
   module _ (job priority limit : ℕ) where
     abbrev out : Bool
-    out = not (nat_lt priority n.board.settings.priorities) || not (nat_le 1 limit && nat_le limit 65536)
+    out = not (nat_lt priority n.scheduler.settings.priorities) || not (nat_le 1 limit && nat_le limit 65536)
 
     abbrev jobless : Bool
     jobless = not (any_listed (has_job job) l.actions)
@@ -198,18 +198,18 @@ module _ (n : Node) (l : Lists) (who : ℕ) where
         past_both : (o : Option Queue) → live_object l.queues q.0 ≡ o → refusal_of s who enqueue ≡ put_told o
         past_both o e = told_by o e ∙ (λ i. before reply.Mtapi (first ((not (up i), m.ErrNodeNotinit) ∷ (alone i, m.ErrParameter) ∷ [])) (put_told o))
 
-        pub enqueue_dead : slot_value n.board.queues.pool q.0 ≡ None → refusal_of s who enqueue ≡ Some (reply.Mtapi m.ErrQueueInvalid)
-        enqueue_dead dead = past_both None (found _ _ (records_of n.board.queues.pool) l.queues q.0 None v.queues (record-none n.board.queues.pool q.0 dead))
+        pub enqueue_dead : slot_value n.scheduler.queues.pool q.0 ≡ None → refusal_of s who enqueue ≡ Some (reply.Mtapi m.ErrQueueInvalid)
+        enqueue_dead dead = past_both None (found _ _ (records_of n.scheduler.queues.pool) l.queues q.0 None v.queues (record-none n.scheduler.queues.pool q.0 dead))
 
         -- what the put is refused for, as the node asks for it
-        pub enqueue_put : IsBoard n.board → (f : QueueFacts) (o : Option MtapiStatus) → Some f ≡ option_map facts_of (slot_value n.board.queues.pool q.0) →
+        pub enqueue_put : IsScheduler n.scheduler → (f : QueueFacts) (o : Option MtapiStatus) → Some f ≡ option_map facts_of (slot_value n.scheduler.queues.pool q.0) →
             first ((not f.enabled && not f.retain, m.ErrQueueDisabled) ∷ start_refusals s (asked_for f.job args f.priority cores detached group) ++ (f.unended == f.limit, m.ErrQueueLimit) ∷ []) ≡ o → refusal_of s who enqueue ≡ option_map reply.Mtapi o
         enqueue_put kept f o is e =
-            let x = facts_found (slot_value n.board.queues.pool q.0) f is in
-            past_both (Some x.0.queue) (found _ _ (records_of n.board.queues.pool) l.queues q.0 (Some x.0.queue) v.queues (record-value n.board.queues.pool q.0 x.0 x.1))
+            let x = facts_found (slot_value n.scheduler.queues.pool q.0) f is in
+            past_both (Some x.0.queue) (found _ _ (records_of n.scheduler.queues.pool) l.queues q.0 (Some x.0.queue) v.queues (record-value n.scheduler.queues.pool q.0 x.0 x.1))
             ∙ ap (option_map reply.Mtapi) (causes_are n l who q args cores detached group v up kept alone x.0 x.1 f o x.2 e)
 
-    pub enqueue_none : Live n l → IsBoard n.board → (f : QueueFacts) → MayPut n q.0 cores detached group f → refusal_of s who enqueue ≡ None
+    pub enqueue_none : Live n l → IsScheduler n.scheduler → (f : QueueFacts) → MayPut n q.0 cores detached group f → refusal_of s who enqueue ≡ None
     enqueue_none v kept f may = enqueue_put v may.opened may.alone kept f None may.found (may.none l args f.priority v)
 
   -- that a live queue has the id
@@ -217,13 +217,13 @@ module _ (n : Node) (l : Lists) (who : ℕ) where
     abbrev by_id : List (Bool × MtapiStatus)
     by_id = (any_listed (λ x. x.id == id) l.queues, m.ErrQueueExists) ∷ []
 
-    pub id_told : (o : Option MtapiStatus) → IfSome o (λ c. (c ≡ m.ErrQueueExists) × SomeLive (slot_value n.board.queues.pool) (HasId id)) → (IsNone o → NoneLive (slot_value n.board.queues.pool) (HasId id)) → first by_id ≡ o
+    pub id_told : (o : Option MtapiStatus) → IfSome o (λ c. (c ≡ m.ErrQueueExists) × SomeLive (slot_value n.scheduler.queues.pool) (HasId id)) → (IsNone o → NoneLive (slot_value n.scheduler.queues.pool) (HasId id)) → first by_id ≡ o
     id_told (Some c) some none =
-        ap (λ (b : Bool). cond b (Some m.ErrQueueExists) None) (any-live (records_of n.board.queues.pool) l.queues (λ x. x.id == id) some.1.0 some.1.1.queue v.queues.stands (record-value n.board.queues.pool some.1.0 some.1.1 some.1.2) some.1.3)
+        ap (λ (b : Bool). cond b (Some m.ErrQueueExists) None) (any-live (records_of n.scheduler.queues.pool) l.queues (λ x. x.id == id) some.1.0 some.1.1.queue v.queues.stands (record-value n.scheduler.queues.pool some.1.0 some.1.1 some.1.2) some.1.3)
         ∙ ap (λ (x : MtapiStatus). Some x) (sym some.0)
     id_told None some none =
         ap (λ (b : Bool). cond b (Some m.ErrQueueExists) None)
-        (any-none (records_of n.board.queues.pool) l.queues (λ x. x.id == id) v.queues.stands (λ h y g e. let x = record-found n.board.queues.pool h y g in none refl h x.0 x.1 (ap (λ (z : Queue). z.id == id) x.2 ∙ e)))
+        (any-none (records_of n.scheduler.queues.pool) l.queues (λ x. x.id == id) v.queues.stands (λ h y g e. let x = record-found n.scheduler.queues.pool h y g in none refl h x.0 x.1 (ap (λ (z : Queue). z.id == id) x.2 ∙ e)))
 
     pub id_met : (job priority limit : ℕ) (c : MtapiStatus) → first (queue_causes s job priority limit) ≡ Some c → first (queue_refusals s id job priority limit) ≡ Some c
     id_met job priority limit c e = first_some (queue_causes s job priority limit) by_id c e

@@ -1,5 +1,5 @@
 -- Why a new task is refused, from what the actions of its job cover.
-use Rattle.node_steps.proofs.Names.{◌≡◌, ℕ, zero, suc, ◌<◌, Bool, true, false, not, cond, List, [], ◌∷◌, Option, Some, None, refl, sym, ◌∙◌, arith, ◌&&◌, nat_lt, is_none, ℤ, ◌||◌, option_map, nat_tests, Mask, GroupHandle, MtapiStatus, first, holds, in_mask, Slots, slot_value, Listed, live_of, live_object, any_listed, any_live, any-none, any-live, Action, has_enabled_job, is_eligible, some_below, has_worker, Covers, IsUnion, runs_job_on, Cover, NoAction, AllDisabled, Cores, new_group, names_dead, MayJoin, value-mapped, asked_for, start_refusals, number_of, is_detached_member, Node, Lists, Holds, Live, state_of}
+use Rattle.node_steps.proofs.Names.{◌≡◌, ℕ, zero, suc, ◌<◌, Bool, true, false, not, cond, List, [], ◌∷◌, Option, Some, None, refl, sym, ◌∙◌, arith, ◌&&◌, nat_lt, is_none, ℤ, ◌||◌, option_map, nat_tests, Mask, GroupHandle, MtapiStatus, first, holds, in_mask, Slots, slot_value, Listed, live_of, live_object, any_listed, any_live, any-none, any-live, Action, has_enabled_job, is_eligible, some_below, has_worker, Covers, IsUnion, runs_job_on, Cover, NoAction, AllDisabled, Cores, new_group, names_dead, MayJoin, value-mapped, asked_for, start_refusals, number_of, is_detached_member, PoolNode, Lists, Holds, Live, state_of}
 use Rattle.mtapi_values.specs.declared.statuses.MtapiStatus.TheVariants as m
 use Rattle.node_steps.proofs.ActionSteps.{covers_none, covers_some, enabled_none, enabled_some}
 
@@ -58,10 +58,10 @@ module _ (size turns : ℕ) (p : Slots Action) (l : List (Listed Action)) (job :
   covered_worker workers cores = below_same workers _ _ (λ w less. has_in workers w cores less)
 
 -- whether a new task names a group that isn't live
-group_live : (n : Node) (l : Lists) (h : ℕ) → Live n l → is_none (live_object l.groups h) ≡ is_none (slot_value n.board.groups.pool h)
+group_live : (n : PoolNode) (l : Lists) (h : ℕ) → Live n l → is_none (live_object l.groups h) ≡ is_none (slot_value n.scheduler.groups.pool h)
 group_live n l h e1 = grind (arith, nat_tests, value-mapped, new_group, slot_value, option_map)
 
-group_is : (n : Node) (l : Lists) (g : Option GroupHandle) → Live n l → holds (λ h. is_none (live_object l.groups h)) (number_of g) ≡ names_dead n.board.groups.pool (number_of g)
+group_is : (n : PoolNode) (l : Lists) (g : Option GroupHandle) → Live n l → holds (λ h. is_none (live_object l.groups h)) (number_of g) ≡ names_dead n.scheduler.groups.pool (number_of g)
 group_is n l g e1 = grind (arith, nat_tests, group_live)
 
 -- the first of the four conditions that is met
@@ -80,21 +80,21 @@ no_core a b c d e1 e2 e3 e4 = grind (arith, nat_tests)
 not_refused : (a b c d : Bool) → a ≡ true → b ≡ false → c ≡ true → d ≡ true → first ((not a, m.ErrJobInvalid) ∷ (b, m.ErrGroupInvalid) ∷ (not c, m.ErrActionDisabled) ∷ (not d, m.ErrNoCore) ∷ []) ≡ None
 not_refused a b c d e1 e2 e3 e4 = grind (arith, nat_tests)
 
-module _ (n : Node) (l : Lists) (job : ℕ) (args : List ℤ) (priority : ℕ) (cores : Mask) (detached : Bool) (group : Option GroupHandle) (v : Live n l) where
+module _ (n : PoolNode) (l : Lists) (job : ℕ) (args : List ℤ) (priority : ℕ) (cores : Mask) (detached : Bool) (group : Option GroupHandle) (v : Live n l) where
   abbrev refusals : Option MtapiStatus
   refusals = first (start_refusals (state_of n l) (asked_for job args priority cores detached group))
 
   abbrev workers : ℕ
-  workers = n.board.settings.workers
+  workers = n.scheduler.settings.workers
 
-  pub refused_job : Covers n.board.actions job NoAction → refusals ≡ Some m.ErrJobInvalid
-  refused_job c = no_job _ _ _ _ (covers_none _ _ n.board.actions l.actions job v.actions c)
+  pub refused_job : Covers n.scheduler.actions job NoAction → refusals ≡ Some m.ErrJobInvalid
+  refused_job c = no_job _ _ _ _ (covers_none _ _ n.scheduler.actions l.actions job v.actions c)
 
-  pub refused_group : (c : Cover) → Covers n.board.actions job c → (c ≡ NoAction → ⊥) → names_dead n.board.groups.pool (number_of group) ≡ true → refusals ≡ Some m.ErrGroupInvalid
-  refused_group c h k g = no_group _ _ _ _ (covers_some _ _ n.board.actions l.actions job c v.actions h k) (group_is n l group v ∙ g)
+  pub refused_group : (c : Cover) → Covers n.scheduler.actions job c → (c ≡ NoAction → ⊥) → names_dead n.scheduler.groups.pool (number_of group) ≡ true → refusals ≡ Some m.ErrGroupInvalid
+  refused_group c h k g = no_group _ _ _ _ (covers_some _ _ n.scheduler.actions l.actions job c v.actions h k) (group_is n l group v ∙ g)
 
-  pub refused_disabled : Covers n.board.actions job AllDisabled → names_dead n.board.groups.pool (number_of group) ≡ false → refusals ≡ Some m.ErrActionDisabled
-  refused_disabled h g = none_enabled _ _ _ _ (covers_some _ _ n.board.actions l.actions job AllDisabled v.actions h apart) (group_is n l group v ∙ g) (enabled_none _ _ n.board.actions l.actions job v.actions h)
+  pub refused_disabled : Covers n.scheduler.actions job AllDisabled → names_dead n.scheduler.groups.pool (number_of group) ≡ false → refusals ≡ Some m.ErrActionDisabled
+  refused_disabled h g = none_enabled _ _ _ _ (covers_some _ _ n.scheduler.actions l.actions job AllDisabled v.actions h apart) (group_is n l group v ∙ g) (enabled_none _ _ n.scheduler.actions l.actions job v.actions h)
     where
       apart : AllDisabled ≡ NoAction → ⊥
       apart d = cc
@@ -102,15 +102,15 @@ module _ (n : Node) (l : Lists) (job : ℕ) (args : List ℤ) (priority : ℕ) (
   covered : (mask : Mask) → Cores mask ≡ NoAction → ⊥
   covered mask d = cc
 
-  pub refused_core : (mask : Mask) → Covers n.board.actions job (Cores mask) → names_dead n.board.groups.pool (number_of group) ≡ false → some_below workers (λ w. in_mask w mask.0 && in_mask w cores.0) ≡ false → refusals ≡ Some m.ErrNoCore
+  pub refused_core : (mask : Mask) → Covers n.scheduler.actions job (Cores mask) → names_dead n.scheduler.groups.pool (number_of group) ≡ false → some_below workers (λ w. in_mask w mask.0 && in_mask w cores.0) ≡ false → refusals ≡ Some m.ErrNoCore
   refused_core mask h g w =
-      no_core _ _ _ _ (covers_some _ _ n.board.actions l.actions job (Cores mask) v.actions h (covered mask)) (group_is n l group v ∙ g) (enabled_some _ _ n.board.actions l.actions job mask v.actions h)
-      (covered_worker _ _ n.board.actions l.actions job mask v.actions h.1 workers cores.0 ∙ w)
+      no_core _ _ _ _ (covers_some _ _ n.scheduler.actions l.actions job (Cores mask) v.actions h (covered mask)) (group_is n l group v ∙ g) (enabled_some _ _ n.scheduler.actions l.actions job mask v.actions h)
+      (covered_worker _ _ n.scheduler.actions l.actions job mask v.actions h.1 workers cores.0 ∙ w)
 
-  pub refused_none : (mask : Mask) → Covers n.board.actions job (Cores mask) → names_dead n.board.groups.pool (number_of group) ≡ false → some_below workers (λ w. in_mask w mask.0 && in_mask w cores.0) ≡ true → refusals ≡ None
+  pub refused_none : (mask : Mask) → Covers n.scheduler.actions job (Cores mask) → names_dead n.scheduler.groups.pool (number_of group) ≡ false → some_below workers (λ w. in_mask w mask.0 && in_mask w cores.0) ≡ true → refusals ≡ None
   refused_none mask h g w =
-      not_refused _ _ _ _ (covers_some _ _ n.board.actions l.actions job (Cores mask) v.actions h (covered mask)) (group_is n l group v ∙ g) (enabled_some _ _ n.board.actions l.actions job mask v.actions h)
-      (covered_worker _ _ n.board.actions l.actions job mask v.actions h.1 workers cores.0 ∙ w)
+      not_refused _ _ _ _ (covers_some _ _ n.scheduler.actions l.actions job (Cores mask) v.actions h (covered mask)) (group_is n l group v ∙ g) (enabled_some _ _ n.scheduler.actions l.actions job mask v.actions h)
+      (covered_worker _ _ n.scheduler.actions l.actions job mask v.actions h.1 workers cores.0 ∙ w)
 
 pub disabled_not_none : AllDisabled ≡ NoAction → ⊥
 disabled_not_none d = cc
@@ -119,5 +119,5 @@ pub cores_not_none : (mask : Mask) → Cores mask ≡ NoAction → ⊥
 cores_not_none mask d = cc
 
 -- a task that isn't refused may name its group
-pub may_join : (n : Node) (priority : Bool) (detached : Bool) (group : Option GroupHandle) → (priority || is_detached_member detached group) ≡ false → names_dead n.board.groups.pool (number_of group) ≡ false → MayJoin n.board.groups.pool detached (number_of group)
+pub may_join : (n : PoolNode) (priority : Bool) (detached : Bool) (group : Option GroupHandle) → (priority || is_detached_member detached group) ≡ false → names_dead n.scheduler.groups.pool (number_of group) ≡ false → MayJoin n.scheduler.groups.pool detached (number_of group)
 may_join n priority detached group e1 e2 = grind (arith, nat_tests)

@@ -1,5 +1,5 @@
 -- Whether a task hasn't ended, by their number.
-use Rattle.node_steps.proofs.Names.{◌≡◌, ℕ, ◌+◌, Bool, true, false, not, cond, List, [], ◌∷◌, refl, sym, ◌∙◌, arith, ◌&&◌, ◌==◌, nat_tests, Listed, live_of, any_listed, any_live, count_listed, count-slots, is_unended, unended_count, is_past_open, is_stop, Node, Lists, Live, state_of}
+use Rattle.node_steps.proofs.Names.{◌≡◌, ℕ, ◌+◌, Bool, true, false, not, cond, List, [], ◌∷◌, refl, sym, ◌∙◌, arith, ◌&&◌, ◌==◌, nat_tests, Listed, live_of, any_listed, any_live, count_listed, count-slots, is_unended, unended_count, is_past_open, is_stop, PoolNode, Lists, Live, state_of}
 
 -- some object passes exactly where they are more than none
 any-count : {T : Type 0} (q : T → Bool) (l : List (Listed T)) → any_listed q l ≡ not (count_listed q l == 0)
@@ -21,5 +21,5 @@ any-count q (r ∷ rs) = by_live r.live (any-count q rs)
     by_live true e = by_test (q r.fields) e
     by_live false e = e ∙ sym (less (count_listed q rs))
 
-pub stop_told : (n : Node) (l : Lists) (k : ℕ) → Live n l → k ≡ unended_count n.board.tasks.pool → is_stop (state_of n l) ≡ (is_past_open n.core.phase && (k == 0))
+pub stop_told : (n : PoolNode) (l : Lists) (k : ℕ) → Live n l → k ≡ unended_count n.scheduler.tasks.pool → is_stop (state_of n l) ≡ (is_past_open n.core.phase && (k == 0))
 stop_told n l k e1 e2 = grind (arith, nat_tests, any-count, is_unended, count-slots, is_past_open)

@@ -1,5 +1,5 @@
 -- A worker that wants one task and one action takes these wherever it may.
-use Rattle.node_steps.proofs.Names.{nat_tests, ◌≡◌, ℕ, ◌<◌, Bool, true, false, not, List, [], ◌∷◌, Option, Some, None, refl, sym, ◌∙◌, ap, arith, ◌&&◌, nat_lt, ℤ, ActionHandle, TaskHandle, Kind, slot_value, live_object, any_listed, Action, is_eligible, Task, runs_on, Reply, State, workers, is_new, is_stop, actions, Row, unless, gives, never, only, live, chosen, Allows, is_ready, has_better, IsBoard, Choice, NoneBetter, IsChoice, IsBest, Node, MayPick, IsToward, Lists, Live, state_of}
+use Rattle.node_steps.proofs.Names.{nat_tests, ◌≡◌, ℕ, ◌<◌, Bool, true, false, not, List, [], ◌∷◌, Option, Some, None, refl, sym, ◌∙◌, ap, arith, ◌&&◌, nat_lt, ℤ, ActionHandle, TaskHandle, Kind, slot_value, live_object, any_listed, Action, is_eligible, Task, runs_on, Reply, State, workers, is_new, is_stop, actions, Row, unless, gives, never, only, live, chosen, Allows, is_ready, has_better, IsScheduler, Choice, NoneBetter, IsChoice, IsBest, PoolNode, MayPick, IsToward, Lists, Live, state_of}
 use Rattle.mtapi_values.specs.declared.statuses.MtapiStatus.TheVariants as m
 use Rattle.mtapi_machine.specs.declared.replies.Reply.TheVariants as reply
 use Rattle.mtapi_machine.specs.Moves.{runs_task as begins_task}
@@ -60,17 +60,17 @@ module _ (s : State) (w : ℕ) (t : TaskHandle) (a : ActionHandle) (k : Kind) (a
 
 -- The choice of this task and this action
 
-module _ (n : Node) (l : Lists) (w : ℕ) (v : Live n l) (k : IsBoard n.board) (less : w < n.board.settings.workers) (t : TaskHandle) (a : ActionHandle) (kind : Kind) (args : List ℤ) (p : CanPick (state_of n l) w t a kind args) where
+module _ (n : PoolNode) (l : Lists) (w : ℕ) (v : Live n l) (k : IsScheduler n.scheduler) (less : w < n.scheduler.settings.workers) (t : TaskHandle) (a : ActionHandle) (kind : Kind) (args : List ℤ) (p : CanPick (state_of n l) w t a kind args) where
   abbrev choice : Choice
   choice = record { task = t; action = a; kind = kind; priority = p.x.priority }
 
-  found_task : slot_value n.board.tasks.pool t.0 ≡ Some p.x
+  found_task : slot_value n.scheduler.tasks.pool t.0 ≡ Some p.x
   found_task = v.tasks.stands.found t.0 ∙ p.task
 
   tested : (is_ready (state_of n l) p.x && is_eligible (workers (state_of n l)) w p.x.job p.x.cores p.y) ≡ true
   tested = and_left _ (not (has_better (state_of n l) w p.x.priority)) p.may
 
-  it_may : IsChoice n.board.actions n.board.tasks.pool n.board.queues.pool w choice
+  it_may : IsChoice n.scheduler.actions n.scheduler.tasks.pool n.scheduler.queues.pool w choice
   it_may =
       choice_if n l w v k less choice p.x p.y found_task (v.actions.stands.found a.0 ∙ p.action) (sym p.kind) refl
       (and_left (is_ready (state_of n l) p.x) _ tested) (and_right (is_ready (state_of n l) p.x) _ tested)
@@ -78,7 +78,7 @@ module _ (n : Node) (l : Lists) (w : ℕ) (v : Live n l) (k : IsBoard n.board) (
   not_not : (b : Bool) → not b ≡ true → b ≡ false
   not_not b e1 = grind (arith, nat_tests)
 
-  none_better : NoneBetter n.board.actions n.board.tasks.pool n.board.queues.pool w p.x.priority
+  none_better : NoneBetter n.scheduler.actions n.scheduler.tasks.pool n.scheduler.queues.pool w p.x.priority
   none_better =
       better_if n l w v k less p.x.priority
       (not_not _ (and_right (is_ready (state_of n l) p.x && is_eligible (workers (state_of n l)) w p.x.job p.x.cores p.y) _ p.may))
@@ -88,7 +88,7 @@ module _ (n : Node) (l : Lists) (w : ℕ) (v : Live n l) (k : IsBoard n.board) (
   is_found o toward = toward choice refl refl it_may none_better
 
   -- and what the worker takes
-  pub is_taken : (c : Choice) (r : Reply) (m : Node) → IsToward n w t a (Some c) → Takes n w c r m → r ≡ reply.Picked t a kind args
+  pub is_taken : (c : Choice) (r : Reply) (m : PoolNode) → IsToward n w t a (Some c) → Takes n w c r m → r ≡ reply.Picked t a kind args
   is_taken c r m e1 e2 = grind (arith, nat_tests, is_found, found_task)
 
 -- What is chosen toward them
@@ -108,11 +108,11 @@ wanted_task {t} e = ap (task_or t) e
 pub wanted_action : {t u : TaskHandle} {a b : ActionHandle} → ◌≡◌ {A = Option (TaskHandle × ActionHandle)} (Some (t, a)) (Some (u, b)) → a ≡ b
 wanted_action {a = a} e = ap (action_or a) e
 
-module _ (n : Node) (w : ℕ) where
+module _ (n : PoolNode) (w : ℕ) where
   -- the choices of one task have one priority
-  pub same_priority : (b c : Choice) → b.task ≡ c.task → IsChoice n.board.actions n.board.tasks.pool n.board.queues.pool w b → IsChoice n.board.actions n.board.tasks.pool n.board.queues.pool w c → b.priority ≡ c.priority
+  pub same_priority : (b c : Choice) → b.task ≡ c.task → IsChoice n.scheduler.actions n.scheduler.tasks.pool n.scheduler.queues.pool w b → IsChoice n.scheduler.actions n.scheduler.tasks.pool n.scheduler.queues.pool w c → b.priority ≡ c.priority
   same_priority b c e1 e2 e3 = grind (arith, nat_tests)
 
   -- the best one has the priority of the wanted one, where that is best too
-  pub one_priority : (b c : Choice) → IsBest n.board.actions n.board.tasks.pool n.board.queues.pool w (Some b) → IsChoice n.board.actions n.board.tasks.pool n.board.queues.pool w c → NoneBetter n.board.actions n.board.tasks.pool n.board.queues.pool w c.priority → c.priority ≡ b.priority
+  pub one_priority : (b c : Choice) → IsBest n.scheduler.actions n.scheduler.tasks.pool n.scheduler.queues.pool w (Some b) → IsChoice n.scheduler.actions n.scheduler.tasks.pool n.scheduler.queues.pool w c → NoneBetter n.scheduler.actions n.scheduler.tasks.pool n.scheduler.queues.pool w c.priority → c.priority ≡ b.priority
   one_priority b c e1 e2 e3 = grind (arith, nat_tests)

@@ -1,5 +1,5 @@
 -- An action that goes ends the tasks that no worker can take any more.
-use Rattle.node_steps.proofs.Names.{nat_tests, ◌≡◌, ℕ, ◌+◌, Bool, true, false, not, cond, List, [], ◌∷◌, Some, None, Ok, refl, sym, ◌∙◌, ap, subst, arith, ◌==◌, ◌&&◌, TaskEnd, ActionHandle, Mask, MtapiStatus, in_mask, Slots, slot_value, without, changed, Listed, live_of, lookup, live_object, any_listed, count_listed, change, with_fields, gone, Distinct, any-live, any-some, same_tests, Action, with_enabled, is_eligible, has_worker, some_below, Task, is_unstarted, end_each, job_of, IsUnion, TaskTable, BoardTable, Becomes, is_unserved, AreServed, EndsUnserved, job-found, Op, State, is_open, withdraws, apply, row, IsHonest, Node, Lists, Holds, Live, Steps, state_of, Sound}
+use Rattle.node_steps.proofs.Names.{nat_tests, ◌≡◌, ℕ, ◌+◌, Bool, true, false, not, cond, List, [], ◌∷◌, Some, None, Ok, refl, sym, ◌∙◌, ap, subst, arith, ◌==◌, ◌&&◌, TaskEnd, ActionHandle, Mask, MtapiStatus, in_mask, Slots, slot_value, without, changed, Listed, live_of, lookup, live_object, any_listed, count_listed, change, with_fields, gone, Distinct, any-live, any-some, same_tests, Action, with_enabled, is_eligible, has_worker, some_below, Task, is_unstarted, end_each, job_of, IsUnion, TaskTable, SchedulerTable, Becomes, is_unserved, AreServed, EndsUnserved, job-found, Op, State, is_open, withdraws, apply, row, IsHonest, PoolNode, Lists, Holds, Live, Steps, state_of, Sound}
 use Rattle.mtapi_values.specs.declared.ends.TaskEnd.TheVariants.{Failed}
 use Rattle.mtapi_values.specs.declared.statuses.MtapiStatus.TheVariants as m
 use Rattle.task_board.proofs.RemarkLemmas.{SameBut, same-changed, same-without}
@@ -95,89 +95,89 @@ left-agree size turns workers p q l others job tasks e old new s z same served u
 
 -- The step
 
-module _ (n : Node) (l : Lists) (who job : ℕ) (v : Live n l) (k : Sound (state_of n l)) where
+module _ (n : PoolNode) (l : Lists) (who job : ℕ) (v : Live n l) (k : Sound (state_of n l)) where
   -- an action goes, and the tasks that no worker can take any more end
-  withdrawn : (o : Op) (h : ℕ) (f : Listed Action → Listed Action) (c : MtapiStatus) (q : Slots Action) (t : TaskTable) → Holds n.board.settings.actions n.board.settings.generations q (change h f l.actions) → SameBut job n.board.actions q → EndsUnserved n.board.settings.workers q job (Failed c) n.board.tasks t → Gives (state_of n l) (row (state_of n l) who o reply.Ok) reply.Ok (apply (withdraws h f c) (state_of n l)) → IsHonest o → Steps n l who o reply.Ok (record n { board = record n.board { actions = q; tasks = t } })
+  withdrawn : (o : Op) (h : ℕ) (f : Listed Action → Listed Action) (c : MtapiStatus) (q : Slots Action) (t : TaskTable) → Holds n.scheduler.settings.actions n.scheduler.settings.generations q (change h f l.actions) → SameBut job n.scheduler.actions q → EndsUnserved n.scheduler.settings.workers q job (Failed c) n.scheduler.tasks t → Gives (state_of n l) (row (state_of n l) who o reply.Ok) reply.Ok (apply (withdraws h f c) (state_of n l)) → IsHonest o → Steps n l who o reply.Ok (record n { scheduler = record n.scheduler { actions = q; tasks = t } })
   withdrawn o h f c q t held same u g honest =
       steps n m l to who o reply.Ok (subst (λ (s : State). Gives (state_of n l) (row (state_of n l) who o reply.Ok) reply.Ok s) leads g)
-      (record { actions = held; tasks = subst (λ (ts : List (Listed Task)). Holds n.board.settings.tasks n.board.settings.generations t.pool ts) ends once.holds; groups = v.groups; queues = v.queues; resources = v.resources })
+      (record { actions = held; tasks = subst (λ (ts : List (Listed Task)). Holds n.scheduler.settings.tasks n.scheduler.settings.generations t.pool ts) ends once.holds; groups = v.groups; queues = v.queues; resources = v.resources })
       refl (omega (arith, once.starts)) honest
     where
       others : List (Listed Action)
       others = change h f l.actions
 
       is_left : Task → Bool
-      is_left x = is_unstarted x && not (has_worker n.board.settings.workers x.job x.cores (live_of others))
+      is_left x = is_unstarted x && not (has_worker n.scheduler.settings.workers x.job x.cores (live_of others))
 
       passes : Task → Bool
-      passes = is_unserved n.board.settings.workers job u.mask.0
+      passes = is_unserved n.scheduler.settings.workers job u.mask.0
 
-      once : AtOnce n.board.settings.tasks n.board.settings.generations passes (Failed c) n.board.tasks t l.tasks
-      once = ends-at-once n.board.settings.tasks n.board.settings.generations passes (Failed c) n.board.tasks t l.tasks v.tasks k.ordered u.ends
+      once : AtOnce n.scheduler.settings.tasks n.scheduler.settings.generations passes (Failed c) n.scheduler.tasks t l.tasks
+      once = ends-at-once n.scheduler.settings.tasks n.scheduler.settings.generations passes (Failed c) n.scheduler.tasks t l.tasks v.tasks k.ordered u.ends
 
       agree : Agree (both_pass passes (Failed c)) is_left (live_of l.tasks)
-      agree = left-agree n.board.settings.actions n.board.settings.generations n.board.settings.workers n.board.actions q l.actions others job l.tasks (Failed c) n.board.tasks t v.actions held same k.served u
+      agree = left-agree n.scheduler.settings.actions n.scheduler.settings.generations n.scheduler.settings.workers n.scheduler.actions q l.actions others job l.tasks (Failed c) n.scheduler.tasks t v.actions held same k.served u
 
-      ends : end_each (both_pass passes (Failed c)) (Failed c) n.board.tasks.ends l.tasks ≡ end_each is_left (Failed c) n.board.tasks.ends l.tasks
-      ends = same-ends (both_pass passes (Failed c)) is_left (Failed c) n.board.tasks.ends l.tasks v.tasks.stands.distinct agree
+      ends : end_each (both_pass passes (Failed c)) (Failed c) n.scheduler.tasks.ends l.tasks ≡ end_each is_left (Failed c) n.scheduler.tasks.ends l.tasks
+      ends = same-ends (both_pass passes (Failed c)) is_left (Failed c) n.scheduler.tasks.ends l.tasks v.tasks.stands.distinct agree
 
       count : count_listed (both_pass passes (Failed c)) l.tasks ≡ count_listed is_left l.tasks
       count = same-count (both_pass passes (Failed c)) is_left l.tasks v.tasks.stands.distinct agree
 
-      m : Node
-      m = record n { board = record n.board { actions = q; tasks = t } }
+      m : PoolNode
+      m = record n { scheduler = record n.scheduler { actions = q; tasks = t } }
 
       to : Lists
-      to = record l { actions = others; tasks = end_each is_left (Failed c) n.board.tasks.ends l.tasks }
+      to = record l { actions = others; tasks = end_each is_left (Failed c) n.scheduler.tasks.ends l.tasks }
 
-      number : n.board.tasks.ends + count_listed is_left l.tasks ≡ t.ends
-      number = ap (λ (x : ℕ). n.board.tasks.ends + x) (sym count) ∙ sym once.ends
+      number : n.scheduler.tasks.ends + count_listed is_left l.tasks ≡ t.ends
+      number = ap (λ (x : ℕ). n.scheduler.tasks.ends + x) (sym count) ∙ sym once.ends
 
       leads : apply (withdraws h f c) (state_of n l) ≡ state_of m to
       leads i = record (state_of n l) {
         actions = others;
-        tasks = end_each is_left (Failed c) n.board.tasks.ends l.tasks;
+        tasks = end_each is_left (Failed c) n.scheduler.tasks.ends l.tasks;
         starts = sym once.starts i;
         ends = number i;
       }
 
-module _ (n : Node) (l : Lists) (who job : ℕ) (a : ActionHandle) (v : Live n l) (k : Sound (state_of n l)) (up : is_open n.core.phase ≡ true) (is : Ok job ≡ job_of (slot_value n.board.actions a.0)) where
-  pub disable_steps : (t : TaskTable) → EndsUnserved n.board.settings.workers (changed n.board.actions a.0 (with_enabled false)) job (Failed m.ErrActionDisabled) n.board.tasks t → Steps n l who (op.ActionDisable a) reply.Ok (record n { board = record n.board { actions = changed n.board.actions a.0 (with_enabled false); tasks = t } })
+module _ (n : PoolNode) (l : Lists) (who job : ℕ) (a : ActionHandle) (v : Live n l) (k : Sound (state_of n l)) (up : is_open n.core.phase ≡ true) (is : Ok job ≡ job_of (slot_value n.scheduler.actions a.0)) where
+  pub disable_steps : (t : TaskTable) → EndsUnserved n.scheduler.settings.workers (changed n.scheduler.actions a.0 (with_enabled false)) job (Failed m.ErrActionDisabled) n.scheduler.tasks t → Steps n l who (op.ActionDisable a) reply.Ok (record n { scheduler = record n.scheduler { actions = changed n.scheduler.actions a.0 (with_enabled false); tasks = t } })
   disable_steps t u =
-      let x = job-found (slot_value n.board.actions a.0) job is in
-      withdrawn n l who job v k (op.ActionDisable a) a.0 (with_fields (with_enabled false)) m.ErrActionDisabled (changed n.board.actions a.0 (with_enabled false)) t
-      (holds_changed _ _ n.board.actions l.actions a.0 (with_enabled false) v.actions) (same-changed n.board.actions a.0 job false x.0 x.1 x.2) u
-      (past _ _ _ _ _ _ (not_true _ up) (at_some _ _ _ x.0 _ _ _ (found _ _ n.board.actions l.actions a.0 (Some x.0) v.actions x.1) (gives_this _ _ _))) tt
+      let x = job-found (slot_value n.scheduler.actions a.0) job is in
+      withdrawn n l who job v k (op.ActionDisable a) a.0 (with_fields (with_enabled false)) m.ErrActionDisabled (changed n.scheduler.actions a.0 (with_enabled false)) t
+      (holds_changed _ _ n.scheduler.actions l.actions a.0 (with_enabled false) v.actions) (same-changed n.scheduler.actions a.0 job false x.0 x.1 x.2) u
+      (past _ _ _ _ _ _ (not_true _ up) (at_some _ _ _ x.0 _ _ _ (found _ _ n.scheduler.actions l.actions a.0 (Some x.0) v.actions x.1) (gives_this _ _ _))) tt
 
-  pub delete_steps : (t : TaskTable) → EndsUnserved n.board.settings.workers (without n.board.actions a.0) job (Failed m.ErrActionDeleted) n.board.tasks t → Steps n l who (op.ActionDelete a) reply.Ok (record n { board = record n.board { actions = without n.board.actions a.0; tasks = t } })
+  pub delete_steps : (t : TaskTable) → EndsUnserved n.scheduler.settings.workers (without n.scheduler.actions a.0) job (Failed m.ErrActionDeleted) n.scheduler.tasks t → Steps n l who (op.ActionDelete a) reply.Ok (record n { scheduler = record n.scheduler { actions = without n.scheduler.actions a.0; tasks = t } })
   delete_steps t u =
-      let x = job-found (slot_value n.board.actions a.0) job is in
-      withdrawn n l who job v k (op.ActionDelete a) a.0 gone m.ErrActionDeleted (without n.board.actions a.0) t
-      (holds_remove _ _ n.board.actions l.actions a.0 x.0 v.actions x.1) (same-without n.board.actions a.0 job x.0 x.1 x.2) u
-      (past _ _ _ _ _ _ (not_true _ up) (at_some _ _ _ x.0 _ _ _ (found _ _ n.board.actions l.actions a.0 (Some x.0) v.actions x.1) (gives_this _ _ _))) tt
+      let x = job-found (slot_value n.scheduler.actions a.0) job is in
+      withdrawn n l who job v k (op.ActionDelete a) a.0 gone m.ErrActionDeleted (without n.scheduler.actions a.0) t
+      (holds_remove _ _ n.scheduler.actions l.actions a.0 x.0 v.actions x.1) (same-without n.scheduler.actions a.0 job x.0 x.1 x.2) u
+      (past _ _ _ _ _ _ (not_true _ up) (at_some _ _ _ x.0 _ _ _ (found _ _ n.scheduler.actions l.actions a.0 (Some x.0) v.actions x.1) (gives_this _ _ _))) tt
 
--- The two calls of a board
+-- The two calls of a scheduler
 
-pub becomes-twice : (a b c : BoardTable) (q : Slots Action) → Becomes a b q a.tasks → Becomes b c b.actions c.tasks → Becomes a c q c.tasks
+pub becomes-twice : (a b c : SchedulerTable) (q : Slots Action) → Becomes a b q a.tasks → Becomes b c b.actions c.tasks → Becomes a c q c.tasks
 becomes-twice a b c q x y = record { settings = y.settings ∙ x.settings; actions_are = y.actions_are ∙ x.actions_are; tasks_are = refl; queues_are = y.queues_are ∙ x.queues_are; groups_are = y.groups_are ∙ x.groups_are }
 
-pub unserved-before : (a b : BoardTable) (q : Slots Action) (job : ℕ) (e : TaskEnd) (t : TaskTable) → Becomes a b q a.tasks → EndsUnserved b.settings.workers b.actions job e b.tasks t → EndsUnserved a.settings.workers q job e a.tasks t
+pub unserved-before : (a b : SchedulerTable) (q : Slots Action) (job : ℕ) (e : TaskEnd) (t : TaskTable) → Becomes a b q a.tasks → EndsUnserved b.settings.workers b.actions job e b.tasks t → EndsUnserved a.settings.workers q job e a.tasks t
 unserved-before a b q job e t e1 e2 = grind (arith, nat_tests)
 
 -- Before the action goes
 
 -- each task of a job that hasn't begun has a worker on the cores that the actions of the job cover
-served-before : (n : Node) (l : Lists) (job : ℕ) (mask : Mask) → Live n l → Sound (state_of n l) → IsUnion n.board.actions job mask.0 → AreServed n.board.settings.workers job mask.0 n.board.tasks.pool
+served-before : (n : PoolNode) (l : Lists) (job : ℕ) (mask : Mask) → Live n l → Sound (state_of n l) → IsUnion n.scheduler.actions job mask.0 → AreServed n.scheduler.settings.workers job mask.0 n.scheduler.tasks.pool
 served-before n l job mask v k u h t g on = by_job (t.job == job) refl
   where
-    by_job : (b : Bool) → (t.job == job) ≡ b → (b && not (some_below n.board.settings.workers (λ w. in_mask w mask.0 && in_mask w t.cores))) ≡ false
+    by_job : (b : Bool) → (t.job == job) ≡ b → (b && not (some_below n.scheduler.settings.workers (λ w. in_mask w mask.0 && in_mask w t.cores))) ≡ false
     by_job true is =
         let j : t.job ≡ job = grind (arith) in
-        ap not (sym (covered_worker n.board.settings.actions n.board.settings.generations n.board.actions l.actions job mask v.actions u n.board.settings.workers t.cores)
-        ∙ ap (λ (o : ℕ). has_worker n.board.settings.workers o t.cores (live_of l.actions)) (sym j)
-        ∙ k.served h t (found _ _ n.board.tasks.pool l.tasks h (Some t) v.tasks g) on)
+        ap not (sym (covered_worker n.scheduler.settings.actions n.scheduler.settings.generations n.scheduler.actions l.actions job mask v.actions u n.scheduler.settings.workers t.cores)
+        ∙ ap (λ (o : ℕ). has_worker n.scheduler.settings.workers o t.cores (live_of l.actions)) (sym j)
+        ∙ k.served h t (found _ _ n.scheduler.tasks.pool l.tasks h (Some t) v.tasks g) on)
     by_job false other = refl
 
 -- and so it is of an action's job, once the action has gone
-pub served-after : (n : Node) (l : Lists) (job : ℕ) (a : ActionHandle) (mask : Mask) (b : BoardTable) (q : Slots Action) → Live n l → Sound (state_of n l) → Ok job ≡ job_of (slot_value n.board.actions a.0) → ((x : Action) → slot_value n.board.actions a.0 ≡ Some x → IsUnion n.board.actions x.job mask.0) → Becomes n.board b q n.board.tasks → AreServed b.settings.workers job mask.0 b.tasks.pool
+pub served-after : (n : PoolNode) (l : Lists) (job : ℕ) (a : ActionHandle) (mask : Mask) (b : SchedulerTable) (q : Slots Action) → Live n l → Sound (state_of n l) → Ok job ≡ job_of (slot_value n.scheduler.actions a.0) → ((x : Action) → slot_value n.scheduler.actions a.0 ≡ Some x → IsUnion n.scheduler.actions x.job mask.0) → Becomes n.scheduler b q n.scheduler.tasks → AreServed b.settings.workers job mask.0 b.tasks.pool
 served-after n l job a mask b q v k is covers x = grind (arith, nat_tests, job-found, slot_value, served-before)

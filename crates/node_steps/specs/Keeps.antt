@@ -1,4 +1,4 @@
--- What a board keeps beside its pools, as the machine's state says it.
+-- What a scheduler keeps beside its pools, as the machine's state says it.
 use Rattle.std.specs.Prelude.{◌≡◌, ◌↔◌, ℕ, ◌<◌, Bool, true, ◌&&◌, ◌==◌, List, map, Some, slice_get}
 use Rattle.mtapi_values.specs.Conditions.{holds}
 use Rattle.mtapi_values.specs.declared.handles.TaskHandle.{TaskHandle}
@@ -11,7 +11,7 @@ use Rattle.mtapi_objects.specs.Groups.{Ending, is_unended_member, endings}
 use Rattle.mtapi_objects.specs.Queues.{is_unended_in}
 use Rattle.queue_core.specs.Held.{HeldQueue}
 use Rattle.group_core.specs.Members.{Members}
-use Rattle.task_board.specs.Board.{BoardTable, running_on}
+use Rattle.task_board.specs.Scheduler.{SchedulerTable, running_on}
 use Rattle.mtapi_machine.specs.State.{State, workers}
 use Rattle.mtapi_machine.specs.WorkRows.{can_take}
 
@@ -20,7 +20,7 @@ pub record ListsByStart (s : State) (p : Task → Bool) (hs : List ℕ) : Type 0
   pub has : (h : ℕ) → (has_handle h hs ≡ true) ↔ ((x : Task) × (live_object s.tasks h ≡ Some x) × (p x ≡ true))
   pub in_order : (i j h k : ℕ) (x y : Task) → i < j → slice_get hs i ≡ Some h → slice_get hs j ≡ Some k → live_object s.tasks h ≡ Some x → live_object s.tasks k ≡ Some y → x.start < y.start
 
-pub record Keeps (s : State) (b : BoardTable) : Type 0 where
+pub record Keeps (s : State) (b : SchedulerTable) : Type 0 where
   -- a slot is marked for a worker, with a priority, exactly where its task is ready, has this priority, and has an eligible action on this worker
   pub marks : (w p place : ℕ) → w < workers s → is_for_at w p (mark_at b.ready.marks place) ≡ holds (λ e. can_take s w e.1 && (p == e.1.priority)) (used_at place (slice_get b.tasks.pool.slots place))
   -- the task that stands beside a worker is the one that runs there

@@ -15,7 +15,7 @@ use Rattle.mtapi_machine.specs.TaskRows.{asked_for, start_refusals, is_detached_
 use Rattle.queue_core.specs.Held.{facts_of}
 use Rattle.queue_core.specs.declared.facts.QueueFacts.{QueueFacts}
 use Rattle.task_board.specs.Members.{names_dead}
-use Rattle.node_steps.specs.declared.node.Node.{Node}
+use Rattle.node_steps.specs.declared.node.PoolNode.{PoolNode}
 use Rattle.node_steps.specs.Stands.{Lists, Live, state_of}
 
 -- that the node isn't open, and then these
@@ -38,11 +38,11 @@ abbrev pub queue_refusals : State → ℕ → ℕ → ℕ → ℕ → List (Bool
 queue_refusals s id job priority limit = queue_causes s job priority limit ++ (any_listed (λ x. x.id == id) s.queues, ErrQueueExists) ∷ []
 
 -- a task may be put into this queue, which shows these facts, but for want of room among the tasks
-pub record MayPut (n : Node) (q : ℕ) (cores : Mask) (detached : Bool) (group : Option GroupHandle) (f : QueueFacts) : Type 0 where
+pub record MayPut (n : PoolNode) (q : ℕ) (cores : Mask) (detached : Bool) (group : Option GroupHandle) (f : QueueFacts) : Type 0 where
   pub opened : is_open n.core.phase ≡ true
   pub alone : is_detached_member detached group ≡ false
-  pub found : Some f ≡ option_map facts_of (slot_value n.board.queues.pool q)
+  pub found : Some f ≡ option_map facts_of (slot_value n.scheduler.queues.pool q)
   pub takes : (not f.enabled && not f.retain) ≡ false
   pub room : (f.unended == f.limit) ≡ false
-  pub member : names_dead n.board.groups.pool (number_of group) ≡ false
+  pub member : names_dead n.scheduler.groups.pool (number_of group) ≡ false
   pub none : (l : Lists) (args : List ℤ) (priority : ℕ) → Live n l → first ((not f.enabled && not f.retain, ErrQueueDisabled) ∷ start_refusals (state_of n l) (asked_for f.job args priority cores detached group) ++ (f.unended == f.limit, ErrQueueLimit) ∷ []) ≡ None

@@ -6,7 +6,7 @@ use Rattle.handle_pool.specs.Issued.{Listed}
 use Rattle.mtapi_objects.specs.Actions.{Action}
 use Rattle.mtapi_objects.specs.Tasks.{Task}
 use Rattle.mtapi_objects.specs.Queues.{Queue}
-use Rattle.task_board.specs.Board.{records_of, group_slots}
+use Rattle.task_board.specs.Scheduler.{records_of, group_slots}
 use Rattle.mtapi_objects.specs.Groups.{Group}
 use Rattle.mtapi_values.specs.declared.handles.Layout.TheVariants.{One}
 use Rattle.mtapi_machine.specs.declared.terms.Terms.{Terms}
@@ -18,7 +18,7 @@ use Rattle.mtapi_machine.specs.Rows.{row}
 use Rattle.mtapi_machine.specs.Legal.{NodeEntry, IsHonest, Legal, after}
 use Rattle.node_resources.specs.Holds.{ResourceTable, ResourceLists, HoldsAll}
 pub use Rattle.node_resources.specs.Holds.{Holds}
-use Rattle.node_steps.specs.declared.node.Node.{Node}
+use Rattle.node_steps.specs.declared.node.PoolNode.{PoolNode}
 use Rattle.node_steps.specs.Keeps.{Keeps}
 
 -- the objects that were ever made
@@ -30,18 +30,18 @@ pub record Lists : Type 0 where
   pub resources : ResourceLists
 
 -- what no op changes; handles are those of layout one
-abbrev pub terms_of : Node → Terms
-terms_of n = node_terms One n.board.settings n.core.callers
+abbrev pub terms_of : PoolNode → Terms
+terms_of n = node_terms One n.scheduler.settings n.core.callers
 
 -- the state of the machine that has these lists, and all else as the node has it
-abbrev pub state_of : Node → Lists → State
+abbrev pub state_of : PoolNode → Lists → State
 state_of n l = record {
   terms = terms_of n;
   phase = n.core.phase;
   released = n.core.released;
   stopped = n.core.stopped;
-  starts = n.board.tasks.starts;
-  ends = n.board.tasks.ends;
+  starts = n.scheduler.tasks.starts;
+  ends = n.scheduler.tasks.ends;
   actions = l.actions;
   tasks = l.tasks;
   groups = l.groups;
@@ -60,32 +60,32 @@ pub record Pools (settings : NodeSettings) (a : Slots Action) (t : Slots Task) (
   pub queues : Holds settings.queues settings.generations q l.queues
   pub resources : HoldsAll settings r l.resources
 
-abbrev pub Live : Node → Lists → Type 0
-Live n l = Pools n.board.settings n.board.actions n.board.tasks.pool (group_slots n.board) (records_of n.board.queues.pool) n.resources l
+abbrev pub Live : PoolNode → Lists → Type 0
+Live n l = Pools n.scheduler.settings n.scheduler.actions n.scheduler.tasks.pool (group_slots n.scheduler) (records_of n.scheduler.queues.pool) n.resources l
 
 -- the step from n to m, with these lists then, is one of the machine's
-pub record StepsTo (n : Node) (l : Lists) (who : ℕ) (op : Op) (r : Reply) (m : Node) (k : Lists) : Type 0 where
+pub record StepsTo (n : PoolNode) (l : Lists) (who : ℕ) (op : Op) (r : Reply) (m : PoolNode) (k : Lists) : Type 0 where
   pub allowed : Allows (row (state_of n l) who op r) r
   pub leads : after_row (state_of n l) (row (state_of n l) who op r) ≡ state_of m k
-  pub live : Pools n.board.settings m.board.actions m.board.tasks.pool (group_slots m.board) (records_of m.board.queues.pool) m.resources k
+  pub live : Pools n.scheduler.settings m.scheduler.actions m.scheduler.tasks.pool (group_slots m.scheduler) (records_of m.scheduler.queues.pool) m.resources k
   pub terms : terms_of m ≡ terms_of n
-  pub starts : m.board.tasks.starts ≤ n.board.tasks.starts + 1
+  pub starts : m.scheduler.tasks.starts ≤ n.scheduler.tasks.starts + 1
   pub honest : IsHonest op
 
-abbrev pub Steps : Node → Lists → ℕ → Op → Reply → Node → Type 0
+abbrev pub Steps : PoolNode → Lists → ℕ → Op → Reply → PoolNode → Type 0
 Steps n l who op r m = (k : Lists) × StepsTo n l who op r m k
 
 -- the node stands for the list: it is legal, and leads to what the node holds
-pub record Stands (n : Node) (L : List NodeEntry) : Type 0 where
+pub record Stands (n : PoolNode) (L : List NodeEntry) : Type 0 where
   pub legal : Legal (terms_of n) L
   pub lists : Lists
   pub state : after (terms_of n) L ≡ state_of n lists
   pub live : Live n lists
-  pub starts : n.board.tasks.starts ≤ length L
-  pub keeps : Keeps (after (terms_of n) L) n.board
+  pub starts : n.scheduler.tasks.starts ≤ length L
+  pub keeps : Keeps (after (terms_of n) L) n.scheduler
 
 -- a node stands for legal histories alone
-abbrev pub history_of : (n : Node) (L : List NodeEntry) → Stands n L → Legal (terms_of n) L
+abbrev pub history_of : (n : PoolNode) (L : List NodeEntry) → Stands n L → Legal (terms_of n) L
 history_of n L s = s.legal
 
 -- how many seats these terms give

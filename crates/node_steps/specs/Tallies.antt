@@ -14,13 +14,13 @@ use Rattle.task_core.specs.declared.tallies.TallyState.{TallyState}
 use Rattle.task_core.specs.declared.tallies.TallyState.TheVariants.{Read, Written}
 use Rattle.task_core.specs.Tallies.{adds_of, notes_of}
 use Rattle.task_core.specs.Table.{ended_in}
-use Rattle.task_board.specs.Board.{Becomes}
+use Rattle.task_board.specs.Scheduler.{Becomes}
 use Rattle.mtapi_machine.specs.declared.replies.Reply.{Reply}
 use Rattle.mtapi_machine.specs.declared.replies.Reply.TheVariants.{Ended}
 use Rattle.mtapi_machine.specs.State.{State}
 use Rattle.mtapi_machine.specs.Moves.{Mutexes, Segments, alters, after_moves}
 use Rattle.node_resources.specs.Holds.{Stands}
-use Rattle.node_steps.specs.declared.node.Node.{Node}
+use Rattle.node_steps.specs.declared.node.PoolNode.{PoolNode}
 use Rattle.node_steps.specs.declared.tally_ops.RunningTally.{RunningTally}
 
 -- the number that it has read or written last
@@ -30,25 +30,25 @@ noted_in (Written mutex segment sum) = sum
 noted_in _ = pos 0
 
 -- the task of this handle runs as a tally on the worker, has come so far, and has these arguments
-pub record RunsTally (n : Node) (who t : ℕ) (r : RunningTally) : Type 0 where
+pub record RunsTally (n : PoolNode) (who t : ℕ) (r : RunningTally) : Type 0 where
   pub task : Task
-  pub found : slot_value n.board.tasks.pool t ≡ Some task
-  pub worker : who < n.board.settings.workers
+  pub found : slot_value n.scheduler.tasks.pool t ≡ Some task
+  pub worker : who < n.scheduler.settings.workers
   pub runs : runs_as who Tally task ≡ true
   pub state : notes_of task.args r.state ≡ task.notes.tally
   pub args : option_map adds_of r.args ≡ tally_args task.args
   pub four : (length task.args == 4) ≡ r.is_four
 
 -- the seat isn't a worker's; or no task of this handle runs as a tally on the worker
-abbrev pub NoTally : Node → ℕ → ℕ → MtapiStatus → Type 0
+abbrev pub NoTally : PoolNode → ℕ → ℕ → MtapiStatus → Type 0
 NoTally n who t c =
-    ((n.board.settings.workers ≤ who) × (c ≡ ErrParameter))
-    ⊎ ((who < n.board.settings.workers) × (c ≡ ErrTaskInvalid) × ((x : Task) → slot_value n.board.tasks.pool t ≡ Some x → runs_as who Tally x ≡ false))
+    ((n.scheduler.settings.workers ≤ who) × (c ≡ ErrParameter))
+    ⊎ ((who < n.scheduler.settings.workers) × (c ≡ ErrTaskInvalid) × ((x : Task) → slot_value n.scheduler.tasks.pool t ≡ Some x → runs_as who Tally x ≡ false))
 
 -- the task ends so, and the reply tells it; the worker, which owned the mutex once, has given it and the segment back
-pub record GivesBack (n : Node) (who t mutex segment : ℕ) (e : TaskEnd) (r : Reply) (m : Node) : Type 0 where
+pub record GivesBack (n : PoolNode) (who t mutex segment : ℕ) (e : TaskEnd) (r : Reply) (m : PoolNode) : Type 0 where
   pub reply : r ≡ Ended e
   pub core : m.core ≡ n.core
-  pub board : Becomes n.board m.board n.board.actions (record n.board.tasks { pool = ended_in n.board.tasks.pool t e n.board.tasks.ends (slot_value n.board.tasks.pool t); ends = n.board.tasks.ends + 1 })
+  pub scheduler : Becomes n.scheduler m.scheduler n.scheduler.actions (record n.scheduler.tasks { pool = ended_in n.scheduler.tasks.pool t e n.scheduler.tasks.ends (slot_value n.scheduler.tasks.pool t); ends = n.scheduler.tasks.ends + 1 })
   pub resources : (s : State) (x : Mutex) → Stands s n.resources → live_object s.mutexes mutex ≡ Some x → x.owner ≡ Some who → x.depth ≡ 1
       → Stands (after_moves (alters Segments segment (with_attached who false) ∷ alters Mutexes mutex unlocked ∷ []) s) m.resources

@@ -9,18 +9,18 @@ ghost use Rattle.mtapi_machine.specs.declared.ops.Op.TheVariants as op;
 ghost use Rattle.node_steps.specs.Stands.{Lists, Live, Steps, state_of};
 ghost use Rattle.node_steps.specs.Sound.{Sound};
 
-use crate::node::Node;
+use crate::node::PoolNode;
 use crate::phase_ops::{is_open, is_up};
 use job_table::{Actions, Cover};
 use mtapi_machine::Reply;
 use mtapi_values::{ActionHandle, Kind, Mask, MtapiStatus};
 
-impl Node {
+impl PoolNode {
     // Whether some live action has the job.
     pub(crate) fn has_job(&self, job: u32) -> bool
         ensures { (l : Lists) → Live self.now l → any_listed (has_job job) l.actions ≡ result }
     {
-        match self.board.cover(job) {
+        match self.scheduler.cover(job) {
             Cover::NoAction => false,
             Cover::AllDisabled | Cover::Cores(_) => true,
         }
@@ -55,7 +55,7 @@ impl Node {
         if let Some(status) = self.action_refusal(job) {
             return Reply::Mtapi(status);
         }
-        match self.board.create_action(job, kind, cores) {
+        match self.scheduler.create_action(job, kind, cores) {
             Ok(action) => Reply::Handle(action.0),
             Err(status) => Reply::Mtapi(status),
         }
@@ -68,7 +68,7 @@ impl Node {
         if !is_open(self.core.phase) {
             return Reply::Mtapi(MtapiStatus::ErrNodeNotinit);
         }
-        match self.board.enable_action(action) {
+        match self.scheduler.enable_action(action) {
             Ok(_) => Reply::Ok,
             Err(status) => Reply::Mtapi(status),
         }
@@ -82,10 +82,10 @@ impl Node {
         if !is_open(self.core.phase) {
             return Reply::Mtapi(MtapiStatus::ErrNodeNotinit);
         }
-        let before = self.board.covered(action);
-        match self.board.disable_action(action) {
+        let before = self.scheduler.covered(action);
+        match self.scheduler.disable_action(action) {
             Ok(job) => {
-                self.board
+                self.scheduler
                     .end_unserved(job, before, MtapiStatus::ErrActionDisabled);
                 Reply::Ok
             }
@@ -101,10 +101,10 @@ impl Node {
         if !is_open(self.core.phase) {
             return Reply::Mtapi(MtapiStatus::ErrNodeNotinit);
         }
-        let before = self.board.covered(action);
-        match self.board.delete_action(action) {
+        let before = self.scheduler.covered(action);
+        match self.scheduler.delete_action(action) {
             Ok(job) => {
-                self.board
+                self.scheduler
                     .end_unserved(job, before, MtapiStatus::ErrActionDeleted);
                 Reply::Ok
             }

@@ -13,7 +13,7 @@ ghost use Rattle.mtapi_renaming.specs.Kinds.{made_kind, live_in, is_live_of};
 ghost use Rattle.mtapi_renaming.specs.Refusals.{refusal_of};
 ghost use Rattle.node_steps.specs.Stands.{Lists, Live, Stands, state_of, terms_of, seat_count};
 
-use crate::node::Node;
+use crate::node::PoolNode;
 use mtapi_machine::{Op, Reply};
 use mtapi_values::{
     ActionHandle, GroupHandle, MrapiStatus, MtapiStatus, MutexHandle, ObjectKind, QueueHandle,
@@ -39,16 +39,16 @@ fn mrapi(status: Option<MrapiStatus>) -> Option<Reply>
     }
 }
 
-impl Node {
+impl PoolNode {
     /// Tells how many objects of a kind are live.
     pub fn live(&self, kind: ObjectKind) -> u32
         ensures { (L : List NodeEntry) → Stands self.now L → live_in kind (after (terms_of self.now) L) ≡ result }
     {
         match kind {
-            ObjectKind::Action => self.board.live_actions(),
-            ObjectKind::Task => self.board.live_tasks(),
-            ObjectKind::Group => self.board.live_groups(),
-            ObjectKind::Queue => self.board.live_queues(),
+            ObjectKind::Action => self.scheduler.live_actions(),
+            ObjectKind::Task => self.scheduler.live_tasks(),
+            ObjectKind::Group => self.scheduler.live_groups(),
+            ObjectKind::Queue => self.scheduler.live_queues(),
             ObjectKind::Mutex => self.resources.live_mutexes(),
             ObjectKind::Sem => self.resources.live_sems(),
             ObjectKind::Rwl => self.resources.live_rwls(),
@@ -62,10 +62,10 @@ impl Node {
             → is_live_of kind (after (terms_of self.now) L) handle ≡ result }
     {
         match kind {
-            ObjectKind::Action => self.board.is_action(ActionHandle(handle)),
-            ObjectKind::Task => self.board.task(TaskHandle(handle)).is_some(),
-            ObjectKind::Group => self.board.left(GroupHandle(handle)).is_some(),
-            ObjectKind::Queue => self.board.queue(QueueHandle(handle)).is_some(),
+            ObjectKind::Action => self.scheduler.is_action(ActionHandle(handle)),
+            ObjectKind::Task => self.scheduler.task(TaskHandle(handle)).is_some(),
+            ObjectKind::Group => self.scheduler.left(GroupHandle(handle)).is_some(),
+            ObjectKind::Queue => self.scheduler.queue(QueueHandle(handle)).is_some(),
             ObjectKind::Mutex => self.resources.is_mutex(MutexHandle(handle)),
             ObjectKind::Sem => self.resources.is_sem(SemHandle(handle)),
             ObjectKind::Rwl => self.resources.is_rwl(RwlHandle(handle)),
@@ -135,7 +135,7 @@ impl Node {
             → result ≡ reply.Picked task action kind args }
     {
         let reply = self.pick_wanted(who, Some((task, action)));
-        self.board.is_kept();
+        self.scheduler.is_kept();
         reply
     }
 }

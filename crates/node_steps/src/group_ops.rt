@@ -9,7 +9,7 @@ ghost use Rattle.mtapi_machine.specs.GroupRows.{verdict};
 ghost use Rattle.mtapi_machine.specs.declared.ops.Op.TheVariants as op;
 ghost use Rattle.node_steps.specs.Stands.{Lists, Live, Steps};
 
-use crate::node::Node;
+use crate::node::PoolNode;
 use crate::phase_ops::{is_open, is_up};
 use mtapi_machine::Reply;
 use mtapi_values::{GroupHandle, MtapiStatus};
@@ -36,7 +36,7 @@ fn early(last: bool) -> Reply
     }
 }
 
-impl Node {
+impl PoolNode {
     // Why no group is made, whether there is room or not.
     pub(crate) fn group_refusal(&self) -> Option<MtapiStatus>
         ensures { result ≡ first (open_refusals self.now.core.phase []) }
@@ -54,7 +54,7 @@ impl Node {
         if let Some(status) = self.group_refusal() {
             return Reply::Mtapi(status);
         }
-        match self.board.create_group() {
+        match self.scheduler.create_group() {
             Ok(group) => Reply::Handle(group.0),
             Err(status) => Reply::Mtapi(status),
         }
@@ -67,11 +67,11 @@ impl Node {
         if !is_open(self.core.phase) {
             return Reply::Mtapi(MtapiStatus::ErrNodeNotinit);
         }
-        let Some(_) = self.board.left(group) else {
+        let Some(_) = self.scheduler.left(group) else {
             return Reply::Mtapi(MtapiStatus::ErrGroupInvalid);
         };
-        let_members_go(&mut self.board, group);
-        self.board.delete_group(group);
+        let_members_go(&mut self.scheduler, group);
+        self.scheduler.delete_group(group);
         Reply::Ok
     }
 
@@ -82,14 +82,14 @@ impl Node {
         if !is_up(self.core.phase) {
             return Reply::Mtapi(MtapiStatus::ErrNodeNotinit);
         }
-        self.board.is_kept();
-        let Some((all, ended)) = self.board.left(group) else {
+        self.scheduler.is_kept();
+        let Some((all, ended)) = self.scheduler.left(group) else {
             return Reply::Mtapi(MtapiStatus::ErrGroupInvalid);
         };
         if all > ended {
             return early(last);
         }
-        verdict(free_members(&mut self.board, group))
+        verdict(free_members(&mut self.scheduler, group))
     }
 
     pub(crate) fn any_look(&mut self, group: GroupHandle, last: bool) -> Reply
@@ -99,14 +99,14 @@ impl Node {
         if !is_up(self.core.phase) {
             return Reply::Mtapi(MtapiStatus::ErrNodeNotinit);
         }
-        self.board.is_kept();
-        let Some((all, _)) = self.board.left(group) else {
+        self.scheduler.is_kept();
+        let Some((all, _)) = self.scheduler.left(group) else {
             return Reply::Mtapi(MtapiStatus::ErrGroupInvalid);
         };
         if all == 0 {
             return Reply::Mtapi(MtapiStatus::GroupCompleted);
         }
-        match self.board.take_first(group) {
+        match self.scheduler.take_first(group) {
             Some((task, end)) => Reply::Given(task, end),
             None => early(last),
         }

@@ -10,11 +10,11 @@ pub mod node;
 mod phase_ops;
 mod queue_ops;
 mod resource_ops;
+mod running;
 mod steps;
 mod tally_ops;
 mod task_ops;
-mod walks;
 mod work_ops;
 
 pub use mtapi_machine::{Op, Reply};
-pub use node::Node;
+pub use node::PoolNode;

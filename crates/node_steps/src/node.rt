@@ -12,7 +12,7 @@ use mtapi_renaming::{Rename, other_action, other_group, other_member, other_queu
 use mtapi_values::NodeAttr;
 use node_resources::Resources;
 use std::alloc::{AllocError, Global};
-use task_board::Board;
+use task_board::Scheduler;
 
 /// What a node keeps beside its objects.
 #[derive(Drop)]
@@ -28,9 +28,9 @@ pub(crate) struct Core {
 
 /// A node: it executes each op as the machine of one thread says.
 #[derive(Drop)]
-pub struct Node {
+pub struct PoolNode {
     pub(crate) core: Core,
-    pub(crate) board: Board,
+    pub(crate) scheduler: Scheduler,
     pub(crate) resources: Resources,
 }
 
@@ -48,27 +48,27 @@ fn read_ranges(attr: &NodeAttr)
     let _ = attr.generations();
 }
 
-impl Node {
+impl PoolNode {
     /// Makes a new node with these settings, for 1 to 9 callers, main included, and takes all the
     /// memory that its objects will use. It fails for want of memory alone.
-    pub fn init(alloc: Global, attr: NodeAttr, callers: u32) -> Result<Node, AllocError>
+    pub fn init(alloc: Global, attr: NodeAttr, callers: u32) -> Result<PoolNode, AllocError>
         requires some_caller { 1 ≤ callers }
         requires few_callers { callers ≤ 9 }
         ensures terms { IfOk result (λ n. terms_of n ≡ record { layout = One; settings = attr; callers = callers }) }
         ensures stands { IfOk result (λ n. Stands n []) }
     {
         read_ranges(&attr);
-        let board = Board::new(alloc, attr)?;
+        let scheduler = Scheduler::new(alloc, attr)?;
         let resources = Resources::init(alloc, attr)?;
-        board.is_kept();
-        Ok(Node {
+        scheduler.is_kept();
+        Ok(PoolNode {
             core: Core {
                 callers: callers as u8,
                 phase: Phase::New,
                 released: false,
                 stopped: [false; 25],
             },
-            board,
+            scheduler,
             resources,
         })
     }
@@ -77,12 +77,12 @@ impl Node {
     pub fn settings(&self) -> &NodeAttr
         ensures { result.now ≡ (terms_of self.now).settings }
     {
-        self.board.settings()
+        self.scheduler.settings()
     }
 
     // One op, by its own method. The pools have other handles for those that it names.
     pub(crate) fn dispatch<R: Rename>(&mut self, names: &R, who: u32, op: &Op) -> Reply
-        requires few_starts { self.old.board.tasks.starts < 2 ^ 63 }
+        requires few_starts { self.old.scheduler.tasks.starts < 2 ^ 63 }
         requires seat { who < 25 }
         ensures { (l : Lists) → Live self.old l → Sound (state_of self.old l)
             → Steps self.old l who (renamed_op (R.renaming names.now) op.now) result self.new }

@@ -7,7 +7,7 @@ ghost use Rattle.mtapi_machine.specs.declared.ops.Op.TheVariants as op;
 ghost use Rattle.node_steps.specs.Stands.{Lists, Live, Steps, state_of};
 ghost use Rattle.node_steps.specs.Sound.{Sound};
 
-use crate::node::Node;
+use crate::node::PoolNode;
 use mtapi_machine::{Phase, Reply};
 use mtapi_values::MtapiStatus;
 
@@ -54,7 +54,7 @@ fn all_marked(n: u32, marks: &[bool]) -> bool
     left == 0
 }
 
-impl Node {
+impl PoolNode {
     pub(crate) fn initialize(&mut self) -> Reply
         ensures { (l : Lists) (who : ℕ) → Live self.old l → Steps self.old l who op.Initialize result self.new }
     {
@@ -96,7 +96,7 @@ impl Node {
             return Reply::Mtapi(MtapiStatus::ErrNodeNotinit);
         }
         self.core.phase = Phase::Closing;
-        self.board.end_shut();
+        self.scheduler.end_shut();
         Reply::Ok
     }
 
@@ -106,7 +106,7 @@ impl Node {
         if !is_up(self.core.phase) {
             return Reply::Mtapi(MtapiStatus::ErrNodeNotinit);
         }
-        let workers = self.board.workers();
+        let workers = self.scheduler.workers();
         if !is_past_open(self.core.phase) || !all_marked(workers, &self.core.stopped) {
             return Reply::Mtapi(MtapiStatus::ErrNodeInitialized);
         }

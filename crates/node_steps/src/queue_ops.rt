@@ -13,7 +13,7 @@ ghost use Rattle.node_steps.specs.Refusals.{queue_causes, queue_refusals, MayPut
 ghost use Rattle.node_steps.specs.Stands.{Lists, Live, Steps, state_of};
 ghost use Rattle.node_steps.specs.Sound.{Sound};
 
-use crate::node::Node;
+use crate::node::PoolNode;
 use crate::phase_ops::{is_open, is_up};
 use mtapi_machine::Reply;
 use mtapi_values::{Args, GroupHandle, Mask, MtapiStatus, QueueAttr, QueueHandle, TaskEnd};
@@ -59,12 +59,12 @@ fn attributes(priority: u32, limit: u32, ordered: bool, retain: bool) -> QueueAt
     attr
 }
 
-impl Node {
+impl PoolNode {
     // Why no queue of this job and these numbers is made, but for its id and for want of room.
     fn queue_cause(&self, job: u32, priority: u32, limit: u32) -> Option<MtapiStatus>
         ensures first { (l : Lists) → Live self.now l
             → first (queue_causes (state_of self.now l) job priority limit) ≡ result }
-        ensures known { IfNone result (priority < self.now.board.settings.priorities) }
+        ensures known { IfNone result (priority < self.now.scheduler.settings.priorities) }
         ensures priority { IfNone result (priority ≤ 7) }
         ensures some { IfNone result (1 ≤ limit) }
         ensures few { IfNone result (limit ≤ 65536) }
@@ -72,7 +72,7 @@ impl Node {
         if !is_open(self.core.phase) {
             return Some(MtapiStatus::ErrNodeNotinit);
         }
-        if priority >= self.board.priorities() || limit < 1 || limit > 65_536 {
+        if priority >= self.scheduler.priorities() || limit < 1 || limit > 65_536 {
             return Some(MtapiStatus::ErrParameter);
         }
         if !self.has_job(job) {
@@ -95,7 +95,7 @@ impl Node {
         if let Some(status) = self.queue_cause(job, priority, limit) {
             return Some(status);
         }
-        self.board.queue_refusal(id)
+        self.scheduler.queue_refusal(id)
     }
 
     pub(crate) fn queue_create(
@@ -114,7 +114,7 @@ impl Node {
             return Reply::Mtapi(status);
         }
         let attr = attributes(priority, limit, ordered, retain);
-        match self.board.create_queue(id, job, attr) {
+        match self.scheduler.create_queue(id, job, attr) {
             Ok(queue) => Reply::Handle(queue.0),
             Err(status) => Reply::Mtapi(status),
         }
@@ -126,7 +126,7 @@ impl Node {
         if !is_up(self.core.phase) {
             return Reply::Mtapi(MtapiStatus::ErrNodeNotinit);
         }
-        match self.board.get_queue(id) {
+        match self.scheduler.get_queue(id) {
             Ok(queue) => Reply::Handle(queue.0),
             Err(status) => Reply::Mtapi(status),
         }
@@ -139,7 +139,7 @@ impl Node {
         if !is_open(self.core.phase) {
             return Reply::Mtapi(MtapiStatus::ErrNodeNotinit);
         }
-        match self.board.enable_queue(queue) {
+        match self.scheduler.enable_queue(queue) {
             Ok(()) => Reply::Ok,
             Err(status) => Reply::Mtapi(status),
         }
@@ -153,14 +153,14 @@ impl Node {
         if !is_open(self.core.phase) {
             return Reply::Mtapi(MtapiStatus::ErrNodeNotinit);
         }
-        let Some(facts) = self.board.queue(queue) else {
+        let Some(facts) = self.scheduler.queue(queue) else {
             return Reply::Mtapi(MtapiStatus::ErrQueueInvalid);
         };
-        let _ = self.board.disable_queue(queue);
+        let _ = self.scheduler.disable_queue(queue);
         if facts.retain {
             return Reply::Ok;
         }
-        self.board.end_queued(queue, &TaskEnd::Cancelled);
+        self.scheduler.end_queued(queue, &TaskEnd::Cancelled);
         Reply::Ok
     }
 
@@ -172,12 +172,12 @@ impl Node {
         if !is_open(self.core.phase) {
             return Reply::Mtapi(MtapiStatus::ErrNodeNotinit);
         }
-        let Some(_) = self.board.queue(queue) else {
+        let Some(_) = self.scheduler.queue(queue) else {
             return Reply::Mtapi(MtapiStatus::ErrQueueInvalid);
         };
-        self.board
+        self.scheduler
             .end_queued(queue, &TaskEnd::Failed(MtapiStatus::ErrQueueDeleted));
-        let _ = self.board.delete_queue(queue);
+        let _ = self.scheduler.delete_queue(queue);
         Reply::Ok
     }
 
@@ -195,7 +195,7 @@ impl Node {
             ) ∷ start_refusals (state_of self.now l) (asked_for facts.job args priority cores detached group) ++ (facts.unended == facts.limit, status.ErrQueueLimit) ∷ []) ≡ result }
         ensures takes { result ≡ None → (not facts.enabled && not facts.retain) ≡ false }
         ensures room { result ≡ None → (facts.unended == facts.limit) ≡ false }
-        ensures group { result ≡ None → names_dead self.now.board.groups.pool (number_of group) ≡ false }
+        ensures group { result ≡ None → names_dead self.now.scheduler.groups.pool (number_of group) ≡ false }
     {
         if is_shut(facts) {
             return Some(MtapiStatus::ErrQueueDisabled);
@@ -227,10 +227,10 @@ impl Node {
         if is_detached_member(detached, group) {
             return Err(MtapiStatus::ErrParameter);
         }
-        let Some(facts) = self.board.queue(queue) else {
+        let Some(facts) = self.scheduler.queue(queue) else {
             return Err(MtapiStatus::ErrQueueInvalid);
         };
-        self.board.is_kept();
+        self.scheduler.is_kept();
         match self.put_refusal(facts, cores, group) {
             Some(status) => Err(status),
             None => Ok(facts),
@@ -248,7 +248,7 @@ impl Node {
         ensures { (l : Lists) (who : ℕ) (args : List ℤ) → Live self.now l
             → refusal_of (state_of self.now l) who (op.TaskEnqueue queue args cores detached group) ≡ option_map reply.Mtapi result }
     {
-        self.board.is_kept();
+        self.scheduler.is_kept();
         match self.enqueue_facts(queue, cores, detached, group) {
             Ok(_) => None,
             Err(status) => Some(status),
@@ -263,11 +263,11 @@ impl Node {
         detached: bool,
         group: Option<GroupHandle>,
     ) -> Reply
-        requires { self.old.board.tasks.starts < 2 ^ 63 }
+        requires { self.old.scheduler.tasks.starts < 2 ^ 63 }
         ensures { (l : Lists) (who : ℕ) → Live self.old l
             → Steps self.old l who (op.TaskEnqueue queue args.now cores detached group) result self.new }
     {
-        self.board.is_kept();
+        self.scheduler.is_kept();
         let facts = match self.enqueue_facts(queue, cores, detached, group) {
             Ok(facts) => facts,
             Err(status) => return Reply::Mtapi(status),
@@ -281,7 +281,7 @@ impl Node {
             group,
             queue: Some(queue),
         };
-        match self.board.enqueue(queue, task) {
+        match self.scheduler.enqueue(queue, task) {
             Ok(task) => Reply::Handle(task.0),
             Err(status) => Reply::Mtapi(status),
         }

@@ -1,34 +1,34 @@
 //! The ops on mutexes, semaphores, reader-writer locks and segments.
 
 ghost use Rattle.std.specs.Prelude.{◌≡◌, ◌<◌, true};
-ghost use Rattle.node_resources.specs.Steps.{is_resource_op};
+ghost use Rattle.mtapi_machine.specs.Answers.{is_mrapi};
 ghost use Rattle.mtapi_renaming.specs.Ops.{renamed_op};
 ghost use Rattle.mtapi_values.specs.Conditions.{first};
 ghost use Rattle.node_resources.specs.Refusals.{mutex_refusals, sem_refusals, rwl_refusals, shmem_refusals};
 ghost use Rattle.node_steps.specs.Stands.{Lists, Live, Steps, state_of};
 
-use crate::node::Node;
+use crate::node::PoolNode;
 use mtapi_machine::{Op, Reply};
 use mtapi_renaming::Rename;
 use mtapi_values::MrapiStatus;
 use node_resources::Gate;
 
-impl Node {
+impl PoolNode {
     // What settles whether an op on resources is executed.
     fn gate(&self) -> Gate
         ensures phase { result.phase ≡ self.now.core.phase }
-        ensures workers { result.workers ≡ self.now.board.settings.workers }
+        ensures workers { result.workers ≡ self.now.scheduler.settings.workers }
     {
         Gate {
             phase: self.core.phase,
-            workers: self.board.workers(),
+            workers: self.scheduler.workers(),
         }
     }
 
     // One op on resources, by a seat below 25. The pools have other handles for those that it names.
     pub(crate) fn resource_op<R: Rename>(&mut self, names: &R, who: u32, op: &Op) -> Reply
         requires seat { who < 25 }
-        requires resource { is_resource_op op.now ≡ true }
+        requires resource { is_mrapi op.now ≡ true }
         ensures { (l : Lists) → Live self.old l
             → Steps self.old l who (renamed_op (R.renaming names.now) op.now) result self.new }
     {

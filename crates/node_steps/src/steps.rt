@@ -7,8 +7,8 @@ ghost use Rattle.mtapi_machine.specs.Kept.{pends_alike};
 ghost use Rattle.mtapi_layouts.specs.Ops.{IssuesSmall, inward_op};
 ghost use Rattle.node_steps.specs.Stands.{Lists, Live, Stands, state_of, terms_of, seat_count};
 
-use crate::node::Node;
-use crate::walks::is_seat;
+use crate::node::PoolNode;
+use crate::running::is_seat;
 use mtapi_layouts::Inwards;
 use mtapi_machine::{Op, Reply, Terms};
 use mtapi_renaming::Rename;
@@ -26,13 +26,13 @@ impl Rename for Same {
     }
 }
 
-impl Node {
+impl PoolNode {
     /// Tells the number of seats, 2 to 25, which are numbered from 0: first the workers, then main,
     /// then the further callers. It never changes.
     pub fn seats(&self) -> u32
         ensures { result ≡ seat_count (terms_of self.now) }
     {
-        self.board.workers() + u32::from(self.core.callers)
+        self.scheduler.workers() + u32::from(self.core.callers)
     }
 
     /// Copies the node's terms, which never change.
@@ -41,7 +41,7 @@ impl Node {
     {
         Terms {
             layout: Layout::One,
-            settings: *self.board.settings(),
+            settings: *self.scheduler.settings(),
             callers: u32::from(self.core.callers),
         }
     }
@@ -56,7 +56,7 @@ impl Node {
         ensures small { IssuesSmall op result }
     {
         let reply = self.dispatch(&Same, who, &op);
-        self.board.is_kept();
+        self.scheduler.is_kept();
         reply
     }
 
@@ -71,7 +71,7 @@ impl Node {
         ensures small { IssuesSmall (inward_op op.now) reply.new }
     {
         *reply = self.dispatch(&Inwards, who, op);
-        self.board.is_kept();
+        self.scheduler.is_kept();
     }
 
     /// Tells whether the state would stay as it is, were this op answered Pending.
@@ -87,7 +87,7 @@ impl Node {
         ensures { (l : Lists) → Live self.now l → pends_alike (state_of self.now l) who op.now ≡ result }
     {
         match op {
-            Op::TaskLook { task, .. } => match self.board.task(*task) {
+            Op::TaskLook { task, .. } => match self.scheduler.task(*task) {
                 Some(found) => is_seat(who, found.waiter()),
                 None => false,
             },

@@ -14,8 +14,8 @@ ghost use Rattle.node_steps.specs.Stands.{Lists, Live, Steps, state_of};
 ghost use Rattle.node_steps.specs.Sound.{Sound};
 ghost use Rattle.node_steps.specs.Tallies.{RunsTally, NoTally, GivesBack, noted_in};
 
-use crate::node::Node;
-use crate::walks::runs_as;
+use crate::node::PoolNode;
+use crate::running::runs_as;
 use mtapi_machine::Reply;
 use mtapi_values::{Args, Kind, MtapiStatus, MutexHandle, ShmemHandle, TaskEnd, TaskHandle};
 use node_resources::TallyLock;
@@ -102,16 +102,16 @@ impl RunningTally {
     }
 }
 
-impl Node {
+impl PoolNode {
     // The tally of this handle that runs on the worker, or why there is none.
     fn running_tally(&self, who: u32, task: TaskHandle) -> Result<RunningTally, MtapiStatus>
         ensures tally { IfOk result (λ r. RunsTally self.now who task.0 r) }
         ensures refused { IfErr result (λ c. NoTally self.now who task.0 c) }
     {
-        if who >= self.board.workers() {
+        if who >= self.scheduler.workers() {
             return Err(MtapiStatus::ErrParameter);
         }
-        let Some(record) = self.board.task(task) else {
+        let Some(record) = self.scheduler.task(task) else {
             return Err(MtapiStatus::ErrTaskInvalid);
         };
         if !runs_as(record, who, Kind::Tally) {
@@ -145,7 +145,7 @@ impl Node {
         };
         let Some(args) = tally.args else {
             let fault = tally.fault();
-            self.board.note_tally(task, TallyState::Failed(fault));
+            self.scheduler.note_tally(task, TallyState::Failed(fault));
             return Reply::Asked(false);
         };
         match self
@@ -153,13 +153,13 @@ impl Node {
             .tally_lock(who, args.mutex, args.segment, args.cell)
         {
             TallyLock::Both(mutex, segment) => {
-                self.board
+                self.scheduler
                     .note_tally(task, TallyState::Locked { mutex, segment });
                 Reply::Asked(true)
             }
             TallyLock::Owned => Reply::Pending,
             TallyLock::Absent => {
-                self.board
+                self.scheduler
                     .note_tally(task, TallyState::Failed(MtapiStatus::ErrActionFailed));
                 Reply::Asked(false)
             }
@@ -186,7 +186,7 @@ impl Node {
             return Reply::Mtapi(MtapiStatus::ErrParameter);
         };
         let kept = self.resources.tally_read(segment, tally.cell());
-        self.board.note_tally(
+        self.scheduler.note_tally(
             task,
             TallyState::Read {
                 mutex,
@@ -225,7 +225,7 @@ impl Node {
             return Reply::Mtapi(MtapiStatus::ErrParameter);
         }
         self.resources.tally_write(segment, tally.cell(), value);
-        self.board.note_tally(
+        self.scheduler.note_tally(
             task,
             TallyState::Written {
                 mutex,
@@ -278,7 +278,7 @@ impl Node {
                 self.give_back(who, task, mutex, segment, end)
             }
             TallyState::Failed(status) => {
-                self.board.end_with(task, TaskEnd::Failed(status));
+                self.scheduler.end_with(task, TaskEnd::Failed(status));
                 Reply::Ended(TaskEnd::Failed(status))
             }
         }
@@ -294,12 +294,12 @@ impl Node {
         end: TaskEnd,
     ) -> Reply
         requires seat { who < 25 }
-        requires unended { IsLiveAnd is_unended (slot_value self.old.board.tasks.pool task.0) }
+        requires unended { IsLiveAnd is_unended (slot_value self.old.scheduler.tasks.pool task.0) }
         ensures { GivesBack self.old who task.0 mutex.0 segment.0 end result self.new }
     {
         self.resources.tally_end(who, mutex, segment);
         let answer = end.again();
-        self.board.end_with(task, end);
+        self.scheduler.end_with(task, end);
         Reply::Ended(answer)
     }
 }

@@ -10,7 +10,7 @@ ghost use Rattle.mtapi_machine.specs.declared.ops.Op.TheVariants as op;
 ghost use Rattle.node_steps.specs.Refusals.{task_refusals};
 ghost use Rattle.node_steps.specs.Stands.{Lists, Live, Steps, state_of};
 
-use crate::node::Node;
+use crate::node::PoolNode;
 use crate::phase_ops::{is_open, is_up};
 use job_table::Cover;
 use mtapi_machine::Reply;
@@ -18,20 +18,20 @@ use mtapi_values::{Args, GroupHandle, Mask, MtapiStatus, TaskEnd, TaskHandle};
 use task_board::share_core;
 use task_core::{NewTask, TaskLook, TaskState};
 
-impl Node {
+impl PoolNode {
     // Whether the priority isn't one of the node's, or the task is detached and in a group.
     fn is_wrong(&self, priority: u32, detached: bool, group: Option<GroupHandle>) -> bool
-        ensures { result ≡ (not (nat_lt priority self.now.board.settings.priorities) || is_detached_member detached group) }
+        ensures { result ≡ (not (nat_lt priority self.now.scheduler.settings.priorities) || is_detached_member detached group) }
     {
-        priority >= self.board.priorities() || (detached && group.is_some())
+        priority >= self.scheduler.priorities() || (detached && group.is_some())
     }
 
     // Whether a group is named that isn't live.
     fn names_dead(&self, group: Option<GroupHandle>) -> bool
-        ensures { result ≡ names_dead self.now.board.groups.pool (number_of group) }
+        ensures { result ≡ names_dead self.now.scheduler.groups.pool (number_of group) }
     {
         match group {
-            Some(group) => self.board.left(group).is_none(),
+            Some(group) => self.scheduler.left(group).is_none(),
             None => false,
         }
     }
@@ -45,10 +45,10 @@ impl Node {
     ) -> Option<MtapiStatus>
         ensures first { (l : Lists) (args : List ℤ) (priority : ℕ) (detached : Bool) → Live self.now l
             → first (start_refusals (state_of self.now l) (asked_for job args priority cores detached group)) ≡ result }
-        ensures group { IfNone result (names_dead self.now.board.groups.pool (number_of group) ≡ false) }
+        ensures group { IfNone result (names_dead self.now.scheduler.groups.pool (number_of group) ≡ false) }
     {
         let dead = self.names_dead(group);
-        match self.board.cover(job) {
+        match self.scheduler.cover(job) {
             Cover::NoAction => Some(MtapiStatus::ErrJobInvalid),
             Cover::AllDisabled => Some(if dead {
                 MtapiStatus::ErrGroupInvalid
@@ -58,7 +58,7 @@ impl Node {
             Cover::Cores(mask) => {
                 if dead {
                     Some(MtapiStatus::ErrGroupInvalid)
-                } else if share_core(self.board.workers(), mask, cores) {
+                } else if share_core(self.scheduler.workers(), mask, cores) {
                     None
                 } else {
                     Some(MtapiStatus::ErrNoCore)
@@ -78,8 +78,8 @@ impl Node {
     ) -> Option<MtapiStatus>
         ensures first { (l : Lists) (args : List ℤ) → Live self.now l
             → first (task_refusals (state_of self.now l) job args priority cores detached group) ≡ result }
-        ensures right { IfNone result ((not (nat_lt priority self.now.board.settings.priorities) || is_detached_member detached group) ≡ false) }
-        ensures group { IfNone result (names_dead self.now.board.groups.pool (number_of group) ≡ false) }
+        ensures right { IfNone result ((not (nat_lt priority self.now.scheduler.settings.priorities) || is_detached_member detached group) ≡ false) }
+        ensures group { IfNone result (names_dead self.now.scheduler.groups.pool (number_of group) ≡ false) }
     {
         if !is_open(self.core.phase) {
             return Some(MtapiStatus::ErrNodeNotinit);
@@ -99,7 +99,7 @@ impl Node {
         detached: bool,
         group: Option<GroupHandle>,
     ) -> Reply
-        requires { self.old.board.tasks.starts < 2 ^ 63 }
+        requires { self.old.scheduler.tasks.starts < 2 ^ 63 }
         ensures { (l : Lists) (who : ℕ) → Live self.old l
             → Steps self.old l who (op.TaskStart job args.now priority cores detached group) result self.new }
     {
@@ -115,7 +115,7 @@ impl Node {
             group,
             queue: None,
         };
-        match self.board.add(task) {
+        match self.scheduler.add(task) {
             Ok(task) => Reply::Handle(task.0),
             Err(status) => Reply::Mtapi(status),
         }
@@ -127,7 +127,7 @@ impl Node {
         if !is_up(self.core.phase) {
             return Reply::Mtapi(MtapiStatus::ErrNodeNotinit);
         }
-        match self.board.look(task, who, last) {
+        match self.scheduler.look(task, who, last) {
             TaskLook::Ended(end) => Reply::Ended(end),
             TaskLook::Pending => Reply::Pending,
             TaskLook::Refused(status) => Reply::Mtapi(status),
@@ -140,14 +140,14 @@ impl Node {
         if !is_up(self.core.phase) {
             return Reply::Mtapi(MtapiStatus::ErrNodeNotinit);
         }
-        match self.board.state(task) {
+        match self.scheduler.state(task) {
             None => Reply::Mtapi(MtapiStatus::ErrTaskInvalid),
             Some(TaskState::Scheduled) => {
-                self.board.end_with(task, TaskEnd::Cancelled);
+                self.scheduler.end_with(task, TaskEnd::Cancelled);
                 Reply::Ok
             }
             Some(TaskState::Running { .. }) => {
-                self.board.request(task);
+                self.scheduler.request(task);
                 Reply::Ok
             }
             Some(TaskState::Ended) => Reply::Ok,

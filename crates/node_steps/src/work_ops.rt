@@ -16,9 +16,9 @@ ghost use Rattle.task_board.specs.Picks.{IsBest, IsChoice};
 ghost use Rattle.mtapi_values.specs.declared.kinds.Kind.{Kind};
 ghost use Rattle.mtapi_machine.specs.declared.replies.Reply.TheVariants as reply;
 
-use crate::node::Node;
+use crate::node::PoolNode;
 use crate::phase_ops::{is_new, is_past_open};
-use crate::walks::{is_answered, runs_so};
+use crate::running::{is_answered, runs_so};
 use action_fn::{ActEnd, Finished};
 use mtapi_machine::Reply;
 use mtapi_values::{ActionHandle, MtapiStatus, TaskEnd, TaskHandle};
@@ -34,38 +34,38 @@ fn task_end(end: ActEnd) -> TaskEnd
     }
 }
 
-impl Node {
+impl PoolNode {
     // Whether a live task runs on the worker.
     fn runs_any(&self, worker: u32) -> bool
-        requires { worker < self.now.board.settings.workers }
+        requires { worker < self.now.scheduler.settings.workers }
         ensures reported { (l : Lists) → Live self.now l → any_listed (runs_on worker) l.tasks ≡ result }
-        ensures none { OnFalse result (NoneLive (slot_value self.now.board.tasks.pool) (Passes (runs_on worker))) }
+        ensures none { OnFalse result (NoneLive (slot_value self.now.scheduler.tasks.pool) (Passes (runs_on worker))) }
     {
-        self.board.is_running(worker)
+        self.scheduler.is_running(worker)
     }
 
     // Whether no worker finds a task any more.
     fn stops(&self) -> bool
         ensures { (l : Lists) → Live self.now l → is_stop (state_of self.now l) ≡ result }
     {
-        is_past_open(self.core.phase) && self.board.unended() == 0
+        is_past_open(self.core.phase) && self.scheduler.unended() == 0
     }
 
     // What the worker takes: some task of the least priority that it may take, and this task by this
     // action where these are wanted and no task of a smaller priority may be taken.
     fn chosen(&self, who: u32, wanted: Option<(TaskHandle, ActionHandle)>) -> Option<Choice>
-        requires { who < self.now.board.settings.workers }
-        ensures best { IsBest self.now.board.actions self.now.board.tasks.pool self.now.board.queues.pool who result }
+        requires { who < self.now.scheduler.settings.workers }
+        ensures best { IsBest self.now.scheduler.actions self.now.scheduler.tasks.pool self.now.scheduler.queues.pool who result }
         ensures toward { (task : TaskHandle) (action : ActionHandle) → wanted ≡ Some (task, action)
             → IsToward self.now who task action result }
     {
-        let Some(best) = self.board.best(who) else {
+        let Some(best) = self.scheduler.best(who) else {
             return None;
         };
         let Some((task, action)) = wanted else {
             return Some(best);
         };
-        match self.board.choice_of(who, task, action) {
+        match self.scheduler.choice_of(who, task, action) {
             Some(choice) if choice.priority == best.priority => Some(choice),
             _ => Some(best),
         }
@@ -82,7 +82,7 @@ impl Node {
             → wanted ≡ Some (task, action) → Live self.old l → MayPick (state_of self.old l) who task action kind args
             → result ≡ reply.Picked task action kind args }
     {
-        if who >= self.board.workers() || self.runs_any(who) {
+        if who >= self.scheduler.workers() || self.runs_any(who) {
             return Reply::Mtapi(MtapiStatus::ErrParameter);
         }
         if is_new(self.core.phase) {
@@ -92,7 +92,7 @@ impl Node {
             self.core.stopped[who as usize] = true;
             return Reply::Stop;
         }
-        self.board.is_kept();
+        self.scheduler.is_kept();
         match self.chosen(who, wanted) {
             None => Reply::Idle,
             Some(choice) => self.take(who, choice),
@@ -101,16 +101,16 @@ impl Node {
 
     // The worker takes what was chosen.
     fn take(&mut self, who: u32, choice: Choice) -> Reply
-        requires worker { who < self.old.board.settings.workers }
-        requires free { NoneLive (slot_value self.old.board.tasks.pool) (Passes (runs_on who)) }
-        requires choice { IsChoice self.old.board.actions self.old.board.tasks.pool self.old.board.queues.pool who choice }
+        requires worker { who < self.old.scheduler.settings.workers }
+        requires free { NoneLive (slot_value self.old.scheduler.tasks.pool) (Passes (runs_on who)) }
+        requires choice { IsChoice self.old.scheduler.actions self.old.scheduler.tasks.pool self.old.scheduler.queues.pool who choice }
         ensures { Takes self.old who choice result self.new }
     {
         Reply::Picked {
             task: choice.task,
             action: choice.action,
             kind: choice.kind,
-            args: self.board.take(who, choice),
+            args: self.scheduler.take(who, choice),
         }
     }
 
@@ -118,24 +118,24 @@ impl Node {
         ensures { (l : Lists) → Live self.old l → Steps self.old l who (op.Finish task done.now) result self.new }
     {
         is_answered(done);
-        if who >= self.board.workers() {
+        if who >= self.scheduler.workers() {
             return Reply::Mtapi(MtapiStatus::ErrParameter);
         }
-        match self.board.task(task) {
+        match self.scheduler.task(task) {
             Some(found) if runs_so(found, who, done) => {}
             _ => return Reply::Mtapi(MtapiStatus::ErrTaskInvalid),
         }
-        self.board.end_with(task, task_end(done.end()));
+        self.scheduler.end_with(task, task_end(done.end()));
         Reply::Ok
     }
 
     pub(crate) fn asked(&mut self, who: u32, task: TaskHandle) -> Reply
         ensures { (l : Lists) → Live self.old l → Steps self.old l who (op.Asked task) result self.new }
     {
-        if who >= self.board.workers() {
+        if who >= self.scheduler.workers() {
             return Reply::Mtapi(MtapiStatus::ErrParameter);
         }
-        match self.board.asked(task, who) {
+        match self.scheduler.asked(task, who) {
             Ok(requested) => Reply::Asked(requested),
             Err(status) => Reply::Mtapi(status),
         }
@@ -144,13 +144,13 @@ impl Node {
     pub(crate) fn watch_end(&mut self, who: u32, task: TaskHandle) -> Reply
         ensures { (l : Lists) → Live self.old l → Steps self.old l who (op.WatchEnd task) result self.new }
     {
-        if who >= self.board.workers() {
+        if who >= self.scheduler.workers() {
             return Reply::Mtapi(MtapiStatus::ErrParameter);
         }
-        match self.board.watch_end(task, who) {
+        match self.scheduler.watch_end(task, who) {
             Ok(end) => {
                 let answer = end.again();
-                self.board.end_with(task, end);
+                self.scheduler.end_with(task, end);
                 Reply::Ended(answer)
             }
             Err(status) => Reply::Mtapi(status),

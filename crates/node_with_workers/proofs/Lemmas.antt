@@ -12,7 +12,7 @@ use Rattle.workload_runners.specs.Crews.{Cell, IsIdle, GaveUp}
 use Rattle.workload_runners.proofs.Starts.{new_at_rest}
 use Rattle.node_with_workers.specs.declared.client.Called.{Called}
 use Rattle.node_with_workers.specs.declared.callers.Company.{Company}
-use Rattle.node_with_workers.specs.declared.crew.Crew.{Crew}
+use Rattle.node_with_workers.specs.declared.crew.ThreadResults.{ThreadResults}
 use Rattle.node_with_workers.specs.declared.failure.Failure.{Failure}
 use Rattle.node_with_workers.specs.declared.failure.Failure.TheVariants as failure
 use Rattle.node_with_workers.specs.declared.jobs.Over.{Over}
@@ -348,7 +348,7 @@ all_closed promise further z h c back b gave = record { main = come_closed MainO
 
 -- The workers' threads
 
-pub came_joined : {C D T U A : Type 0} (promise : C → Seat → Seat → T → Type 0) (further : D → Seat → Seat → U → Type 0) (z : Cell) (h h' : Hands C D U A) (s : Seat) (c c' : Crew T U A) (over : Over A)
+pub came_joined : {C D T U A : Type 0} (promise : C → Seat → Seat → T → Type 0) (further : D → Seat → Seat → U → Type 0) (z : Cell) (h h' : Hands C D U A) (s : Seat) (c c' : ThreadResults T U A) (over : Over A)
     → h.workers.items ≡ h'.workers.items ++ s ∷ [] → vec_len h'.workers + 1 ≡ vec_len h.workers → h'.sets ≡ h.sets → h'.callers ≡ h.callers
     → SameSeat s over.seat → IsJoined c over c' → CameBack promise further z h' c → CameBack promise further z h c'
 came_joined {C} {D} {T} {U} {A} promise further z h h' s c c' over items len sets callers same j b = record {
@@ -385,7 +385,7 @@ all_back : (F : Seat → Type 0) (xs ys : List Seat) → all_of F (xs ++ ys) →
 all_back F [] ys a = a
 all_back F (x ∷ xs) ys a = all_back F xs ys a.1
 
-module _ {T U A : Type 0} (z : Cell) (c : Crew T U A) (last : Seat) where
+module _ {T U A : Type 0} (z : Cell) (c : ThreadResults T U A) (last : Seat) where
   -- all seats: the workers', main's, and the further callers'
   abbrev whole : List Seat
   whole = (c.workers.items ++ last ∷ []) ++ c.company.seats.items
@@ -424,7 +424,7 @@ module _ {T U A : Type 0} (z : Cell) (c : Crew T U A) (last : Seat) where
   others_ended history seats = all_back (IsSeatOf z.terms history) (c.workers.items ++ last ∷ []) c.company.seats.items seats
 
 -- what main's seat is refused, said of the cell
-pub not_ended : {T U A : Type 0} (z : Cell) (c : Crew T U A) (f : Failure) → HasAllSeats z c
+pub not_ended : {T U A : Type 0} (z : Cell) (c : ThreadResults T U A) (f : Failure) → HasAllSeats z c
     → IfRefused f (IsRefused c.company.main.seat.terms.node c.company.main.seat.number c.company.main.seat.mine Final) → IfRefused f (IsRefused z.terms.node z.terms.node.settings.workers c.company.main.seat.mine Final)
 not_ended z c f e1 e2 = grind (arith, nat_tests)
 
@@ -448,7 +448,7 @@ have_called {D} {U} further z history who (d ∷ ds) bs us seats a =
     subst (λ (l : List U). HaveCalled further z.terms.node history who (d ∷ ds) l) (sym a.5)
     (subst (λ (es : List NodeEntry). HasCalled CallerEnters further d z.terms.node who a.2 es) (sym mine) a.6.called, have_called further z history (suc who) ds a.1 a.3 own.1 a.7)
 
-pub has_all : {C D T U A : Type 0} (promise : C → Seat → Seat → T → Type 0) (further : D → Seat → Seat → U → Type 0) (z : Cell) (h : Hands C D U A) (c : Crew T U A)
+pub has_all : {C D T U A : Type 0} (promise : C → Seat → Seat → T → Type 0) (further : D → Seat → Seat → U → Type 0) (z : Cell) (h : Hands C D U A) (c : ThreadResults T U A)
     → z.terms.node.callers ≡ length h.callers.others.items + 1 → Dealt z (length h.callers.others.items) h.workers.items h.callers.main h.callers.seats.items → CameBack promise further z h c → HasAllSeats z c
 has_all promise further z h c many d b =
     let w1 = z.terms.node.settings.workers + 1 in
@@ -463,7 +463,7 @@ has_all promise further z h c many d b =
           (told_same further z w1 h.callers.others.items c.company.seats.items c.company.told.items o);
     }
 
-pub sets_are : {C D T U A : Type 0} (promise : C → Seat → Seat → T → Type 0) (further : D → Seat → Seat → U → Type 0) (n : ℕ) (z : Cell) (h : Hands C D U A) (c : Crew T U A) (d : AllDone T U A)
+pub sets_are : {C D T U A : Type 0} (promise : C → Seat → Seat → T → Type 0) (further : D → Seat → Seat → U → Type 0) (n : ℕ) (z : Cell) (h : Hands C D U A) (c : ThreadResults T U A) (d : AllDone T U A)
     → Dealt z (length h.callers.others.items) h.workers.items h.callers.main h.callers.seats.items → CameBack promise further z h c → HasEnded z c d → vec_len h.sets ≡ 0 → z.terms.node.settings.workers ≡ n → vec_len d.sets ≡ n
 sets_are promise further n z h c d dealt came ended none few =
     let same : vec_len d.sets ≡ vec_len c.sets = ap vec_len ended.sets in
@@ -472,12 +472,12 @@ sets_are promise further n z h c d dealt came ended none few =
     omega arith
 
 -- the calls of main's client
-called_for : {C D T U A : Type 0} (promise : C → Seat → Seat → T → Type 0) (further : D → Seat → Seat → U → Type 0) (client : C) (t : Terms) (z : Cell) (h : Hands C D U A) (c : Crew T U A)
+called_for : {C D T U A : Type 0} (promise : C → Seat → Seat → T → Type 0) (further : D → Seat → Seat → U → Type 0) (client : C) (t : Terms) (z : Cell) (h : Hands C D U A) (c : ThreadResults T U A)
     → z.terms.node ≡ t → h.callers.client ≡ client → Dealt z (length h.callers.others.items) h.workers.items h.callers.main h.callers.seats.items → CameBack promise further z h c
     → HasCalled MainOpens promise client t t.settings.workers c.company.main.told c.company.main.seat.mine
 called_for promise further client t z h c e1 e2 e3 e4 = grind (arith, nat_tests)
 
-pub run_is : {C D T U A : Type 0} (promise : C → Seat → Seat → T → Type 0) (further : D → Seat → Seat → U → Type 0) (client : C) (others : List D) (settings : NodeSettings) (z : Cell) (h : Hands C D U A) (c : Crew T U A) (d : AllDone T U A)
+pub run_is : {C D T U A : Type 0} (promise : C → Seat → Seat → T → Type 0) (further : D → Seat → Seat → U → Type 0) (client : C) (others : List D) (settings : NodeSettings) (z : Cell) (h : Hands C D U A) (c : ThreadResults T U A) (d : AllDone T U A)
     → z.terms.node ≡ terms_among settings (length others) → h.callers.client ≡ client → h.callers.others.items ≡ others
     → Dealt z (length h.callers.others.items) h.workers.items h.callers.main h.callers.seats.items → CameBack promise further z h c → HasEnded z c d
     → IsRunOfAll promise further client others settings d.told d.others.items d.journal
@@ -509,7 +509,7 @@ pub unopened_all : {C T : Type 0} (promise : C → Seat → Seat → T → Type 
     → z.terms.node ≡ terms_among settings n → m ≡ n → IfRefused f (AreRefused z.terms.node m) → IfRefused f (RefusesOne promise client n settings)
 unopened_all promise client n m settings z f e1 e2 e3 = grind (arith, nat_tests)
 
-pub unended_all : {C D T U A : Type 0} (promise : C → Seat → Seat → T → Type 0) (further : D → Seat → Seat → U → Type 0) (client : C) (n : ℕ) (settings : NodeSettings) (z : Cell) (h : Hands C D U A) (c : Crew T U A) (f : Failure)
+pub unended_all : {C D T U A : Type 0} (promise : C → Seat → Seat → T → Type 0) (further : D → Seat → Seat → U → Type 0) (client : C) (n : ℕ) (settings : NodeSettings) (z : Cell) (h : Hands C D U A) (c : ThreadResults T U A) (f : Failure)
     → z.terms.node ≡ terms_among settings n → h.callers.client ≡ client → Dealt z (length h.callers.others.items) h.workers.items h.callers.main h.callers.seats.items → CameBack promise further z h c
     → IfRefused f (IsRefused z.terms.node z.terms.node.settings.workers c.company.main.seat.mine Final) → IfRefused f (RefusesOne promise client n settings)
 unended_all promise further client n settings z h c f e1 e2 e3 e4 e5 = grind (arith, nat_tests)

@@ -10,7 +10,7 @@ use Rattle.workload_runners.specs.Crews.{Cell, IsIdle}
 use Rattle.node_with_workers.specs.declared.client.Called.{Called}
 use Rattle.node_with_workers.specs.declared.callers.Callers.{Callers}
 use Rattle.node_with_workers.specs.declared.callers.Company.{Company}
-use Rattle.node_with_workers.specs.declared.crew.Crew.{Crew}
+use Rattle.node_with_workers.specs.declared.crew.ThreadResults.{ThreadResults}
 use Rattle.node_with_workers.specs.declared.crew.Hands.{Hands}
 use Rattle.node_with_workers.specs.declared.failure.Failure.{Failure}
 use Rattle.node_with_workers.specs.declared.failure.Failure.TheVariants.{Memory}
@@ -66,13 +66,13 @@ pub record AreReady {C D U A : Type 0} (z : Cell) (h : Hands C D U A) : Type 0 w
   pub callers : MayCall z h.callers
 
 -- one more worker came back
-pub record IsJoined {T U A : Type 0} (before : Crew T U A) (over : Over A) (after : Crew T U A) : Type 0 where
+pub record IsJoined {T U A : Type 0} (before : ThreadResults T U A) (over : Over A) (after : ThreadResults T U A) : Type 0 where
   pub workers : after.workers.items ≡ before.workers.items ++ over.seat ∷ []
   pub sets : vec_len after.sets ≡ vec_len before.sets + 1
   pub company : after.company ≡ before.company
 
 -- each worker's seat came back, and a set for each; and the callers'
-pub record CameBack {C D T U A : Type 0} (promise : C → Seat → Seat → T → Type 0) (further : D → Seat → Seat → U → Type 0) (z : Cell) (h : Hands C D U A) (c : Crew T U A) : Type 0 where
+pub record CameBack {C D T U A : Type 0} (promise : C → Seat → Seat → T → Type 0) (further : D → Seat → Seat → U → Type 0) (z : Cell) (h : Hands C D U A) (c : ThreadResults T U A) : Type 0 where
   pub workers : AllZip SameSeat h.workers.items c.workers.items
   pub sets : vec_len c.sets ≡ vec_len h.sets + vec_len h.workers
   pub company : HaveComeBack promise further z h.callers c.company

@@ -16,7 +16,7 @@ use Rattle.node_journals.specs.declared.entries.Journal.{Journal}
 use Rattle.node_core.specs.Logs.{KeptAs}
 use Rattle.workload_runners.specs.Turns.{Seat, SameSeat}
 use Rattle.workload_runners.specs.Crews.{Cell}
-use Rattle.node_with_workers.specs.declared.crew.Crew.{Crew}
+use Rattle.node_with_workers.specs.declared.crew.ThreadResults.{ThreadResults}
 use Rattle.node_with_workers.specs.declared.run.AllDone.{AllDone}
 use Rattle.node_with_workers.specs.Clients.{MainOpens, CallerEnters, HasCalled, IsRefused, IsNotOpened}
 use Rattle.node_with_workers.specs.Crews.{AreRefused}
@@ -72,7 +72,7 @@ abbrev pub RefusesOne : {C T : Type 0} → (C → Seat → Seat → T → Type 0
 RefusesOne promise client others settings status = AreRefused (terms_among settings others) others status ⊎ IsNotEnded promise client (terms_among settings others) status
 
 -- the crew has all seats of a new cell
-pub record HasAllSeats {T U A : Type 0} (z : Cell) (c : Crew T U A) : Type 0 where
+pub record HasAllSeats {T U A : Type 0} (z : Cell) (c : ThreadResults T U A) : Type 0 where
   pub callers : z.terms.node.callers ≡ length c.company.seats.items + 1
   pub workers : AllZip SameSeat (fresh_seats z.terms z.id 0 z.terms.node.settings.workers) c.workers.items
   pub main : SameSeat (fresh_seat z.terms z.id z.terms.node.settings.workers) c.company.main.seat
@@ -80,7 +80,7 @@ pub record HasAllSeats {T U A : Type 0} (z : Cell) (c : Crew T U A) : Type 0 whe
 
 -- the clients were told this, and the sets are the crew's. There is one legal history of the node; the journal is what is kept of it, main's
 -- entries in it are those that its seat had, and the end, and each further caller's are those that its seat had
-pub record HasEnded {T U A : Type 0} (z : Cell) (c : Crew T U A) (d : AllDone T U A) : Type 0 where
+pub record HasEnded {T U A : Type 0} (z : Cell) (c : ThreadResults T U A) (d : AllDone T U A) : Type 0 where
   pub told : d.told ≡ c.company.main.told
   pub others : d.others ≡ c.company.told
   pub sets : d.sets ≡ c.sets

@@ -29,7 +29,7 @@ pub struct Hands<C: Drop, D: Drop, U: Drop, A: Drop> {
 
 /// The seats and the sets of the workers whose threads are over, in the order of their numbers, and the callers.
 #[derive(Drop)]
-pub struct Crew<T: Drop, U: Drop, A: Drop> {
+pub struct ThreadResults<T: Drop, U: Drop, A: Drop> {
     pub workers: Vec<TurnSeat<Journaled>>,
     pub sets: Vec<A>,
     pub company: Company<T, U>,
@@ -37,9 +37,9 @@ pub struct Crew<T: Drop, U: Drop, A: Drop> {
 
 // The crew with one more worker, whose thread is over.
 fn joined<T: Drop, U: Drop, A: Drop>(
-    crew: Crew<T, U, A>,
+    crew: ThreadResults<T, U, A>,
     over: Over<A>,
-) -> Result<Crew<T, U, A>, AllocError>
+) -> Result<ThreadResults<T, U, A>, AllocError>
     ensures { IfOk result (IsJoined crew over) }
 {
     let mut crew = crew;
@@ -61,7 +61,7 @@ pub(crate) fn start_workers<
     acts: &mut S,
     beside: &mut Threads,
     hands: Hands<C, D, D::Told, S::Set>,
-) -> Result<Crew<C::Told, D::Told, S::Set>, Failure>
+) -> Result<ThreadResults<C::Told, D::Told, S::Set>, Failure>
 where
     D::Told: Send,
     requires { AreReady cell.now hands }
@@ -76,7 +76,7 @@ where
             sets,
         } = hands;
         let company = call_all(rt, cell, beside, callers)?;
-        return Ok(Crew {
+        return Ok(ThreadResults {
             workers,
             sets,
             company,
@@ -94,7 +94,7 @@ where
         job,
         hands,
         |beside: &mut Threads, hands: Hands<C, D, D::Told, S::Set>| -> Result<
-            Crew<C::Told, D::Told, S::Set>,
+            ThreadResults<C::Told, D::Told, S::Set>,
             Failure,
         >
             requires { AreReady cell.now hands × IsSync R.row }

@@ -7,7 +7,7 @@ ghost use Rattle.node_with_workers.specs.Runs.{IsRun, IsRunOfAll, Refuses, Refus
 
 use crate::callers::{Callers, Company};
 use crate::client::{Called, Client, ended};
-use crate::crew::{Crew, Hands, start_workers};
+use crate::crew::{Hands, ThreadResults, start_workers};
 use crate::failure::Failure;
 use action_fn::ActionSource;
 use mtapi_values::NodeAttr;
@@ -73,14 +73,14 @@ fn deal(seats: Vec<TurnSeat<Journaled>>, others: usize) -> Result<Dealt, AllocEr
 fn end<R: Wait, T: Drop, U: Drop, A: Drop>(
     rt: &R,
     cell: TurnCell<Journaled>,
-    crew: Crew<T, U, A>,
+    crew: ThreadResults<T, U, A>,
 ) -> Result<AllDone<T, U, A>, Failure>
     requires keeps { cell.terms.keeps ≡ true }
     requires seats { HasAllSeats cell crew }
     ensures ended { IfOk result (HasEnded cell crew) }
     ensures failed { IfErr result (λ e. IfRefused e (IsRefused cell.terms.node cell.terms.node.settings.workers crew.company.main.seat.mine Final)) }
 {
-    let Crew {
+    let ThreadResults {
         mut workers,
         sets,
         company,

@@ -38,8 +38,8 @@ pub use Rattle.run_report.specs.Report.{parts_told, report_by, run_terms}
 pub use Rattle.run_report.specs.Seen.{Follows, Seen, action_of, ends_where, enqueued, is_left, is_of, is_shut, nothing_seen, opened, pairs, put, queue_at, queue_of, unstarted_in, unstarted_of, with_action, with_change, with_end, with_open, withdrawn, without_action}
 pub use Rattle.run_report.specs.Standings.{SameAs, can_run, passes, place_of, seen_in}
 pub use Rattle.run_report.specs.Summary.{AreTotals, IsNear, counted, no_totals, statements_in, with_number, with_numbers, with_tasks}
-pub use Rattle.run_report.specs.declared.changes.Change.{Change}
-pub use Rattle.run_report.specs.declared.changes.Change.TheVariants.{Nothing}
+pub use Rattle.run_report.specs.declared.changes.EndEffect.{EndEffect}
+pub use Rattle.run_report.specs.declared.changes.EndEffect.TheVariants.{Nothing}
 pub use Rattle.run_report.specs.declared.changes.LiveQueue.{LiveQueue}
 pub use Rattle.run_report.specs.declared.changes.Unstarted.{Unstarted}
 pub use Rattle.run_report.specs.declared.totals.Totals.{Totals}

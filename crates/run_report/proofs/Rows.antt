@@ -1,5 +1,5 @@
 -- After each entry that may come next, what is seen is what stands in the state.
-use Rattle.run_report.proofs.Names.{arith, nat_tests, ◌≡◌, ℕ, ℤ, ◌≤◌, Bool, true, false, ◌&&◌, cond, List, [], ◌∷◌, Option, Some, refl, sym, ◌∙◌, ap, subst, ◌==◌, not, option_map, is_some, TaskEnd, Cancelled, Failed, holds, Listed, live_of, live_object, change, with_fields, gone, any_listed, listed, Action, new_action, with_enabled, Queue, is_shut_in, is_in, Task, NewTask, TaskState, Scheduled, Running, Ended, is_unstarted, is_unended, scheduled, watch_end, cancel_requested, Op, Reply, State, workers, is_stop, end_tasks, Move, Groups, Queues, Mutexes, Sems, Rwls, Segments, phase_is, released, stops, makes_action, enables, withdraws, starts_task, runs_task, ends_task, ends_waiting, notes, leaves, frees_members, lets_members_go, alters, removes, is_fresh, apply, after_moves, Row, unless, gives, never, Allows, after_row, only, live, handle_of, is_ready, can_take, picks, task_end, NodeEntry, IsNext, row_of, next, fst_true, snd_true, IsKeptBy, by_moves, Change, Nothing, change_of, Seen, Follows, unstarted_of, unstarted_in, unstarted_at, queue_of, queue_at, ends_where, with_end, withdrawn, is_left, is_of, is_shut, enqueued, with_open, with_change}
+use Rattle.run_report.proofs.Names.{arith, nat_tests, ◌≡◌, ℕ, ℤ, ◌≤◌, Bool, true, false, ◌&&◌, cond, List, [], ◌∷◌, Option, Some, refl, sym, ◌∙◌, ap, subst, ◌==◌, not, option_map, is_some, TaskEnd, Cancelled, Failed, holds, Listed, live_of, live_object, change, with_fields, gone, any_listed, listed, Action, new_action, with_enabled, Queue, is_shut_in, is_in, Task, NewTask, TaskState, Scheduled, Running, Ended, is_unstarted, is_unended, scheduled, watch_end, cancel_requested, Op, Reply, State, workers, is_stop, end_tasks, Move, Groups, Queues, Mutexes, Sems, Rwls, Segments, phase_is, released, stops, makes_action, enables, withdraws, starts_task, runs_task, ends_task, ends_waiting, notes, leaves, frees_members, lets_members_go, alters, removes, is_fresh, apply, after_moves, Row, unless, gives, never, Allows, after_row, only, live, handle_of, is_ready, can_take, picks, task_end, NodeEntry, IsNext, row_of, next, fst_true, snd_true, IsKeptBy, by_moves, EndEffect, Nothing, change_of, Seen, Follows, unstarted_of, unstarted_in, unstarted_at, queue_of, queue_at, ends_where, with_end, withdrawn, is_left, is_of, is_shut, enqueued, with_open, with_change}
 use Rattle.mtapi_values.specs.declared.statuses.MtapiStatus.{MtapiStatus}
 use Rattle.mtapi_values.specs.declared.statuses.MtapiStatus.TheVariants as m
 use Rattle.mtapi_values.specs.declared.handles.TaskHandle.{TaskHandle}
@@ -13,63 +13,63 @@ use Rattle.mtapi_machine.specs.State as kinds
 use Rattle.mtapi_machine.specs.Moves.{makes}
 use Rattle.mtapi_machine.specs.TaskRows.{asked_for, asked_of, cancels}
 use Rattle.mtapi_machine.specs.Rows.{row}
-use Rattle.mtapi_machine.specs.Laws.{IsMade, is_pick, MakesAction, EnablesAction, WithdrawsAction, StartsTask, EndsTask, ends_many, makes_kind, AltersObject, RemovesObject}
+use Rattle.mtapi_machine.specs.Laws.{IsMade, is_pick, MakesAction, EnablesAction, WithdrawsAction, StartsTask, EndsTask, ends_many, makes_of_sort, AltersObject, RemovesObject}
 use Rattle.run_report.proofs.Listed.{unstarted_first, first-found}
 use Rattle.run_report.proofs.Sound.{Sound, none_listed, sound_move}
 use Rattle.run_report.proofs.Follow.{seen_of, follows_self, follows_path, follows_same, follows_notes, follows_leaves, follows_frees, follows_lets_go, follows_starts, follows_runs, follows_end, follows_ends, follows_actions, action_changed, action_gone, action_made, follows_queue_made, follows_queue_changed, follows_queue_gone}
 
 -- The ops that change nothing of what is seen
 
-abbrev is_quiet : Op → Bool
-is_quiet op.Close = false
-is_quiet (op.ActionCreate job kind cores) = false
-is_quiet (op.ActionEnable a) = false
-is_quiet (op.ActionDisable a) = false
-is_quiet (op.ActionDelete a) = false
-is_quiet (op.TaskStart job args priority cores detached group) = false
-is_quiet (op.TaskEnqueue q args cores detached group) = false
-is_quiet (op.TaskCancel t) = false
-is_quiet (op.QueueCreate id job priority limit ordered retain) = false
-is_quiet (op.QueueEnable q) = false
-is_quiet (op.QueueDisable q) = false
-is_quiet (op.QueueDelete q) = false
-is_quiet op.Pick = false
-is_quiet (op.Finish t done) = false
-is_quiet (op.WatchEnd t) = false
-is_quiet (op.TallyEnd t) = false
-is_quiet _ = true
+abbrev changes_nothing : Op → Bool
+changes_nothing op.Close = false
+changes_nothing (op.ActionCreate job kind cores) = false
+changes_nothing (op.ActionEnable a) = false
+changes_nothing (op.ActionDisable a) = false
+changes_nothing (op.ActionDelete a) = false
+changes_nothing (op.TaskStart job args priority cores detached group) = false
+changes_nothing (op.TaskEnqueue q args cores detached group) = false
+changes_nothing (op.TaskCancel t) = false
+changes_nothing (op.QueueCreate id job priority limit ordered retain) = false
+changes_nothing (op.QueueEnable q) = false
+changes_nothing (op.QueueDisable q) = false
+changes_nothing (op.QueueDelete q) = false
+changes_nothing op.Pick = false
+changes_nothing (op.Finish t done) = false
+changes_nothing (op.WatchEnd t) = false
+changes_nothing (op.TallyEnd t) = false
+changes_nothing _ = true
 
-nothing_of : (o : Op) (r : Reply) → is_quiet o ≡ true → change_of o r ≡ Nothing
+nothing_of : (o : Op) (r : Reply) → changes_nothing o ≡ true → change_of o r ≡ Nothing
 nothing_of o r e1 = grind (arith, nat_tests)
 
-no_made : (a : Action) (o : Op) → is_quiet o ≡ true → MakesAction a o → ⊥
+no_made : (a : Action) (o : Op) → changes_nothing o ≡ true → MakesAction a o → ⊥
 no_made a o e1 e2 = grind (arith, nat_tests)
 
-no_enabled : (h : ℕ) (o : Op) → is_quiet o ≡ true → EnablesAction h o → ⊥
+no_enabled : (h : ℕ) (o : Op) → changes_nothing o ≡ true → EnablesAction h o → ⊥
 no_enabled h o e1 e2 = grind (arith, nat_tests)
 
-no_withdrawn : (h : ℕ) (f : Listed Action → Listed Action) (o : Op) → is_quiet o ≡ true → WithdrawsAction h f o → ⊥
+no_withdrawn : (h : ℕ) (f : Listed Action → Listed Action) (o : Op) → changes_nothing o ≡ true → WithdrawsAction h f o → ⊥
 no_withdrawn h f o e1 e2 = grind (arith, nat_tests)
 
-no_started : (t : NewTask) (o : Op) → is_quiet o ≡ true → StartsTask t o → ⊥
+no_started : (t : NewTask) (o : Op) → changes_nothing o ≡ true → StartsTask t o → ⊥
 no_started t o e1 e2 = grind (arith, nat_tests)
 
-no_run : (o : Op) → is_quiet o ≡ true → is_pick o ≡ true → ⊥
+no_run : (o : Op) → changes_nothing o ≡ true → is_pick o ≡ true → ⊥
 no_run o e1 e2 = grind (arith, nat_tests)
 
-no_ended : (h : ℕ) (o : Op) → is_quiet o ≡ true → EndsTask h o → ⊥
+no_ended : (h : ℕ) (o : Op) → changes_nothing o ≡ true → EndsTask h o → ⊥
 no_ended h o e1 e2 = grind (arith, nat_tests)
 
-none_end : (o : Op) → is_quiet o ≡ true → ends_many o ≡ true → ⊥
+none_end : (o : Op) → changes_nothing o ≡ true → ends_many o ≡ true → ⊥
 none_end o e1 e2 = grind (arith, nat_tests)
 
-no_queue_made : (o : Op) → is_quiet o ≡ true → makes_kind Queues o ≡ true → ⊥
+no_queue_made : (o : Op) → changes_nothing o ≡ true → makes_of_sort Queues o ≡ true → ⊥
 no_queue_made o e1 e2 = grind (arith, nat_tests)
 
-no_queue_altered : (h : ℕ) (f : Queue → Queue) (o : Op) → is_quiet o ≡ true → AltersObject Queues h f o → ⊥
+no_queue_altered : (h : ℕ) (f : Queue → Queue) (o : Op) → changes_nothing o ≡ true → AltersObject Queues h f o → ⊥
 no_queue_altered h f o e1 e2 = grind (arith, nat_tests)
 
-no_queue_gone : (h : ℕ) (o : Op) → is_quiet o ≡ true → RemovesObject Queues h o → ⊥
+no_queue_gone : (h : ℕ) (o : Op) → changes_nothing o ≡ true → RemovesObject Queues h o → ⊥
 no_queue_gone h o e1 e2 = grind (arith, nat_tests)
 
 -- what is there
@@ -84,7 +84,7 @@ module _ (n : ℕ) (v : Seen) where
   abbrev Both : State → Type 0
   Both s = Sound n s × Follows v s
 
-  quiet_move : (o : Op) → is_quiet o ≡ true → IsKeptBy o Both
+  quiet_move : (o : Op) → changes_nothing o ≡ true → IsKeptBy o Both
   quiet_move o p s x e i = (sound_move n o s x e i.0, by x e)
     where
       by : (x : Move) → IsMade s o x → Follows v (apply x s)
@@ -239,7 +239,7 @@ module _ (s : State) (i : Sound (workers s) s) where
           subst (λ c. Follows (cond c (ends_where (is_of q.0) Cancelled (with_open q.0 false (seen_of s))) (with_open q.0 false (seen_of s))) (apply (ends_waiting (is_in q.0) Cancelled) (apply (alters Queues q.0 (queues.opened false)) s))) (sym t)
           (follows_ends _ _ (is_of q.0) Cancelled shut)
 
-  row_leads : (who : ℕ) (o : Op) (r : Reply) → is_quiet o ≡ false → Leads (W o) s (row s who o r)
+  row_leads : (who : ℕ) (o : Op) (r : Reply) → changes_nothing o ≡ false → Leads (W o) s (row s who o r)
   row_leads who op.Close r p = (self, closes _ refl refl refl)
   row_leads who (op.ActionCreate job kind cores) r p = (
     self,
@@ -361,11 +361,11 @@ module _ (s : State) (i : Sound (workers s) s) where
 
 -- one entry on
 pub follows_next : (n : ℕ) (v : Seen) (s : State) (e : NodeEntry) → IsNext s e → Sound n s → Follows v s → Follows (with_change n (change_of e.op e.reply) v) (next s e)
-follows_next n v s e h i f = by (is_quiet e.op) refl
+follows_next n v s e h i f = by (changes_nothing e.op) refl
   where
-    by : (b : Bool) → is_quiet e.op ≡ b → Follows (with_change n (change_of e.op e.reply) v) (next s e)
+    by : (b : Bool) → changes_nothing e.op ≡ b → Follows (with_change n (change_of e.op e.reply) v) (next s e)
     by true p =
-        subst (λ (c : Change). Follows (with_change n c v) (next s e)) (sym (nothing_of e.op e.reply p))
+        subst (λ (c : EndEffect). Follows (with_change n c v) (next s e)) (sym (nothing_of e.op e.reply p))
         (by_moves (λ t. Sound n t × Follows v t) s e (quiet_move n v e.op p) (i, f)).1
     by false p =
         subst (λ (k : ℕ). Follows (with_change k (change_of e.op e.reply) v) (next s e)) i.workers

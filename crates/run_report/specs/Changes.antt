@@ -7,18 +7,18 @@ use Rattle.mtapi_machine.specs.declared.ops.Op.TheVariants as op
 use Rattle.mtapi_machine.specs.declared.replies.Reply.{Reply}
 use Rattle.mtapi_machine.specs.declared.replies.Reply.TheVariants as reply
 use Rattle.mtapi_machine.specs.WorkRows.{task_end}
-use Rattle.run_report.specs.declared.changes.Change.{Change}
-use Rattle.run_report.specs.declared.changes.Change.TheVariants.{Nothing, MakesAction, EnablesAction, DisablesAction, DeletesAction, StartsTask, EnqueuesTask, BeginsTask, EndsTask, CancelsTask, MakesQueue, EnablesQueue, DisablesQueue, DeletesQueue, Closes}
+use Rattle.run_report.specs.declared.changes.EndEffect.{EndEffect}
+use Rattle.run_report.specs.declared.changes.EndEffect.TheVariants.{Nothing, MakesAction, EnablesAction, DisablesAction, DeletesAction, StartsTask, EnqueuesTask, BeginsTask, EndsTask, CancelsTask, MakesQueue, EnablesQueue, DisablesQueue, DeletesQueue, Closes}
 
 -- a new action is enabled, and so is a new queue
-abbrev pub action_made : ℕ → ℕ → Kind → Mask → Change
+abbrev pub action_made : ℕ → ℕ → Kind → Mask → EndEffect
 action_made h job kind cores = MakesAction (record { handle = h; job = job; kind = kind; cores = cores; enabled = true })
 
-abbrev pub queue_made : ℕ → ℕ → Bool → Change
+abbrev pub queue_made : ℕ → ℕ → Bool → EndEffect
 queue_made h job retain = MakesQueue h (record { job = job; retain = retain; enabled = true })
 
 -- what an op of a worker changes
-abbrev pub change_by_work : Op → Reply → Change
+abbrev pub change_by_work : Op → Reply → EndEffect
 change_by_work op.Pick (reply.Picked t a k args) = BeginsTask t.0
 change_by_work (op.Finish t done) reply.Ok = EndsTask t.0 (task_end done.end)
 change_by_work (op.WatchEnd t) (reply.Ended e) = EndsTask t.0 e
@@ -26,7 +26,7 @@ change_by_work (op.TallyEnd t) (reply.Ended e) = EndsTask t.0 e
 change_by_work _ _ = Nothing
 
 -- what an op on a queue changes, or one of a worker
-abbrev pub change_by_queue : Op → Reply → Change
+abbrev pub change_by_queue : Op → Reply → EndEffect
 change_by_queue (op.QueueCreate id job priority limit ordered retain) (reply.Handle h) = queue_made h job retain
 change_by_queue (op.QueueEnable q) reply.Ok = EnablesQueue q.0
 change_by_queue (op.QueueDisable q) reply.Ok = DisablesQueue q.0
@@ -34,7 +34,7 @@ change_by_queue (op.QueueDelete q) reply.Ok = DeletesQueue q.0
 change_by_queue o r = change_by_work o r
 
 -- what an entry with this op and this reply changes
-abbrev pub change_of : Op → Reply → Change
+abbrev pub change_of : Op → Reply → EndEffect
 change_of op.Close reply.Ok = Closes
 change_of (op.ActionCreate job kind cores) (reply.Handle h) = action_made h job kind cores
 change_of (op.ActionEnable a) reply.Ok = EnablesAction a.0

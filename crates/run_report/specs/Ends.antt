@@ -1,12 +1,12 @@
 -- Changes that end no task but one that they name.
 use Rattle.std.specs.Prelude.{◌≡◌, ℕ, true, false, Bool, Option, Some}
 use Rattle.mtapi_values.specs.declared.ends.TaskEnd.{TaskEnd}
-use Rattle.run_report.specs.declared.changes.Change.{Change}
-use Rattle.run_report.specs.declared.changes.Change.TheVariants.{Nothing, MakesAction, EnablesAction, DisablesAction, DeletesAction, StartsTask, EnqueuesTask, BeginsTask, EndsTask, CancelsTask, MakesQueue, EnablesQueue, DisablesQueue, DeletesQueue, Closes}
+use Rattle.run_report.specs.declared.changes.EndEffect.{EndEffect}
+use Rattle.run_report.specs.declared.changes.EndEffect.TheVariants.{Nothing, MakesAction, EnablesAction, DisablesAction, DeletesAction, StartsTask, EnqueuesTask, BeginsTask, EndsTask, CancelsTask, MakesQueue, EnablesQueue, DisablesQueue, DeletesQueue, Closes}
 use Rattle.run_report.specs.Seen.{Seen, put}
 
 -- where no queue is disabled, the change ends no task but one that it names, and disables none
-abbrev pub names_each_end : Change → Bool
+abbrev pub names_each_end : EndEffect → Bool
 names_each_end (DisablesAction h) = false
 names_each_end (DeletesAction h) = false
 names_each_end (CancelsTask h) = false
@@ -16,7 +16,7 @@ names_each_end (MakesQueue h q) = q.enabled
 names_each_end _ = true
 
 -- the ends with the one that the change names
-abbrev pub with_named_end : Change → (ℕ → Option TaskEnd) → ℕ → Option TaskEnd
+abbrev pub with_named_end : EndEffect → (ℕ → Option TaskEnd) → ℕ → Option TaskEnd
 with_named_end (EndsTask h e) ends = put h (Some e) ends
 with_named_end _ ends = ends
 

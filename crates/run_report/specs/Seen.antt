@@ -16,8 +16,8 @@ use Rattle.mtapi_machine.specs.Legal.{NodeEntry}
 use Rattle.run_report.specs.declared.changes.Unstarted.{Unstarted}
 use Rattle.run_report.specs.declared.changes.LiveAction.{LiveAction}
 use Rattle.run_report.specs.declared.changes.LiveQueue.{LiveQueue}
-use Rattle.run_report.specs.declared.changes.Change.{Change}
-use Rattle.run_report.specs.declared.changes.Change.TheVariants.{Nothing, MakesAction, EnablesAction, DisablesAction, DeletesAction, StartsTask, EnqueuesTask, BeginsTask, EndsTask, CancelsTask, MakesQueue, EnablesQueue, DisablesQueue, DeletesQueue, Closes}
+use Rattle.run_report.specs.declared.changes.EndEffect.{EndEffect}
+use Rattle.run_report.specs.declared.changes.EndEffect.TheVariants.{Nothing, MakesAction, EnablesAction, DisablesAction, DeletesAction, StartsTask, EnqueuesTask, BeginsTask, EndsTask, CancelsTask, MakesQueue, EnablesQueue, DisablesQueue, DeletesQueue, Closes}
 use Rattle.run_report.specs.Changes.{change_of}
 
 -- by handle the end of each task that has ended, and what decides the end of each that hasn't begun; the live actions in the order
@@ -129,7 +129,7 @@ pairs [] = []
 pairs (a ∷ more) = (a.handle, action_of a) ∷ pairs more
 
 -- what is seen after a change, with so many workers
-abbrev pub with_change : ℕ → Change → Seen → Seen
+abbrev pub with_change : ℕ → EndEffect → Seen → Seen
 with_change workers Nothing v = v
 with_change workers (MakesAction a) v = record v { actions = v.actions ++ pairs (a ∷ []) }
 with_change workers (EnablesAction h) v = record v { actions = with_action h (with_enabled true) v.actions }

@@ -35,7 +35,7 @@ pub struct LiveQueue {
 
 /// What an entry changes. The numbers are handles.
 #[derive(Drop)]
-pub enum Change {
+pub enum EndEffect {
     /// Nothing that decides how a task ends.
     Nothing,
     /// There is a new action.
@@ -77,10 +77,10 @@ fn task_end(end: &ActEnd) -> TaskEnd
     }
 }
 
-fn action_made(handle: u64, job: u32, kind: Kind, cores: Mask) -> Change
+fn action_made(handle: u64, job: u32, kind: Kind, cores: Mask) -> EndEffect
     ensures { result ≡ action_made handle job kind cores }
 {
-    Change::MakesAction(LiveAction {
+    EndEffect::MakesAction(LiveAction {
         handle,
         job,
         kind,
@@ -89,10 +89,10 @@ fn action_made(handle: u64, job: u32, kind: Kind, cores: Mask) -> Change
     })
 }
 
-fn queue_made(handle: u64, job: u32, retain: bool) -> Change
+fn queue_made(handle: u64, job: u32, retain: bool) -> EndEffect
     ensures { result ≡ queue_made handle job retain }
 {
-    Change::MakesQueue(
+    EndEffect::MakesQueue(
         handle,
         LiveQueue {
             job,
@@ -103,45 +103,48 @@ fn queue_made(handle: u64, job: u32, retain: bool) -> Change
 }
 
 // What an op on a queue changes, or one of a worker.
-fn change_by_queue(op: &Op, reply: &Reply) -> Change
+fn change_by_queue(op: &Op, reply: &Reply) -> EndEffect
     ensures { result ≡ change_by_queue op.now reply.now }
 {
     match (op, reply) {
         (Op::QueueCreate { job, retain, .. }, Reply::Handle(handle)) => {
             queue_made(*handle, *job, *retain)
         }
-        (Op::QueueEnable { queue }, Reply::Ok) => Change::EnablesQueue(queue.0),
-        (Op::QueueDisable { queue }, Reply::Ok) => Change::DisablesQueue(queue.0),
-        (Op::QueueDelete { queue }, Reply::Ok) => Change::DeletesQueue(queue.0),
+        (Op::QueueEnable { queue }, Reply::Ok) => EndEffect::EnablesQueue(queue.0),
+        (Op::QueueDisable { queue }, Reply::Ok) => EndEffect::DisablesQueue(queue.0),
+        (Op::QueueDelete { queue }, Reply::Ok) => EndEffect::DeletesQueue(queue.0),
         _ => change_by_work(op, reply),
     }
 }
 
-fn change_by_work(op: &Op, reply: &Reply) -> Change
+fn change_by_work(op: &Op, reply: &Reply) -> EndEffect
     ensures { result ≡ change_by_work op.now reply.now }
 {
     match (op, reply) {
-        (Op::Pick, Reply::Picked { task, .. }) => Change::BeginsTask(task.0),
-        (Op::Finish { task, done }, Reply::Ok) => Change::EndsTask(task.0, task_end(&done.end())),
-        (Op::WatchEnd { task }, Reply::Ended(end)) => Change::EndsTask(task.0, end.again()),
-        (Op::TallyEnd { task }, Reply::Ended(end)) => Change::EndsTask(task.0, end.again()),
-        _ => Change::Nothing,
+        (Op::Pick, Reply::Picked { task, .. }) => EndEffect::BeginsTask(task.0),
+        (Op::Finish { task, done }, Reply::Ok) => EndEffect::EndsTask(
+            task.0,
+            task_end(&done.end()),
+        ),
+        (Op::WatchEnd { task }, Reply::Ended(end)) => EndEffect::EndsTask(task.0, end.again()),
+        (Op::TallyEnd { task }, Reply::Ended(end)) => EndEffect::EndsTask(task.0, end.again()),
+        _ => EndEffect::Nothing,
     }
 }
 
 /// What an entry changes.
-pub fn change_of(entry: &Entry) -> Change
+pub fn change_of(entry: &Entry) -> EndEffect
     ensures { result ≡ change_of entry.now.op entry.now.reply }
 {
     match (&entry.op, &entry.reply) {
-        (Op::Close, Reply::Ok) => Change::Closes,
+        (Op::Close, Reply::Ok) => EndEffect::Closes,
         (Op::ActionCreate { job, kind, cores }, Reply::Handle(handle)) => {
             action_made(*handle, *job, *kind, *cores)
         }
-        (Op::ActionEnable { action }, Reply::Ok) => Change::EnablesAction(action.0),
-        (Op::ActionDisable { action }, Reply::Ok) => Change::DisablesAction(action.0),
-        (Op::ActionDelete { action }, Reply::Ok) => Change::DeletesAction(action.0),
-        (Op::TaskStart { job, cores, .. }, Reply::Handle(handle)) => Change::StartsTask(
+        (Op::ActionEnable { action }, Reply::Ok) => EndEffect::EnablesAction(action.0),
+        (Op::ActionDisable { action }, Reply::Ok) => EndEffect::DisablesAction(action.0),
+        (Op::ActionDelete { action }, Reply::Ok) => EndEffect::DeletesAction(action.0),
+        (Op::TaskStart { job, cores, .. }, Reply::Handle(handle)) => EndEffect::StartsTask(
             *handle,
             Unstarted {
                 job: *job,
@@ -150,9 +153,9 @@ pub fn change_of(entry: &Entry) -> Change
             },
         ),
         (Op::TaskEnqueue { queue, cores, .. }, Reply::Handle(handle)) => {
-            Change::EnqueuesTask(*handle, queue.0, *cores)
+            EndEffect::EnqueuesTask(*handle, queue.0, *cores)
         }
-        (Op::TaskCancel { task }, Reply::Ok) => Change::CancelsTask(task.0),
+        (Op::TaskCancel { task }, Reply::Ok) => EndEffect::CancelsTask(task.0),
         (op, reply) => change_by_queue(op, reply),
     }
 }

@@ -4,7 +4,7 @@ ghost use Rattle.std.specs.HashMap.{get};
 ghost use Rattle.run_report.specs.Seen.{nothing_seen, seen_from};
 ghost use Rattle.run_report.specs.Ends.{names_each_end, with_named_end, AreEnds};
 
-use crate::changes::{Change, change_of};
+use crate::changes::{EndEffect, change_of};
 use crate::short_ends::ShortEnd;
 use crate::standings::{Standings, standings_of};
 use mtapi_machine::Entry;
@@ -12,13 +12,14 @@ use std::alloc::{AllocError, Global};
 use std::collections::HashMap;
 
 // Whether the change ends no task but one that it names, where no queue is disabled.
-fn names_each_end(change: &Change) -> bool
+fn names_each_end(change: &EndEffect) -> bool
     ensures { result ≡ names_each_end change.now }
 {
     match change {
-        Change::CancelsTask(_) | Change::DisablesQueue(_) | Change::DeletesQueue(_) => false,
-        Change::DisablesAction(_) | Change::DeletesAction(_) => false,
-        Change::MakesQueue(_, queue) => queue.enabled,
+        EndEffect::CancelsTask(_) | EndEffect::DisablesQueue(_) | EndEffect::DeletesQueue(_) =>
+            false,
+        EndEffect::DisablesAction(_) | EndEffect::DeletesAction(_) => false,
+        EndEffect::MakesQueue(_, queue) => queue.enabled,
         _ => true,
     }
 }
@@ -26,11 +27,11 @@ fn names_each_end(change: &Change) -> bool
 fn note_named_end(
     alloc: Global,
     ended: &mut HashMap<u64, ShortEnd>,
-    change: Change,
+    change: EndEffect,
 ) -> Result<(), AllocError>
     ensures { OnOk result ((h : ℕ) → get nat_eq ended.new h ≡ with_named_end change (get nat_eq ended.old) h) }
 {
-    if let Change::EndsTask(handle, end) = change {
+    if let EndEffect::EndsTask(handle, end) = change {
         ended.insert(handle, ShortEnd::new(alloc, end)?)?;
     }
     Ok(())

@@ -19,7 +19,7 @@ mod totals;
 mod whole;
 mod worked;
 
-pub use changes::{Change, LiveAction, LiveQueue, Unstarted};
+pub use changes::{EndEffect, LiveAction, LiveQueue, Unstarted};
 pub use laws::law_report_reads_the_run;
 pub use short_ends::ShortEnd;
 pub use sorts::Shown;

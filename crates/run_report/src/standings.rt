@@ -8,7 +8,7 @@ ghost use Rattle.run_report.specs.Seen.{is_shut, is_of, ends_where, with_end, wi
 ghost use Rattle.run_report.specs.Standings.{seen_in, SameAs, passes};
 
 use crate::actions::{has_worker, set_enabled, take_out};
-use crate::changes::{Change, LiveAction, LiveQueue, Unstarted, change_of};
+use crate::changes::{EndEffect, LiveAction, LiveQueue, Unstarted, change_of};
 use crate::short_ends::ShortEnd;
 use mtapi_machine::Entry;
 use mtapi_values::{Mask, MtapiStatus, TaskEnd};
@@ -254,39 +254,39 @@ fn note(
     alloc: Global,
     table: &mut Standings,
     workers: u32,
-    change: Change,
+    change: EndEffect,
 ) -> Result<(), AllocError>
     requires { workers ≤ 64 }
     ensures { OnOk result (SameAs (seen_in table.new) (with_change workers change (seen_in table.old))) }
 {
     match change {
-        Change::Nothing => {}
-        Change::MakesAction(action) => table.actions.push(action)?,
-        Change::EnablesAction(action) => set_enabled(&mut table.actions, action, true),
-        Change::DisablesAction(action) => {
+        EndEffect::Nothing => {}
+        EndEffect::MakesAction(action) => table.actions.push(action)?,
+        EndEffect::EnablesAction(action) => set_enabled(&mut table.actions, action, true),
+        EndEffect::DisablesAction(action) => {
             set_enabled(&mut table.actions, action, false);
             fail_left(alloc, table, workers, MtapiStatus::ErrActionDisabled)?;
         }
-        Change::DeletesAction(action) => {
+        EndEffect::DeletesAction(action) => {
             take_out(&mut table.actions, action);
             fail_left(alloc, table, workers, MtapiStatus::ErrActionDeleted)?;
         }
-        Change::StartsTask(handle, task) => {
+        EndEffect::StartsTask(handle, task) => {
             table.unstarted.insert(handle, task)?;
         }
-        Change::EnqueuesTask(handle, queue, cores) => enqueue(table, handle, queue, cores)?,
-        Change::BeginsTask(handle) => {
+        EndEffect::EnqueuesTask(handle, queue, cores) => enqueue(table, handle, queue, cores)?,
+        EndEffect::BeginsTask(handle) => {
             table.unstarted.remove(&handle);
         }
-        Change::EndsTask(handle, end) => end_one(alloc, table, handle, end)?,
-        Change::CancelsTask(handle) => cancel(alloc, table, handle)?,
-        Change::MakesQueue(handle, queue) => {
+        EndEffect::EndsTask(handle, end) => end_one(alloc, table, handle, end)?,
+        EndEffect::CancelsTask(handle) => cancel(alloc, table, handle)?,
+        EndEffect::MakesQueue(handle, queue) => {
             table.queues.insert(handle, queue)?;
         }
-        Change::EnablesQueue(queue) => set_open(table, queue, true)?,
-        Change::DisablesQueue(queue) => disable_queue(alloc, table, workers, queue)?,
-        Change::DeletesQueue(queue) => delete_queue(alloc, table, workers, queue)?,
-        Change::Closes => end_where(alloc, table, workers, &Passing::Shut, &TaskEnd::Cancelled)?,
+        EndEffect::EnablesQueue(queue) => set_open(table, queue, true)?,
+        EndEffect::DisablesQueue(queue) => disable_queue(alloc, table, workers, queue)?,
+        EndEffect::DeletesQueue(queue) => delete_queue(alloc, table, workers, queue)?,
+        EndEffect::Closes => end_where(alloc, table, workers, &Passing::Shut, &TaskEnd::Cancelled)?,
     }
     Ok(())
 }

@@ -13,13 +13,13 @@ pub use Rattle.history_law.proofs.{Answered.none_first, Answered.none_some, Answ
 pub use Rattle.history_law.proofs.{Moves.once_from, Reuse.fresh_apart, Reuse.fresh_unlisted, Reuse.issues_fresh, Reuse.listed_move, lists.KindNumbers.same_kind}
 pub use Rattle.history_law.proofs.{OnceIssued.listed_next, Ordered.end_found, Unmoved.live_stays, lists.Handles.OnceIn, lists.Handles.once_rest}
 pub use Rattle.history_law.proofs.{Others.terms_stay, Sorts.sort_move}
-pub use Rattle.history_law.proofs.{RowReplies.Says, RowReplies.said, RowReplies.says_only, lists.AtHandles.at_issue_here, lists.AtHandles.at_issue_other}
+pub use Rattle.history_law.proofs.{RowReplies.OfEachReply, RowReplies.said, RowReplies.says_only, lists.AtHandles.at_issue_here, lists.AtHandles.at_issue_other}
 pub use Rattle.history_law.specs.Seats.{BySeats, NoClose, closes, is_release, is_released}
-pub use Rattle.history_law.specs.Words.{entries_that, is_handle as is_that_handle, issues, makes as makes_object, some_entry, times}
+pub use Rattle.history_law.specs.Words.{entries_that, is_handle as is_that_handle, issues, makes_object, some_entry, times}
 pub use Rattle.history_law.specs.{Accepted.EndsOnce, Accepted.accepted, Accepted.accepted_by, Quiet.AreQuiet, Quiet.IsPlain, Quiet.is_quiet}
 pub use Rattle.mtapi_machine.proofs.Made.{AllGives, both_true, fst_true, given, not_false, not_true, on_live, on_only, snd_true}
 pub use Rattle.mtapi_machine.proofs.{Changes.some_same, Lists.Legal-front, Lists.Legal-prefix, Lists.Legal-rest, Moves.by_moves, Moves.sorts_keep}
-pub use Rattle.mtapi_machine.specs.Laws.{AltersObject, DeletesGroup, EnablesAction, FreesMembers, IsMade, MakesAction, NotesTask, RemovesObject, StartsTask, TakesEnded, all_live, is_status, makes_kind, turns}
+pub use Rattle.mtapi_machine.specs.Laws.{AltersObject, DeletesGroup, EnablesAction, FreesMembers, IsMade, MakesAction, NotesTask, RemovesObject, StartsTask, TakesEnded, all_live, is_status, makes_of_sort, turns}
 pub use Rattle.mtapi_machine.specs.Moves.{Groups, Move, Queues, after_moves, alters, apply, enables, ends_task, ends_waiting, frees_members, is_fresh, is_served, leaves, lets_members_go, makes, makes_action, notes, phase_is, released, removes, runs_task, starts_task, withdraws}
 pub use Rattle.mtapi_machine.specs.Row.{Allows, Row, after_row, gives, handle_of, live, moves_of, never, only, unless}
 pub use Rattle.mtapi_machine.specs.State.{FieldsOf, State, groups, is_open, is_up, objects_of, opening, queues, tasks, workers}

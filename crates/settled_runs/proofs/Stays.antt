@@ -1,5 +1,5 @@
 -- In a quiet history what was made stays as it was made.
-use Rattle.settled_runs.proofs.Names.{arith, nat_tests, ◌≡◌, ℕ, true, List, [], ◌∷◌, ◌++◌, Some, refl, sym, ◌∙◌, ap, subst, is_some, entry, live_object, Action, new_action, Group, new_group, Queue, Op, Handle, State, opening, Move, Groups, Queues, makes_action, enables, withdraws, makes, alters, removes, apply, after_moves, new_queue, NodeEntry, IsNext, next, after, IsMade, EnablesAction, AltersObject, RemovesObject, on_only, by_moves, sorts_keep, live_listed, true_false, at_issue_here, at_issue_other, cut_from, cut_after, fresh_unlisted, fresh_apart, is_quiet, AreQuiet, none_withdrawn, IsThere, MadeObjectsStay, row, LegalFrom, after_from, ObjectKind, live_stays, NewTask, asked_for, asked_of, is_detached_member, false, Option, Reply, MtapiStatus, Mtapi, Row, gives, live, queues, Says, said, says_only, second_false, makes_object, tasks, is_fresh, starts_task, Allows, moves_of, handle_of}
+use Rattle.settled_runs.proofs.Names.{arith, nat_tests, ◌≡◌, ℕ, true, List, [], ◌∷◌, ◌++◌, Some, refl, sym, ◌∙◌, ap, subst, is_some, entry, live_object, Action, new_action, Group, new_group, Queue, Op, Handle, State, opening, Move, Groups, Queues, makes_action, enables, withdraws, makes, alters, removes, apply, after_moves, new_queue, NodeEntry, IsNext, next, after, IsMade, EnablesAction, AltersObject, RemovesObject, on_only, by_moves, sorts_keep, live_listed, true_false, at_issue_here, at_issue_other, cut_from, cut_after, fresh_unlisted, fresh_apart, is_quiet, AreQuiet, none_withdrawn, IsThere, MadeObjectsStay, row, LegalFrom, after_from, ObjectKind, live_stays, NewTask, asked_for, asked_of, is_detached_member, false, Option, Reply, MtapiStatus, Mtapi, Row, gives, live, queues, OfEachReply, said, says_only, second_false, makes_object, tasks, is_fresh, starts_task, Allows, moves_of, handle_of}
 use Rattle.settled_runs.proofs.ByHandle.{granted, refuses_only}
 
 -- The entry that makes it
@@ -31,7 +31,7 @@ AskedAs s n _ = ⊥
 
 -- K of each reply and the moves that come with it, where it holds of each refusal and of the start of a fresh task
 module _ (K : Reply → List Move → Type 0) (s : State) (who : ℕ) (r : Reply) (refused : (c : MtapiStatus) → K (Mtapi c) []) where
-  says_queue : (x : Option Queue) (w : Queue → Row) → ((y : Queue) → x ≡ Some y → Says K (w y)) → Says K (live x (gives queues.invalid []) w)
+  says_queue : (x : Option Queue) (w : Queue → Row) → ((y : Queue) → x ≡ Some y → OfEachReply K (w y)) → OfEachReply K (live x (gives queues.invalid []) w)
   says_queue x w e1 = grind (arith, nat_tests)
 
   pub on_start : (o : Op) → makes_object ObjectKind.Task o ≡ true → ((h : ℕ) (n : NewTask) → AskedAs s n o → is_fresh tasks s h ≡ true → K (Handle h) (starts_task h n ∷ [])) → Allows (row s who o r) r → K r (moves_of (row s who o r))

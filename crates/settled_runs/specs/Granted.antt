@@ -19,7 +19,7 @@ use Rattle.mtapi_machine.specs.declared.terms.Terms.{Terms}
 use Rattle.mtapi_machine.specs.State.{State, objects_of}
 use Rattle.mtapi_machine.specs.QueueRows.{new_queue}
 use Rattle.mtapi_machine.specs.Legal.{NodeEntry, Legal, after}
-use Rattle.history_law.specs.Words.{makes, some_entry, entries_that}
+use Rattle.history_law.specs.Words.{makes_object, some_entry, entries_that}
 use Rattle.history_law.specs.Seats.{NoClose}
 use Rattle.history_law.specs.Quiet.{AreQuiet}
 
@@ -59,7 +59,7 @@ is_handle _ = false
 
 -- the entry made an object of the kind
 abbrev pub makes_one : ObjectKind → NodeEntry → Bool
-makes_one k e = makes k e.op && is_handle e.reply
+makes_one k e = makes_object k e.op && is_handle e.reply
 
 -- these entries made fewer objects of the kind than the settings allow
 abbrev pub HasRoom : Terms → ObjectKind → List NodeEntry → Type 0

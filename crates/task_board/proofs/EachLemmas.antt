@@ -1,5 +1,5 @@
 -- What the walks over the members of a group keep.
-use Rattle.task_board.proofs.Names.{nat_tests, ◌≡◌, ℕ, ◌+◌, Bool, true, false, not, cond, List, [], ◌∷◌, ◌++◌, length, Option, Some, None, refl, sym, ◌∙◌, ap, subst, inl, inr, arith, is_none, option_or, false≢true, cases_eq, TaskEnd, MtapiStatus, Slots, slot_value, with_value, without, NoneLive, has_handle, Task, TaskState, Scheduled, Running, Ended, end_of, is_unended, is_member, is_unended_member, fault_of, first_fault, without_group, number_in, TaskTable, Members, no_members, ended_of, start_in, end_in, member_as, membership, members_in, BoardTable, IsBoard, Becomes, is_ended_member, end_at, ending_of, endings_of, Each, frees, lets_go, Leaves, FreesAll, LetsUnendedGo, LetsAllGo, Freed, Left}
+use Rattle.task_board.proofs.Names.{nat_tests, ◌≡◌, ℕ, ◌+◌, Bool, true, false, not, cond, List, [], ◌∷◌, ◌++◌, length, Option, Some, None, refl, sym, ◌∙◌, ap, subst, inl, inr, arith, is_none, option_or, false≢true, cases_eq, TaskEnd, MtapiStatus, Slots, slot_value, with_value, without, NoneLive, has_handle, Task, TaskState, Scheduled, Running, Ended, end_of, is_unended, is_member, is_unended_member, fault_of, first_fault, without_group, number_in, TaskTable, Members, no_members, ended_of, start_in, end_in, member_as, membership, members_in, SchedulerTable, IsScheduler, Becomes, is_ended_member, end_at, ending_of, endings_of, Each, frees, lets_go, Leaves, FreesAll, LetsUnendedGo, LetsAllGo, Freed, Left}
 use Rattle.task_board.specs.GroupMoves.{Takes}
 use Rattle.task_board.proofs.SeenLemmas.{none-some, some_same}
 use Rattle.task_board.proofs.MoveLemmas.{slot-without}
@@ -60,13 +60,13 @@ fault-next at (x ∷ xs) h n e is = grind (arith, nat_tests, fault-next at xs h 
 
 -- Freeing
 
-becomes-next : (old now new : BoardTable) (pool : Slots Task) → Becomes old now old.actions (record old.tasks { pool = now.tasks.pool }) → Becomes now new now.actions (record now.tasks { pool = pool }) → Becomes old new old.actions (record old.tasks { pool = new.tasks.pool })
+becomes-next : (old now new : SchedulerTable) (pool : Slots Task) → Becomes old now old.actions (record old.tasks { pool = now.tasks.pool }) → Becomes now new now.actions (record now.tasks { pool = pool }) → Becomes old new old.actions (record old.tasks { pool = new.tasks.pool })
 becomes-next old now new pool e1 e2 = grind (arith, nat_tests)
 
 ended-passes : (g : ℕ) (t : Task) (e : TaskEnd) (n : ℕ) → is_member g t ≡ true → t.state ≡ Ended e n → is_ended_member g t ≡ true
 ended-passes g t e n member is = and_both (is_member g t) (not (is_unended t)) member (ap (λ (x : TaskState). not (is_none (end_of x))) is)
 
-pub freed-next : (old now new : BoardTable) (g index h : ℕ) (fault : Option MtapiStatus) (e : TaskEnd) → Freed old now g index fault → Takes now new g h e → Freed old new g (index + 1) (option_or fault (fault_of e))
+pub freed-next : (old now new : SchedulerTable) (g index h : ℕ) (fault : Option MtapiStatus) (e : TaskEnd) → Freed old now g index fault → Takes now new g h e → Freed old new g (index + 1) (option_or fault (fault_of e))
 freed-next old now new g index h fault e f x = record {
   members = f.members;
   done = f.done ++ h ∷ [];
@@ -95,7 +95,7 @@ freed-next old now new g index h fault e f x = record {
         let m = slot-without now.tasks.pool h x.t x.parts.task in
         elim (cases_eq k h) [ inl here ↦ none-some (sym m.here ∙ ap (slot_value (without now.tasks.pool h)) (sym here) ∙ is) | inr away ↦ sym (m.others k away) ∙ is ]
 
-pub freed-all : (old now : BoardTable) (g index : ℕ) (fault : Option MtapiStatus) → Freed old now g index fault → index ≡ length (ended_of (slot_value old.groups.pool g)) → FreesAll old now g fault
+pub freed-all : (old now : SchedulerTable) (g index : ℕ) (fault : Option MtapiStatus) → Freed old now g index fault → index ≡ length (ended_of (slot_value old.groups.pool g)) → FreesAll old now g fault
 freed-all old now g index fault f all = record {
   members = f.members;
   group = f.group;
@@ -113,7 +113,7 @@ freed-all old now g index fault f all = record {
 
 -- Letting go
 
-pub left-next : (old now new : BoardTable) (g index h : ℕ) → Left old now g index → Leaves now new g h → Left old new g (index + 1)
+pub left-next : (old now new : SchedulerTable) (g index h : ℕ) → Left old now g index → Leaves now new g h → Left old new g (index + 1)
 left-next old now new g index h f x = record {
   members = f.members;
   done = f.done ++ h ∷ [];
@@ -133,7 +133,7 @@ left-next old now new g index h f x = record {
     rest = ap (λ (m : Members). m.unended) (sym same) ∙ x.list
 
 -- the ended ones are freed, and then the others are let go
-pub all-go : (old now new : BoardTable) (g : ℕ) (fault : Option MtapiStatus) → FreesAll old now g fault → LetsUnendedGo now new g → LetsAllGo old new g
+pub all-go : (old now new : SchedulerTable) (g : ℕ) (fault : Option MtapiStatus) → FreesAll old now g fault → LetsUnendedGo now new g → LetsAllGo old new g
 all-go old now new g fault e1 e2 = grind (arith, nat_tests, each-more, is_member, lets_go, each-ended, some_same, becomes-next)
 
 -- Who is left
@@ -143,7 +143,7 @@ number-of Scheduled e = absurd (false≢true (sym e))
 number-of (Running w k) e = absurd (false≢true (sym e))
 number-of (Ended y n) e = (n, refl)
 
-pub none-ended-left : (b : BoardTable) (g : ℕ) (m : Members) → IsBoard b → slot_value b.groups.pool g ≡ Some m → m.ended ≡ [] → NoneLive (slot_value b.tasks.pool) (λ t. is_ended_member g t ≡ true)
+pub none-ended-left : (b : SchedulerTable) (g : ℕ) (m : Members) → IsScheduler b → slot_value b.groups.pool g ≡ Some m → m.ended ≡ [] → NoneLive (slot_value b.tasks.pool) (λ t. is_ended_member g t ≡ true)
 none-ended-left b g m k live none h t is passes =
     let group = named-is g t.notes.group (and_left (is_member g t) (not (is_unended t)) passes) in
     let n = number-of t.state (not-false (is_unended t) (and_right (is_member g t) (not (is_unended t)) passes)) in
@@ -153,16 +153,16 @@ none-ended-left b g m k live none h t is passes =
 unended-number : (x : TaskState) → is_none (end_of x) ≡ true → number_in (end_of x) ≡ None
 unended-number x e1 = grind (arith, nat_tests)
 
-pub none-unended-left : (b : BoardTable) (g : ℕ) (m : Members) → IsBoard b → slot_value b.groups.pool g ≡ Some m → m.unended ≡ [] → NoneLive (slot_value b.tasks.pool) (λ t. is_unended_member g t ≡ true)
+pub none-unended-left : (b : SchedulerTable) (g : ℕ) (m : Members) → IsScheduler b → slot_value b.groups.pool g ≡ Some m → m.unended ≡ [] → NoneLive (slot_value b.tasks.pool) (λ t. is_unended_member g t ≡ true)
 none-unended-left b g m k live none h t is passes =
     let group = named-is g t.notes.group (and_left (is_member g t) (is_unended t) passes) in
     let here : members_in b.tasks.pool h ≡ Some (record { group = g; detached = t.notes.detached; start = t.start; end = number_in (end_of t.state) }) = ap membership is ∙ ap (member_as t) group in
     false≢true (sym (ap (has_handle h) none) ∙ (k.members.unended g m live).listed h t.start (ap (start_in g) here ∙ start-here g (record { group = g; detached = t.notes.detached; start = t.start; end = number_in (end_of t.state) }) refl (unended-number t.state (and_right (is_member g t) (is_unended t) passes))))
 
-pub none-left-in : (b : BoardTable) (g : ℕ) → IsBoard b → slot_value b.groups.pool g ≡ Some no_members → NoneLive (slot_value b.tasks.pool) (λ t. is_member g t ≡ true)
+pub none-left-in : (b : SchedulerTable) (g : ℕ) → IsScheduler b → slot_value b.groups.pool g ≡ Some no_members → NoneLive (slot_value b.tasks.pool) (λ t. is_member g t ≡ true)
 none-left-in b g k live h t is passes =
     unnamed (members_in b.tasks.pool) (slot_value b.groups.pool) h g b.tasks.starts b.tasks.ends (record { group = g; detached = t.notes.detached; start = t.start; end = number_in (end_of t.state) }) k.members live
     (ap membership is ∙ ap (member_as t) (named-is g t.notes.group passes)) refl
 
-pub freed-group : (old now : BoardTable) (g : ℕ) (fault : Option MtapiStatus) → FreesAll old now g fault → IsBoard now → NoneLive (slot_value now.tasks.pool) (λ t. is_ended_member g t ≡ true)
+pub freed-group : (old now : SchedulerTable) (g : ℕ) (fault : Option MtapiStatus) → FreesAll old now g fault → IsScheduler now → NoneLive (slot_value now.tasks.pool) (λ t. is_ended_member g t ≡ true)
 freed-group old now g fault f k = none-ended-left now g (record f.members { ended = [] }) k f.group_now refl

@@ -1,5 +1,5 @@
--- What an end is of a board.
-use Rattle.task_board.proofs.Names.{nat_tests, ◌≡◌, ◌≢◌, ◌+◌, ℕ, ◌<◌, true, List, length, length-set, Option, Some, None, set, slice_get, refl, sym, ◌∙◌, ap, subst, arith, is_none, false≢true, Kind, TaskEnd, Slots, slot_of, slot_value, max_of, changed, slot_of-live, list_at, has_handle, without_handle, has-first, ReadyMarks, Task, TaskState, Scheduled, Running, Ended, end_of, is_unended, shown_state, TaskTable, ended_in, IsLiveAnd, HeldQueue, QueueTable, without_task, Seen, seen_as, seen, seen_in, GroupTable, members_in, AreMembers, ended_member, begins_in, AreQueued, left_queue, head_of, BoardTable, IsBoard, Marked, AreWaiting, AreRanked, IsFreshAt, WaitingTable, without_waiting}
+-- What an end is of a scheduler.
+use Rattle.task_board.proofs.Names.{nat_tests, ◌≡◌, ◌≢◌, ◌+◌, ℕ, ◌<◌, true, List, length, length-set, Option, Some, None, set, slice_get, refl, sym, ◌∙◌, ap, subst, arith, is_none, false≢true, Kind, TaskEnd, Slots, slot_of, slot_value, max_of, changed, slot_of-live, list_at, has_handle, without_handle, has-first, ReadyMarks, Task, TaskState, Scheduled, Running, Ended, end_of, is_unended, shown_state, TaskTable, ended_in, IsLiveAnd, HeldQueue, QueueTable, without_task, Seen, seen_as, seen, seen_in, GroupTable, members_in, AreMembers, ended_member, begins_in, AreQueued, left_queue, head_of, SchedulerTable, IsScheduler, Marked, AreWaiting, AreRanked, IsFreshAt, WaitingTable, without_waiting}
 use Rattle.task_core.specs.declared.states.TaskState.TheVariants as shown
 use Rattle.task_board.proofs.SeenLemmas.{none-some, some_same}
 use Rattle.task_board.proofs.ByJobLemmas.{by-job-same}
@@ -8,7 +8,7 @@ use Rattle.task_board.proofs.MoveLemmas.{ranked-put, Alone, Steady, alone, alone
 use Rattle.task_board.proofs.RemarkLemmas.{seen-slot}
 use Rattle.task_board.proofs.GivenLemmas.{dead-queue, put-queue_changed}
 use Rattle.task_board.proofs.QueuedLemmas.{queued-out, queued-leave, begins-leave}
-use Rattle.task_board.proofs.BoardLemmas.{left-jobs, SameSizes, sizes-set, put-board, put-marked, steady-same, unmarked-none, one-list, one-length, seat-below, over-tasks}
+use Rattle.task_board.proofs.SchedulerLemmas.{left-jobs, SameSizes, sizes-set, put-scheduler, put-marked, steady-same, unmarked-none, one-list, one-length, seat-below, over-tasks}
 use Rattle.task_board.proofs.TaskMemberLemmas.{members-over}
 
 first-of : (queues : Slots HeldQueue) (q : ℕ) (x : HeldQueue) → slot_value queues q ≡ Some x → head_of queues (Some q) ≡ slice_get x.tasks 0
@@ -18,12 +18,12 @@ no-first : (queues : Slots HeldQueue) (q : ℕ) → slot_value queues q ≡ None
 no-first queues q e = rw e refl
 
 -- an ended task leaves its queue, whose first task is marked anew
-pub record Leaves (b : BoardTable) (q : TaskTable) (queues : QueueTable) (cleared ready : ReadyMarks) (h : ℕ) (o : Option ℕ) : Type 0 where
+pub record Leaves (b : SchedulerTable) (q : TaskTable) (queues : QueueTable) (cleared ready : ReadyMarks) (h : ℕ) (o : Option ℕ) : Type 0 where
   left : queues ≡ record b.queues { pool = left_queue b.queues.pool o h }
   cleared_is : cleared ≡ record b.ready { marks = set b.ready.marks (slot_of h) None }
   fresh : IsFreshAt b.actions (begins_in queues.pool) (seen_in q.pool) (head_of queues.pool o) cleared ready
 
-pub leaves : (b : BoardTable) (q : TaskTable) (queues : QueueTable) (cleared ready : ReadyMarks) (h : ℕ) (o named : Option ℕ) → o ≡ named → queues ≡ record b.queues { pool = left_queue b.queues.pool o h } → cleared ≡ record b.ready { marks = set b.ready.marks (slot_of h) None } → IsFreshAt b.actions (begins_in queues.pool) (seen_in q.pool) (head_of queues.pool o) cleared ready → Leaves b q queues cleared ready h named
+pub leaves : (b : SchedulerTable) (q : TaskTable) (queues : QueueTable) (cleared ready : ReadyMarks) (h : ℕ) (o named : Option ℕ) → o ≡ named → queues ≡ record b.queues { pool = left_queue b.queues.pool o h } → cleared ≡ record b.ready { marks = set b.ready.marks (slot_of h) None } → IsFreshAt b.actions (begins_in queues.pool) (seen_in q.pool) (head_of queues.pool o) cleared ready → Leaves b q queues cleared ready h named
 leaves b q queues cleared ready h o named is left cleared_is fresh = subst (λ (z : Option ℕ). Leaves b q queues cleared ready h z) is (record { left = left; cleared_is = cleared_is; fresh = fresh })
 
 -- The state of the task
@@ -41,13 +41,13 @@ unended-seen t (Running w k) e = (_, refl, refl)
 unended-seen t (Ended y n) e = absurd (false≢true e)
 
 -- its queue, if that is live, has it
-pub member-of : (b : BoardTable) (h : ℕ) (t : Task) (o : Option ℕ) → IsBoard b → slot_value b.tasks.pool h ≡ Some t → IsLiveAnd is_unended (slot_value b.tasks.pool h) → o ≡ t.queue → (q : ℕ) (x : HeldQueue) → o ≡ Some q → slot_value b.queues.pool q ≡ Some x → has_handle h x.tasks ≡ true
+pub member-of : (b : SchedulerTable) (h : ℕ) (t : Task) (o : Option ℕ) → IsScheduler b → slot_value b.tasks.pool h ≡ Some t → IsLiveAnd is_unended (slot_value b.tasks.pool h) → o ≡ t.queue → (q : ℕ) (x : HeldQueue) → o ≡ Some q → slot_value b.queues.pool q ≡ Some x → has_handle h x.tasks ≡ true
 member-of b h t o k g unended same q x names live =
     let s = unended-seen t t.state (subst (λ (z : Option Task). IsLiveAnd is_unended z) g unended) in
     k.queued.listed h q s.0 x (ap seen g ∙ s.1) (s.2 ∙ sym same ∙ names) live
 
 -- the slot of the first task of the queue, once the task has left it
-pub first-slot_of : (b : BoardTable) (h : ℕ) (o : Option ℕ) → IsBoard b → (j : ℕ) → head_of (left_queue b.queues.pool o h) o ≡ Some j → slot_of j < max_of b.tasks.pool
+pub first-slot_of : (b : SchedulerTable) (h : ℕ) (o : Option ℕ) → IsScheduler b → (j : ℕ) → head_of (left_queue b.queues.pool o h) o ≡ Some j → slot_of j < max_of b.tasks.pool
 first-slot_of b h None k j e = none-some e
 first-slot_of b h (Some q) k j e = by_live (slot_value b.queues.pool q) refl
   where
@@ -59,14 +59,14 @@ first-slot_of b h (Some q) k j e = by_live (slot_value b.queues.pool q) refl
         let s = k.queued.names j q x live (has-sub j h x.tasks has) in
         seen-slot b.tasks.pool j s.0 s.1
 
-pub ended-ranked : (b : BoardTable) (q : Slots Task) (h n : ℕ) (e : TaskEnd) (t : Task) → IsBoard b → slot_value b.tasks.pool h ≡ Some t → q ≡ ended_in b.tasks.pool h e n (Some t) → AreRanked (seen_in q) b.settings.priorities
+pub ended-ranked : (b : SchedulerTable) (q : Slots Task) (h n : ℕ) (e : TaskEnd) (t : Task) → IsScheduler b → slot_value b.tasks.pool h ≡ Some t → q ≡ ended_in b.tasks.pool h e n (Some t) → AreRanked (seen_in q) b.settings.priorities
 ended-ranked b q h n e t k g is =
     subst (λ (p : Slots Task). AreRanked (seen_in p) b.settings.priorities) (sym is)
     (ranked-put (seen_in b.tasks.pool) _ h None b.settings.priorities (put-ended b.tasks.pool h e n t g) (λ s f. none-some f) k.ranked)
 
 -- The queue, the marks and the lists
 
-module _ (b : BoardTable) (q : TaskTable) (queues : QueueTable) (cleared ready : ReadyMarks) (h : ℕ) (s : Seen) (t : Task) (k : IsBoard b) (move : Put (seen_in b.tasks.pool) h None (seen_in q.pool)) (max : max_of q.pool ≡ max_of b.tasks.pool) (g : slot_value b.tasks.pool h ≡ Some t) (seen_was : seen_in b.tasks.pool h ≡ Some s) (l : Leaves b q queues cleared ready h s.queue) where
+module _ (b : SchedulerTable) (q : TaskTable) (queues : QueueTable) (cleared ready : ReadyMarks) (h : ℕ) (s : Seen) (t : Task) (k : IsScheduler b) (move : Put (seen_in b.tasks.pool) h None (seen_in q.pool)) (max : max_of q.pool ≡ max_of b.tasks.pool) (g : slot_value b.tasks.pool h ≡ Some t) (seen_was : seen_in b.tasks.pool h ≡ Some s) (l : Leaves b q queues cleared ready h s.queue) where
   sizes-cleared : SameSizes b.ready cleared
   sizes-cleared = sizes-set b.ready cleared (slot_of h) None l.cleared_is
 
@@ -167,9 +167,9 @@ module _ (b : BoardTable) (q : TaskTable) (queues : QueueTable) (cleared ready :
           let none = ap (head_of queues.pool) apart in
           (queued-was out same none, marked-was out same none)
 
-pub end-waiting : (b : BoardTable) (q : TaskTable) (queues : QueueTable) (cleared ready : ReadyMarks) (waiting : WaitingTable) (groups : GroupTable) (h : ℕ) (e : TaskEnd) (t : Task) → IsBoard b → slot_value b.tasks.pool h ≡ Some t → t.state ≡ Scheduled → q.pool ≡ ended_in b.tasks.pool h e b.tasks.ends (Some t) → q.starts ≡ b.tasks.starts → waiting ≡ without_waiting b.waiting t.job h → Leaves b q queues cleared ready h t.queue → q.ends ≡ b.tasks.ends + 1 → groups ≡ ended_member b.groups t.notes.group h → IsBoard (record b { tasks = q; queues = queues; ready = ready; waiting = waiting; groups = groups })
+pub end-waiting : (b : SchedulerTable) (q : TaskTable) (queues : QueueTable) (cleared ready : ReadyMarks) (waiting : WaitingTable) (groups : GroupTable) (h : ℕ) (e : TaskEnd) (t : Task) → IsScheduler b → slot_value b.tasks.pool h ≡ Some t → t.state ≡ Scheduled → q.pool ≡ ended_in b.tasks.pool h e b.tasks.ends (Some t) → q.starts ≡ b.tasks.starts → waiting ≡ without_waiting b.waiting t.job h → Leaves b q queues cleared ready h t.queue → q.ends ≡ b.tasks.ends + 1 → groups ≡ ended_member b.groups t.notes.group h → IsScheduler (record b { tasks = q; queues = queues; ready = ready; waiting = waiting; groups = groups })
 end-waiting b q queues cleared ready waiting groups h e t k g x pool count is l ends notes =
-    put-board b q queues ready waiting b.running groups h None k move (ap max_of pool ∙ max-ended b.tasks.pool h e b.tasks.ends (Some t))
+    put-scheduler b q queues ready waiting b.running groups h None k move (ap max_of pool ∙ max-ended b.tasks.pool h e b.tasks.ends (Some t))
     (sizes-left b q queues cleared ready h seen_as_was t k move (ap max_of pool ∙ max-ended b.tasks.pool h e b.tasks.ends (Some t)) g was l) both.1 both.0 (ap (λ (z : QueueTable). z.tasks) l.left)
     (ap (λ (z : WaitingTable). z.places) is) (ap (λ (z : WaitingTable). length z.lists) is ∙ one-length b.waiting _ k.lists) k.seats
     (subst (λ (hs : List ℕ). AreWaiting (seen_in q.pool) hs) (sym list)
@@ -195,9 +195,9 @@ end-waiting b q queues cleared ready waiting groups h e t k g x pool count is l 
     both : AreQueued (seen_in q.pool) queues.pool b.settings.priorities × Marked b.actions (begins_in queues.pool) (seen_in q.pool) ready.marks
     both = left-both b q queues cleared ready h seen_as_was t k move (ap max_of pool ∙ max-ended b.tasks.pool h e b.tasks.ends (Some t)) g was l
 
-pub end-running : (b : BoardTable) (q : TaskTable) (queues : QueueTable) (cleared ready : ReadyMarks) (groups : GroupTable) (h w : ℕ) (kind : Kind) (e : TaskEnd) (t : Task) → IsBoard b → slot_value b.tasks.pool h ≡ Some t → t.state ≡ Running w kind → q.pool ≡ ended_in b.tasks.pool h e b.tasks.ends (Some t) → q.starts ≡ b.tasks.starts → Leaves b q queues cleared ready h t.queue → q.ends ≡ b.tasks.ends + 1 → groups ≡ ended_member b.groups t.notes.group h → IsBoard (record b { tasks = q; queues = queues; ready = ready; running = set b.running w None; groups = groups })
+pub end-running : (b : SchedulerTable) (q : TaskTable) (queues : QueueTable) (cleared ready : ReadyMarks) (groups : GroupTable) (h w : ℕ) (kind : Kind) (e : TaskEnd) (t : Task) → IsScheduler b → slot_value b.tasks.pool h ≡ Some t → t.state ≡ Running w kind → q.pool ≡ ended_in b.tasks.pool h e b.tasks.ends (Some t) → q.starts ≡ b.tasks.starts → Leaves b q queues cleared ready h t.queue → q.ends ≡ b.tasks.ends + 1 → groups ≡ ended_member b.groups t.notes.group h → IsScheduler (record b { tasks = q; queues = queues; ready = ready; running = set b.running w None; groups = groups })
 end-running b q queues cleared ready groups h w kind e t k g x pool count l ends notes =
-    put-board b q queues ready b.waiting (set b.running w None) groups h None k move (ap max_of pool ∙ max-ended b.tasks.pool h e b.tasks.ends (Some t))
+    put-scheduler b q queues ready b.waiting (set b.running w None) groups h None k move (ap max_of pool ∙ max-ended b.tasks.pool h e b.tasks.ends (Some t))
     (sizes-left b q queues cleared ready h seen_as_was t k move (ap max_of pool ∙ max-ended b.tasks.pool h e b.tasks.ends (Some t)) g was l) both.1 both.0 (ap (λ (z : QueueTable). z.tasks) l.left)
     refl k.lists (length-set b.running w None ∙ k.seats)
     (waiting-same (seen_in b.tasks.pool) (seen_in q.pool) h _ (list_at b.waiting.lists 0) move (λ s f o. none-some (sym o ∙ ap (λ (z : Seen). z.on) (some_same (sym f ∙ was)))) (λ s f o. none-some f) k.waiting_are)

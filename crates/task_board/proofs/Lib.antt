@@ -5,7 +5,7 @@ pub mod NewLemmas
 pub mod MoveLemmas
 pub mod ByJobLemmas
 pub mod RemarkLemmas
-pub mod BoardLemmas
+pub mod SchedulerLemmas
 pub mod RecordLemmas
 pub mod LeaveLemmas
 pub mod RunningLemmas

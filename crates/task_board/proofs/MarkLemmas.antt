@@ -1,7 +1,7 @@
 -- Marks that are right, and what they tell.
 use Rattle.task_board.proofs.Names.{◌≡◌, ℕ, zero, suc, ◌<◌, Bool, true, bit_and, List, [], ◌∷◌, Option, Some, set, slice_get, refl, sym, ◌∙◌, ap, subst, inl, inr, arith, ◌&&◌, ◌==◌, false≢true, cases_Bool, nat_tests, bit_at_and, bit_at-lt, holds, in_mask, Slots, slot_of, slot_value, used_at, SomeLive, Mark, is_for, is_for_at, HasNoneFor, IsFirst, Action, Passes, runs_job_on, Covers, Chooses, Cores, Task, is_unstarted, HeldQueue, Takeable, NoneTakeable, NoneBetter, IsBest, seen, seen_in, begins_in, IsMarkOf, Marked}
 use Rattle.mtapi_values.specs.declared.masks.Mask.{Mask}
-use Rattle.task_board.specs.declared.board.Choice.{Choice}
+use Rattle.task_board.specs.declared.scheduler.Choice.{Choice}
 use Rattle.task_board.proofs.SeenLemmas.{some_same, seen-as, unstarted-seen, takes-to}
 
 pub and_left : (a b : Bool) → (a && b) ≡ true → a ≡ true

@@ -1,5 +1,5 @@
--- A new board.
-use Rattle.task_board.proofs.Names.{nat_tests, arith, subst, ◌≡◌, ℕ, zero, suc, ◌≤◌, true, List, [], length, replicate, Option, Some, None, refl, sym, ◌∙◌, ap, slice_index_or, slice_get, false≢true, length-replicate, TaskHandle, Slot, Slots, slot_of, generation_of, free_slot, value_at, slot_value, get-fresh, list_at, has_handle, Mark, ReadyMarks, mark_at, is_for_at, Task, Members, seen, seen_in, HeldQueue, InOrder, AreIn, waits_at, BoardTable, IsBoard, running_on, membership, members_in}
+-- A new scheduler.
+use Rattle.task_board.proofs.Names.{nat_tests, arith, subst, ◌≡◌, ℕ, zero, suc, ◌≤◌, true, List, [], length, replicate, Option, Some, None, refl, sym, ◌∙◌, ap, slice_index_or, slice_get, false≢true, length-replicate, TaskHandle, Slot, Slots, slot_of, generation_of, free_slot, value_at, slot_value, get-fresh, list_at, has_handle, Mark, ReadyMarks, mark_at, is_for_at, Task, Members, seen, seen_in, HeldQueue, InOrder, AreIn, waits_at, SchedulerTable, IsScheduler, running_on, membership, members_in}
 
 abbrev nones : {X : Type 0} → ℕ → List (Option X)
 nones n = replicate n None
@@ -18,8 +18,8 @@ no-some o x e1 e2 = grind (arith, nat_tests)
 unmarked : (marks : List (Option Mark)) (max w p place : ℕ) → marks ≡ replicate max None → is_for_at w p (mark_at marks place) ≡ true → ⊥
 unmarked marks max w p place e f = false≢true (sym (ap (λ (l : List (Option Mark)). is_for_at w p (mark_at l place)) e ∙ ap (is_for_at w p) (none-at max place)) ∙ f)
 
-pub new-board : (b : BoardTable) (max many : ℕ) → b.settings.workers ≤ 16 → b.ready ≡ record { workers = b.settings.workers; priorities = b.settings.priorities; marks = replicate max None } → b.tasks.pool.slots ≡ replicate max (free_slot 1) → b.waiting.places ≡ max → b.waiting.lists ≡ replicate 1 [] → 1 ≤ b.settings.actions → b.waiting.by_job ≡ replicate b.settings.actions [] → b.running ≡ replicate 25 None → b.queues.tasks ≡ max → b.queues.pool.slots ≡ replicate many (free_slot 1) → (count : ℕ) → b.groups.pool.slots ≡ replicate count (free_slot 1) → b.groups.tasks ≡ max → IsBoard b
-new-board b max many few ready slots places lists some by_job running room queues count groups sizes = record {
+pub new-scheduler : (b : SchedulerTable) (max many : ℕ) → b.settings.workers ≤ 16 → b.ready ≡ record { workers = b.settings.workers; priorities = b.settings.priorities; marks = replicate max None } → b.tasks.pool.slots ≡ replicate max (free_slot 1) → b.waiting.places ≡ max → b.waiting.lists ≡ replicate 1 [] → 1 ≤ b.settings.actions → b.waiting.by_job ≡ replicate b.settings.actions [] → b.running ≡ replicate 25 None → b.queues.tasks ≡ max → b.queues.pool.slots ≡ replicate many (free_slot 1) → (count : ℕ) → b.groups.pool.slots ≡ replicate count (free_slot 1) → b.groups.tasks ≡ max → IsScheduler b
+new-scheduler b max many few ready slots places lists some by_job running room queues count groups sizes = record {
   members = record {
     named = λ h e f. absurd (no-some _ e (no_member h) f);
     attached = λ h e f. absurd (no-some _ e (no_member h) f);

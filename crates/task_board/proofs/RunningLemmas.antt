@@ -1,5 +1,5 @@
 -- The running tasks, as their slots show them.
-use Rattle.task_board.proofs.Names.{◌≡◌, ℕ, Bool, true, false, Option, Some, None, refl, sym, ◌∙◌, ap, arith, ◌==◌, is_some, OnTrue, OnFalse, false≢true, nat_tests, TaskHandle, slot_value, SomeLive, NoneLive, Passes, Task, TaskState, Scheduled, Running, Ended, runs_on, with_state, Seen, seen_as, seen, BoardTable, IsBoard, running_on}
+use Rattle.task_board.proofs.Names.{◌≡◌, ℕ, Bool, true, false, Option, Some, None, refl, sym, ◌∙◌, ap, arith, ◌==◌, is_some, OnTrue, OnFalse, false≢true, nat_tests, TaskHandle, slot_value, SomeLive, NoneLive, Passes, Task, TaskState, Scheduled, Running, Ended, runs_on, with_state, Seen, seen_as, seen, SchedulerTable, IsScheduler, running_on}
 
 pub self : (w : ℕ) → (w == w) ≡ true
 self w = grind (arith, nat_tests)
@@ -13,10 +13,10 @@ runs-seen t w (Running v k) e r =
     (_, ap (seen_as t) e, ap Some same)
 runs-seen t w (Ended y n) e r = absurd (false≢true (ap (λ (z : TaskState). runs_on w (with_state z t)) (sym e) ∙ r))
 
-pub some-runs : (b : BoardTable) (w : ℕ) (t : TaskHandle) → IsBoard b → running_on b.running w ≡ Some t → SomeLive (slot_value b.tasks.pool) (Passes (runs_on w))
+pub some-runs : (b : SchedulerTable) (w : ℕ) (t : TaskHandle) → IsScheduler b → running_on b.running w ≡ Some t → SomeLive (slot_value b.tasks.pool) (Passes (runs_on w))
 some-runs b w t e1 e2 = grind (arith, nat_tests)
 
-pub none-runs : (b : BoardTable) (w : ℕ) → IsBoard b → running_on b.running w ≡ None → NoneLive (slot_value b.tasks.pool) (Passes (runs_on w))
+pub none-runs : (b : SchedulerTable) (w : ℕ) → IsScheduler b → running_on b.running w ≡ None → NoneLive (slot_value b.tasks.pool) (Passes (runs_on w))
 none-runs b w k e h t g r =
     let s = runs-seen t w t.state refl r in
     no (sym e ∙ k.running_are.found h w s.0 (ap seen g ∙ s.1) s.2)
@@ -24,13 +24,13 @@ none-runs b w k e h t g r =
     no : {t : TaskHandle} → None ≡ Some t → ⊥
     no d = cc
 
-pub not-running : (b : BoardTable) (w : ℕ) → IsBoard b → NoneLive (slot_value b.tasks.pool) (Passes (runs_on w)) → is_some (running_on b.running w) ≡ false
+pub not-running : (b : SchedulerTable) (w : ℕ) → IsScheduler b → NoneLive (slot_value b.tasks.pool) (Passes (runs_on w)) → is_some (running_on b.running w) ≡ false
 not-running b w e1 e2 = grind (arith, nat_tests, running_on, some-runs)
 
-pub running-tells : (b : BoardTable) (w : ℕ) (o : Option TaskHandle) → IsBoard b → running_on b.running w ≡ o → is_some o ≡ true → SomeLive (slot_value b.tasks.pool) (Passes (runs_on w))
+pub running-tells : (b : SchedulerTable) (w : ℕ) (o : Option TaskHandle) → IsScheduler b → running_on b.running w ≡ o → is_some o ≡ true → SomeLive (slot_value b.tasks.pool) (Passes (runs_on w))
 running-tells b w o e1 e2 e3 = grind (arith, nat_tests)
 
-pub running-denies : (b : BoardTable) (w : ℕ) (o : Option TaskHandle) → IsBoard b → running_on b.running w ≡ o → is_some o ≡ false → NoneLive (slot_value b.tasks.pool) (Passes (runs_on w))
+pub running-denies : (b : SchedulerTable) (w : ℕ) (o : Option TaskHandle) → IsScheduler b → running_on b.running w ≡ o → is_some o ≡ false → NoneLive (slot_value b.tasks.pool) (Passes (runs_on w))
 running-denies b w o e1 e2 e3 = grind (arith, nat_tests, none-runs)
 
 pub on-true : {P : Type 0} (b : Bool) → (b ≡ true → P) → OnTrue b P

@@ -132,7 +132,7 @@ member-listed p h x t starts ends old live un (Some g) is =
     subst (λ (o : Option Members). IsUnendedMember h o) (sym m.1)
     ((old.unended g.0 m.0 m.1).listed h x.start (ap (start_in g.0) here ∙ start-here g.0 (record { group = g.0; detached = x.notes.detached; start = x.start; end = number_in (end_of x.state) }) refl (ap number_in (unended-state x.state un))))
 
--- Board moves that groups don't see
+-- Scheduler moves that groups don't see
 
 pub members-quiet : (p q : Slots Task) (groups : Slots Members) (starts ends more later : ℕ) → ((k : ℕ) → members_in q k ≡ members_in p k) → more ≡ starts → later ≡ ends → AreMembers (members_in p) (slot_value groups) starts ends → AreMembers (members_in q) (slot_value groups) more later
 members-quiet p q groups starts ends more later same grows ages old = members-same (members_in p) (members_in q) (slot_value groups) starts ends more later same (omega (arith, grows)) (omega (arith, ages)) old

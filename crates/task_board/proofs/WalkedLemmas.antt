@@ -1,16 +1,16 @@
 -- What the lists of walks have, and that tasks end alike along two lists which have the same of those that pass.
-use Rattle.task_board.proofs.Names.{nat_tests, ◌≡◌, ◌≢◌, ℕ, Bool, true, false, cond, List, [], ◌∷◌, length, Option, Some, None, refl, sym, ◌∙◌, ap, subst, arith, ◌==◌, ◌&&◌, ◌%◌, is_none, is_some, if◌then◌else◌, option_map, false≢true, TaskEnd, holds, Slots, slot_value, with_value, without, has_handle, Task, Ended, with_state, HeldQueue, tasks_of, TaskTable, ended_in, Walk, Waiting, OfJob, Queued, Seen, seen_in, InOrder, walked, AreIn, waits_at, is_walked, BoardTable, IsBoard, records_of, ended_next, ended_each}
+use Rattle.task_board.proofs.Names.{nat_tests, ◌≡◌, ◌≢◌, ℕ, Bool, true, false, cond, List, [], ◌∷◌, length, Option, Some, None, refl, sym, ◌∙◌, ap, subst, arith, ◌==◌, ◌&&◌, ◌%◌, is_none, is_some, if◌then◌else◌, option_map, false≢true, TaskEnd, holds, Slots, slot_value, with_value, without, has_handle, Task, Ended, with_state, HeldQueue, tasks_of, TaskTable, ended_in, Walk, Waiting, OfJob, Queued, Seen, seen_in, InOrder, walked, AreIn, waits_at, is_walked, SchedulerTable, IsScheduler, records_of, ended_next, ended_each}
 use Rattle.task_board.proofs.MarkLemmas.{and_left, and_right, same-number, number-same, named-is}
 use Rattle.task_board.proofs.MappedLemmas.{value-mapped}
 use Rattle.task_board.proofs.KeyedLemmas.{has-self, has-later, not-twice, same-order}
 use Rattle.task_board.proofs.MoveLemmas.{slot-value, slot-without}
 
 -- the list of a walk
-abbrev pub list_of : Walk → BoardTable → List ℕ
+abbrev pub list_of : Walk → SchedulerTable → List ℕ
 list_of walk b = walked walk b.waiting b.queues.pool
 
 -- it has the tasks that it is to have
-pub walk-are : (b : BoardTable) (walk : Walk) → IsBoard b → AreIn (is_walked b.settings.actions walk (records_of b.queues.pool)) (seen_in b.tasks.pool) (list_of walk b)
+pub walk-are : (b : SchedulerTable) (walk : Walk) → IsScheduler b → AreIn (is_walked b.settings.actions walk (records_of b.queues.pool)) (seen_in b.tasks.pool) (list_of walk b)
 walk-are b Waiting k = record {
   listed = λ h s e m. k.waiting_are.listed h s e (no-some s.on m);
   is_seen = λ h e. let s = k.waiting_are.waits h e in (s.0, s.1, ap is_none s.2);

@@ -15,7 +15,7 @@ use Rattle.task_board.specs.declared.ends.WaitingTest.TheVariants.{Unserved, InQ
 use Rattle.task_board.specs.declared.walks.Walk.{Walk}
 use Rattle.task_board.specs.declared.walks.Walk.TheVariants.{Waiting, OfJob, Queued}
 use Rattle.task_board.specs.Seen.{seen_in}
-use Rattle.task_board.specs.Board.{AreWaiting}
+use Rattle.task_board.specs.Scheduler.{AreWaiting}
 
 -- the task has this job, and of so many workers none is on these cores and on those of the task
 abbrev pub is_unserved : ℕ → ℕ → ℕ → Task → Bool

@@ -1,4 +1,4 @@
--- What becomes of a board where members leave a group.
+-- What becomes of a scheduler where members leave a group.
 use Rattle.std.specs.Prelude.{◌≡◌, ℕ, Bool, true, not, ◌&&◌, List, [], ◌∷◌, ◌++◌, length, Option, Some, None}
 use Rattle.mtapi_values.specs.declared.ends.TaskEnd.{TaskEnd}
 use Rattle.mtapi_values.specs.declared.handles.TaskHandle.{TaskHandle}
@@ -8,7 +8,7 @@ use Rattle.mtapi_objects.specs.Tasks.{Task, Ended, end_of, is_unended}
 use Rattle.mtapi_objects.specs.Groups.{Ending, is_member, first_fault}
 use Rattle.task_core.specs.Table.{TaskTable, detached_in}
 use Rattle.group_core.specs.Members.{Members, no_members}
-use Rattle.task_board.specs.Board.{BoardTable, Becomes}
+use Rattle.task_board.specs.Scheduler.{SchedulerTable, Becomes}
 
 -- the task names the group and has ended
 abbrev pub is_ended_member : ℕ → Task → Bool
@@ -40,14 +40,14 @@ abbrev pub lets_go : Slots Task → ℕ → Task → Slots Task
 lets_go p h t = detached_in p h (Some t)
 
 -- only groups have changed, and perhaps tasks
-pub record Regroups (old new : BoardTable) (tasks : TaskTable) : Type 0 where
+pub record Regroups (old new : SchedulerTable) (tasks : TaskTable) : Type 0 where
   pub settings : new.settings ≡ old.settings
   pub actions_are : new.actions ≡ old.actions
   pub tasks_are : new.tasks ≡ tasks
   pub queues_are : new.queues ≡ old.queues
 
 -- this member of the group, which has these members, leaves it, and its task is moved so
-pub record Parts (old new : BoardTable) (g h : ℕ) (before after : Members) (t : Task) (pool : Slots Task) : Type 0 where
+pub record Parts (old new : SchedulerTable) (g h : ℕ) (before after : Members) (t : Task) (pool : Slots Task) : Type 0 where
   pub group : slot_value old.groups.pool g ≡ Some before
   pub group_now : slot_value new.groups.pool g ≡ Some after
   pub task : slot_value old.tasks.pool h ≡ Some t
@@ -55,7 +55,7 @@ pub record Parts (old new : BoardTable) (g h : ℕ) (before after : Members) (t 
   pub becomes : Becomes old new old.actions (record old.tasks { pool = pool })
 
 -- the member that ended first is freed, and its end is given
-pub record Takes (old new : BoardTable) (g h : ℕ) (e : TaskEnd) : Type 0 where
+pub record Takes (old new : SchedulerTable) (g h : ℕ) (e : TaskEnd) : Type 0 where
   pub members : Members
   pub rest : List ℕ
   pub t : Task
@@ -65,7 +65,7 @@ pub record Takes (old new : BoardTable) (g h : ℕ) (e : TaskEnd) : Type 0 where
   pub parts : Parts old new g h members (record members { ended = rest }) t (frees old.tasks.pool h t)
 
 -- the member that entered first, of those that haven't ended, is let go
-pub record Leaves (old new : BoardTable) (g h : ℕ) : Type 0 where
+pub record Leaves (old new : SchedulerTable) (g h : ℕ) : Type 0 where
   pub members : Members
   pub rest : List ℕ
   pub t : Task
@@ -73,22 +73,22 @@ pub record Leaves (old new : BoardTable) (g h : ℕ) : Type 0 where
   pub parts : Parts old new g h members (record members { unended = rest }) t (lets_go old.tasks.pool h t)
 
 -- no member of the group has ended, or none is left of the others; nothing changes
-abbrev pub NoneTaken : BoardTable → BoardTable → ℕ → Type 0
+abbrev pub NoneTaken : SchedulerTable → SchedulerTable → ℕ → Type 0
 NoneTaken old new g = (new ≡ old) × ((m : Members) → slot_value old.groups.pool g ≡ Some m → m.ended ≡ [])
 
-abbrev pub NoneLeaves : BoardTable → BoardTable → ℕ → Type 0
+abbrev pub NoneLeaves : SchedulerTable → SchedulerTable → ℕ → Type 0
 NoneLeaves old new g = (new ≡ old) × ((m : Members) → slot_value old.groups.pool g ≡ Some m → m.unended ≡ [])
 
-abbrev pub TakesFirst : BoardTable → ℕ → Option (TaskHandle × TaskEnd) → BoardTable → Type 0
+abbrev pub TakesFirst : SchedulerTable → ℕ → Option (TaskHandle × TaskEnd) → SchedulerTable → Type 0
 TakesFirst old g None new = NoneTaken old new g
 TakesFirst old g (Some x) new = Takes old new g x.0.0 x.1
 
-abbrev pub LeavesFirst : BoardTable → ℕ → Option TaskHandle → BoardTable → Type 0
+abbrev pub LeavesFirst : SchedulerTable → ℕ → Option TaskHandle → SchedulerTable → Type 0
 LeavesFirst old g None new = NoneLeaves old new g
 LeavesFirst old g (Some t) new = Leaves old new g t.0
 
 -- the members of the group that have ended are freed, in the order of their ends; the answer is the first fault
-pub record FreesAll (old new : BoardTable) (g : ℕ) (fault : Option MtapiStatus) : Type 0 where
+pub record FreesAll (old new : SchedulerTable) (g : ℕ) (fault : Option MtapiStatus) : Type 0 where
   pub members : Members
   pub group : slot_value old.groups.pool g ≡ Some members
   pub group_now : slot_value new.groups.pool g ≡ Some (record members { ended = [] })
@@ -97,14 +97,14 @@ pub record FreesAll (old new : BoardTable) (g : ℕ) (fault : Option MtapiStatus
   pub becomes : Becomes old new old.actions (record old.tasks { pool = new.tasks.pool })
 
 -- all members of the group are let go
-pub record LetsAllGo (old new : BoardTable) (g : ℕ) : Type 0 where
+pub record LetsAllGo (old new : SchedulerTable) (g : ℕ) : Type 0 where
   pub handles : List ℕ
   pub each : Each (is_member g) lets_go handles old.tasks.pool new.tasks.pool
   pub group_now : slot_value new.groups.pool g ≡ Some no_members
   pub becomes : Becomes old new old.actions (record old.tasks { pool = new.tasks.pool })
 
 -- all members of the group that haven't ended are let go
-pub record LetsUnendedGo (old new : BoardTable) (g : ℕ) : Type 0 where
+pub record LetsUnendedGo (old new : SchedulerTable) (g : ℕ) : Type 0 where
   pub members : Members
   pub group : slot_value old.groups.pool g ≡ Some members
   pub group_now : slot_value new.groups.pool g ≡ Some (record members { unended = [] })
@@ -112,7 +112,7 @@ pub record LetsUnendedGo (old new : BoardTable) (g : ℕ) : Type 0 where
   pub becomes : Becomes old new old.actions (record old.tasks { pool = new.tasks.pool })
 
 -- so far: these members have been freed, and these are left
-pub record Freed (old now : BoardTable) (g index : ℕ) (fault : Option MtapiStatus) : Type 0 where
+pub record Freed (old now : SchedulerTable) (g index : ℕ) (fault : Option MtapiStatus) : Type 0 where
   pub members : Members
   pub done : List ℕ
   pub rest : List ℕ
@@ -126,7 +126,7 @@ pub record Freed (old now : BoardTable) (g index : ℕ) (fault : Option MtapiSta
   pub becomes : Becomes old now old.actions (record old.tasks { pool = now.tasks.pool })
 
 -- so far: these members have been let go, and these are left
-pub record Left (old now : BoardTable) (g index : ℕ) : Type 0 where
+pub record Left (old now : SchedulerTable) (g index : ℕ) : Type 0 where
   pub members : Members
   pub done : List ℕ
   pub rest : List ℕ

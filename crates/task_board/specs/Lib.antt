@@ -3,7 +3,7 @@ pub mod Seen
 pub mod Queued
 pub mod Waiting
 pub mod Walks
-pub mod Board
+pub mod Scheduler
 pub mod Mapped
 pub mod Ends
 pub mod Keyed

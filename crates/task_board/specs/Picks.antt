@@ -9,7 +9,7 @@ use Rattle.mtapi_objects.specs.Actions.{Action}
 use Rattle.job_table.specs.Answers.{runs_job_on}
 use Rattle.mtapi_objects.specs.Tasks.{Task, is_unstarted}
 use Rattle.queue_core.specs.Held.{HeldQueue}
-use Rattle.task_board.specs.declared.board.Choice.{Choice}
+use Rattle.task_board.specs.declared.scheduler.Choice.{Choice}
 use Rattle.task_board.specs.Queued.{begins_in}
 
 -- the task is scheduled, its queue, if any, lets it begin, and it may run on the worker by this action

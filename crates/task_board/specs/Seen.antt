@@ -1,4 +1,4 @@
--- What a board sees of a task.
+-- What a scheduler sees of a task.
 use Rattle.std.specs.Prelude.{◌≡◌, ℕ, Bool, true, Option, Some, None}
 use Rattle.mtapi_values.specs.Masks.{in_mask}
 use Rattle.handle_pool.specs.Slots.{Slots, slot_value}

@@ -8,12 +8,12 @@ ghost use Rattle.mtapi_objects.specs.Actions.{Action};
 ghost use Rattle.job_table.specs.Answers.{Covers, IsUnion};
 ghost use Rattle.mtapi_objects.specs.Queues.{is_in};
 ghost use Rattle.task_core.specs.Records.{queue_number};
-ghost use Rattle.task_board.specs.Board.{IsBoard, Becomes, records_of};
+ghost use Rattle.task_board.specs.Scheduler.{IsScheduler, Becomes, records_of};
 ghost use Rattle.task_board.specs.Ends.{is_shut, passes, walk_of, ends_by, ended_if, AreServed, EndsWaiting, EndsUnserved, EndsUnless};
 
-use crate::board::Board;
 use crate::cores::share_core;
 use crate::covered::CoveredActions;
+use crate::scheduler::Scheduler;
 use crate::walks::Walk;
 use job_table::Cover;
 use mtapi_values::{ActionHandle, Mask, MtapiStatus, QueueHandle, TaskEnd, TaskHandle};
@@ -74,7 +74,7 @@ pub(crate) fn cores_beside(actions: &CoveredActions, a: ActionHandle) -> Mask
     }
 }
 
-impl Board {
+impl Scheduler {
     // Whether a task names a queue that is disabled.
     fn is_shut(&self, queue: Option<QueueHandle>) -> bool
         ensures { result ≡ is_shut (records_of self.now.queues.pool) (queue_number queue) }
@@ -105,7 +105,7 @@ impl Board {
     fn end_if(&mut self, task: TaskHandle, test: WaitingTest, end: &TaskEnd)
         requires { IsSome (slot_value self.old.tasks.pool task.0) }
         ensures new { Becomes self.old self.new self.old.actions (ended_if (ends_by self.old.settings.workers (records_of self.old.queues.pool) test) end.now task.0 self.old.tasks) }
-        ensures kept { IsBoard self.new }
+        ensures kept { IsScheduler self.new }
     {
         let Some(record) = self.task(task) else {
             unreachable!()

@@ -12,7 +12,7 @@ ghost use Rattle.mtapi_values.specs.Conditions.{holds};
 ghost use Rattle.mtapi_values.specs.Masks.{in_mask};
 ghost use Rattle.task_board.specs.Seen.{seen, seen_in};
 ghost use Rattle.task_board.specs.Queued.{begins_in, left_queue, head_of};
-ghost use Rattle.task_board.specs.Board.{IsMarkOf, AreRanked, IsFresh, IsFreshAt, IsFreshFor, Remarked, RemarkedUnless};
+ghost use Rattle.task_board.specs.Scheduler.{IsMarkOf, AreRanked, IsFresh, IsFreshAt, IsFreshFor, Remarked, RemarkedUnless};
 ghost use Rattle.task_board.specs.Walks.{walked, AreSeen};
 ghost use Rattle.task_board.specs.Waiting.{job_list};
 

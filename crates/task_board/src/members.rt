@@ -10,7 +10,7 @@ ghost use Rattle.group_core.specs.Members.{NoMemberAt, IsUnendedMember, unended_
 ghost use Rattle.task_board.specs.Members.{joined, ended_member, without_members};
 ghost use Rattle.task_board.specs.GroupMoves.{is_ended_member, FreesAll, LetsUnendedGo, LetsAllGo};
 
-use crate::board::Board;
+use crate::scheduler::Scheduler;
 use group_core::Groups;
 use mtapi_values::{GroupHandle, MtapiStatus, TaskEnd, TaskHandle};
 
@@ -62,21 +62,21 @@ fn or_fault(fault: Option<MtapiStatus>, end: &TaskEnd) -> Option<MtapiStatus>
 }
 
 // How many members of a live group have ended, and how many haven't.
-fn ended_count(board: &Board, g: GroupHandle) -> u32
-    requires { IsSome (slot_value board.now.groups.pool g.0) }
-    ensures { result ≡ length (ended_of (slot_value board.now.groups.pool g.0)) }
+fn ended_count(scheduler: &Scheduler, g: GroupHandle) -> u32
+    requires { IsSome (slot_value scheduler.now.groups.pool g.0) }
+    ensures { result ≡ length (ended_of (slot_value scheduler.now.groups.pool g.0)) }
 {
-    match board.left(g) {
+    match scheduler.left(g) {
         Some((_, ended)) => ended,
         None => unreachable!(),
     }
 }
 
-fn unended_count(board: &Board, g: GroupHandle) -> u32
-    requires { IsSome (slot_value board.now.groups.pool g.0) }
-    ensures { result ≡ length (unended_of (slot_value board.now.groups.pool g.0)) }
+fn unended_count(scheduler: &Scheduler, g: GroupHandle) -> u32
+    requires { IsSome (slot_value scheduler.now.groups.pool g.0) }
+    ensures { result ≡ length (unended_of (slot_value scheduler.now.groups.pool g.0)) }
 {
-    match board.left(g) {
+    match scheduler.left(g) {
         Some((all, ended)) => all - ended,
         None => unreachable!(),
     }
@@ -84,41 +84,41 @@ fn unended_count(board: &Board, g: GroupHandle) -> u32
 
 /// Frees the members of a live group that have ended, in the order of their ends, and gives the
 /// status of the first that wasn't completed, if there is one.
-pub fn free_members(board: &mut Board, g: GroupHandle) -> Option<MtapiStatus>
-    requires { IsSome (slot_value board.old.groups.pool g.0) }
-    ensures freed { FreesAll board.old board.new g.0 result }
-    ensures none { NoneLive (slot_value board.new.tasks.pool) (λ t. is_ended_member g.0 t ≡ true) }
+pub fn free_members(scheduler: &mut Scheduler, g: GroupHandle) -> Option<MtapiStatus>
+    requires { IsSome (slot_value scheduler.old.groups.pool g.0) }
+    ensures freed { FreesAll scheduler.old scheduler.new g.0 result }
+    ensures none { NoneLive (slot_value scheduler.new.tasks.pool) (λ t. is_ended_member g.0 t ≡ true) }
 {
     let mut fault = None;
-    for _index in 0..ended_count(board, g) {
-        let Some((_, end)) = board.take_first(g) else {
+    for _index in 0..ended_count(scheduler, g) {
+        let Some((_, end)) = scheduler.take_first(g) else {
             unreachable!()
         };
         fault = or_fault(fault, &end);
     }
-    board.is_kept();
+    scheduler.is_kept();
     fault
 }
 
 // Has the members of a live group that haven't ended leave it; they become detached.
-fn let_unended_go(board: &mut Board, g: GroupHandle)
-    requires { IsSome (slot_value board.old.groups.pool g.0) }
-    ensures { LetsUnendedGo board.old board.new g.0 }
+fn let_unended_go(scheduler: &mut Scheduler, g: GroupHandle)
+    requires { IsSome (slot_value scheduler.old.groups.pool g.0) }
+    ensures { LetsUnendedGo scheduler.old scheduler.new g.0 }
 {
-    for _index in 0..unended_count(board, g) {
-        let Some(_) = board.leave_first(g) else {
+    for _index in 0..unended_count(scheduler, g) {
+        let Some(_) = scheduler.leave_first(g) else {
             unreachable!()
         };
     }
 }
 
 /// Has all members of a live group leave it: they become detached, and one that has ended is freed.
-pub fn let_members_go(board: &mut Board, g: GroupHandle)
-    requires { IsSome (slot_value board.old.groups.pool g.0) }
-    ensures gone { LetsAllGo board.old board.new g.0 }
-    ensures none { NoneLive (slot_value board.new.tasks.pool) (λ t. is_member g.0 t ≡ true) }
+pub fn let_members_go(scheduler: &mut Scheduler, g: GroupHandle)
+    requires { IsSome (slot_value scheduler.old.groups.pool g.0) }
+    ensures gone { LetsAllGo scheduler.old scheduler.new g.0 }
+    ensures none { NoneLive (slot_value scheduler.new.tasks.pool) (λ t. is_member g.0 t ≡ true) }
 {
-    let _ = free_members(board, g);
-    let_unended_go(board, g);
-    board.is_kept();
+    let _ = free_members(scheduler, g);
+    let_unended_go(scheduler, g);
+    scheduler.is_kept();
 }

@@ -10,7 +10,7 @@ use crate::cell::TurnCell;
 use crate::lines::Waiting;
 use crate::parts::{GhostArgument, Part};
 use crate::seats::{Token, TurnSeat};
-use crate::steps::{Draw, Look, Pass};
+use crate::steps::{Draw, LoadServing, Pass};
 use crate::tickets::{LIMIT, Spent};
 use crossbeam_utils::Backoff;
 use history::Object;
@@ -92,7 +92,7 @@ impl<O: Object> TurnCell<O> {
     {
         let mut waiting = Waiting::new(self.line.bell(ticket));
         for _ in rt.forever() {
-            if self.table.shared.load::<Look>(token, 0) == ticket {
+            if self.table.shared.load::<LoadServing>(token, 0) == ticket {
                 waiting.end();
                 return self.take(token, ticket);
             }

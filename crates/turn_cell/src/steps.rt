@@ -25,9 +25,9 @@ impl<O: Object> Play<Option<Box<O>>, Parts<O::Terms, O::Op, O::Reply>> for Draw 
 }
 
 /// One load of the serving word. If it shows the seat's own ticket, the object's slot goes to the seat.
-pub struct Look;
+pub struct LoadServing;
 
-impl<O: Object> Play<Option<Box<O>>, Parts<O::Terms, O::Op, O::Reply>> for Look {
+impl<O: Object> Play<Option<Box<O>>, Parts<O::Terms, O::Op, O::Reply>> for LoadServing {
     ghost then = { looked (boxed_terms O.terms) O.seat_count O.legal (boxed_stands O.stands) };
 }
 

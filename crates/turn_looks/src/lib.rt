@@ -1,6 +1,6 @@
 //! Turns, looks and pauses of a seat of a turn cell, over every object.
 //!
-//! [`turn`] makes one turn. A [`Wanted`] says what one look asks and which reply means "not yet"; [`look`] makes one turn for each look
+//! [`turn`] makes one turn. A [`LookFor`] says what one look asks and which reply means "not yet"; [`look`] makes one turn for each look
 //! until there is an answer or the looks are used up. Between two looks it waits by a [`Pause`]: it spins a few times, and then sleeps
 //! until the cell's bell for ends rings, for a millisecond at most.
 #![tactic(auto)]
@@ -10,7 +10,7 @@ pub mod pauses;
 pub mod services;
 pub mod turns;
 
-pub use looks::{Wanted, look};
+pub use looks::{LookFor, look};
 pub use pauses::Pause;
 pub use services::ServeEnd;
 pub use turns::turn;

@@ -12,7 +12,7 @@ use std::sync::Wait;
 use turn_cell::{Spent, TurnCell, TurnSeat};
 
 /// What a call looks for.
-pub trait Wanted<O: Object> {
+pub trait LookFor<O: Object> {
     // What a look asks, the last one or not.
     ghost op_of: { Self → Bool → O.Op };
 
@@ -29,7 +29,7 @@ pub trait Wanted<O: Object> {
 }
 
 // At most so many looks.
-fn look_within<O: Object, W: Wanted<O>, R: Wait>(
+fn look_within<O: Object, W: LookFor<O>, R: Wait>(
     rt: &R,
     cell: &TurnCell<O>,
     seat: &mut TurnSeat<O>,
@@ -61,7 +61,7 @@ fn look_within<O: Object, W: Wanted<O>, R: Wait>(
 }
 
 // As many looks as it takes.
-fn look_on<O: Object, W: Wanted<O>, R: Wait>(
+fn look_on<O: Object, W: LookFor<O>, R: Wait>(
     rt: &R,
     cell: &TurnCell<O>,
     seat: &mut TurnSeat<O>,
@@ -97,7 +97,7 @@ fn look_on<O: Object, W: Wanted<O>, R: Wait>(
 ///
 /// - `Spent`: the tickets of the cell ran out. Each look before, fewer than the timeout allows,
 ///   answered "not yet".
-pub fn look<O: Object, W: Wanted<O>, R: Wait>(
+pub fn look<O: Object, W: LookFor<O>, R: Wait>(
     rt: &R,
     cell: &TurnCell<O>,
     seat: &mut TurnSeat<O>,

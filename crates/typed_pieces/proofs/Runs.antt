@@ -113,11 +113,11 @@ awaited g n m a b c (Ok u) same s w = record { group = g; before = b; started = 
 
 -- What the client of all pieces promises, of a run
 
-abbrev pub Says : {C : Type 0} → (C → ℕ) → C → Seat → Seat → Result (Unit {0}) MtapiStatus → Type 0
-Says places all old new told = IfOk told (λ _. HasAwaited (places all) old new) × IfErr told (λ status. EndsRefused status new)
+abbrev pub AwaitsPieces : {C : Type 0} → (C → ℕ) → C → Seat → Seat → Result (Unit {0}) MtapiStatus → Type 0
+AwaitsPieces places all old new told = IfOk told (λ _. HasAwaited (places all) old new) × IfErr told (λ status. EndsRefused status new)
 
 pub told_all : {C : Type 0} (places : C → ℕ) (client : C) (settings : NodeSettings) (told : Result (Unit {0}) MtapiStatus) (u : Unit {0}) (j : Journal)
-    → IsRun (Says places) client settings told j → told ≡ Ok u → HasRunAll settings (places client) j
+    → IsRun (AwaitsPieces places) client settings told j → told ≡ Ok u → HasRunAll settings (places client) j
 told_all places client settings told u j r is =
     let c = r.called in
     record {
@@ -140,7 +140,7 @@ told_all places client settings told u j r is =
     }
 
 pub told_why : {C : Type 0} (places : C → ℕ) (client : C) (settings : NodeSettings) (told : Result (Unit {0}) MtapiStatus) (status : MtapiStatus) (j : Journal)
-    → IsRun (Says places) client settings told j → told ≡ Err status → RefusesPieces settings status
+    → IsRun (AwaitsPieces places) client settings told j → told ≡ Err status → RefusesPieces settings status
 told_why places client settings told status j r is =
     let c = r.called in
     inr (

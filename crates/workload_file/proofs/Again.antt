@@ -1,11 +1,11 @@
 -- The canonical text of what a text gives, read again.
 use Rattle.std.proofs.lemmas.Bool.Decides.{nat_tests}
-use Rattle.workload_file.proofs.Cited.{◌≡◌, ℕ, ◌+◌, ◌≤◌, List, [], ◌∷◌, ◌++◌, length, true, false, eqb, Some, Ok, refl, sym, ap, subst, ◌∙◌, arith, length-append, All, ◌-◌, Option, None, ◌⊎◌, inl, inr, map, append_assoc, list_all, flat_map, bytes_eq, and_parts, and_from, ne_eqb, eqb-true, cases_Bool, eq-eqb, not-false, NodeSettings, Word, Naming, Value, Statement, Reading, Change, row, word_text, word_of, words, naming, fields, setting_values, place_of, use_in, is_unbound, name_in, options_in, is_misplaced, line_gives, with_change, line_adds, lines_add, start, finished, workload_of, bound_name, values_in, change_of, or_zero, settings_by, change_with, value_text, options_words, bound_words, used_words, line_text, statement_text, node_text, caller_text, Line, if_any, statement_lines_behind, lines_of_part, lines_of, laid_out, canonical, led, between, led_append, append-nil, slice_split_at, slice_split_none, Part, Workload, words_of, statement_lines, line_if_any, part_lines}
+use Rattle.workload_file.proofs.Cited.{◌≡◌, ℕ, ◌+◌, ◌≤◌, List, [], ◌∷◌, ◌++◌, length, true, false, eqb, Some, Ok, refl, sym, ap, subst, ◌∙◌, arith, length-append, All, ◌-◌, Option, None, ◌⊎◌, inl, inr, map, append_assoc, list_all, flat_map, bytes_eq, and_parts, and_from, ne_eqb, eqb-true, cases_Bool, eq-eqb, not-false, NodeSettings, Word, Naming, OptionValue, Statement, Reading, LineEffect, row, word_text, word_of, words, naming, fields, setting_values, place_of, use_in, is_unbound, name_in, options_in, is_misplaced, line_gives, with_change, line_adds, lines_add, start, finished, workload_of, bound_name, values_in, change_of, or_zero, settings_by, change_with, value_text, options_words, bound_words, used_words, line_text, statement_text, node_text, caller_text, Line, if_any, statement_lines_behind, lines_of_part, lines_of, laid_out, canonical, led, between, led_append, append-nil, slice_split_at, slice_split_none, Part, Workload, words_of, statement_lines, line_if_any, part_lines}
 use Rattle.workload_file.specs.declared.table.Word.TheVariants as word
 use Rattle.workload_file.specs.declared.table.Naming.TheVariants as rule
-use Rattle.workload_file.specs.declared.reading.Change.TheVariants as change
+use Rattle.workload_file.specs.declared.reading.LineEffect.TheVariants as change
 use Rattle.workload_file.proofs.Facts.{IsRead, stated, states, here, is_sound, bind_ok, ok_is, at_line_ok, one_more, gives_adds}
-use Rattle.workload_file.proofs.Fields.{is_deed, Says, says_node, says_caller, says_deed, says, fields_apart, fields_found, fields_good, place_at, made, deed_said}
+use Rattle.workload_file.proofs.Fields.{is_deed, IsEffectOf, says_node, says_caller, says_deed, says, fields_apart, fields_found, fields_good, place_at, made, deed_said}
 use Rattle.workload_file.proofs.Finds.{find_passes}
 use Rattle.workload_file.proofs.Optioned.{all_read, opts_known, opts_words, opts_once, values_from, free_none}
 use Rattle.workload_file.proofs.Invariant.{flat_push, splits, deed_given, node_given, named, IsFormed, adds_keeps, start_formed}
@@ -17,7 +17,7 @@ use Rattle.workload_file.proofs.Places.{bytes_are}
 
 -- ---- the text of what a line gave
 
-abbrev pub text_of_change : Reading → Change → List ℕ
+abbrev pub text_of_change : Reading → LineEffect → List ℕ
 text_of_change r (change.Node settings) = node_text settings
 text_of_change r (change.Caller name) = caller_text name
 text_of_change r (change.Statement s) = statement_text r.current.statements s
@@ -98,7 +98,7 @@ chosen r first rest w name options read words =
     }
 
 -- the line that is written of what was read
-written_as : (r : Reading) (line : ℕ) (first : List ℕ) (rest : List (List ℕ)) (w : Word) (name : List ℕ) (options : List (List ℕ)) (c : Change) → IsRead r first rest w name options → Says r line w name options c → text_of_change r c ≡ line_text (first ∷ (named (naming w) name ++ options_words (here r) (fields w) (values_in (here r) options (fields w))))
+written_as : (r : Reading) (line : ℕ) (first : List ℕ) (rest : List (List ℕ)) (w : Word) (name : List ℕ) (options : List (List ℕ)) (c : LineEffect) → IsRead r first rest w name options → IsEffectOf r line w name options c → text_of_change r c ≡ line_text (first ∷ (named (naming w) name ++ options_words (here r) (fields w) (values_in (here r) options (fields w))))
 written_as r line first rest w name options c read (says_node is change) =
     let values = (node_given (here r) options (rw is at read.sound)).0 in
     rw (change, is, node_named name, values, ← word_spelled first word.Node (rw is at read.word)) (ap (λ (ps : List (List ℕ)). line_text (word_text word.Node ∷ ps)) (ap (options_words [] (fields word.Node)) (sym values) ∙ (node_options (here r) (settings_by (values_in (here r) options (fields word.Node))) ∙ ap (options_words (here r) (fields word.Node)) values)))
@@ -111,7 +111,7 @@ written_as r line first rest w name options c read (says_deed h change) =
 -- ---- the line
 
 -- what is written is no longer than what was read, and gives the same
-pub record IsAgain (r : Reading) (line : ℕ) (text : List ℕ) (c : Change) : Type 0 where
+pub record IsAgain (r : Reading) (line : ℕ) (text : List ℕ) (c : LineEffect) : Type 0 where
   pub shorter : length (text_of_change r c) ≤ length text
   pub adds : line_adds r line (text_of_change r c) ≡ Ok (with_change r line (Some c))
   pub lacks : All (λ b. eqb b 10 ≡ false) (text_of_change r c)
@@ -125,7 +125,7 @@ shorter_words first named rest options ps text is le fit =
     let e = length-append first (led 32 rest) in
     omega (arith, a, b, c, d, e, le, fit)
 
-pub line_again : (r : Reading) (line : ℕ) (text : List ℕ) (c : Change) → line_gives r line text ≡ Ok (Some c) → IsAgain r line text c
+pub line_again : (r : Reading) (line : ℕ) (text : List ℕ) (c : LineEffect) → line_gives r line text ≡ Ok (Some c) → IsAgain r line text c
 line_again r line text c e =
     let l = stated r line text c e in
     let st = l.1 in
@@ -142,10 +142,10 @@ line_again r line text c e =
     let fit = rw st.are at (words_shorter text) in
     let shorter = shorter_words st.first (named n st.name) st.rest st.options again.words text is again.short fit in
     let gives = states r line (line_text (st.first ∷ behind)) st.first behind st.word st.name again.words (record { short = omega (arith, shorter, l.0.short); printable = printable }) (words_again st.first behind good) again.read in
-    let same : change_of r line st.word st.name again.words ≡ c = ap (λ (vs : List Value). change_with line st.word st.name (use_in (here r) n st.name) vs) again.values ∙ st.change in
+    let same : change_of r line st.word st.name again.words ≡ c = ap (λ (vs : List OptionValue). change_with line st.word st.name (use_in (here r) n st.name) vs) again.values ∙ st.change in
     record {
       shorter = rw shows shorter;
-      adds = rw shows (gives_adds r line (line_text (st.first ∷ behind)) (Some c) (gives ∙ ap (λ (x : Change). Ok (Some x)) same));
+      adds = rw shows (gives_adds r line (line_text (st.first ∷ behind)) (Some c) (gives ∙ ap (λ (x : LineEffect). Ok (Some x)) same));
       lacks = rw shows (printable_lacks (line_text (st.first ∷ behind)) printable);
     }
 
@@ -206,12 +206,12 @@ unfolding is_misplaced
 count_zero r h = eqb-true r.count 0 (not-false _ h)
 
 -- what a line gave, by its kind: a node line is the first one, and a statement has its number
-change_at : (r : Reading) (line : ℕ) (first : List ℕ) (rest : List (List ℕ)) (w : Word) (name : List ℕ) (options : List (List ℕ)) (c : Change) → IsFormed r line → 1 ≤ line → IsRead r first rest w name options → Says r line w name options c → shown (with_change r line (Some c)) ≡ shown r ++ (line, text_of_change r c) ∷ []
+change_at : (r : Reading) (line : ℕ) (first : List ℕ) (rest : List (List ℕ)) (w : Word) (name : List ℕ) (options : List (List ℕ)) (c : LineEffect) → IsFormed r line → 1 ≤ line → IsRead r first rest w name options → IsEffectOf r line w name options c → shown (with_change r line (Some c)) ≡ shown r ++ (line, text_of_change r c) ∷ []
 change_at r line first rest w name options c f le read (says_node is change) = rw change (node_shown r line _ f le (count_zero r (rw is at read.placed)))
 change_at r line first rest w name options c f le read (says_caller is change) = rw change (caller_shown r line name le)
 change_at r line first rest w name options c f le read (says_deed h change) = rw change (statement_shown r (made line w name (deed_said r w name options)))
 
-pub change_shown : (r : Reading) (line : ℕ) (text : List ℕ) (c : Change) → IsFormed r line → 1 ≤ line → line_gives r line text ≡ Ok (Some c) → shown (with_change r line (Some c)) ≡ shown r ++ (line, text_of_change r c) ∷ []
+pub change_shown : (r : Reading) (line : ℕ) (text : List ℕ) (c : LineEffect) → IsFormed r line → 1 ≤ line → line_gives r line text ≡ Ok (Some c) → shown (with_change r line (Some c)) ≡ shown r ++ (line, text_of_change r c) ∷ []
 change_shown r line text c f le e =
     let st = (stated r line text c e).1 in
     change_at r line st.first st.rest st.word st.name st.options c f le st.read (says r line st.word st.name st.options c st.change)
@@ -300,7 +300,7 @@ none_is : (r : Reading) (line : ℕ) → with_change r line None ≡ r
 unfolding with_change
 none_is r line = refl
 
-by_change : (r mid s : Reading) (line : ℕ) (text : List ℕ) (texts : List (List ℕ)) (c : Option Change) → IsFormed r line → 1 ≤ line → line_gives r line text ≡ Ok c → with_change r line c ≡ mid → IsReread mid s (line + 1) texts → IsReread r s line (text ∷ texts)
+by_change : (r mid s : Reading) (line : ℕ) (text : List ℕ) (texts : List (List ℕ)) (c : Option LineEffect) → IsFormed r line → 1 ≤ line → line_gives r line text ≡ Ok c → with_change r line c ≡ mid → IsReread mid s (line + 1) texts → IsReread r s line (text ∷ texts)
 by_change r mid s line text texts None f le e is h = skipped r mid s line text texts (sym (none_is r line) ∙ is) h
 by_change r mid s line text texts (Some c) f le e is h = grind (arith, nat_tests, line_again, change_shown, given_line)
 

@@ -1,11 +1,11 @@
 -- Comments, spaces, the order of options and written-out defaults.
 use Rattle.std.proofs.lemmas.Bool.Decides.{nat_tests}
-use Rattle.workload_file.proofs.Cited.{◌≡◌, ℕ, ◌≤◌, List, [], ◌∷◌, ◌++◌, length, replicate, Bool, true, false, not, cond, eqb, ◌&&◌, ◌||◌, Option, Some, None, Ok, refl, sym, ap, subst, ◌∙◌, arith, inl, inr, zero, suc, ◌+◌, map, nat_le, nat_lt, filter, is_some, option_and_then, slice_get, option_map, find, list_any, list_all, onto_first, position_or_len, bytes_eq, and_parts, and_from, or_parts, or_from, cases_Bool, le-ltb, not-false, append-nil, map-append, length-map, length-slice_split, between, Word, Naming, Key, Field, Value, Statement, Workload, Reading, Change, is_name, is_name_byte, begins_with_letter, words_of, naming, fields, key_text, word_of, key_of, value_of, is_known, has_twice, gives, text_of, has_second, name_in, options_in, use_in, is_called, bound_at, is_binding, place_of, is_taken, is_misplaced, is_ninth_caller, is_unbound, value_given, value_absent, value_at, values_in, change_with, change_of, or_unbound, line_gives, line_adds, lines_add, at_line, start, workload_of, with_change, finished, IsPlain, has_equals, IsSwapped, IsWrittenOut, AddsAlike, DifferAt, AddsNothing, IsInserted, still, still_part, AreStill, GivesStill, is_statement, is_printable, slice_get-map, Sort, Shape, Part, is_begin, length-append, length-replicate, filter-append}
+use Rattle.workload_file.proofs.Cited.{◌≡◌, ℕ, ◌≤◌, List, [], ◌∷◌, ◌++◌, length, replicate, Bool, true, false, not, cond, eqb, ◌&&◌, ◌||◌, Option, Some, None, Ok, refl, sym, ap, subst, ◌∙◌, arith, inl, inr, zero, suc, ◌+◌, map, nat_le, nat_lt, filter, is_some, option_and_then, slice_get, option_map, find, list_any, list_all, onto_first, position_or_len, bytes_eq, and_parts, and_from, or_parts, or_from, cases_Bool, le-ltb, not-false, append-nil, map-append, length-map, length-slice_split, between, Word, Naming, Key, Field, OptionValue, Statement, Workload, Reading, LineEffect, is_name, is_name_byte, begins_with_letter, words_of, naming, fields, key_text, word_of, key_of, value_of, is_known, has_twice, gives, text_of, has_second, name_in, options_in, use_in, is_called, bound_at, is_binding, place_of, is_taken, is_misplaced, is_ninth_caller, is_unbound, value_given, value_absent, value_at, values_in, change_with, change_of, or_unbound, line_gives, line_adds, lines_add, at_line, start, workload_of, with_change, finished, IsPlain, has_equals, IsSwapped, IsWrittenOut, AddsAlike, DifferAt, AddsNothing, IsInserted, still, still_part, AreStill, GivesStill, is_statement, is_printable, slice_get-map, Sort, OptionShape, Part, is_begin, length-append, length-replicate, filter-append}
 use Rattle.workload_file.specs.declared.table.Naming.TheVariants as rule
 use Rattle.workload_file.specs.declared.table.Word.TheVariants as word
-use Rattle.workload_file.specs.declared.table.Shape.TheVariants as shape
-use Rattle.workload_file.specs.declared.values.Value.TheVariants as given
-use Rattle.workload_file.specs.declared.reading.Change.TheVariants as change
+use Rattle.workload_file.specs.declared.table.OptionShape.TheVariants as shape
+use Rattle.workload_file.specs.declared.values.OptionValue.TheVariants as given
+use Rattle.workload_file.specs.declared.reading.LineEffect.TheVariants as change
 use Rattle.workload_file.proofs.Facts.{IsRead, bind_ok, at_line_ok, some_is, here, is_sound, stated, states, silent, silence, ok_is, one_more, gives_adds}
 use Rattle.workload_file.proofs.Fields.{AreApart, IsField, fields_apart, option_is}
 use Rattle.workload_file.proofs.Invariant.{any_push, no_name as nameless}
@@ -94,7 +94,7 @@ Instead r line first rest others = (w : Word) (name : List ℕ) (ps : List (List
 cons_is : (x y : List ℕ) (xs ys : List (List ℕ)) → x ∷ xs ≡ y ∷ ys → (x ≡ y) × (xs ≡ ys)
 cons_is x y xs ys e = (cc, cc)
 
-gives_instead : (r : Reading) (line : ℕ) (text other first : List ℕ) (rest others : List (List ℕ)) (c : Option Change) → words_of text ≡ first ∷ rest → words_of other ≡ first ∷ others → IsPlain other → Instead r line first rest others → line_gives r line text ≡ Ok c → line_gives r line other ≡ Ok c
+gives_instead : (r : Reading) (line : ℕ) (text other first : List ℕ) (rest others : List (List ℕ)) (c : Option LineEffect) → words_of text ≡ first ∷ rest → words_of other ≡ first ∷ others → IsPlain other → Instead r line first rest others → line_gives r line text ≡ Ok c → line_gives r line other ≡ Ok c
 unfolding Instead
 gives_instead r line text other first rest others None w v plain each e =
     let l = silent r line text e in
@@ -103,7 +103,7 @@ gives_instead r line text other first rest others (Some c) w v plain each e =
     let st = (stated r line text c e).1 in
     let same = cons_is st.first first st.rest rest (sym st.are ∙ w) in
     let i = each st.word st.name st.options (rw (same.0, same.1) at st.read) in
-    states r line other first others st.word st.name i.0 plain v i.1 ∙ ap (λ (x : Change). Ok (Some x)) (i.2 ∙ st.change)
+    states r line other first others st.word st.name i.0 plain v i.1 ∙ ap (λ (x : LineEffect). Ok (Some x)) (i.2 ∙ st.change)
 
 line_instead : (r : Reading) (line : ℕ) (text other first : List ℕ) (rest others : List (List ℕ)) (s : Reading) → words_of text ≡ first ∷ rest → words_of other ≡ first ∷ others → IsPlain other → Instead r line first rest others → line_adds r line text ≡ Ok s → line_adds r line other ≡ Ok s
 unfolding line_adds
@@ -121,7 +121,7 @@ read_instead : (r : Reading) (first : List ℕ) (rest others : List (List ℕ)) 
 read_instead r first rest others w name ps qs e1 e2 e3 e4 = grind (arith, nat_tests)
 
 change_instead : (r : Reading) (line : ℕ) (w : Word) (name : List ℕ) (ps qs : List (List ℕ)) → values_in (here r) qs (fields w) ≡ values_in (here r) ps (fields w) → change_of r line w name qs ≡ change_of r line w name ps
-change_instead r line w name ps qs e = ap (λ (vs : List Value). change_with line w name (use_in (here r) (naming w) name) vs) e
+change_instead r line w name ps qs e = ap (λ (vs : List OptionValue). change_with line w name (use_in (here r) (naming w) name) vs) e
 
 -- ---- two options in the other order
 
@@ -387,7 +387,7 @@ taken_alike r q rule.Caller name a = grind (arith, nat_tests, bytes_eq, names_st
 taken_alike r q rule.Bare name a = refl
 taken_alike r q (rule.Uses s) name a = refl
 
-given_alike : (r q : Reading) (s : Shape) (text : List ℕ) → AreAlike r q → value_given (here r) s text ≡ value_given (here q) s text
+given_alike : (r q : Reading) (s : OptionShape) (text : List ℕ) → AreAlike r q → value_given (here r) s text ≡ value_given (here q) s text
 unfolding value_given
 given_alike r q s text e1 = grind (arith, nat_tests, is_name, or_unbound, place_alike)
 
@@ -404,7 +404,7 @@ used_alike r q n name e1 = grind (arith, nat_tests, place_alike)
 -- ---- one line
 
 -- the line at another number
-abbrev moved : ℕ → Change → Change
+abbrev moved : ℕ → LineEffect → LineEffect
 moved line (change.Node s) = change.Node s
 moved line (change.Caller name) = change.Caller name
 moved line (change.Statement s) = change.Statement (record s { line = line })
@@ -426,24 +426,24 @@ read_alike r q first rest w name options a read = record {
   bound = ap (is_unbound (naming w)) (sym (used_alike r q (naming w) name a)) ∙ read.bound;
 }
 
-moved_is : (line at : ℕ) (w : Word) (name : List ℕ) (place : Option ℕ) (vs : List Value) → change_with at w name place vs ≡ moved at (change_with line w name place vs)
+moved_is : (line at : ℕ) (w : Word) (name : List ℕ) (place : Option ℕ) (vs : List OptionValue) → change_with at w name place vs ≡ moved at (change_with line w name place vs)
 unfolding change_with
 moved_is line at w name place vs = grind (arith, nat_tests)
 
 change_alike : (r q : Reading) (line at : ℕ) (w : Word) (name : List ℕ) (options : List (List ℕ)) → AreAlike r q → change_of q at w name options ≡ moved at (change_of r line w name options)
 change_alike r q line at w name options e1 = grind (arith, nat_tests, used_alike, values_alike, moved_is, use_in, values_in)
 
-abbrev moved_if : ℕ → Option Change → Option Change
+abbrev moved_if : ℕ → Option LineEffect → Option LineEffect
 moved_if at None = None
 moved_if at (Some c) = Some (moved at c)
 
-gives_alike : (r q : Reading) (line at : ℕ) (text : List ℕ) (c : Option Change) → AreAlike r q → line_gives r line text ≡ Ok c → line_gives q at text ≡ Ok (moved_if at c)
+gives_alike : (r q : Reading) (line at : ℕ) (text : List ℕ) (c : Option LineEffect) → AreAlike r q → line_gives r line text ≡ Ok c → line_gives q at text ≡ Ok (moved_if at c)
 gives_alike r q line at text None a e = let l = silent r line text e in silence q at text l.0 l.1
 gives_alike r q line at text (Some c) a e =
     let l = stated r line text c e in
     let st = l.1 in
     let same : change_of q at st.word st.name st.options ≡ moved at c = change_alike r q line at st.word st.name st.options a ∙ ap (moved at) st.change in
-    states q at text st.first st.rest st.word st.name st.options l.0 st.are (read_alike r q st.first st.rest st.word st.name st.options a st.read) ∙ ap (λ (x : Change). Ok (Some x)) same
+    states q at text st.first st.rest st.word st.name st.options l.0 st.are (read_alike r q st.first st.rest st.word st.name st.options a st.read) ∙ ap (λ (x : LineEffect). Ok (Some x)) same
 
 push_alike : (xs ys : List Statement) (s t : Statement) → map still xs ≡ map still ys → still s ≡ still t → map still (xs ++ s ∷ []) ≡ map still (ys ++ t ∷ [])
 push_alike xs ys s t e h = rw (map-append still xs (s ∷ []), map-append still ys (t ∷ []), e, h) refl
@@ -454,7 +454,7 @@ parts_alike r q a = rw (map-append still_part r.before (r.current ∷ []), map-a
 count_more : (r q : Reading) → AreAlike r q → r.count + 1 ≡ q.count + 1
 count_more r q a = ap (λ (n : ℕ). n + 1) a.count
 
-with_alike : (r q : Reading) (line at : ℕ) (c : Option Change) → AreAlike r q → AreAlike (with_change r line c) (with_change q at (moved_if at c))
+with_alike : (r q : Reading) (line at : ℕ) (c : Option LineEffect) → AreAlike r q → AreAlike (with_change r line c) (with_change q at (moved_if at c))
 unfolding with_change
 with_alike r q line at c e1 = grind (arith, nat_tests, count_more, parts_alike, push_alike)
 

@@ -1,7 +1,7 @@
 -- What is known of a line that was read without a fault, and the other way round.
 use Rattle.std.proofs.lemmas.Bool.Decides.{nat_tests}
-use Rattle.workload_file.proofs.Cited.{◌≡◌, ℕ, List, [], ◌∷◌, length, Bool, true, false, not, cond, ◌&&◌, Option, Some, None, Result, Ok, Err, refl, sym, ap, ◌∙◌, ◌||◌, ◌+◌, ◌++◌, arith, nat_le, find, list_all, list_any, not-false, or_parts, or_from, and_parts, and_from, Word, Value, Cause, Reading, Change, Statement, is_name, naming, fields, word_of, is_known, has_twice, has_second, name_in, options_in, use_in, is_taken, is_unbound, is_misplaced, is_ninth_caller, words_of, values_in, is_bad, is_missing, names_nothing, change_of, is_comment, is_statement, is_faulty, words_meet, statement_causes, word_causes, first_met, ◌>>=◌, unless, words_say, line_gives, at_line, with_change, line_adds, lines_add, start, finished, workload_of, refused_for, IsFirstFault, IsPlain, Fault, between}
-use Rattle.workload_file.specs.declared.values.Value.TheVariants as given
+use Rattle.workload_file.proofs.Cited.{◌≡◌, ℕ, List, [], ◌∷◌, length, Bool, true, false, not, cond, ◌&&◌, Option, Some, None, Result, Ok, Err, refl, sym, ap, ◌∙◌, ◌||◌, ◌+◌, ◌++◌, arith, nat_le, find, list_all, list_any, not-false, or_parts, or_from, and_parts, and_from, Word, OptionValue, Cause, Reading, LineEffect, Statement, is_name, naming, fields, word_of, is_known, has_twice, has_second, name_in, options_in, use_in, is_taken, is_unbound, is_misplaced, is_ninth_caller, words_of, values_in, is_bad, is_missing, names_nothing, change_of, is_comment, is_statement, is_faulty, words_meet, statement_causes, word_causes, first_met, ◌>>=◌, unless, words_say, line_gives, at_line, with_change, line_adds, lines_add, start, finished, workload_of, refused_for, IsFirstFault, IsPlain, Fault, between}
+use Rattle.workload_file.specs.declared.values.OptionValue.TheVariants as given
 use Rattle.workload_file.specs.declared.faults.Cause.TheVariants as cause
 
 -- ---- steps that did not fail
@@ -36,21 +36,21 @@ cond_none b c o e1 = grind (arith, nat_tests)
 -- ---- values
 
 -- what an option gives is a value
-abbrev pub is_sound : Value → Bool
+abbrev pub is_sound : OptionValue → Bool
 is_sound given.Bad = false
 is_sound given.Missing = false
 is_sound given.Unbound = false
 is_sound _ = true
 
-all_sound : (vs : List Value) → list_any is_bad vs ≡ false → list_any is_missing vs ≡ false → list_any names_nothing vs ≡ false → list_all is_sound vs ≡ true
+all_sound : (vs : List OptionValue) → list_any is_bad vs ≡ false → list_any is_missing vs ≡ false → list_any names_nothing vs ≡ false → list_all is_sound vs ≡ true
 all_sound [] b m u = refl
 all_sound (v ∷ vs) b m u = grind (arith, nat_tests, all_sound vs, or_parts, is_bad, is_missing, names_nothing, and_from)
 
-none_in : (p : Value → Bool) (vs : List Value) → ((v : Value) → is_sound v ≡ true → p v ≡ false) → list_all is_sound vs ≡ true → list_any p vs ≡ false
+none_in : (p : OptionValue → Bool) (vs : List OptionValue) → ((v : OptionValue) → is_sound v ≡ true → p v ≡ false) → list_all is_sound vs ≡ true → list_any p vs ≡ false
 none_in p [] h s = refl
 none_in p (v ∷ vs) h s = let both = and_parts (is_sound v) (list_all is_sound vs) s in or_from (p v) (list_any p vs) (h v both.0) (none_in p vs h both.1)
 
-sound_is : (v : Value) → is_sound v ≡ true → (is_bad v ≡ false) × (is_missing v ≡ false) × (names_nothing v ≡ false)
+sound_is : (v : OptionValue) → is_sound v ≡ true → (is_bad v ≡ false) × (is_missing v ≡ false) × (names_nothing v ≡ false)
 sound_is v e1 = grind (arith, nat_tests)
 
 -- ---- a statement
@@ -123,7 +123,7 @@ abbrev words_met : Reading → List (List ℕ) → Option Cause
 words_met r words = find (words_meet r words) word_causes
 
 -- the words are a statement without a fault, which adds this
-pub record IsStated (r : Reading) (line : ℕ) (words : List (List ℕ)) (c : Change) : Type 0 where
+pub record IsStated (r : Reading) (line : ℕ) (words : List (List ℕ)) (c : LineEffect) : Type 0 where
   pub first : List ℕ
   pub rest : List (List ℕ)
   pub word : Word
@@ -145,7 +145,7 @@ silent_says r line words e1 = grind (arith, nat_tests)
 unknown_met : (r : Reading) (first : List ℕ) (rest : List (List ℕ)) → is_comment first ≡ false → word_of first ≡ None → words_met r (first ∷ rest) ≡ Some cause.UnknownWord
 unknown_met r first rest c e = rw (c, e) refl
 
-by_word : (r : Reading) (line : ℕ) (first : List ℕ) (rest : List (List ℕ)) (o : Option Word) (c : Change) → is_comment first ≡ false → word_of first ≡ o → words_met r (first ∷ rest) ≡ None → words_say r line (first ∷ rest) ≡ Some c → IsStated r line (first ∷ rest) c
+by_word : (r : Reading) (line : ℕ) (first : List ℕ) (rest : List (List ℕ)) (o : Option Word) (c : LineEffect) → is_comment first ≡ false → word_of first ≡ o → words_met r (first ∷ rest) ≡ None → words_say r line (first ∷ rest) ≡ Some c → IsStated r line (first ∷ rest) c
 by_word r line first rest None c n e m s = absurd (none_some cause.UnknownWord (sym m ∙ unknown_met r first rest n e))
 by_word r line first rest (Some w) c n e m s = record {
   first = first;
@@ -158,7 +158,7 @@ by_word r line first rest (Some w) c n e m s = record {
   change = some_is _ c (sym (known_says r line first rest w n e) ∙ s);
 }
 
-words_stated : (r : Reading) (line : ℕ) (words : List (List ℕ)) (c : Change) → words_met r words ≡ None → words_say r line words ≡ Some c → IsStated r line words c
+words_stated : (r : Reading) (line : ℕ) (words : List (List ℕ)) (c : LineEffect) → words_met r words ≡ None → words_say r line words ≡ Some c → IsStated r line words c
 words_stated r line words c e1 e2 = grind (arith, nat_tests, none_some, is_comment, silent_says, by_word, word_of)
 
 words_silent : (r : Reading) (line : ℕ) (words : List (List ℕ)) → words_met r words ≡ None → words_say r line words ≡ None → is_statement words ≡ false
@@ -167,21 +167,21 @@ words_silent r line words e1 e2 = grind (arith, nat_tests)
 -- ---- a line
 
 -- what is known of a line without a fault
-record IsLine (r : Reading) (line : ℕ) (text : List ℕ) (c : Option Change) : Type 0 where
+record IsLine (r : Reading) (line : ℕ) (text : List ℕ) (c : Option LineEffect) : Type 0 where
   plain : IsPlain text
   met : words_met r (words_of text) ≡ None
   says : words_say r line (words_of text) ≡ c
 
-of_line : (r : Reading) (line : ℕ) (text : List ℕ) (c : Option Change) → line_gives r line text ≡ Ok c → IsLine r line text c
+of_line : (r : Reading) (line : ℕ) (text : List ℕ) (c : Option LineEffect) → line_gives r line text ≡ Ok c → IsLine r line text c
 unfolding line_gives
 of_line r line text c e1 = grind (arith, nat_tests)
 
-line_of : (r : Reading) (line : ℕ) (text : List ℕ) (c : Option Change) → IsLine r line text c → line_gives r line text ≡ Ok c
+line_of : (r : Reading) (line : ℕ) (text : List ℕ) (c : Option LineEffect) → IsLine r line text c → line_gives r line text ≡ Ok c
 unfolding line_gives
 line_of r line text c e1 = grind (arith, nat_tests)
 
 -- a line that adds something is a statement
-pub stated : (r : Reading) (line : ℕ) (text : List ℕ) (c : Change) → line_gives r line text ≡ Ok (Some c) → IsPlain text × IsStated r line (words_of text) c
+pub stated : (r : Reading) (line : ℕ) (text : List ℕ) (c : LineEffect) → line_gives r line text ≡ Ok (Some c) → IsPlain text × IsStated r line (words_of text) c
 stated r line text c e = let l = of_line r line text (Some c) e in (l.plain, words_stated r line (words_of text) c l.met l.says)
 
 pub states : (r : Reading) (line : ℕ) (text first : List ℕ) (rest : List (List ℕ)) (w : Word) (name : List ℕ) (options : List (List ℕ)) → IsPlain text → words_of text ≡ first ∷ rest → IsRead r first rest w name options → line_gives r line text ≡ Ok (Some (change_of r line w name options))
@@ -197,7 +197,7 @@ silent r line text e = let l = of_line r line text None e in (l.plain, words_sil
 pub silence : (r : Reading) (line : ℕ) (text : List ℕ) → IsPlain text → is_statement (words_of text) ≡ false → line_gives r line text ≡ Ok None
 silence r line text e1 e2 = grind (arith, nat_tests, silent_says, words_of, line_of)
 
-pub gives_adds : (r : Reading) (line : ℕ) (text : List ℕ) (c : Option Change) → line_gives r line text ≡ Ok c → line_adds r line text ≡ Ok (with_change r line c)
+pub gives_adds : (r : Reading) (line : ℕ) (text : List ℕ) (c : Option LineEffect) → line_gives r line text ≡ Ok c → line_adds r line text ≡ Ok (with_change r line c)
 unfolding line_adds
 gives_adds r line text c e = rw e refl
 
@@ -221,7 +221,7 @@ failed f = Err f
 err_is : {A E : Type 0} (e f : E) → fails A e ≡ fails A f → e ≡ f
 err_is e f h = cc
 
-fault_at : (r : Reading) (line : ℕ) (x : Result (Option Change) Cause) (f : Fault) → at_line line (x >>= λ c. Ok (with_change r line c)) ≡ Err f → (f.line ≡ line) × (refused_for x ≡ Some f.cause)
+fault_at : (r : Reading) (line : ℕ) (x : Result (Option LineEffect) Cause) (f : Fault) → at_line line (x >>= λ c. Ok (with_change r line c)) ≡ Err f → (f.line ≡ line) × (refused_for x ≡ Some f.cause)
 fault_at r line x f e1 = grind (arith, nat_tests)
 
 line_fault : (r : Reading) (line : ℕ) (text : List ℕ) (f : Fault) → line_adds r line text ≡ Err f → (f.line ≡ line) × (first_met r text ≡ Some f.cause)

@@ -1,12 +1,12 @@
 -- The fields of a statement, the kinds of statements, and what each kind says.
 use Rattle.std.proofs.lemmas.Bool.Decides.{nat_tests}
 use Rattle.std.proofs.Common.{arith}
-use Rattle.workload_file.proofs.Cited.{◌≡◌, List, [], ◌∷◌, Bool, true, Some, refl, ℕ, false, None, subst, ◌&&◌, ◌||◌, not, ℤ, Option, ◌++◌, eqb, AllByRecursion, find, list_all, list_any, bytes_eq, and_parts, or_parts, not-true, Word, Field, row, word_text, words, word_of, naming, fields, key_text, nat_le, Shape, Absent, Value, Deed, Statement, Reading, Change, use_in, deed_with, deed_spelled, queue_deed, lock_deed, segment_deed, setting_values, number_in, whole_in, args_in, cores_in, kind_in, flag_in, mode_in, timeout_in, place_in, place_there, values_in, or_zero, bound_name, settings_by, change_with, change_of, Kind, Timeout, Args, Mask, NodeSettings, Key, Naming, key_of, value_of}
+use Rattle.workload_file.proofs.Cited.{◌≡◌, List, [], ◌∷◌, Bool, true, Some, refl, ℕ, false, None, subst, ◌&&◌, ◌||◌, not, ℤ, Option, ◌++◌, eqb, AllByRecursion, find, list_all, list_any, bytes_eq, and_parts, or_parts, not-true, Word, Field, row, word_text, words, word_of, naming, fields, key_text, nat_le, OptionShape, Absent, OptionValue, Deed, Statement, Reading, LineEffect, use_in, deed_with, deed_spelled, queue_deed, lock_deed, segment_deed, setting_values, number_in, whole_in, args_in, cores_in, kind_in, flag_in, mode_in, timeout_in, place_in, place_there, values_in, or_zero, bound_name, settings_by, change_with, change_of, Kind, Timeout, Args, Mask, NodeSettings, Key, Naming, key_of, value_of}
 use Rattle.workload_file.specs.declared.table.Word.TheVariants as word
-use Rattle.workload_file.specs.declared.table.Shape.TheVariants as shape
+use Rattle.workload_file.specs.declared.table.OptionShape.TheVariants as shape
 use Rattle.workload_file.specs.declared.table.Absent.TheVariants as absent
-use Rattle.workload_file.specs.declared.values.Value.TheVariants as given
-use Rattle.workload_file.specs.declared.reading.Change.TheVariants as change
+use Rattle.workload_file.specs.declared.values.OptionValue.TheVariants as given
+use Rattle.workload_file.specs.declared.reading.LineEffect.TheVariants as change
 use Rattle.workload_file.specs.declared.table.Key.TheVariants as key
 use Rattle.workload_file.specs.declared.table.Naming.TheVariants as rule
 use Rattle.workload_file.specs.Indexed.{name_of}
@@ -51,20 +51,20 @@ abbrev pub deed_said : Reading → Word → List ℕ → List (List ℕ) → Dee
 deed_said r w name options = deed_with w (or_zero (use_in (here r) (naming w) name)) (values_in (here r) options (fields w))
 
 -- what a statement that was read says, by its kind
-pub data Says (r : Reading) (line : ℕ) (w : Word) (name : List ℕ) (options : List (List ℕ)) (c : Change) : Type 0 where
-  says_node : w ≡ word.Node → c ≡ change.Node (settings_by (values_in (here r) options (fields w))) → Says r line w name options c
-  says_caller : w ≡ word.Caller → c ≡ change.Caller name → Says r line w name options c
-  says_deed : is_deed w ≡ true → c ≡ change.Statement (made line w name (deed_said r w name options)) → Says r line w name options c
+pub data IsEffectOf (r : Reading) (line : ℕ) (w : Word) (name : List ℕ) (options : List (List ℕ)) (c : LineEffect) : Type 0 where
+  says_node : w ≡ word.Node → c ≡ change.Node (settings_by (values_in (here r) options (fields w))) → IsEffectOf r line w name options c
+  says_caller : w ≡ word.Caller → c ≡ change.Caller name → IsEffectOf r line w name options c
+  says_deed : is_deed w ≡ true → c ≡ change.Statement (made line w name (deed_said r w name options)) → IsEffectOf r line w name options c
 
-said : (r : Reading) (line : ℕ) (w : Word) (name : List ℕ) (options : List (List ℕ)) → Says r line w name options (change_of r line w name options)
+said : (r : Reading) (line : ℕ) (w : Word) (name : List ℕ) (options : List (List ℕ)) → IsEffectOf r line w name options (change_of r line w name options)
 unfolding change_with
 said r line w name options = grind (arith, nat_tests)
 
-pub says : (r : Reading) (line : ℕ) (w : Word) (name : List ℕ) (options : List (List ℕ)) (c : Change) → change_of r line w name options ≡ c → Says r line w name options c
-says r line w name options c e = subst (Says r line w name options) e (said r line w name options)
+pub says : (r : Reading) (line : ℕ) (w : Word) (name : List ℕ) (options : List (List ℕ)) (c : LineEffect) → change_of r line w name options ≡ c → IsEffectOf r line w name options c
+says r line w name options c e = subst (IsEffectOf r line w name options) e (said r line w name options)
 
 -- the name that a statement binds
-pub name_changed : (line : ℕ) (w : Word) (name : List ℕ) (place : Option ℕ) (vs : List Value) → name_of (change_with line w name place vs) ≡ bound_name (naming w) name
+pub name_changed : (line : ℕ) (w : Word) (name : List ℕ) (place : Option ℕ) (vs : List OptionValue) → name_of (change_with line w name place vs) ≡ bound_name (naming w) name
 unfolding change_with row
 name_changed line w name place vs = grind (arith, nat_tests)
 
@@ -109,7 +109,7 @@ pub fields_found : (w : Word) → AllByRecursion (IsField (fields w)) (fields w)
 fields_found w = found_each (fields w) (fields_apart w)
 
 -- an absent option stands for a value of its shape, and what isn't left out can be written
-abbrev pub is_good : Absent → Shape → Bool
+abbrev pub is_good : Absent → OptionShape → Bool
 is_good absent.Refused (shape.Number low high) = nat_le high 4294967295
 is_good absent.Refused shape.Cores = false
 is_good absent.Refused shape.Args = false
@@ -131,7 +131,7 @@ fields_good w = each_field (λ f. is_good f.absent f.shape) (fields w) (each_wor
 -- ---- values of fields
 
 -- the value is of this shape
-abbrev pub is_shaped : Shape → Value → Bool
+abbrev pub is_shaped : OptionShape → OptionValue → Bool
 is_shaped (shape.Number low high) (given.Number n) = true
 is_shaped shape.Whole (given.Whole z) = true
 is_shaped shape.Args (given.Args zs) = true
@@ -150,15 +150,15 @@ is_refused absent.Usual = false
 is_refused (absent.Number n) = false
 
 -- the value is no name that is absent
-abbrev pub is_there : Value → Bool
+abbrev pub is_there : OptionValue → Bool
 is_there (given.Place None) = false
 is_there _ = true
 
 -- a value for this field: a name that has to be there is there
-abbrev pub is_filled : Field → Value → Bool
+abbrev pub is_filled : Field → OptionValue → Bool
 is_filled f v = is_shaped f.shape v && (not (is_refused f.absent) || is_there v)
 
-abbrev pub are_filled : List Field → List Value → Bool
+abbrev pub are_filled : List Field → List OptionValue → Bool
 are_filled [] [] = true
 are_filled (f ∷ fs) (v ∷ vs) = is_filled f v && are_filled fs vs
 are_filled _ _ = false
@@ -166,7 +166,7 @@ are_filled _ _ = false
 -- ==== what values hold that fill the fields of a statement: one case for each shape, in place of one for each field of each statement
 
 -- what a value of this shape holds; of a name that has to be there it is the place
-abbrev pub Held : Shape → Bool → Type 0
+abbrev pub Held : OptionShape → Bool → Type 0
 Held (shape.Number low high) must = ℕ
 Held shape.Whole must = ℤ
 Held shape.Args must = Args
@@ -178,7 +178,7 @@ Held shape.Timeout must = Timeout
 Held (shape.Named sort) true = ℕ
 Held (shape.Named sort) false = Option ℕ
 
-abbrev pub value_with : (s : Shape) (must : Bool) → Held s must → Value
+abbrev pub value_with : (s : OptionShape) (must : Bool) → Held s must → OptionValue
 value_with (shape.Number low high) must n = given.Number n
 value_with shape.Whole must z = given.Whole z
 value_with shape.Args must zs = given.Args zs
@@ -190,10 +190,10 @@ value_with shape.Timeout must t = given.Timeout t
 value_with (shape.Named sort) true place = given.Place (Some place)
 value_with (shape.Named sort) false place = given.Place place
 
-abbrev IsHeld : Shape → Bool → Value → Type 0
+abbrev IsHeld : OptionShape → Bool → OptionValue → Type 0
 IsHeld s must v = (x : Held s must) × (v ≡ value_with s must x)
 
-held_in : (s : Shape) (must : Bool) (v : Value) → is_shaped s v ≡ true → (not must || is_there v) ≡ true → IsHeld s must v
+held_in : (s : OptionShape) (must : Bool) (v : OptionValue) → is_shaped s v ≡ true → (not must || is_there v) ≡ true → IsHeld s must v
 held_in (shape.Number low high) must (given.Number n) is there = (n, refl)
 held_in shape.Whole must (given.Whole z) is there = (z, refl)
 held_in shape.Args must (given.Args zs) is there = (zs, refl)
@@ -213,11 +213,11 @@ abbrev pub AllHeld : List Field → Type 0
 AllHeld [] = Unit {0}
 AllHeld (f ∷ fs) = Held f.shape (is_refused f.absent) × AllHeld fs
 
-abbrev pub all_with : (fs : List Field) → AllHeld fs → List Value
+abbrev pub all_with : (fs : List Field) → AllHeld fs → List OptionValue
 all_with [] _ = []
 all_with (f ∷ fs) x = value_with f.shape (is_refused f.absent) x.0 ∷ all_with fs x.1
 
-pub all_held : (fs : List Field) (vs : List Value) → are_filled fs vs ≡ true → (x : AllHeld fs) × (vs ≡ all_with fs x)
+pub all_held : (fs : List Field) (vs : List OptionValue) → are_filled fs vs ≡ true → (x : AllHeld fs) × (vs ≡ all_with fs x)
 all_held [] [] is = (tt, refl)
 all_held (f ∷ fs) (v ∷ vs) is =
     let both = and_parts (is_filled f v) (are_filled fs vs) is in
@@ -259,7 +259,7 @@ unfolding row deed_spelled deed_with queue_deed lock_deed segment_deed number_in
 deed_held w place x e1 = grind (arith, nat_tests)
 
 -- a deed is spelled by the word, the place and the values of which it was made
-pub deed_is : (w : Word) (place : ℕ) (vs : List Value) → is_deed w ≡ true → are_filled (fields w) vs ≡ true → deed_spelled (deed_with w place vs) ≡ record { word = w; place = place_at (naming w) place; values = vs }
+pub deed_is : (w : Word) (place : ℕ) (vs : List OptionValue) → is_deed w ≡ true → are_filled (fields w) vs ≡ true → deed_spelled (deed_with w place vs) ≡ record { word = w; place = place_at (naming w) place; values = vs }
 deed_is w place vs h f = let held = all_held (fields w) vs f in rw held.1 (deed_held w place held.0 h)
 
 -- ---- settings
@@ -269,7 +269,7 @@ unfolding row
 node_held (a, (b, (c, (d, (e, (f, (g, (h, _)))))))) = (record { workers = a; tasks = b; actions = c; groups = d; queues = e; objects = f; priorities = g; generations = h }, refl)
 
 -- there are settings of the values of a node line
-pub node_values : (vs : List Value) → are_filled (fields word.Node) vs ≡ true → (s : NodeSettings) × (setting_values s ≡ vs)
+pub node_values : (vs : List OptionValue) → are_filled (fields word.Node) vs ≡ true → (s : NodeSettings) × (setting_values s ≡ vs)
 node_values vs is =
     let held = all_held (fields word.Node) vs is in
     rw held.1 (node_held held.0)

@@ -1,11 +1,11 @@
 -- Each line keeps what is read well formed.
 use Rattle.std.proofs.lemmas.Bool.Decides.{nat_tests}
-use Rattle.workload_file.proofs.Cited.{◌≡◌, ℕ, ◌+◌, ◌≤◌, ◌<◌, List, [], ◌∷◌, ◌++◌, length, Bool, true, false, not, cond, Option, Some, refl, sym, ap, arith, inl, inr, append_assoc, ◌&&◌, None, Ok, subst, ◌∙◌, ◌⊎◌, map, is_some, IfSome, AllByRecursion, list_any, flat_map, position_or_len, list_all, bytes_eq, or_parts, or_from, eqb-true, lt-ltb, le-leb, not-false, leb-false, ne_eqb, append-nil, length_push, map-append, NodeSettings, Word, Naming, Deed, Statement, Part, Reading, is_name, row, naming, fields, deed_spelled, word_for, used_place, values, used_with, setting_values, is_begin, number_in, Spelled, is_called, bound_at, is_taken, is_misplaced, place_of, has_second, name_in, options_in, use_in, is_unbound, is_ninth_caller, finished, with_change, line_gives, line_adds, lines_add, start, workload_of, with_setting, usual_settings, bound_name, values_in, settings_by, or_zero, AllFit, IsBoundAt, has_name, IsNew, IsStatement, AreStatements, begins, IsPart, IsMain, IsFurther, MainFirst, HaveDifferentNames, statement_lines, Rise, line_if_any, part_lines, WellFormed, Workload, Change, between}
+use Rattle.workload_file.proofs.Cited.{◌≡◌, ℕ, ◌+◌, ◌≤◌, ◌<◌, List, [], ◌∷◌, ◌++◌, length, Bool, true, false, not, cond, Option, Some, refl, sym, ap, arith, inl, inr, append_assoc, ◌&&◌, None, Ok, subst, ◌∙◌, ◌⊎◌, map, is_some, IfSome, AllByRecursion, list_any, flat_map, position_or_len, list_all, bytes_eq, or_parts, or_from, eqb-true, lt-ltb, le-leb, not-false, leb-false, ne_eqb, append-nil, length_push, map-append, NodeSettings, Word, Naming, Deed, Statement, Part, Reading, is_name, row, naming, fields, deed_spelled, word_for, used_place, values, used_with, setting_values, is_begin, number_in, Spelled, is_called, bound_at, is_taken, is_misplaced, place_of, has_second, name_in, options_in, use_in, is_unbound, is_ninth_caller, finished, with_change, line_gives, line_adds, lines_add, start, workload_of, with_setting, usual_settings, bound_name, values_in, settings_by, or_zero, AllFit, IsBoundAt, has_name, IsNew, IsStatement, AreStatements, begins, IsPart, IsMain, IsFurther, MainFirst, HaveDifferentNames, statement_lines, Rise, line_if_any, part_lines, WellFormed, Workload, LineEffect, between}
 use Rattle.workload_file.specs.declared.table.Word.TheVariants as word
 use Rattle.workload_file.specs.declared.table.Naming.TheVariants as rule
 use Rattle.workload_file.specs.declared.workload.Deed.TheVariants as deed
 use Rattle.workload_file.proofs.Facts.{IsRead, here, is_sound, bind_ok, ok_is, at_line_ok, stated}
-use Rattle.workload_file.proofs.Fields.{is_deed, made, fields_good, deed_said, deed_is, node_values, place_at, Says, says_node, says_caller, says_deed, says}
+use Rattle.workload_file.proofs.Fields.{is_deed, made, fields_good, deed_said, deed_is, node_values, place_at, IsEffectOf, says_node, says_caller, says_deed, says}
 use Rattle.workload_file.proofs.Spelling.{values_are, place_is, any_place, place_found}
 
 -- ---- lists that end with a part or a statement
@@ -309,7 +309,7 @@ node_keeps r line settings f le placed fit =
 
 -- ---- every line
 
-keeps : (r : Reading) (line : ℕ) (first : List ℕ) (rest : List (List ℕ)) (w : Word) (name : List ℕ) (options : List (List ℕ)) (c : Change) → IsFormed r line → 1 ≤ line → IsRead r first rest w name options → Says r line w name options c → IsFormed (with_change r line (Some c)) (line + 1)
+keeps : (r : Reading) (line : ℕ) (first : List ℕ) (rest : List (List ℕ)) (w : Word) (name : List ℕ) (options : List (List ℕ)) (c : LineEffect) → IsFormed r line → 1 ≤ line → IsRead r first rest w name options → IsEffectOf r line w name options c → IsFormed (with_change r line (Some c)) (line + 1)
 unfolding with_change
 keeps r line first rest w name options c f le read (says_node is change) =
     rw (change, is) (node_keeps r line _ f le (rw is at read.placed) (node_given r.current.statements options (rw is at read.sound)).1)
@@ -322,7 +322,7 @@ none_keeps : (r : Reading) (line : ℕ) → IsFormed r line → IsFormed (with_c
 unfolding with_change
 none_keeps r line f = record { callers = f.callers; main = f.main; names = f.names; parts = f.parts; count = f.count; few = f.few; rise = f.rise; below = below_more line (lines_so_far r) f.below; usual = f.usual; settings = f.settings }
 
-pub line_keeps : (r : Reading) (line : ℕ) (text : List ℕ) (c : Option Change) → IsFormed r line → 1 ≤ line → line_gives r line text ≡ Ok c → IsFormed (with_change r line c) (line + 1)
+pub line_keeps : (r : Reading) (line : ℕ) (text : List ℕ) (c : Option LineEffect) → IsFormed r line → 1 ≤ line → line_gives r line text ≡ Ok c → IsFormed (with_change r line c) (line + 1)
 line_keeps r line text None f le e = none_keeps r line f
 line_keeps r line text (Some c) f le e =
     let st = (stated r line text c e).1 in

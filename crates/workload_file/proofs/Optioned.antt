@@ -1,8 +1,8 @@
 -- The options that are written of values are options of the statement, and give the values.
 use Rattle.std.proofs.lemmas.Bool.Decides.{nat_tests}
-use Rattle.workload_file.proofs.Cited.{◌≡◌, ℕ, ◌-◌, List, [], ◌∷◌, ◌++◌, Bool, true, false, Option, Some, None, refl, sym, ap, ◌<◌, eqb, subst, inl, inr, append_assoc, arith, length, length-append, AllByRecursion, list_any, find, list_all, bytes_eq, or_parts, and_from, and_parts, or_from, cases_Bool, lt-ltb, Key, Field, key_text, key_of, value_of, gives, text_of, field_of, is_known, has_twice, value_text, is_default, options_words, is_some, nat_lt, option_map, Shape, Absent, Value, Statement, value_given, value_absent, value_at, values_in}
-use Rattle.workload_file.specs.declared.values.Value.TheVariants as given
-use Rattle.workload_file.specs.declared.table.Shape.TheVariants as shape
+use Rattle.workload_file.proofs.Cited.{◌≡◌, ℕ, ◌-◌, List, [], ◌∷◌, ◌++◌, Bool, true, false, Option, Some, None, refl, sym, ap, ◌<◌, eqb, subst, inl, inr, append_assoc, arith, length, length-append, AllByRecursion, list_any, find, list_all, bytes_eq, or_parts, and_from, and_parts, or_from, cases_Bool, lt-ltb, Key, Field, key_text, key_of, value_of, gives, text_of, field_of, is_known, has_twice, value_text, is_default, options_words, is_some, nat_lt, option_map, OptionShape, Absent, OptionValue, Statement, value_given, value_absent, value_at, values_in}
+use Rattle.workload_file.specs.declared.values.OptionValue.TheVariants as given
+use Rattle.workload_file.specs.declared.table.OptionShape.TheVariants as shape
 use Rattle.workload_file.specs.declared.table.Absent.TheVariants as absent
 use Rattle.workload_file.proofs.Facts.{some, is_sound}
 use Rattle.workload_file.proofs.Finds.{find_skip, find_nothing, find_all}
@@ -41,16 +41,16 @@ free_none (f ∷ fs) = (refl, free_none fs)
 -- ---- each value that is read is left out, or was spelled by a word that was read
 
 -- how a value is written, and what reading that gives
-pub record IsSpelled (before : List Statement) (s : Shape) (v : Value) : Type 0 where
+pub record IsSpelled (before : List Statement) (s : OptionShape) (v : OptionValue) : Type 0 where
   pub inner : list_all is_inner (value_text before v) ≡ true
   pub reads : value_given before s (value_text before v) ≡ v
 
 -- how a value of a field is written
-pub data IsWritten (before : List Statement) (f : Field) (v : Value) : Type 0 where
+pub data IsWritten (before : List Statement) (f : Field) (v : OptionValue) : Type 0 where
   left : is_default f.absent v ≡ true → is_shaped f.shape v ≡ true → IsWritten before f v
   word : is_default f.absent v ≡ false → IsSpelled before f.shape v → IsWritten before f v
 
-abbrev pub AllWritten : List Statement → List Field → List Value → Type 0
+abbrev pub AllWritten : List Statement → List Field → List OptionValue → Type 0
 AllWritten before [] [] = Unit {0}
 AllWritten before (f ∷ fs) (v ∷ vs) = IsWritten before f v × AllWritten before fs vs
 AllWritten before [] (v ∷ vs) = ⊥
@@ -88,26 +88,26 @@ all_read before all options (f ∷ fs) good known words h =
 
 -- ---- the words
 
-abbrev pub opts : List Statement → List Field → List Value → List (List ℕ)
+abbrev pub opts : List Statement → List Field → List OptionValue → List (List ℕ)
 opts before fs vs = options_words before fs vs
 
-abbrev opt : List Statement → Field → Value → List ℕ
+abbrev opt : List Statement → Field → OptionValue → List ℕ
 opt before f v = key_text f.key ++ 61 ∷ value_text before v
 
 opts_none : (before : List Statement) → opts before [] [] ≡ []
 unfolding options_words
 opts_none before = refl
 
-opts_left : (before : List Statement) (f : Field) (fs : List Field) (v : Value) (vs : List Value) → is_default f.absent v ≡ true → opts before (f ∷ fs) (v ∷ vs) ≡ opts before fs vs
+opts_left : (before : List Statement) (f : Field) (fs : List Field) (v : OptionValue) (vs : List OptionValue) → is_default f.absent v ≡ true → opts before (f ∷ fs) (v ∷ vs) ≡ opts before fs vs
 unfolding options_words
 opts_left before f fs v vs d = rw d refl
 
-opts_word : (before : List Statement) (f : Field) (fs : List Field) (v : Value) (vs : List Value) → is_default f.absent v ≡ false → opts before (f ∷ fs) (v ∷ vs) ≡ opt before f v ∷ opts before fs vs
+opts_word : (before : List Statement) (f : Field) (fs : List Field) (v : OptionValue) (vs : List OptionValue) → is_default f.absent v ≡ false → opts before (f ∷ fs) (v ∷ vs) ≡ opt before f v ∷ opts before fs vs
 unfolding options_words
 opts_word before f fs v vs d = rw d refl
 
 -- what holds of each word that is written
-all_opts : (q : List ℕ → Bool) (P : Field → Type 0) (before : List Statement) (fs : List Field) (vs : List Value) → ((f : Field) (v : Value) → P f → IsSpelled before f.shape v → q (opt before f v) ≡ true) → AllByRecursion P fs → AllWritten before fs vs → list_all q (opts before fs vs) ≡ true
+all_opts : (q : List ℕ → Bool) (P : Field → Type 0) (before : List Statement) (fs : List Field) (vs : List OptionValue) → ((f : Field) (v : OptionValue) → P f → IsSpelled before f.shape v → q (opt before f v) ≡ true) → AllByRecursion P fs → AllWritten before fs vs → list_all q (opts before fs vs) ≡ true
 all_opts q P before [] [] each p h = rw (opts_none before) refl
 all_opts q P before (f ∷ fs) (v ∷ vs) each p (left d shaped, h) = rw (opts_left before f fs v vs d) (all_opts q P before fs vs each p.1 h)
 all_opts q P before (f ∷ fs) (v ∷ vs) each p (word d s, h) = rw (opts_word before f fs v vs d) (and_from _ _ (each f v p.0 s) (all_opts q P before fs vs each p.1 h))
@@ -125,22 +125,22 @@ word_here k text h =
     let some : 0 < length (key_text k ++ 61 ∷ text) = omega (arith, length-append (key_text k) (61 ∷ text)) in
     and_from _ _ (lt-ltb 0 (length (key_text k ++ 61 ∷ text)) some) (all_append is_inner (key_text k) (61 ∷ text) (key_good k) h)
 
-pub opts_known : (all : List Field) (before : List Statement) (fs : List Field) (vs : List Value) → AllByRecursion (IsField all) fs → AllWritten before fs vs → list_all (is_known all) (opts before fs vs) ≡ true
+pub opts_known : (all : List Field) (before : List Statement) (fs : List Field) (vs : List OptionValue) → AllByRecursion (IsField all) fs → AllWritten before fs vs → list_all (is_known all) (opts before fs vs) ≡ true
 opts_known all before fs vs p h = all_opts (is_known all) (IsField all) before fs vs (λ f v i s. known_here all f (value_text before v) i) p h
 
-pub opts_words : (all : List Field) (before : List Statement) (fs : List Field) (vs : List Value) → AllByRecursion (IsField all) fs → AllWritten before fs vs → list_all is_word (opts before fs vs) ≡ true
+pub opts_words : (all : List Field) (before : List Statement) (fs : List Field) (vs : List OptionValue) → AllByRecursion (IsField all) fs → AllWritten before fs vs → list_all is_word (opts before fs vs) ≡ true
 opts_words all before fs vs p h = all_opts is_word (IsField all) before fs vs (λ f v i s. word_here f.key (value_text before v) s.inner) p h
 
 -- ---- keys
 
-no_key : (k : Key) (before : List Statement) (fs : List Field) (vs : List Value) → list_any (λ g. bytes_eq (key_text g.key) (key_text k)) fs ≡ false → AllWritten before fs vs → gives k (opts before fs vs) ≡ false
+no_key : (k : Key) (before : List Statement) (fs : List Field) (vs : List OptionValue) → list_any (λ g. bytes_eq (key_text g.key) (key_text k)) fs ≡ false → AllWritten before fs vs → gives k (opts before fs vs) ≡ false
 no_key k before [] [] a h = rw (opts_none before) refl
 no_key k before (f ∷ fs) (v ∷ vs) a (left d shaped, h) = let both = or_parts _ _ a in rw (opts_left before f fs v vs d) (no_key k before fs vs both.1 h)
 no_key k before (f ∷ fs) (v ∷ vs) a (word d s, h) = grind (arith, nat_tests, no_key k before fs vs, or_parts, option_is, value_text, opts_word, or_from)
 no_key k before [] (v ∷ vs) a h = absurd h
 no_key k before (f ∷ fs) [] a h = absurd h
 
-pub opts_once : (before : List Statement) (fs : List Field) (vs : List Value) → AreApart fs → AllWritten before fs vs → has_twice (opts before fs vs) ≡ false
+pub opts_once : (before : List Statement) (fs : List Field) (vs : List OptionValue) → AreApart fs → AllWritten before fs vs → has_twice (opts before fs vs) ≡ false
 unfolding has_twice
 opts_once before [] [] a h = rw (opts_none before) refl
 opts_once before (f ∷ fs) (v ∷ vs) a (left d shaped, h) = rw (opts_left before f fs v vs d) (opts_once before fs vs a.1 h)
@@ -153,12 +153,12 @@ opts_once before (f ∷ fs) [] a h = absurd h
 -- ---- values
 
 -- an option that is left out gives its default
-default_value : (a : Absent) (s : Shape) (v : Value) → is_good a s ≡ true → is_default a v ≡ true → is_shaped s v ≡ true → value_absent a s ≡ v
+default_value : (a : Absent) (s : OptionShape) (v : OptionValue) → is_good a s ≡ true → is_default a v ≡ true → is_shaped s v ≡ true → value_absent a s ≡ v
 unfolding value_absent is_default
 default_value a s v e1 e2 e3 = grind (arith, nat_tests)
 
 -- the values that are written are read again
-pub values_from : (before : List Statement) (ws : List (List ℕ)) (fs : List Field) (vs : List Value) → AllWritten before fs vs → AreApart fs → AllByRecursion (λ f. is_good f.absent f.shape ≡ true) fs → Free ws fs → values_in before (ws ++ opts before fs vs) fs ≡ vs
+pub values_from : (before : List Statement) (ws : List (List ℕ)) (fs : List Field) (vs : List OptionValue) → AllWritten before fs vs → AreApart fs → AllByRecursion (λ f. is_good f.absent f.shape ≡ true) fs → Free ws fs → values_in before (ws ++ opts before fs vs) fs ≡ vs
 values_from before ws [] [] h a good free = refl
 values_from before ws (f ∷ fs) (v ∷ vs) (left d shaped, h) a good free =
     let none = text_nothing f.key ws (opts before fs vs) free.0 (no_key f.key before fs vs a.0 h) in

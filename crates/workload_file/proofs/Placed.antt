@@ -1,6 +1,6 @@
 -- Options at their places, and words that add nothing.
 use Rattle.std.proofs.lemmas.Bool.Decides.{nat_tests}
-use Rattle.workload_file.proofs.Cited.{◌≡◌, ℕ, zero, suc, ◌<◌, ◌≤◌, ◌+◌, ◌-◌, ◌⊎◌, List, [], ◌∷◌, ◌++◌, length, Bool, true, false, cond, eqb, Option, Some, None, Ok, is_some, refl, sym, ap, ◌∙◌, arith, inl, inr, map, get_or, take, drop, replicate, find, list_any, bytes_eq, option_map, or_parts, and_parts, and_from, cases_Bool, Field, Key, Word, Statement, Value, Reading, fields, key_text, key_of, value_of, text_of, field_of, is_known, has_twice, value_at, values_in, length-map, length-append, take_more, take_all, with_change, is_statement, is_comment, words_meet, word_causes, words_say}
+use Rattle.workload_file.proofs.Cited.{◌≡◌, ℕ, zero, suc, ◌<◌, ◌≤◌, ◌+◌, ◌-◌, ◌⊎◌, List, [], ◌∷◌, ◌++◌, length, Bool, true, false, cond, eqb, Option, Some, None, Ok, is_some, refl, sym, ap, ◌∙◌, arith, inl, inr, map, get_or, take, drop, replicate, find, list_any, bytes_eq, option_map, or_parts, and_parts, and_from, cases_Bool, Field, Key, Word, Statement, OptionValue, Reading, fields, key_text, key_of, value_of, text_of, field_of, is_known, has_twice, value_at, values_in, length-map, length-append, take_more, take_all, with_change, is_statement, is_comment, words_meet, word_causes, words_say}
 use Rattle.std.specs.Prelude.{set}
 use Rattle.std.proofs.lemmas.List.{length-drop, map-set}
 use Rattle.std.specs.Option.{option_copied}
@@ -192,9 +192,9 @@ fresh_texts xs old n len fs none zero_len long e =
 
 pub values_given : (before : List Statement) (fs : List Field) (ws : List (List ℕ)) → values_of before fs (texts_in fs ws) ≡ values_in before ws fs
 values_given before [] ws = refl
-values_given before (f ∷ fs) ws = ap (λ (vs : List Value). value_at before f (text_of f.key ws) ∷ vs) (values_given before fs ws)
+values_given before (f ∷ fs) ws = ap (λ (vs : List OptionValue). value_at before f (text_of f.key ws) ∷ vs) (values_given before fs ws)
 
-pub values_read : (before : List Statement) (w : Word) (ws : List (List ℕ)) (given : List (Option (Bor (List ℕ)))) (fs : List Field) (vs : List Value) → fs ≡ fields w → map option_copied given ≡ texts_in (fields w) ws → vs ≡ values_of before fs (map option_copied given) → vs ≡ values_in before ws (fields w)
+pub values_read : (before : List Statement) (w : Word) (ws : List (List ℕ)) (given : List (Option (Bor (List ℕ)))) (fs : List Field) (vs : List OptionValue) → fs ≡ fields w → map option_copied given ≡ texts_in (fields w) ws → vs ≡ values_of before fs (map option_copied given) → vs ≡ values_in before ws (fields w)
 values_read before w ws given fs vs e is read = rw (read, e, is) (values_given before (fields w) ws)
 
 -- ---- words that add nothing

@@ -1,13 +1,13 @@
 -- A value that was read is in its range, and is written as it was read.
 use Rattle.std.proofs.lemmas.Bool.Decides.{nat_tests}
-use Rattle.workload_file.proofs.Cited.{◌≡◌, ℕ, ◌+◌, ◌-◌, ◌^◌, ◌≤◌, ◌<◌, List, [], ◌∷◌, ◌++◌, length, Bool, true, false, not, cond, ◌&&◌, eqb, Option, Some, None, refl, sym, ap, subst, ◌∙◌, arith, ◌⊎◌, inl, inr, get_or, zero, suc, length-append, nat_le, is_some, option_and_then, slice_get, codes, list_any, position_or_len, AllByRecursion, find, list_all, decimal, bytes_eq, eqb-true, and_parts, cases_Bool, and_from, or_parts, or_left, or_right, position-Some, split_at_first, passes_at_first, Kind, Timeout, kind_all, kind_word, kind_named, list_of, led, cores_text, cores_fit, bind_some, whole_fits, list_fits, number_spelled, cores_spelled, whole_spelled, list_spelled, Sort, Statement, number, number_within, cores_of, timeout_of, flag_of, mode_of, is_name, key_of, value_of, is_known, text_of, place_of, bound_at, is_called, is_binding, name_text, timeout_text, name_at, name_of, value_text, is_default, option_words, options_words, IsBoundAt, IsTimeout, Fits, AllFit, option_map, whole, led_append, Shape, Absent, Key, Field, Value, key_text, or_bad, or_unbound, value_given, value_absent, value_at, values_in}
+use Rattle.workload_file.proofs.Cited.{◌≡◌, ℕ, ◌+◌, ◌-◌, ◌^◌, ◌≤◌, ◌<◌, List, [], ◌∷◌, ◌++◌, length, Bool, true, false, not, cond, ◌&&◌, eqb, Option, Some, None, refl, sym, ap, subst, ◌∙◌, arith, ◌⊎◌, inl, inr, get_or, zero, suc, length-append, nat_le, is_some, option_and_then, slice_get, codes, list_any, position_or_len, AllByRecursion, find, list_all, decimal, bytes_eq, eqb-true, and_parts, cases_Bool, and_from, or_parts, or_left, or_right, position-Some, split_at_first, passes_at_first, Kind, Timeout, kind_all, kind_word, kind_named, list_of, led, cores_text, cores_fit, bind_some, whole_fits, list_fits, number_spelled, cores_spelled, whole_spelled, list_spelled, Sort, Statement, number, number_within, cores_of, timeout_of, flag_of, mode_of, is_name, key_of, value_of, is_known, text_of, place_of, bound_at, is_called, is_binding, name_text, timeout_text, name_at, name_of, value_text, is_default, option_words, options_words, IsBoundAt, IsTimeout, Fits, AllFit, option_map, whole, led_append, OptionShape, Absent, Key, Field, OptionValue, key_text, or_bad, or_unbound, value_given, value_absent, value_at, values_in}
 use Rattle.number_text.specs.Lists.{◌>>=◌}
 use Rattle.mtapi_values.specs.declared.timeouts.Timeout.TheVariants as timeout
 use Rattle.number_text.specs.Cores.{cores_of as listed_cores}
 use Rattle.number_text.proofs.Reading.{within_is as wide_is}
-use Rattle.workload_file.specs.declared.table.Shape.TheVariants as shape
+use Rattle.workload_file.specs.declared.table.OptionShape.TheVariants as shape
 use Rattle.workload_file.specs.declared.table.Absent.TheVariants as absent
-use Rattle.workload_file.specs.declared.values.Value.TheVariants as given
+use Rattle.workload_file.specs.declared.values.OptionValue.TheVariants as given
 use Rattle.workload_file.proofs.Facts.{some_is, is_sound}
 use Rattle.workload_file.proofs.Finds.{find_passes, find_all}
 use Rattle.workload_file.proofs.Places.{bytes_are, apart_sym}
@@ -136,7 +136,7 @@ place_is s name sts i e = let p = place_some s name sts i e in (p.0, place_text 
 -- ---- one value
 
 -- what a value that was read of a text is
-pub record IsValue (before : List Statement) (s : Shape) (text : List ℕ) (v : Value) : Type 0 where
+pub record IsValue (before : List Statement) (s : OptionShape) (text : List ℕ) (v : OptionValue) : Type 0 where
   pub fits : Fits before s v
   pub shaped : is_shaped s v ≡ true
   pub there : is_there v ≡ true
@@ -147,13 +147,13 @@ cores_usual : (a : Absent) (mask : ℕ) → is_good a shape.Cores ≡ true → i
 unfolding is_default
 cores_usual a mask e1 e2 e3 = grind (arith, nat_tests)
 
-read_some : {A : Type 0} (f : A → Value) (o : Option A) → is_sound (or_bad f o) ≡ true → (x : A) × (o ≡ Some x)
+read_some : {A : Type 0} (f : A → OptionValue) (o : Option A) → is_sound (or_bad f o) ≡ true → (x : A) × (o ≡ Some x)
 read_some f o e1 = grind (arith, nat_tests)
 
 bound_some : (b : Bool) (o : Option ℕ) → is_sound (cond b (or_unbound o) given.Bad) ≡ true → (b ≡ true) × (i : ℕ) × (o ≡ Some i)
 bound_some b o e1 = grind (arith, nat_tests)
 
-pub value_is : (before : List Statement) (s : Shape) (text : List ℕ) → is_sound (value_given before s text) ≡ true → IsValue before s text (value_given before s text)
+pub value_is : (before : List Statement) (s : OptionShape) (text : List ℕ) → is_sound (value_given before s text) ≡ true → IsValue before s text (value_given before s text)
 unfolding value_given value_text
 value_is before (shape.Number low high) text h =
     let m = read_some given.Number (number_within low high text) h in
@@ -189,13 +189,13 @@ value_is before (shape.Named sort) text h =
     rw (m.0, m.2) (record { fits = p.0; shaped = refl; there = refl; written = λ a good d. p.1 })
 
 -- what the value of an absent option is
-pub record IsUsual (before : List Statement) (a : Absent) (s : Shape) (v : Value) : Type 0 where
+pub record IsUsual (before : List Statement) (a : Absent) (s : OptionShape) (v : OptionValue) : Type 0 where
   pub fits : Fits before s v
   pub shaped : is_shaped s v ≡ true
   pub may : is_refused a ≡ false
   pub default : is_default a v ≡ true
 
-pub absent_is : (before : List Statement) (a : Absent) (s : Shape) → is_good a s ≡ true → is_sound (value_absent a s) ≡ true → IsUsual before a s (value_absent a s)
+pub absent_is : (before : List Statement) (a : Absent) (s : OptionShape) → is_good a s ≡ true → is_sound (value_absent a s) ≡ true → IsUsual before a s (value_absent a s)
 unfolding value_absent is_default
 absent_is before a s e1 e2 = grind (arith, nat_tests)
 
@@ -257,11 +257,11 @@ picked before all options f (Some word) good known is h =
           rw (d, text, ← whole) (omega (arith, found_part f.key options word is, length-append word []))
     ]
 
-options_cons : (before : List Statement) (f : Field) (fs : List Field) (v : Value) (vs : List Value) → options_words before (f ∷ fs) (v ∷ vs) ≡ option_words before f v ++ options_words before fs vs
+options_cons : (before : List Statement) (f : Field) (fs : List Field) (v : OptionValue) (vs : List OptionValue) → options_words before (f ∷ fs) (v ∷ vs) ≡ option_words before f v ++ options_words before fs vs
 unfolding options_words
 options_cons before f fs v vs = refl
 
-options_none : (before : List Statement) (vs : List Value) → options_words before [] vs ≡ []
+options_none : (before : List Statement) (vs : List OptionValue) → options_words before [] vs ≡ []
 unfolding options_words
 options_none before vs = refl
 

@@ -9,7 +9,7 @@ use Rattle.workload_file.specs.declared.reading.Reading.{Reading}
 use Rattle.workload_file.specs.declared.workload.Statement.{Statement}
 use Rattle.workload_file.specs.declared.workload.Part.{Part}
 use Rattle.workload_file.specs.declared.workload.Workload.{Workload}
-use Rattle.workload_file.specs.declared.values.Value.{Value}
+use Rattle.workload_file.specs.declared.values.OptionValue.{OptionValue}
 use Rattle.workload_file.specs.Cuts.{words_of}
 use Rattle.workload_file.specs.Table.{word_of, key_text, fields}
 use Rattle.workload_file.specs.Options.{gives}
@@ -44,7 +44,7 @@ pub record IsWrittenOut (text other : List ℕ) : Type 0 where
   pub first : List ℕ
   pub rest : List (List ℕ)
   pub value : List ℕ
-  pub given : Value
+  pub given : OptionValue
   pub words : words_of text ≡ first ∷ rest
   pub others : words_of other ≡ first ∷ (rest ++ (key_text field.key ++ 61 ∷ value) ∷ [])
   pub statement : word_of first ≡ Some word

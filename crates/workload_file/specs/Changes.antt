@@ -7,19 +7,19 @@ use Rattle.number_text.specs.Numbers.{whole}
 use Rattle.number_text.specs.Lists.{list_of}
 use Rattle.workload_file.specs.declared.table.Word.{Word}
 use Rattle.workload_file.specs.declared.table.Word.TheVariants as word
-use Rattle.workload_file.specs.declared.table.Shape.{Shape}
-use Rattle.workload_file.specs.declared.table.Shape.TheVariants as shape
+use Rattle.workload_file.specs.declared.table.OptionShape.{OptionShape}
+use Rattle.workload_file.specs.declared.table.OptionShape.TheVariants as shape
 use Rattle.workload_file.specs.declared.table.Naming.{Naming}
 use Rattle.workload_file.specs.declared.table.Naming.TheVariants as rule
 use Rattle.workload_file.specs.declared.table.Field.{Field}
 use Rattle.workload_file.specs.declared.table.Absent.{Absent}
 use Rattle.workload_file.specs.declared.table.Absent.TheVariants as absent
-use Rattle.workload_file.specs.declared.values.Value.{Value}
-use Rattle.workload_file.specs.declared.values.Value.TheVariants as given
+use Rattle.workload_file.specs.declared.values.OptionValue.{OptionValue}
+use Rattle.workload_file.specs.declared.values.OptionValue.TheVariants as given
 use Rattle.workload_file.specs.declared.workload.Statement.{Statement}
 use Rattle.workload_file.specs.declared.reading.Reading.{Reading}
-use Rattle.workload_file.specs.declared.reading.Change.{Change}
-use Rattle.workload_file.specs.declared.reading.Change.TheVariants as change
+use Rattle.workload_file.specs.declared.reading.LineEffect.{LineEffect}
+use Rattle.workload_file.specs.declared.reading.LineEffect.TheVariants as change
 use Rattle.workload_file.specs.Table.{fields, naming}
 use Rattle.workload_file.specs.Values.{number_within, cores_of, flag_of, mode_of, timeout_of, is_name}
 use Rattle.workload_file.specs.Names.{place_of, use_in}
@@ -29,17 +29,17 @@ use Rattle.workload_file.specs.Deeds.{number_in, deed_with}
 -- ---- options
 
 -- a value, where the text is one
-abbrev pub or_bad : {A : Type 0} → (A → Value) → Option A → Value
+abbrev pub or_bad : {A : Type 0} → (A → OptionValue) → Option A → OptionValue
 or_bad f None = given.Bad
 or_bad f (Some x) = f x
 
 -- a name, where it is bound
-abbrev pub or_unbound : Option ℕ → Value
+abbrev pub or_unbound : Option ℕ → OptionValue
 or_unbound None = given.Unbound
 or_unbound (Some place) = given.Place (Some place)
 
 -- what a text gives, by the shape of its option; a name is the place of the statement before that bound it
-unfoldable pub value_given : List Statement → Shape → List ℕ → Value
+unfoldable pub value_given : List Statement → OptionShape → List ℕ → OptionValue
 value_given before (shape.Number low high) text = or_bad given.Number (number_within low high text)
 value_given before shape.Whole text = or_bad given.Whole (whole text)
 value_given before shape.Args text = or_bad given.Args (list_of text)
@@ -51,7 +51,7 @@ value_given before shape.Timeout text = or_bad given.Timeout (timeout_of text)
 value_given before (shape.Named sort) text = if is_name text then or_unbound (place_of sort text before) else given.Bad
 
 -- what an absent option gives
-unfoldable pub value_absent : Absent → Shape → Value
+unfoldable pub value_absent : Absent → OptionShape → OptionValue
 value_absent (absent.Number n) s = given.Number n
 value_absent absent.Usual shape.Args = given.Args []
 value_absent absent.Usual shape.Cores = given.Cores (record { 0 = 2 ^ 64 - 1 })
@@ -60,26 +60,26 @@ value_absent absent.Usual (shape.Named sort) = given.Place None
 value_absent _ _ = given.Missing
 
 -- what an option gives
-abbrev pub value_at : List Statement → Field → Option (List ℕ) → Value
+abbrev pub value_at : List Statement → Field → Option (List ℕ) → OptionValue
 value_at before field None = value_absent field.absent field.shape
 value_at before field (Some text) = value_given before field.shape text
 
 -- what these options give, in the order of the table
-abbrev pub values_in : List Statement → List (List ℕ) → List Field → List Value
+abbrev pub values_in : List Statement → List (List ℕ) → List Field → List OptionValue
 values_in before options fields = map (λ field. value_at before field (text_of field.key options)) fields
 
 -- a text that is none of its option's
-abbrev pub is_bad : Value → Bool
+abbrev pub is_bad : OptionValue → Bool
 is_bad given.Bad = true
 is_bad _ = false
 
 -- an option that has to be there, and isn't
-abbrev pub is_missing : Value → Bool
+abbrev pub is_missing : OptionValue → Bool
 is_missing given.Missing = true
 is_missing _ = false
 
 -- a name that this caller didn't bind earlier to such a thing
-abbrev pub names_nothing : Value → Bool
+abbrev pub names_nothing : OptionValue → Bool
 names_nothing given.Unbound = true
 names_nothing _ = false
 
@@ -106,17 +106,17 @@ unfoldable pub with_setting : ℕ → ℕ → NodeSettings → NodeSettings
 with_setting number value settings = after_set node_attributes number value settings
 
 -- the settings that these values of a node line give
-unfoldable pub settings_by : List Value → NodeSettings
+unfoldable pub settings_by : List OptionValue → NodeSettings
 settings_by (a ∷ b ∷ c ∷ d ∷ e ∷ f ∷ g ∷ h ∷ []) =
     with_setting 8 (number_in h) (with_setting 7 (number_in g) (with_setting 6 (number_in f) (with_setting 5 (number_in e) (with_setting 4 (number_in d) (with_setting 3 (number_in c) (with_setting 2 (number_in b) (with_setting 1 (number_in a) usual_settings)))))))
 settings_by _ = usual_settings
 
 -- what a statement at this line adds, of its word, its name, the place of the name that it uses, and the values of its options
-unfoldable pub change_with : ℕ → Word → List ℕ → Option ℕ → List Value → Change
+unfoldable pub change_with : ℕ → Word → List ℕ → Option ℕ → List OptionValue → LineEffect
 change_with line word.Node name place values = change.Node (settings_by values)
 change_with line word.Caller name place values = change.Caller name
 change_with line w name place values = change.Statement (record { line = line; name = bound_name (naming w) name; deed = deed_with w (or_zero place) values })
 
 -- the same of its options, behind what was read before it
-abbrev pub change_of : Reading → ℕ → Word → List ℕ → List (List ℕ) → Change
+abbrev pub change_of : Reading → ℕ → Word → List ℕ → List (List ℕ) → LineEffect
 change_of r line w name options = change_with line w name (use_in r.current.statements (naming w) name) (values_in r.current.statements options (fields w))

@@ -15,14 +15,14 @@ use Rattle.workload_file.specs.declared.table.Naming.TheVariants as rule
 use Rattle.workload_file.specs.Table.{naming}
 use Rattle.workload_file.specs.declared.workload.Deed.{Deed}
 use Rattle.workload_file.specs.declared.workload.Deed.TheVariants as deed
-use Rattle.workload_file.specs.declared.values.Value.{Value}
-use Rattle.workload_file.specs.declared.values.Value.TheVariants as given
+use Rattle.workload_file.specs.declared.values.OptionValue.{OptionValue}
+use Rattle.workload_file.specs.declared.values.OptionValue.TheVariants as given
 
 -- a deed in the text: its word, the place of the statement that bound the name that it uses, and the values of its options in the order of the table
 pub record Spelled : Type 0 where
   pub word : Word
   pub place : Option ℕ
-  pub values : List Value
+  pub values : List OptionValue
 
 unfoldable pub deed_spelled : Deed → Spelled
 deed_spelled deed.Begin = record { word = word.Begin; place = None; values = [] }
@@ -72,56 +72,56 @@ word_for d = (deed_spelled d).word
 abbrev pub used_place : Deed → Option ℕ
 used_place d = (deed_spelled d).place
 
-abbrev pub values : Deed → List Value
+abbrev pub values : Deed → List OptionValue
 values d = (deed_spelled d).values
 
 -- ---- what a value holds: of a value of another shape the default, which no statement without a fault reads
 
-unfoldable pub number_in : Value → ℕ
+unfoldable pub number_in : OptionValue → ℕ
 number_in (given.Number n) = n
 number_in _ = 0
 
-unfoldable pub whole_in : Value → ℤ
+unfoldable pub whole_in : OptionValue → ℤ
 whole_in (given.Whole z) = z
 whole_in _ = pos 0
 
-unfoldable pub args_in : Value → List ℤ
+unfoldable pub args_in : OptionValue → List ℤ
 args_in (given.Args zs) = zs
 args_in _ = []
 
-unfoldable pub cores_in : Value → Mask
+unfoldable pub cores_in : OptionValue → Mask
 cores_in (given.Cores mask) = mask
 cores_in _ = record { 0 = 2 ^ 64 - 1 }
 
-unfoldable pub kind_in : Value → Kind
+unfoldable pub kind_in : OptionValue → Kind
 kind_in (given.Kind kind) = kind
 kind_in _ = Add
 
-unfoldable pub flag_in : Value → Bool
+unfoldable pub flag_in : OptionValue → Bool
 flag_in (given.Flag b) = b
 flag_in _ = false
 
-unfoldable pub mode_in : Value → Bool
+unfoldable pub mode_in : OptionValue → Bool
 mode_in (given.Mode b) = b
 mode_in _ = false
 
-unfoldable pub timeout_in : Value → Timeout
+unfoldable pub timeout_in : OptionValue → Timeout
 timeout_in (given.Timeout t) = t
 timeout_in _ = NoWait
 
-unfoldable pub place_in : Value → Option ℕ
+unfoldable pub place_in : OptionValue → Option ℕ
 place_in (given.Place place) = place
 place_in _ = None
 
 -- the place of a name that has to be there
-unfoldable pub place_there : Value → ℕ
+unfoldable pub place_there : OptionValue → ℕ
 place_there (given.Place (Some place)) = place
 place_there _ = 0
 
 -- ---- a deed of its word, the place of the name that it uses, and the values of its options
 
 -- the deeds on segments
-unfoldable pub segment_deed : Word → ℕ → List Value → Deed
+unfoldable pub segment_deed : Word → ℕ → List OptionValue → Deed
 segment_deed word.Shmem place (id ∷ cells ∷ []) = deed.Shmem (number_in id) (number_in cells)
 segment_deed word.ShmemGet place (id ∷ []) = deed.ShmemGet (number_in id)
 segment_deed word.ShmemDelete place [] = deed.ShmemDelete place
@@ -132,7 +132,7 @@ segment_deed word.Write place (cell ∷ value ∷ []) = deed.Write place (number
 segment_deed w place values = deed.Begin
 
 -- the deeds on mutexes, semaphores and reader-writer locks, and what follows
-unfoldable pub lock_deed : Word → ℕ → List Value → Deed
+unfoldable pub lock_deed : Word → ℕ → List OptionValue → Deed
 lock_deed word.Mutex place (id ∷ recursive ∷ []) = deed.Mutex (number_in id) (flag_in recursive)
 lock_deed word.MutexGet place (id ∷ []) = deed.MutexGet (number_in id)
 lock_deed word.MutexDelete place [] = deed.MutexDelete place
@@ -151,7 +151,7 @@ lock_deed word.RwlUnlock place (writer ∷ []) = deed.RwlUnlock place (mode_in w
 lock_deed w place values = segment_deed w place values
 
 -- the deeds on queues, and what follows
-unfoldable pub queue_deed : Word → ℕ → List Value → Deed
+unfoldable pub queue_deed : Word → ℕ → List OptionValue → Deed
 queue_deed word.Queue place (id ∷ job ∷ priority ∷ limit ∷ ordered ∷ retain ∷ []) = deed.Queue (number_in id) (number_in job) (number_in priority) (number_in limit) (flag_in ordered) (flag_in retain)
 queue_deed word.QueueGet place (id ∷ []) = deed.QueueGet (number_in id)
 queue_deed word.QueueEnable place [] = deed.QueueEnable place
@@ -160,7 +160,7 @@ queue_deed word.QueueDelete place [] = deed.QueueDelete place
 queue_deed w place values = lock_deed w place values
 
 -- all deeds: those on actions, tasks and groups, and the others
-unfoldable pub deed_with : Word → ℕ → List Value → Deed
+unfoldable pub deed_with : Word → ℕ → List OptionValue → Deed
 deed_with word.Begin place [] = deed.Begin
 deed_with word.Action place (job ∷ kind ∷ cores ∷ []) = deed.Action (number_in job) (kind_in kind) (cores_in cores)
 deed_with word.ActionDelete place [] = deed.ActionDelete place
@@ -177,7 +177,7 @@ deed_with word.GroupDelete place [] = deed.GroupDelete place
 deed_with w place values = queue_deed w place values
 
 -- the settings of a node, in the order of the table
-abbrev pub setting_values : NodeSettings → List Value
+abbrev pub setting_values : NodeSettings → List OptionValue
 setting_values s = given.Number s.workers ∷ given.Number s.tasks ∷ given.Number s.actions ∷ given.Number s.groups ∷ given.Number s.queues ∷ given.Number s.objects ∷ given.Number s.priorities ∷ given.Number s.generations ∷ []
 
 -- the kind of object whose name is used, and the place of the statement that bound it

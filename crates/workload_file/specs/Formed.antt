@@ -7,13 +7,13 @@ use Rattle.mtapi_values.specs.declared.timeouts.Timeout.{Timeout}
 use Rattle.mtapi_values.specs.declared.timeouts.Timeout.TheVariants as timeout
 use Rattle.workload_file.specs.declared.table.Word.TheVariants as word
 use Rattle.workload_file.specs.declared.table.Sort.{Sort}
-use Rattle.workload_file.specs.declared.table.Shape.{Shape}
-use Rattle.workload_file.specs.declared.table.Shape.TheVariants as shape
+use Rattle.workload_file.specs.declared.table.OptionShape.{OptionShape}
+use Rattle.workload_file.specs.declared.table.OptionShape.TheVariants as shape
 use Rattle.workload_file.specs.declared.table.Naming.{Naming}
 use Rattle.workload_file.specs.declared.table.Naming.TheVariants as rule
 use Rattle.workload_file.specs.declared.table.Field.{Field}
-use Rattle.workload_file.specs.declared.values.Value.{Value}
-use Rattle.workload_file.specs.declared.values.Value.TheVariants as given
+use Rattle.workload_file.specs.declared.values.OptionValue.{OptionValue}
+use Rattle.workload_file.specs.declared.values.OptionValue.TheVariants as given
 use Rattle.workload_file.specs.declared.workload.Statement.{Statement}
 use Rattle.workload_file.specs.declared.workload.Part.{Part}
 use Rattle.workload_file.specs.declared.workload.Workload.{Workload}
@@ -35,7 +35,7 @@ IsTimeout (timeout.Looks looks) = looks ≤ 1000000
 
 -- the value is in the range of its option, or what the absent option gives;
 -- a name stands for a statement before this one that bound such a thing
-abbrev pub Fits : List Statement → Shape → Value → Type 0
+abbrev pub Fits : List Statement → OptionShape → OptionValue → Type 0
 Fits before (shape.Number low high) (given.Number n) = (low ≤ n) × (n ≤ high)
 Fits before shape.Whole (given.Whole z) = FitsSigned w64 z
 Fits before shape.Args (given.Args zs) = (length zs ≤ 16) × AllByRecursion (FitsSigned w64) zs
@@ -48,7 +48,7 @@ Fits before (shape.Named sort) (given.Place place) = IfSome place (IsBoundAt sor
 Fits before _ _ = ⊥
 
 -- each value fits its option
-abbrev pub AllFit : List Statement → List Field → List Value → Type 0
+abbrev pub AllFit : List Statement → List Field → List OptionValue → Type 0
 AllFit before [] [] = Unit {0}
 AllFit before (field ∷ fields) (value ∷ values) = Fits before field.shape value × AllFit before fields values
 AllFit before [] (value ∷ values) = ⊥

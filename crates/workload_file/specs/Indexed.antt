@@ -2,8 +2,8 @@
 use Rattle.std.specs.Prelude.{◌≡◌, ℕ, ◌+◌, ◌*◌, ◌^◌, ◌≤◌, nat_lt, List, [], ◌∷◌, length, Option, Some, None, Result, Ok, Err, if◌then◌else◌}
 use Rattle.workload_file.specs.declared.reading.Reader.{Reader}
 use Rattle.workload_file.specs.declared.reading.Reading.{Reading}
-use Rattle.workload_file.specs.declared.reading.Change.{Change}
-use Rattle.workload_file.specs.declared.reading.Change.TheVariants as change
+use Rattle.workload_file.specs.declared.reading.LineEffect.{LineEffect}
+use Rattle.workload_file.specs.declared.reading.LineEffect.TheVariants as change
 use Rattle.workload_file.specs.declared.index.NameIndex.{NameIndex}
 use Rattle.std.specs.BTreeMap.{get_by}
 use Rattle.std.specs.Ordering.{nat_cmp}
@@ -39,7 +39,7 @@ abbrev pub with_name : Option (List ℕ) → ℕ → (List ℕ → Option ℕ) �
 with_name name place names other = first_of_two (names other) (if is_called other name then Some place else None)
 
 -- the name that a change binds
-abbrev pub name_of : Change → Option (List ℕ)
+abbrev pub name_of : LineEffect → Option (List ℕ)
 name_of (change.Node s) = None
 name_of (change.Caller n) = None
 name_of (change.Statement s) = s.name

@@ -3,8 +3,8 @@ use Rattle.std.specs.Prelude.{◌≡◌, ℕ, ◌+◌, List, [], ◌∷◌, ◌+
 use Rattle.std.specs.Option.{option_map}
 use Rattle.workload_file.specs.declared.workload.Workload.{Workload}
 use Rattle.workload_file.specs.declared.reading.Reading.{Reading}
-use Rattle.workload_file.specs.declared.reading.Change.{Change}
-use Rattle.workload_file.specs.declared.reading.Change.TheVariants as change
+use Rattle.workload_file.specs.declared.reading.LineEffect.{LineEffect}
+use Rattle.workload_file.specs.declared.reading.LineEffect.TheVariants as change
 use Rattle.workload_file.specs.declared.faults.Cause.{Cause}
 use Rattle.workload_file.specs.declared.faults.Fault.{Fault}
 use Rattle.workload_file.specs.declared.faults.LineError.{LineError}
@@ -33,15 +33,15 @@ name_text None = []
 name_text (Some name) = name
 
 -- what words without a fault say: nothing where they are no statement
-abbrev pub words_say : Reading → ℕ → List (List ℕ) → Option Change
+abbrev pub words_say : Reading → ℕ → List (List ℕ) → Option LineEffect
 words_say r line words = option_map (λ w. change_of r line w (name_in (naming w) (drop 1 words)) (options_in (naming w) (drop 1 words))) (statement_word words)
 
 -- what a line says, or the first cause that it meets
-unfoldable pub line_gives : Reading → ℕ → List ℕ → Result (Option Change) Cause
+unfoldable pub line_gives : Reading → ℕ → List ℕ → Result (Option LineEffect) Cause
 line_gives r line text = unless (first_met r text) (words_say r line (words_of text))
 
 -- the workload so far, with what a line says
-unfoldable pub with_change : Reading → ℕ → Option Change → Reading
+unfoldable pub with_change : Reading → ℕ → Option LineEffect → Reading
 with_change r line None = r
 with_change r line (Some (change.Node s)) = record r { node_line = line; settings = s; count = r.count + 1 }
 with_change r line (Some (change.Caller n)) = record r { before = r.before ++ r.current ∷ []; current = record { line = line; name = n; statements = [] }; count = r.count + 1 }

@@ -6,8 +6,8 @@ use Rattle.workload_file.specs.declared.table.Word.{Word}
 use Rattle.workload_file.specs.declared.table.Word.TheVariants as word
 use Rattle.workload_file.specs.declared.table.Key.{Key}
 use Rattle.workload_file.specs.declared.table.Key.TheVariants as key
-use Rattle.workload_file.specs.declared.table.Shape.{Shape}
-use Rattle.workload_file.specs.declared.table.Shape.TheVariants as shape
+use Rattle.workload_file.specs.declared.table.OptionShape.{OptionShape}
+use Rattle.workload_file.specs.declared.table.OptionShape.TheVariants as shape
 use Rattle.workload_file.specs.declared.table.Sort.TheVariants as sort
 use Rattle.workload_file.specs.declared.table.Naming.{Naming}
 use Rattle.workload_file.specs.declared.table.Naming.TheVariants as rule
@@ -21,11 +21,11 @@ pub record Row : Type 0 where
   pub fields : List Field
 
 -- an option that has to be there
-abbrev pub needs : Key → Shape → Field
+abbrev pub needs : Key → OptionShape → Field
 needs k s = record { key = k; shape = s; absent = absent.Refused }
 
 -- an option that may be absent, and then has the usual value of its shape
-abbrev pub may : Key → Shape → Field
+abbrev pub may : Key → OptionShape → Field
 may k s = record { key = k; shape = s; absent = absent.Usual }
 
 -- a number from low to high, which is n where the option is absent

@@ -9,7 +9,7 @@ use Rattle.workload_file.specs.declared.workload.Deed.TheVariants as deed
 use Rattle.workload_file.specs.declared.workload.Statement.{Statement}
 use Rattle.workload_file.specs.declared.workload.Part.{Part}
 use Rattle.workload_file.specs.declared.reading.Reading.{Reading}
-use Rattle.workload_file.specs.declared.reading.Change.TheVariants as change
+use Rattle.workload_file.specs.declared.reading.LineEffect.TheVariants as change
 use Rattle.workload_file.specs.declared.faults.Cause.{Cause}
 use Rattle.workload_file.specs.declared.faults.Cause.TheVariants as cause
 use Rattle.workload_file.specs.Values.{is_name}
@@ -73,8 +73,8 @@ callers parts count = behind (replicate parts (part (codes "main") [])) (part (c
 -- What lines say
 
 -- the line makes this statement, which binds this name, or none
-abbrev pub Says : List ℕ → List ℕ → Deed → Type 0
-Says text name d = line_gives said 40 text ≡ Ok (Some (change.Statement (record { line = 40; name = Some name; deed = d })))
+abbrev pub IsEffectOf : List ℕ → List ℕ → Deed → Type 0
+IsEffectOf text name d = line_gives said 40 text ≡ Ok (Some (change.Statement (record { line = 40; name = Some name; deed = d })))
 
 abbrev pub Does : List ℕ → Deed → Type 0
 Does text d = line_gives said 40 text ≡ Ok (Some (change.Statement (record { line = 40; name = None; deed = d })))
@@ -95,16 +95,16 @@ pub record WorkedTaskLines : Type 0 where
   pub node_least : SetsUp (codes "node workers=1 max_tasks=1 max_actions=1 max_groups=1 max_queues=1 max_objects=1 priorities=1 generations=1") (record { workers = 1; tasks = 1; actions = 1; groups = 1; queues = 1; objects = 1; priorities = 1; generations = 1 })
   pub caller : line_gives said 40 (codes "caller c") ≡ Ok (Some (change.Caller (codes "c")))
   pub begin : Does (codes "begin") deed.Begin
-  pub action : Says (codes "action x job=21 kind=gcd cores=1,2") (codes "x") (deed.Action 21 kind.Gcd (cores 6))
-  pub action_absent : Says (codes "action x job=65535 kind=watch") (codes "x") (deed.Action 65535 kind.Watch every_core)
+  pub action : IsEffectOf (codes "action x job=21 kind=gcd cores=1,2") (codes "x") (deed.Action 21 kind.Gcd (cores 6))
+  pub action_absent : IsEffectOf (codes "action x job=65535 kind=watch") (codes "x") (deed.Action 65535 kind.Watch every_core)
   pub action_delete : Does (codes "action_delete a") (deed.ActionDelete 0)
   pub action_enable : Does (codes "action_enable a") (deed.ActionEnable 0)
   pub action_disable : Does (codes "action_disable a") (deed.ActionDisable 0)
-  pub started : Says (codes "start x job=22 args=31,-32 priority=3 cores=0,2 detached=yes group=g") (codes "x") (deed.Start 22 (pos 31 ∷ negsuc 31 ∷ []) 3 (cores 5) true (Some 2))
-  pub start_absent : Says (codes "start x job=1") (codes "x") (deed.Start 1 [] 0 every_core false None)
-  pub start_last : Says (codes "start x job=65535 priority=7") (codes "x") (deed.Start 65535 [] 7 every_core false None)
-  pub enqueue : Says (codes "enqueue x queue=q args=33 cores=1,3 detached=yes group=g") (codes "x") (deed.Enqueue 3 (pos 33 ∷ []) (cores 10) true (Some 2))
-  pub enqueue_absent : Says (codes "enqueue x queue=q") (codes "x") (deed.Enqueue 3 [] every_core false None)
+  pub started : IsEffectOf (codes "start x job=22 args=31,-32 priority=3 cores=0,2 detached=yes group=g") (codes "x") (deed.Start 22 (pos 31 ∷ negsuc 31 ∷ []) 3 (cores 5) true (Some 2))
+  pub start_absent : IsEffectOf (codes "start x job=1") (codes "x") (deed.Start 1 [] 0 every_core false None)
+  pub start_last : IsEffectOf (codes "start x job=65535 priority=7") (codes "x") (deed.Start 65535 [] 7 every_core false None)
+  pub enqueue : IsEffectOf (codes "enqueue x queue=q args=33 cores=1,3 detached=yes group=g") (codes "x") (deed.Enqueue 3 (pos 33 ∷ []) (cores 10) true (Some 2))
+  pub enqueue_absent : IsEffectOf (codes "enqueue x queue=q") (codes "x") (deed.Enqueue 3 [] every_core false None)
   pub wait : Does (codes "wait t timeout=41") (deed.Wait 1 (timeout.Looks 41))
   pub wait_once : Does (codes "wait t timeout=nowait") (deed.Wait 1 timeout.NoWait)
   pub wait_most : Does (codes "wait t timeout=1000000") (deed.Wait 1 (timeout.Looks 1000000))
@@ -113,15 +113,15 @@ pub record WorkedTaskLines : Type 0 where
 
 -- the lines of groups and queues
 pub record WorkedGroupLines : Type 0 where
-  pub group : Says (codes "group x") (codes "x") deed.Group
+  pub group : IsEffectOf (codes "group x") (codes "x") deed.Group
   pub wait_all : Does (codes "wait_all g timeout=42") (deed.WaitAll 2 (timeout.Looks 42))
   pub wait_any : Does (codes "wait_any g timeout=inf") (deed.WaitAny 2 timeout.Infinite)
   pub group_delete : Does (codes "group_delete g") (deed.GroupDelete 2)
-  pub queue_ordered : Says (codes "queue x id=51 job=24 priority=5 limit=61 ordered=yes retain=no") (codes "x") (deed.Queue 51 24 5 61 true false)
-  pub queue_retains : Says (codes "queue x id=52 job=25 priority=6 limit=62 ordered=no retain=yes") (codes "x") (deed.Queue 52 25 6 62 false true)
-  pub queue_absent : Says (codes "queue x id=4294967295 job=65535") (codes "x") (deed.Queue 4294967295 65535 0 65536 false false)
-  pub queue_least : Says (codes "queue x id=0 job=1 priority=7 limit=1") (codes "x") (deed.Queue 0 1 7 1 false false)
-  pub queue_get : Says (codes "queue_get x id=53") (codes "x") (deed.QueueGet 53)
+  pub queue_ordered : IsEffectOf (codes "queue x id=51 job=24 priority=5 limit=61 ordered=yes retain=no") (codes "x") (deed.Queue 51 24 5 61 true false)
+  pub queue_retains : IsEffectOf (codes "queue x id=52 job=25 priority=6 limit=62 ordered=no retain=yes") (codes "x") (deed.Queue 52 25 6 62 false true)
+  pub queue_absent : IsEffectOf (codes "queue x id=4294967295 job=65535") (codes "x") (deed.Queue 4294967295 65535 0 65536 false false)
+  pub queue_least : IsEffectOf (codes "queue x id=0 job=1 priority=7 limit=1") (codes "x") (deed.Queue 0 1 7 1 false false)
+  pub queue_get : IsEffectOf (codes "queue_get x id=53") (codes "x") (deed.QueueGet 53)
   pub queue_enable : Does (codes "queue_enable q") (deed.QueueEnable 3)
   pub queue_disable : Does (codes "queue_disable q") (deed.QueueDisable 3)
   pub queue_delete : Does (codes "queue_delete q") (deed.QueueDelete 3)
@@ -129,21 +129,21 @@ pub record WorkedGroupLines : Type 0 where
 
 -- the lines of mutexes, semaphores and reader-writer locks
 pub record WorkedLockLines : Type 0 where
-  pub mutex : Says (codes "mutex x id=54") (codes "x") (deed.Mutex 54 false)
-  pub mutex_recursive : Says (codes "mutex x id=4294967295 recursive=yes") (codes "x") (deed.Mutex 4294967295 true)
-  pub mutex_get : Says (codes "mutex_get x id=56") (codes "x") (deed.MutexGet 56)
+  pub mutex : IsEffectOf (codes "mutex x id=54") (codes "x") (deed.Mutex 54 false)
+  pub mutex_recursive : IsEffectOf (codes "mutex x id=4294967295 recursive=yes") (codes "x") (deed.Mutex 4294967295 true)
+  pub mutex_get : IsEffectOf (codes "mutex_get x id=56") (codes "x") (deed.MutexGet 56)
   pub mutex_delete : Does (codes "mutex_delete m") (deed.MutexDelete 4)
   pub mutex_made : DoesAgain (codes "mutex_delete m") (deed.MutexDelete 3)
   pub lock : Does (codes "lock m timeout=43") (deed.Lock 4 (timeout.Looks 43))
   pub unlock : Does (codes "unlock m key=71") (deed.Unlock 4 71)
-  pub sem : Says (codes "sem x id=57 limit=65535") (codes "x") (deed.Sem 57 65535)
-  pub sem_get : Says (codes "sem_get x id=58") (codes "x") (deed.SemGet 58)
+  pub sem : IsEffectOf (codes "sem x id=57 limit=65535") (codes "x") (deed.Sem 57 65535)
+  pub sem_get : IsEffectOf (codes "sem_get x id=58") (codes "x") (deed.SemGet 58)
   pub sem_delete : Does (codes "sem_delete s") (deed.SemDelete 5)
   pub sem_made : DoesAgain (codes "sem_delete s") (deed.SemDelete 4)
   pub sem_lock : Does (codes "sem_lock s timeout=44") (deed.SemLock 5 (timeout.Looks 44))
   pub sem_unlock : Does (codes "sem_unlock s") (deed.SemUnlock 5)
-  pub rwl : Says (codes "rwl x id=59 limit=32") (codes "x") (deed.Rwl 59 32)
-  pub rwl_get : Says (codes "rwl_get x id=60") (codes "x") (deed.RwlGet 60)
+  pub rwl : IsEffectOf (codes "rwl x id=59 limit=32") (codes "x") (deed.Rwl 59 32)
+  pub rwl_get : IsEffectOf (codes "rwl_get x id=60") (codes "x") (deed.RwlGet 60)
   pub rwl_delete : Does (codes "rwl_delete r") (deed.RwlDelete 6)
   pub rwl_made : DoesAgain (codes "rwl_delete r") (deed.RwlDelete 5)
   pub rwl_lock_reader : Does (codes "rwl_lock r mode=reader timeout=45") (deed.RwlLock 6 false (timeout.Looks 45))
@@ -153,8 +153,8 @@ pub record WorkedLockLines : Type 0 where
 
 -- the lines of segments
 pub record WorkedSegmentLines : Type 0 where
-  pub shmem : Says (codes "shmem x id=63 cells=4096") (codes "x") (deed.Shmem 63 4096)
-  pub shmem_get : Says (codes "shmem_get x id=64") (codes "x") (deed.ShmemGet 64)
+  pub shmem : IsEffectOf (codes "shmem x id=63 cells=4096") (codes "x") (deed.Shmem 63 4096)
+  pub shmem_get : IsEffectOf (codes "shmem_get x id=64") (codes "x") (deed.ShmemGet 64)
   pub shmem_delete : Does (codes "shmem_delete h") (deed.ShmemDelete 7)
   pub shmem_made : DoesAgain (codes "shmem_delete h") (deed.ShmemDelete 6)
   pub attach : Does (codes "attach h") (deed.Attach 7)

@@ -12,8 +12,8 @@ use Rattle.workload_file.specs.declared.table.Word.TheVariants as word
 use Rattle.workload_file.specs.declared.table.Field.{Field}
 use Rattle.workload_file.specs.declared.table.Absent.{Absent}
 use Rattle.workload_file.specs.declared.table.Absent.TheVariants as absent
-use Rattle.workload_file.specs.declared.values.Value.{Value}
-use Rattle.workload_file.specs.declared.values.Value.TheVariants as given
+use Rattle.workload_file.specs.declared.values.OptionValue.{OptionValue}
+use Rattle.workload_file.specs.declared.values.OptionValue.TheVariants as given
 use Rattle.workload_file.specs.declared.workload.Statement.{Statement}
 use Rattle.workload_file.specs.declared.workload.Part.{Part}
 use Rattle.workload_file.specs.declared.workload.Workload.{Workload}
@@ -39,7 +39,7 @@ name_at before None = []
 name_at before (Some place) = name_of (slice_get before place)
 
 -- a value as a text; a place is the name that was bound there
-unfoldable pub value_text : List Statement → Value → List ℕ
+unfoldable pub value_text : List Statement → OptionValue → List ℕ
 value_text before (given.Number n) = decimal n
 value_text before (given.Whole z) = signed_decimal z
 value_text before (given.Args zs) = list_text zs
@@ -54,7 +54,7 @@ value_text before _ = []
 -- ---- options
 
 -- the usual value of its shape: no numbers, all cores, no, no name
-abbrev pub is_usual : Value → Bool
+abbrev pub is_usual : OptionValue → Bool
 is_usual (given.Args []) = true
 is_usual (given.Args (z ∷ zs)) = false
 is_usual (given.Cores mask) = mask.0 == 2 ^ 64 - 1
@@ -63,22 +63,22 @@ is_usual (given.Place None) = true
 is_usual (given.Place (Some place)) = false
 is_usual _ = false
 
-abbrev pub is_number : ℕ → Value → Bool
+abbrev pub is_number : ℕ → OptionValue → Bool
 is_number n (given.Number m) = m == n
 is_number n _ = false
 
 -- the value that the absent option gives
-unfoldable pub is_default : Absent → Value → Bool
+unfoldable pub is_default : Absent → OptionValue → Bool
 is_default absent.Refused value = false
 is_default absent.Usual value = is_usual value
 is_default (absent.Number n) value = is_number n value
 
 -- an option as `key=value`, left out where it has its default
-abbrev pub option_words : List Statement → Field → Value → List (List ℕ)
+abbrev pub option_words : List Statement → Field → OptionValue → List (List ℕ)
 option_words before field value = if is_default field.absent value then [] else (key_text field.key ++ 61 ∷ value_text before value) ∷ []
 
 -- the options in the order of the table
-unfoldable pub options_words : List Statement → List Field → List Value → List (List ℕ)
+unfoldable pub options_words : List Statement → List Field → List OptionValue → List (List ℕ)
 options_words before (field ∷ fields) (value ∷ values) = option_words before field value ++ options_words before fields values
 options_words before [] values = []
 options_words before (field ∷ fields) [] = []

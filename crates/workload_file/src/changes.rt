@@ -2,11 +2,11 @@
 ghost use Rattle.std.specs.Prelude.{◌≡◌, ◌<◌, ◌++◌, ◌∷◌, [], Some, None, OnOk, length};
 ghost use Rattle.workload_file.specs.Reading.{with_change};
 ghost use Rattle.workload_file.specs.Indexed.{IsReader, IsNamed, name_of};
-ghost use Rattle.workload_file.specs.declared.reading.Change.TheVariants as change;
+ghost use Rattle.workload_file.specs.declared.reading.LineEffect.TheVariants as change;
 
 use crate::index::NameIndex;
 use crate::name::Name;
-use crate::reading::{Change, Reader};
+use crate::reading::{LineEffect, Reader};
 use crate::workload::{Part, Statement, StatementList};
 use mtapi_values::NodeAttr;
 use std::alloc::{AllocError, Global};
@@ -59,7 +59,7 @@ pub fn with_change(
     alloc: Global,
     r: &mut Reader,
     line: u64,
-    change: Change,
+    change: LineEffect,
 ) -> Result<(), AllocError>
     requires named { IsNamed r.old (name_of change) }
     requires few { r.old.said.count < 20000 }
@@ -67,11 +67,11 @@ pub fn with_change(
     ensures reader { OnOk result (IsReader r.new) }
 {
     match change {
-        Change::Node(settings) => {
+        LineEffect::Node(settings) => {
             with_node(r, line, settings);
             Ok(())
         }
-        Change::Caller(name) => with_caller(alloc, r, line, name),
-        Change::Statement(statement) => with_statement(r, line, statement),
+        LineEffect::Caller(name) => with_caller(alloc, r, line, name),
+        LineEffect::Statement(statement) => with_statement(r, line, statement),
     }
 }

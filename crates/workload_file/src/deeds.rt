@@ -4,106 +4,106 @@ ghost use Rattle.workload_file.specs.Deeds.{number_in, whole_in, args_in, cores_
 ghost use Rattle.workload_file.specs.Changes.{usual_settings, with_setting, settings_by};
 
 use crate::table::{Word, statements};
-use crate::values::Value;
+use crate::values::OptionValue;
 use crate::workload::Deed;
 use mtapi_values::{Args, Kind, Mask, NodeAttr, Timeout};
 
 #[tactic(auto, unfolding(crate::specs::Deeds::number_in))]
-fn number_in(value: &Value) -> u32
+fn number_in(value: &OptionValue) -> u32
     ensures { result ≡ number_in value.now }
 {
     match value {
-        Value::Number(n) => *n,
+        OptionValue::Number(n) => *n,
         _ => 0,
     }
 }
 
 #[tactic(auto, unfolding(crate::specs::Deeds::whole_in))]
-fn whole_in(value: &Value) -> i64
+fn whole_in(value: &OptionValue) -> i64
     ensures { result ≡ whole_in value.now }
 {
     match value {
-        Value::Whole(z) => *z,
+        OptionValue::Whole(z) => *z,
         _ => 0,
     }
 }
 
 #[tactic(auto, unfolding(crate::specs::Deeds::args_in))]
-fn args_in(value: &Value) -> Args
+fn args_in(value: &OptionValue) -> Args
     ensures { result ≡ args_in value.now }
 {
     match value {
-        Value::Args(args) => args.again(),
+        OptionValue::Args(args) => args.again(),
         _ => Args::new(),
     }
 }
 
 #[tactic(auto, unfolding(crate::specs::Deeds::cores_in))]
-fn cores_in(value: &Value) -> Mask
+fn cores_in(value: &OptionValue) -> Mask
     ensures { result ≡ cores_in value.now }
 {
     match value {
-        Value::Cores(mask) => *mask,
+        OptionValue::Cores(mask) => *mask,
         _ => Mask(u64::MAX),
     }
 }
 
 #[tactic(auto, unfolding(crate::specs::Deeds::kind_in))]
-fn kind_in(value: &Value) -> Kind
+fn kind_in(value: &OptionValue) -> Kind
     ensures { result ≡ kind_in value.now }
 {
     match value {
-        Value::Kind(kind) => *kind,
+        OptionValue::Kind(kind) => *kind,
         _ => Kind::Add,
     }
 }
 
 #[tactic(auto, unfolding(crate::specs::Deeds::flag_in))]
-fn flag_in(value: &Value) -> bool
+fn flag_in(value: &OptionValue) -> bool
     ensures { result ≡ flag_in value.now }
 {
     match value {
-        Value::Flag(flag) => *flag,
+        OptionValue::Flag(flag) => *flag,
         _ => false,
     }
 }
 
 #[tactic(auto, unfolding(crate::specs::Deeds::mode_in))]
-fn mode_in(value: &Value) -> bool
+fn mode_in(value: &OptionValue) -> bool
     ensures { result ≡ mode_in value.now }
 {
     match value {
-        Value::Mode(writer) => *writer,
+        OptionValue::Mode(writer) => *writer,
         _ => false,
     }
 }
 
 #[tactic(auto, unfolding(crate::specs::Deeds::timeout_in))]
-fn timeout_in(value: &Value) -> Timeout
+fn timeout_in(value: &OptionValue) -> Timeout
     ensures { result ≡ timeout_in value.now }
 {
     match value {
-        Value::Timeout(timeout) => *timeout,
+        OptionValue::Timeout(timeout) => *timeout,
         _ => Timeout::NoWait,
     }
 }
 
 #[tactic(auto, unfolding(crate::specs::Deeds::place_in))]
-fn place_in(value: &Value) -> Option<u32>
+fn place_in(value: &OptionValue) -> Option<u32>
     ensures { result ≡ place_in value.now }
 {
     match value {
-        Value::Place(place) => *place,
+        OptionValue::Place(place) => *place,
         _ => None,
     }
 }
 
 #[tactic(auto, unfolding(crate::specs::Deeds::place_there))]
-fn place_there(value: &Value) -> u32
+fn place_there(value: &OptionValue) -> u32
     ensures { result ≡ place_there value.now }
 {
     match value {
-        Value::Place(Some(place)) => *place,
+        OptionValue::Place(Some(place)) => *place,
         _ => 0,
     }
 }
@@ -143,21 +143,21 @@ macro_rules! family {
 }
 
 #[tactic(auto, unfolding(crate::specs::Deeds::segment_deed))]
-fn segment_deed(word: Word, place: u32, values: &[Value]) -> Deed
+fn segment_deed(word: Word, place: u32, values: &[OptionValue]) -> Deed
     ensures { result ≡ segment_deed word place values.now }
 {
     statements!(family (segments (word place values Deed::Begin)))
 }
 
 #[tactic(auto, unfolding(crate::specs::Deeds::lock_deed))]
-fn lock_deed(word: Word, place: u32, values: &[Value]) -> Deed
+fn lock_deed(word: Word, place: u32, values: &[OptionValue]) -> Deed
     ensures { result ≡ lock_deed word place values.now }
 {
     statements!(family (locks (word place values segment_deed(word, place, values))))
 }
 
 #[tactic(auto, unfolding(crate::specs::Deeds::queue_deed))]
-fn queue_deed(word: Word, place: u32, values: &[Value]) -> Deed
+fn queue_deed(word: Word, place: u32, values: &[OptionValue]) -> Deed
     ensures { result ≡ queue_deed word place values.now }
 {
     statements!(family (queues (word place values lock_deed(word, place, values))))
@@ -165,7 +165,7 @@ fn queue_deed(word: Word, place: u32, values: &[Value]) -> Deed
 
 /// The deed of a statement, of the place of the name that it uses and the values of its options.
 #[tactic(auto, unfolding(crate::specs::Deeds::deed_with))]
-pub fn deed_with(word: Word, place: u32, values: &[Value]) -> Deed
+pub fn deed_with(word: Word, place: u32, values: &[OptionValue]) -> Deed
     ensures { result ≡ deed_with word place values.now }
 {
     statements!(family (tasks (word place values queue_deed(word, place, values))))
@@ -198,7 +198,7 @@ fn settings_of(a: u32, b: u32, c: u32, d: u32, e: u32, f: u32, g: u32, h: u32) -
 /// The settings that the values of a `node` line give.
 #[rattlefmt::skip]
 #[tactic(auto, unfolding(crate::specs::Changes::settings_by))]
-pub fn settings_with(values: &[Value]) -> NodeAttr
+pub fn settings_with(values: &[OptionValue]) -> NodeAttr
     ensures { result ≡ settings_by values.now }
 {
     match values {

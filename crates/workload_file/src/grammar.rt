@@ -21,28 +21,28 @@ use crate::names::{
     has_second, is_misplaced, is_ninth_caller, name_in, options_in, take_name, use_in,
 };
 use crate::options::place_texts;
-use crate::reading::{Change, Lists, Reader};
+use crate::reading::{LineEffect, Lists, Reader};
 use crate::table::{Naming, Word};
-use crate::values::Value;
+use crate::values::OptionValue;
 use crate::workload::Statement;
 use std::alloc::{AllocError, Global};
 
-fn any_bad(values: &[Value]) -> bool
+fn any_bad(values: &[OptionValue]) -> bool
     ensures { result ≡ list_any is_bad values.now }
 {
-    values.iter().any(|v| matches!(v, Value::Bad))
+    values.iter().any(|v| matches!(v, OptionValue::Bad))
 }
 
-fn any_missing(values: &[Value]) -> bool
+fn any_missing(values: &[OptionValue]) -> bool
     ensures { result ≡ list_any is_missing values.now }
 {
-    values.iter().any(|v| matches!(v, Value::Missing))
+    values.iter().any(|v| matches!(v, OptionValue::Missing))
 }
 
-fn any_unbound(values: &[Value]) -> bool
+fn any_unbound(values: &[OptionValue]) -> bool
     ensures { result ≡ list_any names_nothing values.now }
 {
-    values.iter().any(|v| matches!(v, Value::Unbound))
+    values.iter().any(|v| matches!(v, OptionValue::Unbound))
 }
 
 fn is_unbound(naming: Naming, place: Option<u32>) -> bool
@@ -58,7 +58,7 @@ macro_rules! met {
 /// The first of the causes that a statement meets by its values and its names. With none, the name that it binds is bound.
 #[rattlefmt::skip]
 #[tactic(auto, unfolding(crate::specs::Faulty::is_faulty))]
-fn late_met(r: &mut Reader, word: Word, name: &[u8], options: &[&[u8]], place: Option<u32>, values: &[Value]) -> Result<Option<Cause>, AllocError>
+fn late_met(r: &mut Reader, word: Word, name: &[u8], options: &[&[u8]], place: Option<u32>, values: &[OptionValue]) -> Result<Option<Cause>, AllocError>
     requires reader { IsReader r.old }
     requires place { place ≡ use_in r.old.said.current.statements (naming word) name.now }
     requires values { values.now ≡ values_in r.old.said.current.statements (texts options.now) (fields word) }
@@ -78,7 +78,7 @@ fn late_met(r: &mut Reader, word: Word, name: &[u8], options: &[&[u8]], place: O
 /// The first of the causes of a statement that it meets. With none, the list has what its options give, and its name is bound.
 #[rattlefmt::skip]
 #[tactic(auto, unfolding(crate::specs::Faulty::is_faulty))]
-fn first_met<'a>(r: &mut Reader, given: &mut Vec<Option<&'a [u8]>>, values: &mut Vec<Value>, word: Word, name: &[u8], options: &[&'a [u8]], place: Option<u32>) -> Result<Option<Cause>, AllocError>
+fn first_met<'a>(r: &mut Reader, given: &mut Vec<Option<&'a [u8]>>, values: &mut Vec<OptionValue>, word: Word, name: &[u8], options: &[&'a [u8]], place: Option<u32>) -> Result<Option<Cause>, AllocError>
     requires reader { IsReader r.old }
     requires place { place ≡ use_in r.old.said.current.statements (naming word) name.now }
     ensures value { IfOk result (λ met.
@@ -111,14 +111,20 @@ fn bound_name(naming: Naming, name: &[u8]) -> Option<Name>
 
 /// What a statement without a fault adds.
 #[tactic(auto, unfolding(crate::specs::Changes::change_with, crate::specs::Table::row))]
-fn change_with(line: u64, word: Word, name: &[u8], place: Option<u32>, values: &[Value]) -> Change
+fn change_with(
+    line: u64,
+    word: Word,
+    name: &[u8],
+    place: Option<u32>,
+    values: &[OptionValue],
+) -> LineEffect
     requires { (has_second (naming word) && not (is_name name.now)) ≡ false }
     ensures { result ≡ change_with line word name.now place values.now }
 {
     match word {
-        Word::Node => Change::Node(settings_with(values)),
-        Word::Caller => Change::Caller(Name::new(name).unwrap()),
-        _ => Change::Statement(Statement {
+        Word::Node => LineEffect::Node(settings_with(values)),
+        Word::Caller => LineEffect::Caller(Name::new(name).unwrap()),
+        _ => LineEffect::Statement(Statement {
             line,
             name: bound_name(word.naming(), name),
             deed: deed_with(word, place.unwrap_or(0), values),
@@ -135,7 +141,7 @@ fn add_statement<'a>(
     alloc: Global,
     r: &mut Reader,
     given: &mut Vec<Option<&'a [u8]>>,
-    values: &mut Vec<Value>,
+    values: &mut Vec<OptionValue>,
     line: u64,
     word: Word,
     rest: &[&'a [u8]],
@@ -161,7 +167,7 @@ fn add_words<'a>(
     alloc: Global,
     r: &mut Reader,
     given: &mut Vec<Option<&'a [u8]>>,
-    values: &mut Vec<Value>,
+    values: &mut Vec<OptionValue>,
     line: u64,
     words: &[&'a [u8]],
 ) -> Result<(), LineError>

@@ -1,7 +1,7 @@
 //! What the lines of a text say.
 use crate::index::NameIndex;
 use crate::name::Name;
-use crate::values::Value;
+use crate::values::OptionValue;
 use crate::workload::{Part, PartList, Statement};
 use mtapi_values::NodeAttr;
 
@@ -17,7 +17,7 @@ pub struct Reading {
 
 /// What a line adds.
 #[derive(Drop)]
-pub enum Change {
+pub enum LineEffect {
     Node(NodeAttr),
     Caller(Name),
     Statement(Statement),
@@ -36,5 +36,5 @@ pub struct Reader {
 pub struct Lists<'a> {
     pub words: Vec<&'a [u8]>,
     pub given: Vec<Option<&'a [u8]>>,
-    pub values: Vec<Value>,
+    pub values: Vec<OptionValue>,
 }

@@ -28,7 +28,7 @@ pub enum Sort { Action, Task, Group, Queue, Mutex, Sem, Rwl, Shmem }
 /// What the value of an option is.
 #[rattlefmt::skip]
 #[derive(Clone, Copy)]
-pub enum Shape { Number(u32, u32), Whole, Args, Cores, Kind, Flag, Mode, Timeout, Named(Sort) }
+pub enum OptionShape { Number(u32, u32), Whole, Args, Cores, Kind, Flag, Mode, Timeout, Named(Sort) }
 
 /// Whether a statement has a name, and what for.
 #[rattlefmt::skip]
@@ -50,7 +50,7 @@ pub enum Absent {
 #[derive(Clone, Copy)]
 pub struct Field {
     pub key: Key,
-    pub shape: Shape,
+    pub shape: OptionShape,
     pub absent: Absent,
 }
 
@@ -122,9 +122,9 @@ macro_rules! words {
 }
 
 macro_rules! shape {
-    (Number($low:literal, $high:literal)) => { Shape::Number($low, $high) };
-    (Named($sort:ident)) => { Shape::Named(Sort::$sort) };
-    ($shape:ident) => { Shape::$shape };
+    (Number($low:literal, $high:literal)) => { OptionShape::Number($low, $high) };
+    (Named($sort:ident)) => { OptionShape::Named(Sort::$sort) };
+    ($shape:ident) => { OptionShape::$shape };
 }
 
 macro_rules! options {

@@ -6,7 +6,7 @@ ghost use Rattle.workload_file.specs.Reading.{name_text};
 
 use crate::name::Name;
 use crate::table::{Absent, Field};
-use crate::values::Value;
+use crate::values::OptionValue;
 use crate::workload::Statement;
 use mtapi_values::Timeout;
 use number_text::{push_cores, push_list, push_number, push_whole};
@@ -48,50 +48,51 @@ fn push_value(
     alloc: Global,
     out: &mut Vec<u8>,
     before: &[Statement],
-    value: &Value,
+    value: &OptionValue,
 ) -> Result<(), AllocError>
     ensures { OnOk result (out.new.items ≡ out.old.items ++ value_text before.now value.now) }
 {
     match value {
-        Value::Number(n) => push_number(alloc, out, u64::from(*n)),
-        Value::Whole(z) => push_whole(alloc, out, *z),
-        Value::Args(args) => push_list(alloc, out, args.as_slice()),
-        Value::Cores(mask) => push_cores(alloc, out, mask.0),
-        Value::Kind(kind) => out.extend_from_slice(kind.word().as_bytes()),
-        Value::Flag(true) => out.extend_from_slice(b"yes"),
-        Value::Flag(false) => out.extend_from_slice(b"no"),
-        Value::Mode(true) => out.extend_from_slice(b"writer"),
-        Value::Mode(false) => out.extend_from_slice(b"reader"),
-        Value::Timeout(timeout) => push_timeout(alloc, out, *timeout),
-        Value::Place(Some(place)) => out.extend_from_slice(name_at(before, *place)),
-        Value::Place(None) | Value::Bad | Value::Missing | Value::Unbound => Ok(()),
+        OptionValue::Number(n) => push_number(alloc, out, u64::from(*n)),
+        OptionValue::Whole(z) => push_whole(alloc, out, *z),
+        OptionValue::Args(args) => push_list(alloc, out, args.as_slice()),
+        OptionValue::Cores(mask) => push_cores(alloc, out, mask.0),
+        OptionValue::Kind(kind) => out.extend_from_slice(kind.word().as_bytes()),
+        OptionValue::Flag(true) => out.extend_from_slice(b"yes"),
+        OptionValue::Flag(false) => out.extend_from_slice(b"no"),
+        OptionValue::Mode(true) => out.extend_from_slice(b"writer"),
+        OptionValue::Mode(false) => out.extend_from_slice(b"reader"),
+        OptionValue::Timeout(timeout) => push_timeout(alloc, out, *timeout),
+        OptionValue::Place(Some(place)) => out.extend_from_slice(name_at(before, *place)),
+        OptionValue::Place(None) | OptionValue::Bad | OptionValue::Missing | OptionValue::Unbound =>
+            Ok(()),
     }
 }
 
-fn is_usual(value: &Value) -> bool
+fn is_usual(value: &OptionValue) -> bool
     ensures { result ≡ is_usual value.now }
 {
     match value {
-        Value::Args(args) => args.as_slice().is_empty(),
-        Value::Cores(mask) => mask.0 == u64::MAX,
-        Value::Flag(b) => !*b,
-        Value::Place(place) => place.is_none(),
+        OptionValue::Args(args) => args.as_slice().is_empty(),
+        OptionValue::Cores(mask) => mask.0 == u64::MAX,
+        OptionValue::Flag(b) => !*b,
+        OptionValue::Place(place) => place.is_none(),
         _ => false,
     }
 }
 
-fn is_number(n: u32, value: &Value) -> bool
+fn is_number(n: u32, value: &OptionValue) -> bool
     ensures { result ≡ is_number n value.now }
 {
     match value {
-        Value::Number(m) => *m == n,
+        OptionValue::Number(m) => *m == n,
         _ => false,
     }
 }
 
 /// Whether it is the value that the absent option gives.
 #[tactic(auto, unfolding(crate::specs::Written::is_default))]
-fn is_default(absent: Absent, value: &Value) -> bool
+fn is_default(absent: Absent, value: &OptionValue) -> bool
     ensures { result ≡ is_default absent value.now }
 {
     match absent {
@@ -106,7 +107,7 @@ fn push_option(
     out: &mut Vec<u8>,
     before: &[Statement],
     field: Field,
-    value: &Value,
+    value: &OptionValue,
 ) -> Result<(), AllocError>
     ensures { OnOk result (out.new.items ≡ out.old.items ++ led 32 (option_words before.now field value.now)) }
 {
@@ -126,7 +127,7 @@ pub fn push_options(
     out: &mut Vec<u8>,
     before: &[Statement],
     fields: &[Field],
-    values: &[Value],
+    values: &[OptionValue],
 ) -> Result<(), AllocError>
     ensures { OnOk result (out.new.items ≡ out.old.items ++ led 32 (options_words before.now fields.now values.now)) }
 {

@@ -11,7 +11,7 @@ use std::alloc::{AllocError, Global};
 /// isn't bound to such a thing. A place is that of the statement that bound the name, where one is given.
 #[rattlefmt::skip]
 #[derive(Drop)]
-pub enum Value {
+pub enum OptionValue {
     Number(u32), Whole(i64), Args(Args), Cores(Mask), Kind(Kind), Flag(bool), Mode(bool), Timeout(Timeout), Place(Option<u32>),
     Bad, Missing, Unbound,
 }
@@ -21,8 +21,8 @@ fn spelled<const N: usize>(
     alloc: Global,
     word: Word,
     place: Option<u32>,
-    values: [Value; N],
-) -> Result<(Word, Option<u32>, Vec<Value>), AllocError>
+    values: [OptionValue; N],
+) -> Result<(Word, Option<u32>, Vec<OptionValue>), AllocError>
     ensures word { IfOk result (λ s. s.0 ≡ word) }
     ensures place { IfOk result (λ s. s.1 ≡ place) }
     ensures values { IfOk result (λ s. s.2.items ≡ values.entry) }
@@ -39,10 +39,10 @@ macro_rules! place {
 }
 
 macro_rules! wrapped {
-    (Named Refused $field:ident) => { Value::Place(Some(*$field)) };
-    (Named Usual $field:ident) => { Value::Place(*$field) };
-    (Args $absent:ident $field:ident) => { Value::Args($field.again()) };
-    ($shape:ident $absent:ident $field:ident) => { Value::$shape(*$field) };
+    (Named Refused $field:ident) => { OptionValue::Place(Some(*$field)) };
+    (Named Usual $field:ident) => { OptionValue::Place(*$field) };
+    (Args $absent:ident $field:ident) => { OptionValue::Args($field.again()) };
+    ($shape:ident $absent:ident $field:ident) => { OptionValue::$shape(*$field) };
 }
 
 macro_rules! spell {
@@ -59,24 +59,24 @@ macro_rules! spell {
 pub fn deed_spelled(
     alloc: Global,
     deed: &Deed,
-) -> Result<(Word, Option<u32>, Vec<Value>), AllocError>
+) -> Result<(Word, Option<u32>, Vec<OptionValue>), AllocError>
     ensures { IfOk result (λ s. deed_spelled deed.now ≡ record { word = s.0; place = s.1; values = s.2.items }) }
 {
     statements!(spell (alloc deed))
 }
 
 /// The settings of a node, in the order of the table.
-pub fn setting_values(alloc: Global, settings: &NodeAttr) -> Result<Vec<Value>, AllocError>
+pub fn setting_values(alloc: Global, settings: &NodeAttr) -> Result<Vec<OptionValue>, AllocError>
     ensures { IfOk result (λ list. list.items ≡ setting_values settings.now) }
 {
     Ok(vec![in alloc;
-        Value::Number(settings.workers()),
-        Value::Number(settings.tasks()),
-        Value::Number(settings.actions()),
-        Value::Number(settings.groups()),
-        Value::Number(settings.queues()),
-        Value::Number(settings.objects()),
-        Value::Number(settings.priorities()),
-        Value::Number(settings.generations()),
+        OptionValue::Number(settings.workers()),
+        OptionValue::Number(settings.tasks()),
+        OptionValue::Number(settings.actions()),
+        OptionValue::Number(settings.groups()),
+        OptionValue::Number(settings.queues()),
+        OptionValue::Number(settings.objects()),
+        OptionValue::Number(settings.priorities()),
+        OptionValue::Number(settings.generations()),
     ]?)
 }

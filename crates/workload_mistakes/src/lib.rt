@@ -14,6 +14,6 @@ mod search;
 mod table;
 mod words;
 
-pub use explaining::{End, explain};
+pub use explaining::{ExplainEnd, explain};
 pub use mistakes::{Meant, Mistake, Mistakes};
 pub use search::mistakes_of;

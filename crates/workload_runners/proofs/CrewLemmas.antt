@@ -1,6 +1,6 @@
 -- One seat goes out, and one comes back.
 use Rattle.std.proofs.lemmas.Bool.Decides.{nat_tests}
-use Rattle.workload_runners.proofs.Names.{[], ◌++◌, ◌+◌, ◌-◌, ◌<◌, ◌∙◌, ◌∷◌, ◌≡◌, AddsOwn, All, All-pop, All-push, AllZip, AllZip-push, AreReady, Back, CallerAs, CallerIn, CallersDid, CameBack, Cell, Close, Crew, GaveUp, Hands, HasPart, IfOk, IsClean, IsCrewOf, IsJoined, IsOf, List, MainAs, OnErr, Part, Reply, Result, Seat, Some, Statement, Turned, Unturned, ap, arith, get_or, length, refl, slice_get, subst, suc, sym, vec_capacity, vec_len, zero, ℕ}
+use Rattle.workload_runners.proofs.Names.{[], ◌++◌, ◌+◌, ◌-◌, ◌<◌, ◌∙◌, ◌∷◌, ◌≡◌, AddsOwn, All, All-pop, All-push, AllZip, AllZip-push, AreReady, Back, CallerAs, CallerIn, CallersDid, CameBack, Cell, Close, ReturnedSeats, GaveUp, Hands, HasPart, IfOk, IsClean, IsCrewOf, IsJoined, IsOf, List, MainAs, OnErr, Part, Reply, Result, Seat, Some, Statement, Turned, Unturned, ap, arith, get_or, length, refl, slice_get, subst, suc, sym, vec_capacity, vec_len, zero, ℕ}
 use Rattle.workload_runners.proofs.Adds.{adds_as}
 
 -- the same hands, but for one caller's seat
@@ -23,7 +23,7 @@ pub gave_up : (old new : Seat) (r : Result Reply ℕ) → IfOk r (λ x. Turned o
 gave_up old new r e1 e2 = grind (arith, nat_tests)
 
 module _ (z : Cell) (parts : List Part) where
-  pub joined_of : (c : Crew) (b : Back) (c' : Crew) → IsJoined c b c' → IsOf z c → b.seat.cell ≡ z.id → IsOf z c'
+  pub joined_of : (c : ReturnedSeats) (b : Back) (c' : ReturnedSeats) → IsJoined c b c' → IsOf z c → b.seat.cell ≡ z.id → IsOf z c'
   joined_of c b c' j i e = record {
     main = ap (λ (x : Seat). x.cell) j.main ∙ i.main;
     others =
@@ -35,7 +35,7 @@ module _ (z : Cell) (parts : List Part) where
   given_parts h h' s r o =
       let p = All-pop (HasPart z parts h.main.number) h.callers.items h'.callers.items (Some s) o.items r.callers in (p.0, p.1)
 
-  joined_did : (ss : List Statement) (h h' : Hands) (s : Seat) (p : Part) (c : Crew) (b : Back) (c' : Crew) → GaveOut h h' s → slice_get parts (s.number - h.main.number) ≡ Some p → CameBack (CallerAs p.statements) s b → IsJoined c b c' → IsClean c'
+  joined_did : (ss : List Statement) (h h' : Hands) (s : Seat) (p : Part) (c : ReturnedSeats) (b : Back) (c' : ReturnedSeats) → GaveOut h h' s → slice_get parts (s.number - h.main.number) ≡ Some p → CameBack (CallerAs p.statements) s b → IsJoined c b c' → IsClean c'
       → (IsClean c → CallersDid parts ss h'.main h'.callers.items c) → CallersDid parts ss h.main h.callers.items c'
   joined_did ss h h' s p c b c' o e k j clean before =
       let was = before (record { started = sym j.refused ∙ clean.started; turned = j.crew clean.turned }) in
@@ -48,7 +48,7 @@ module _ (z : Cell) (parts : List Part) where
             (adds_as (CallerIn parts h.main.number) (CallerAs p.statements) s b.seat (k.did (j.back clean.turned)) (λ es x. (p, e, x)))));
       }
 
-  pub joined_crew : (ss : List Statement) (h h' : Hands) (s : Seat) (p : Part) (c : Crew) (b : Back) (c' : Crew) → AreReady z parts h → GaveOut h h' s → slice_get parts (s.number - h.main.number) ≡ Some p → CameBack (CallerAs p.statements) s b → IsJoined c b c'
+  pub joined_crew : (ss : List Statement) (h h' : Hands) (s : Seat) (p : Part) (c : ReturnedSeats) (b : Back) (c' : ReturnedSeats) → AreReady z parts h → GaveOut h h' s → slice_get parts (s.number - h.main.number) ≡ Some p → CameBack (CallerAs p.statements) s b → IsJoined c b c'
       → IsCrewOf z parts ss h' c → IsCrewOf z parts ss h c'
   joined_crew ss h h' s q c b c' r o g k j i =
       let p = given_parts h h' s r o in

@@ -1,6 +1,6 @@
 -- The seats of a new cell, dealt; and what a whole run begins and ends with.
 use Rattle.std.proofs.lemmas.Bool.Decides.{nat_tests}
-use Rattle.workload_runners.proofs.Names.{[], ◌++◌, ◌+◌, ◌-◌, ◌<◌, ◌∙◌, ◌∷◌, ◌≡◌, ◌≤◌, All, All-cons, All-nil, All-push, AllDid, AllHands, AreAllReady, Bool, Cell, Close, Counts, Crew, Dealt, Final, GivesMain, HasPart, IfErr, IfOk, IfOk-weaker, IsClean, IsComplete, IsEnded, IsIdle, IsOf, IsRun, IsWholeCrewOf, Journal, JournalOf, JournaledTerms, KeptAs, Legal, List, NodeEntry, Part, RefusedAs, Result, RunBy, RunError, RunOf, Seat, State, Statement, Terms, Workload, accepted_end, all_of, ap, append_assoc, arith, counts_next, drop, entry, fresh-drop, fresh-take, fresh_seat, fresh_seats, get_or, if◌then◌else◌, is_dropped, is_refused, journal_run, journal_seats, kept, length, next, no_counts, opening, refl, skipped, slice_index, subst, suc, sym, take, terms_for, true, zero, ℕ}
+use Rattle.workload_runners.proofs.Names.{[], ◌++◌, ◌+◌, ◌-◌, ◌<◌, ◌∙◌, ◌∷◌, ◌≡◌, ◌≤◌, All, All-cons, All-nil, All-push, AllDid, AllHands, AreAllReady, Bool, Cell, Close, Counts, ReturnedSeats, Dealt, Final, GivesMain, HasPart, IfErr, IfOk, IfOk-weaker, IsClean, IsComplete, IsEnded, IsIdle, IsOf, IsRun, IsWholeCrewOf, Journal, JournalOf, JournaledTerms, KeptAs, Legal, List, NodeEntry, Part, RefusedAs, Result, RunBy, RunError, RunOf, Seat, State, Statement, Terms, Workload, accepted_end, all_of, ap, append_assoc, arith, counts_next, drop, entry, fresh-drop, fresh-take, fresh_seat, fresh_seats, get_or, if◌then◌else◌, is_dropped, is_refused, journal_run, journal_seats, kept, length, next, no_counts, opening, refl, skipped, slice_index, subst, suc, sym, take, terms_for, true, zero, ℕ}
 use Rattle.std.proofs.Common.{Ok}
 use Rattle.mtapi_machine.specs.declared.replies.Reply.TheVariants as reply
 use Rattle.workload_runners.specs.declared.run.RunError.TheVariants as error
@@ -59,7 +59,7 @@ all_ready z w m parts a d count few =
 
 -- What the crew did, where nobody had to stop
 
-pub crew_came : (z : Cell) (w m : ℕ) (parts : List Part) (ss : List Statement) (a : AllHands) (c c' : Crew) → Dealt z w m a → IsWholeCrewOf z parts ss a c → IsEnded Final c c' → IsClean c' → Came z w m parts ss c'
+pub crew_came : (z : Cell) (w m : ℕ) (parts : List Part) (ss : List Statement) (a : AllHands) (c c' : ReturnedSeats) → Dealt z w m a → IsWholeCrewOf z parts ss a c → IsEnded Final c c' → IsClean c' → Came z w m parts ss c'
 crew_came z w m parts ss a c c' d i e clean =
     let was = i.did (record { started = sym e.refused ∙ clean.started; turned = e.turned clean.turned }) in
     came z w m parts ss c c'
@@ -67,7 +67,7 @@ crew_came z w m parts ss a c c' d i e clean =
     (subst (λ (xs : List Seat). AllDid parts ss a.hands.main xs (fresh_seats z.terms z.id 0 w) c) d.callers
     (subst (λ (xs : List Seat). AllDid parts ss a.hands.main a.hands.callers.items xs c) d.workers was))) e clean
 
-pub crew_complete : (z : Cell) (w m : ℕ) (parts : List Part) (ss : List Statement) (a : AllHands) (c c' : Crew) → Dealt z w m a → IsWholeCrewOf z parts ss a c → IsEnded Final c c' → (t : JournaledTerms) → journal_seats t ≡ w + (m + 1) → IsClean c' → IsComplete (journal_seats t) (c'.others.items ++ c'.main ∷ [])
+pub crew_complete : (z : Cell) (w m : ℕ) (parts : List Part) (ss : List Statement) (a : AllHands) (c c' : ReturnedSeats) → Dealt z w m a → IsWholeCrewOf z parts ss a c → IsEnded Final c c' → (t : JournaledTerms) → journal_seats t ≡ w + (m + 1) → IsClean c' → IsComplete (journal_seats t) (c'.others.items ++ c'.main ∷ [])
 crew_complete z w m parts ss a c c' d i e t n clean = came_complete z w m parts ss c' (crew_came z w m parts ss a c c' d i e clean) (journal_seats t) n
 
 -- The journal of a closed cell is a run of the workload
@@ -86,7 +86,7 @@ beside_each s counts (e ∷ L) =
 last : (xs : List NodeEntry) (x : NodeEntry) (ys zs : List NodeEntry) → xs ++ x ∷ (ys ++ zs) ≡ (xs ++ x ∷ ys) ++ zs
 last xs x ys zs = sym (append_assoc xs (x ∷ ys) zs)
 
-pub run_is : (load : Workload) (z : Cell) (m : ℕ) (p : Part) (ps : List Part) (c : Crew) (j : Journal) → load.parts ≡ p ∷ ps → m ≡ length ps → z.terms.node ≡ terms_for load → Came z load.settings.workers m (p ∷ ps) p.statements c → JournalOf z c j → IsRun load j
+pub run_is : (load : Workload) (z : Cell) (m : ℕ) (p : Part) (ps : List Part) (c : ReturnedSeats) (j : Journal) → load.parts ≡ p ∷ ps → m ≡ length ps → z.terms.node ≡ terms_for load → Came z load.settings.workers m (p ∷ ps) p.statements c → JournalOf z c j → IsRun load j
 run_is load z m p ps c j e n t x k =
     let parts_count : length load.parts ≡ length (p ∷ ps) = ap (λ (l : List Part). length l) e in
     let workers_are : z.terms.node.settings.workers ≡ load.settings.workers = ap (λ (u : Terms). u.settings.workers) t in
@@ -117,18 +117,18 @@ run_is load z m p ps c j e n t x k =
           (ends.closes ∙ last ends.before (entry main Close reply.Ok) ends.behind (entry main Final reply.Ok ∷ []));
     }
 
-pub of_cell : (z : Cell) (c : Crew) → IsOf z c → all_of (λ (s : Seat). s.cell ≡ z.id) (c.others.items ++ c.main ∷ [])
+pub of_cell : (z : Cell) (c : ReturnedSeats) → IsOf z c → all_of (λ (s : Seat). s.cell ≡ z.id) (c.others.items ++ c.main ∷ [])
 of_cell z c i = each_of (λ (s : Seat). s.cell ≡ z.id) (c.others.items ++ c.main ∷ []) (All-push (λ (s : Seat). s.cell ≡ z.id) c.others.items c.main i.others i.main)
 
 -- A run that was refused
 
-pub refused_is : (c : Crew) (r : Result Journal RunError) → RefusedAs c r → is_refused r ≡ c.refused
+pub refused_is : (c : ReturnedSeats) (r : Result Journal RunError) → RefusedAs c r → is_refused r ≡ c.refused
 refused_is c r e1 = grind (arith, nat_tests)
 
 pub counts_as : (b d : Bool) (before after : ℕ) → b ≡ d → Counts d before after → Counts b before after
 counts_as b d before after e x = subst (λ (i : Bool). Counts i before after) (sym e) x
 
-pub gives_main : (z : Cell) (w m n : ℕ) (parts : List Part) (ss : List Statement) (a : AllHands) (c c' : Crew) (r : Result Journal RunError) → w ≡ n → Dealt z w m a → IsWholeCrewOf z parts ss a c → (c.refused ≡ true → c' ≡ c) → c'.refused ≡ c.refused → RefusedAs c' r → IfErr r (GivesMain n)
+pub gives_main : (z : Cell) (w m n : ℕ) (parts : List Part) (ss : List Statement) (a : AllHands) (c c' : ReturnedSeats) (r : Result Journal RunError) → w ≡ n → Dealt z w m a → IsWholeCrewOf z parts ss a c → (c.refused ≡ true → c' ≡ c) → c'.refused ≡ c.refused → RefusedAs c' r → IfErr r (GivesMain n)
 gives_main z w m n parts ss a c c' r e1 e2 e3 e4 e5 e6 = grind (arith, nat_tests)
 
 -- How a run begins
@@ -156,7 +156,7 @@ first_part [] p l e = absurd (omega arith)
 first_part (q ∷ qs) p l e = (qs, ap (λ (x : Part). x ∷ qs) (sym e))
 
 -- and what it gives
-pub ran : (load : Workload) (z : Cell) (w m : ℕ) (parts : List Part) (ss : List Statement) (p : Part) (qs : List Part) (a : AllHands) (c c' : Crew) (r : Result Journal RunError) → w ≡ load.settings.workers → parts ≡ p ∷ qs → load.parts ≡ p ∷ qs → ss ≡ p.statements → m ≡ length qs → z.terms.node ≡ terms_for load
+pub ran : (load : Workload) (z : Cell) (w m : ℕ) (parts : List Part) (ss : List Statement) (p : Part) (qs : List Part) (a : AllHands) (c c' : ReturnedSeats) (r : Result Journal RunError) → w ≡ load.settings.workers → parts ≡ p ∷ qs → load.parts ≡ p ∷ qs → ss ≡ p.statements → m ≡ length qs → z.terms.node ≡ terms_for load
     → Dealt z w m a → IsWholeCrewOf z parts ss a c → IsEnded Final c c' → IfOk r (JournalOf z c') → IfOk r (IsRun load)
 ran load z w m parts ss p qs a c c' r we pe le se me te d i e h = IfOk-weaker r (JournalOf z c') (IsRun load) (λ j k. run_is load z m p qs c' j le me te (shown k.clean) k) h
   where

@@ -1,5 +1,5 @@
 -- What came back of the seats of a new cell, and what the closed cell's history is worth then.
-use Rattle.workload_runners.proofs.Names.{[], ◌++◌, ◌+◌, ◌<◌, ◌∙◌, ◌∷◌, ◌≡◌, ◌≤◌, AddsOwn, AllDid, AllZip, CallerIn, Cell, Crew, Has, HasSeenMore, IsClean, IsComplete, IsEnded, IsSeatOf, Knows, Legal, List, MainAs, NodeEntry, Part, Reply, Seat, Statement, WorkerAs, all_has, all_of, ap, append_assoc, arith, entries_of, entry, fresh_in, fresh_seat, fresh_seats, has_back, has_front, inl, numbered_has, refl, subst, sym, zip_has, ℕ}
+use Rattle.workload_runners.proofs.Names.{[], ◌++◌, ◌+◌, ◌<◌, ◌∙◌, ◌∷◌, ◌≡◌, ◌≤◌, AddsOwn, AllDid, AllZip, CallerIn, Cell, ReturnedSeats, Has, HasSeenMore, IsClean, IsComplete, IsEnded, IsSeatOf, Knows, Legal, List, MainAs, NodeEntry, Part, Reply, Seat, Statement, WorkerAs, all_has, all_of, ap, append_assoc, arith, entries_of, entry, fresh_in, fresh_seat, fresh_seats, has_back, has_front, inl, numbered_has, refl, subst, sym, zip_has, ℕ}
 use Rattle.mtapi_machine.specs.declared.ops.Op.TheVariants as op
 use Rattle.workload_runners.proofs.Adds.{all_own, adds_more, all_more}
 use Rattle.workload_runners.proofs.Meets.{zip_front, each_of, met_zip, known_more}
@@ -7,7 +7,7 @@ use Rattle.workload_runners.proofs.OwnParts.{MainCuts, known_front, has_longer, 
 use Rattle.workload_runners.proofs.WholeRun.{Known, KnownSeat, is_worker, is_main, is_caller, is_none, place_of}
 
 -- what came back of w workers, main and m further callers
-pub record Came (z : Cell) (w m : ℕ) (parts : List Part) (ss : List Statement) (c : Crew) : Type 0 where
+pub record Came (z : Cell) (w m : ℕ) (parts : List Part) (ss : List Statement) (c : ReturnedSeats) : Type 0 where
   pub callers : List Seat
   pub workers : List Seat
   pub others : c.others.items ≡ callers ++ workers
@@ -28,7 +28,7 @@ module _ {A : Type 0} where
   each_back F [] ys a = a
   each_back F (x ∷ xs) ys a = each_back F xs ys a.1
 
-pub came : (z : Cell) (w m : ℕ) (parts : List Part) (ss : List Statement) (c c' : Crew) → AllDid parts ss (fresh_seat z.terms z.id w) (fresh_seats z.terms z.id (w + 1) m) (fresh_seats z.terms z.id 0 w) c → IsEnded op.Final c c' → IsClean c' → Came z w m parts ss c'
+pub came : (z : Cell) (w m : ℕ) (parts : List Part) (ss : List Statement) (c c' : ReturnedSeats) → AllDid parts ss (fresh_seat z.terms z.id w) (fresh_seats z.terms z.id (w + 1) m) (fresh_seats z.terms z.id 0 w) c → IsEnded op.Final c c' → IsClean c' → Came z w m parts ss c'
 came z w m parts ss c c' d e clean =
     let x = e.ended clean in
     let main0 : Seat = fresh_seat z.terms z.id w in
@@ -77,7 +77,7 @@ known_seat R z k m all H M T seats is y =
       place = has_longer k m.seen M T (entries_of k H) (known_front k H m.seen (M ++ T) y.knows.prefix (entries_of k H) y.knows.begins prefix is refl);
     }
 
-module _ (z : Cell) (w m : ℕ) (parts : List Part) (ss : List Statement) (c : Crew) (x : Came z w m parts ss c) where
+module _ (z : Cell) (w m : ℕ) (parts : List Part) (ss : List Statement) (c : ReturnedSeats) (x : Came z w m parts ss c) where
   abbrev all : List Seat
   all = c.others.items ++ c.main ∷ []
 

@@ -13,7 +13,7 @@ use Rattle.mtapi_machine.specs.Moves.{Move}
 use Rattle.mtapi_values.specs.declared.statuses.MrapiStatus.TheVariants as caller
 
 -- what a reply to a look says, where no task of the state has failed late and no mutex is too deep
-pub record Says (w : Wanted) (s : State) (last : Bool) (r : Reply) : Type 0 where
+pub record AnswersLook (w : Wanted) (s : State) (last : Bool) (r : Reply) : Type 0 where
   -- the last look isn't answered Pending, and what isn't Pending is kept by every journal
   pub pending : IsTimed w → last ≡ true → is_pending r ≡ false
   pub stays : is_pending r ≡ false → (alike : Bool) → drops alike r ≡ false
@@ -38,21 +38,21 @@ not_spent_caller read c e1 = grind (arith, nat_tests)
 module _ {w : Wanted} {s : State} where
   -- statuses other than that for the end of the time, and that an op was done
 
-  code : {last : Bool} (c : MtapiStatus) → is_timeout (reply.Mtapi c) ≡ false → found w (reply.Mtapi c) ≡ true → Says w s last (reply.Mtapi c)
+  code : {last : Bool} (c : MtapiStatus) → is_timeout (reply.Mtapi c) ≡ false → found w (reply.Mtapi c) ≡ true → AnswersLook w s last (reply.Mtapi c)
   code c t f = record { pending = λ i e. refl; stays = λ e b. refl; early = λ v e. t; found = λ v d e. f }
 
-  mcode : {last : Bool} (c : MrapiStatus) → is_timeout (reply.Mrapi c) ≡ false → found w (reply.Mrapi c) ≡ true → Says w s last (reply.Mrapi c)
+  mcode : {last : Bool} (c : MrapiStatus) → is_timeout (reply.Mrapi c) ≡ false → found w (reply.Mrapi c) ≡ true → AnswersLook w s last (reply.Mrapi c)
   mcode c t f = record { pending = λ i e. refl; stays = λ e b. refl; early = λ v e. t; found = λ v d e. f }
 
-  ok : {last : Bool} → found w reply.Ok ≡ true → Says w s last reply.Ok
+  ok : {last : Bool} → found w reply.Ok ≡ true → AnswersLook w s last reply.Ok
   ok f = record { pending = λ i e. refl; stays = λ e b. refl; early = λ v e. refl; found = λ v d e. f }
 
   -- too early, and at the last look too late
 
-  waits : Says w s false reply.Pending
+  waits : AnswersLook w s false reply.Pending
   waits = record { pending = λ i e. absurd (cc); stays = λ e b. absurd (cc); early = λ v e. refl; found = λ v d e. absurd (cc) }
 
-  late : (r : Reply) → is_pending r ≡ false → ((alike : Bool) → drops alike r ≡ false) → found w r ≡ true → Says w s true r
+  late : (r : Reply) → is_pending r ≡ false → ((alike : Bool) → drops alike r ≡ false) → found w r ≡ true → AnswersLook w s true r
   late r p d f = record { pending = λ i e. p; stays = λ e b. d b; early = λ v e. absurd (cc); found = λ v i e. f }
 
 -- no end of these is late
@@ -103,7 +103,7 @@ faults_plain (x ∷ es) a = first_plain x.end (first_fault es) a.0 (faults_plain
 key_found : (n : ℕ) → n ≤ 64 → says mrapi key (reply.Number (pos (n + 1))) ≡ true
 key_found n l = ap (λ (b : Bool). is_some (cond b (Some (n + 1)) None)) (lt-ltb (n + 1) (2 ^ 32) (omega arith))
 
-says_by : (w : Wanted) (s : State) (who : ℕ) (last : Bool) (r : Reply) (ms : List Move) → Answers s who (op_of w last) r ms → Says w s last r
+says_by : (w : Wanted) (s : State) (who : ℕ) (last : Bool) (r : Reply) (ms : List Move) → Answers s who (op_of w last) r ms → AnswersLook w s last r
 says_by (want.Task t) s who _ _ _ (is.refuses o c e) = code c (not_timeout c e) (not_spent ended c e)
 says_by (want.Task t) s who _ _ _ (is.looks_early _ x f u d) = waits
 says_by (want.Task t) s who _ _ _ (is.looks_last _ x f u d) = late _ refl (λ b. refl) refl
@@ -143,5 +143,5 @@ says_by (want.Rwl h writer) s who _ _ _ (is.rwl_late _ _) = late _ refl (λ b. r
 says_by (want.Rwl h writer) s who _ _ _ (is.takes_rwl _ _ last x k b) = ok refl
 says_by (want.Rwl h writer) s who _ _ _ (is.refuses o c e) = absurd (cc)
 
-pub wanted_says : (w : Wanted) (s : State) (who : ℕ) (last : Bool) (r : Reply) → Allows (row s who (op_of w last) r) r → Says w s last r
+pub wanted_says : (w : Wanted) (s : State) (who : ℕ) (last : Bool) (r : Reply) → Allows (row s who (op_of w last) r) r → AnswersLook w s last r
 wanted_says w s who last r a = says_by w s who last r _ (answered s who (op_of w last) r a)

@@ -1,5 +1,5 @@
 -- One worker's seat goes out, and comes back.
-use Rattle.workload_runners.proofs.Names.{[], ◌++◌, ◌+◌, ◌∙◌, ◌∷◌, ◌≡◌, AddsOwn, All, All-pop, AllDid, AllHands, AllZip, AllZip-push, AreAllReady, Back, CallerIn, CallersDid, CameBack, Cell, Close, Crew, GaveUp, Hands, IsClean, IsCrewOf, IsEnded, IsIdle, IsJoined, IsOf, IsWholeCrewOf, List, MainClosed, Part, Seat, Some, Statement, WorkerAs, ap, append-nil, append_assoc, arith, subst, sym, true, vec_capacity, vec_len}
+use Rattle.workload_runners.proofs.Names.{[], ◌++◌, ◌+◌, ◌∙◌, ◌∷◌, ◌≡◌, AddsOwn, All, All-pop, AllDid, AllHands, AllZip, AllZip-push, AreAllReady, Back, CallerIn, CallersDid, CameBack, Cell, Close, ReturnedSeats, GaveUp, Hands, IsClean, IsCrewOf, IsEnded, IsIdle, IsJoined, IsOf, IsWholeCrewOf, List, MainClosed, Part, Seat, Some, Statement, WorkerAs, ap, append-nil, append_assoc, arith, subst, sym, true, vec_capacity, vec_len}
 use Rattle.workload_runners.proofs.CrewLemmas.{joined_of}
 use Rattle.workload_runners.proofs.Adds.{all_more}
 use Rattle.workload_runners.proofs.Meets.{met_zip}
@@ -15,7 +15,7 @@ module _ (z : Cell) (parts : List Part) where
   given_workers a a' s r o =
       let p = All-pop (IsIdle z) a.workers.items a'.workers.items (Some s) o.items r.workers in (p.0, p.1)
 
-  all_did : (ss : List Statement) (a a' : AllHands) (s : Seat) (c : Crew) (b : Back) (c' : Crew) → GaveWorker a a' s → CameBack WorkerAs s b → IsJoined c b c' → IsClean c'
+  all_did : (ss : List Statement) (a a' : AllHands) (s : Seat) (c : ReturnedSeats) (b : Back) (c' : ReturnedSeats) → GaveWorker a a' s → CameBack WorkerAs s b → IsJoined c b c' → IsClean c'
       → (IsClean c → AllDid parts ss a'.hands.main a'.hands.callers.items a'.workers.items c) → AllDid parts ss a.hands.main a.hands.callers.items a.workers.items c'
   all_did ss a a' s c b c' o k j clean before =
       let was = before (record { started = sym j.refused ∙ clean.started; turned = j.crew clean.turned }) in
@@ -32,7 +32,7 @@ module _ (z : Cell) (parts : List Part) where
             (AllZip-push (AddsOwn WorkerAs) a'.workers.items was.worked s b.seat was.workers_did (k.did (j.back clean.turned)));
       }
 
-  pub joined_all : (ss : List Statement) (a a' : AllHands) (s : Seat) (c : Crew) (b : Back) (c' : Crew) → AreAllReady z parts a → GaveWorker a a' s → CameBack WorkerAs s b → IsJoined c b c'
+  pub joined_all : (ss : List Statement) (a a' : AllHands) (s : Seat) (c : ReturnedSeats) (b : Back) (c' : ReturnedSeats) → AreAllReady z parts a → GaveWorker a a' s → CameBack WorkerAs s b → IsJoined c b c'
       → IsWholeCrewOf z parts ss a' c → IsWholeCrewOf z parts ss a c'
   joined_all ss a a' s c b c' r o k j i =
       let p = given_workers a a' s r o in
@@ -46,7 +46,7 @@ module _ (z : Cell) (parts : List Part) where
         gave_up = λ refused. subst (λ (m : Seat). GaveUp a.hands.main m) (sym j.main) (subst (λ (h : Hands). GaveUp h.main c.main) o.hands (i.gave_up (sym j.refused ∙ refused)));
       }
 
-  ended_did : (ss : List Statement) (a : AllHands) (c c' : Crew) → a.workers.items ≡ [] → IsEnded Close c c' → IsClean c'
+  ended_did : (ss : List Statement) (a : AllHands) (c c' : ReturnedSeats) → a.workers.items ≡ [] → IsEnded Close c c' → IsClean c'
       → (IsClean c → CallersDid parts ss a.hands.main a.hands.callers.items c) → AllDid parts ss a.hands.main a.hands.callers.items a.workers.items c'
   ended_did ss a c c' none k clean before =
       let was = before (record { started = sym k.refused ∙ clean.started; turned = k.turned clean.turned }) in
@@ -60,11 +60,11 @@ module _ (z : Cell) (parts : List Part) where
         workers_did = subst (λ (xs : List Seat). AllZip (AddsOwn WorkerAs) xs []) (sym none) tt;
       }
 
-  pub ended_all : (ss : List Statement) (a : AllHands) (c c' : Crew) → a.workers.items ≡ [] → IsCrewOf z parts ss a.hands c → IsEnded Close c c' → IsOf z c' → (c.refused ≡ true → c' ≡ c) → IsWholeCrewOf z parts ss a c'
+  pub ended_all : (ss : List Statement) (a : AllHands) (c c' : ReturnedSeats) → a.workers.items ≡ [] → IsCrewOf z parts ss a.hands c → IsEnded Close c c' → IsOf z c' → (c.refused ≡ true → c' ≡ c) → IsWholeCrewOf z parts ss a c'
   ended_all ss a c c' none i k of_cell untouched = record {
     of_cell = of_cell;
     len = (let f = i.len in let q = k.len in omega arith);
     room = (let f = i.room in let q = k.capacity in omega arith);
     did = λ clean. ended_did ss a c c' none k clean i.did;
-    gave_up = λ refused. let was = sym k.refused ∙ refused in subst (λ (d : Crew). GaveUp a.hands.main d.main) (sym (untouched was)) (i.gave_up was);
+    gave_up = λ refused. let was = sym k.refused ∙ refused in subst (λ (d : ReturnedSeats). GaveUp a.hands.main d.main) (sym (untouched was)) (i.gave_up was);
   }

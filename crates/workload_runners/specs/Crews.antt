@@ -9,7 +9,7 @@ use Rattle.workload_file.specs.declared.workload.Part.{Part}
 use Rattle.mtapi_machine.specs.declared.ops.Op.TheVariants.{Close}
 use Rattle.mtapi_machine.specs.declared.replies.Reply.{Reply}
 use Rattle.workload_runners.specs.declared.crew.back.Back.{Back}
-use Rattle.workload_runners.specs.declared.crew.back.Crew.{Crew}
+use Rattle.workload_runners.specs.declared.crew.back.ReturnedSeats.{ReturnedSeats}
 use Rattle.workload_runners.specs.declared.crew.back.Hands.{Hands}
 use Rattle.workload_runners.specs.declared.crew.back.AllHands.{AllHands}
 use Rattle.turn_cell.specs.Seats.{CellView, HasSeenMore}
@@ -27,12 +27,12 @@ abbrev pub Cell : Type 0
 Cell = CellView JournaledTerms
 
 -- no start was refused, and nobody had to stop
-pub record IsClean (c : Crew) : Type 0 where
+pub record IsClean (c : ReturnedSeats) : Type 0 where
   pub started : c.refused ≡ false
   pub turned : c.stop ≡ None
 
 -- main's seat, and those of the further callers, each with what it did
-pub record CallersDid (parts : List Part) (ss : List Statement) (main : Seat) (callers : List Seat) (c : Crew) : Type 0 where
+pub record CallersDid (parts : List Part) (ss : List Statement) (main : Seat) (callers : List Seat) (c : ReturnedSeats) : Type 0 where
   pub main_did : AddsOwn (MainAs ss) main c.main
   pub called : AllZip (AddsOwn (CallerIn parts main.number)) callers c.others.items
 
@@ -50,7 +50,7 @@ pub record AreReady (z : Cell) (parts : List Part) (h : Hands) : Type 0 where
   pub room : vec_len h.callers ≤ vec_capacity h.room
 
 -- all seats of the crew are of this cell
-pub record IsOf (z : Cell) (c : Crew) : Type 0 where
+pub record IsOf (z : Cell) (c : ReturnedSeats) : Type 0 where
   pub main : c.main.cell ≡ z.id
   pub others : All (λ (s : Seat). s.cell ≡ z.id) c.others.items
 
@@ -59,7 +59,7 @@ abbrev pub GaveUp : Seat → Seat → Type 0
 GaveUp old new = ((r : Reply) × Turned old Close r new) ⊎ Unturned old new
 
 -- what is known of a crew of callers
-pub record IsCrewOf (z : Cell) (parts : List Part) (ss : List Statement) (h : Hands) (c : Crew) : Type 0 where
+pub record IsCrewOf (z : Cell) (parts : List Part) (ss : List Statement) (h : Hands) (c : ReturnedSeats) : Type 0 where
   pub of_cell : IsOf z c
   pub len : vec_len c.others ≤ vec_len h.callers
   pub room : vec_capacity h.room ≤ vec_capacity c.others
@@ -67,7 +67,7 @@ pub record IsCrewOf (z : Cell) (parts : List Part) (ss : List Statement) (h : Ha
   pub gave_up : c.refused ≡ true → GaveUp h.main c.main
 
 -- one more seat came back
-pub record IsJoined (before : Crew) (b : Back) (after : Crew) : Type 0 where
+pub record IsJoined (before : ReturnedSeats) (b : Back) (after : ReturnedSeats) : Type 0 where
   pub main : after.main ≡ before.main
   pub others : after.others.items ≡ before.others.items ++ b.seat ∷ []
   pub len : vec_len after.others ≡ vec_len before.others + 1
@@ -90,7 +90,7 @@ pub record AreMet (old new : Seat) (before after : List Seat) : Type 0 where
   pub knows : All (Knows new) after
 
 -- main met all seats, and then made this call; where a start was refused, nothing is said
-pub record IsEnded (o : Op) (before after : Crew) : Type 0 where
+pub record IsEnded (o : Op) (before after : ReturnedSeats) : Type 0 where
   pub len : vec_len after.others ≡ vec_len before.others
   pub capacity : vec_capacity after.others ≡ vec_capacity before.others
   pub refused : after.refused ≡ before.refused
@@ -108,7 +108,7 @@ pub record MainClosed (ss : List Statement) (old : Seat) (callers : List Seat) (
   pub closed : Turned met Close reply new
 
 -- main's seat, and those of the further callers and then of the workers, each with what it did
-pub record AllDid (parts : List Part) (ss : List Statement) (main : Seat) (callers workers : List Seat) (c : Crew) : Type 0 where
+pub record AllDid (parts : List Part) (ss : List Statement) (main : Seat) (callers workers : List Seat) (c : ReturnedSeats) : Type 0 where
   pub called : List Seat
   pub worked : List Seat
   pub whole : c.others.items ≡ called ++ worked
@@ -127,7 +127,7 @@ pub record AreAllReady (z : Cell) (parts : List Part) (a : AllHands) : Type 0 wh
   pub room : vec_len a.workers + vec_len a.hands.callers ≤ vec_capacity a.hands.room
 
 -- what is known of a whole crew
-pub record IsWholeCrewOf (z : Cell) (parts : List Part) (ss : List Statement) (a : AllHands) (c : Crew) : Type 0 where
+pub record IsWholeCrewOf (z : Cell) (parts : List Part) (ss : List Statement) (a : AllHands) (c : ReturnedSeats) : Type 0 where
   pub of_cell : IsOf z c
   pub len : vec_len c.others ≤ vec_len a.workers + vec_len a.hands.callers
   pub room : vec_capacity a.hands.room ≤ vec_capacity c.others

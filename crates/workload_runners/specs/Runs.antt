@@ -15,7 +15,7 @@ use Rattle.node_core.specs.Logs.{KeptAs}
 use Rattle.workload_runs.specs.RunOf.{RunOf}
 use Rattle.workload_runs.specs.Whole.{RunBy}
 use Rattle.history_law.specs.Accepted.{TasksEndOnce}
-use Rattle.workload_runners.specs.declared.crew.back.Crew.{Crew}
+use Rattle.workload_runners.specs.declared.crew.back.ReturnedSeats.{ReturnedSeats}
 use Rattle.workload_runners.specs.declared.crew.back.AllHands.{AllHands}
 use Rattle.workload_runners.specs.declared.run.RunError.{RunError}
 use Rattle.workload_runners.specs.declared.run.RunError.TheVariants as error
@@ -70,7 +70,7 @@ GivesMain w (error.Refused main) = (main.number ≡ w) × MadeNone main
 GivesMain w _ = Unit {0}
 
 -- a run is refused exactly where its crew was, and gives the crew's main seat back
-abbrev pub RefusedAs : Crew → Result Journal RunError → Type 0
+abbrev pub RefusedAs : ReturnedSeats → Result Journal RunError → Type 0
 RefusedAs c (Err (error.Refused main)) = (c.refused ≡ true) × (main ≡ c.main)
 RefusedAs c _ = c.refused ≡ false
 
@@ -85,7 +85,7 @@ pub record Dealt (z : Cell) (w m : ℕ) (a : AllHands) : Type 0 where
   pub room : w + m + 1 ≤ vec_capacity a.hands.room
 
 -- the crew had no reason to stop, and the journal is that of the history of its cell
-pub record JournalOf (z : Cell) (c : Crew) (j : Journal) : Type 0 where
+pub record JournalOf (z : Cell) (c : ReturnedSeats) (j : Journal) : Type 0 where
   pub clean : IsClean c
   pub history : List NodeEntry
   pub legal : Legal z.terms.node history

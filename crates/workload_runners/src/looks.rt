@@ -8,7 +8,7 @@ use mtapi_values::Timeout;
 use node_core::{Journaled, Op, Reply};
 use std::sync::Wait;
 use turn_cell::{Spent, TurnCell, TurnSeat};
-use turn_looks::Wanted as Looks;
+use turn_looks::LookFor;
 use workload_runs::Wanted;
 
 // What the loop of looks asks for a call.
@@ -17,7 +17,7 @@ struct Awaited {
     wanted: Wanted,
 }
 
-impl Looks<Journaled> for Awaited {
+impl LookFor<Journaled> for Awaited {
     ghost use Rattle.std.specs.Prelude.{Bool};
     ghost use Rattle.mtapi_machine.specs.declared.replies.Reply.TheVariants.{Pending};
     ghost use Rattle.workload_runs.specs.Wants.{op_of};

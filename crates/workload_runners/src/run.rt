@@ -8,7 +8,7 @@ ghost use Rattle.workload_runners.specs.Crews.{IsOf, IsClean};
 ghost use Rattle.workload_runners.specs.Runs.{terms_for, IsRun, Causes, Dealt, JournalOf, RefusedAs, GivesMain, is_refused};
 ghost use Rattle.workload_runners.specs.Reasons.{HasReason};
 
-use crate::crew::back::{AllHands, Crew, Hands};
+use crate::crew::back::{AllHands, Hands, ReturnedSeats};
 use crate::crew::workers::{end_with, start_workers};
 use crate::statements::Stop;
 use action_fn::ActionSource;
@@ -105,7 +105,7 @@ fn with_main(
 }
 
 // Closes the cell, where nobody had to stop.
-fn journal_after(cell: TurnCell<Journaled>, crew: Crew) -> Result<RunJournal, RunError>
+fn journal_after(cell: TurnCell<Journaled>, crew: ReturnedSeats) -> Result<RunJournal, RunError>
     requires of_cell { IsOf cell crew }
     requires keeps { cell.terms.keeps ≡ true }
     requires room { vec_len crew.others < vec_capacity crew.others }
@@ -113,7 +113,7 @@ fn journal_after(cell: TurnCell<Journaled>, crew: Crew) -> Result<RunJournal, Ru
     ensures journal { IfOk result (JournalOf cell crew) }
     ensures refused { RefusedAs crew result }
 {
-    let Crew {
+    let ReturnedSeats {
         main,
         others,
         refused,

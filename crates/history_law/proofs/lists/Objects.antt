@@ -2,7 +2,7 @@
 use Rattle.history_law.proofs.Names.{◌≡◌, ℕ, ◌≤◌, true, List, [], ◌∷◌, ◌++◌, refl, sym, ◌∙◌, subst, ObjectKind, Op, Handle, Listed, listed, issue, Action, new_action, Task, NewTask, new_task, State, FieldsOf, objects_of, Move, starts_task, is_fresh, apply, after_moves, new_queue, NodeEntry, IsNext, next, LegalFrom, after_from, IsMade, StartsTask, Legal-rest, after-append, along, issues, ◌+◌, Answers, answered}
 use Rattle.mtapi_values.specs.declared.handles.ObjectKind.TheVariants as kind
 use Rattle.mtapi_machine.specs.declared.ops.Op.TheVariants as op
-use Rattle.history_law.specs.Words.{makes as makes_kind}
+use Rattle.history_law.specs.Words.{makes_object}
 use Rattle.mtapi_machine.specs.Answers as is
 use Rattle.history_law.proofs.Ages.{SameFields, SameAction, SameTask, SameQueue, kind_move, listed_ages, Under, under_issue, under_none, under_ages, same_task}
 use Rattle.history_law.proofs.Reuse.{fresh_unlisted, fresh_apart, listed_issue_some, issued_as}
@@ -42,7 +42,7 @@ StartedAs s o h t = (n : NewTask) × StartsTask n o × HasObject kind.Task h (Sa
 new_start : (s : State) (o : Op) (h : ℕ) (n : NewTask) → StartsTask n o → is_fresh (objects_of kind.Task) s h ≡ true → StartedAs s o h (after_moves (starts_task h n ∷ []) s)
 new_start s o h n b e = (n, b, has_new h (SameTask (new_task n s.starts)) (new_task n s.starts) s.tasks (fresh_unlisted kind.Task s h e) (same_task (new_task n s.starts)), refl)
 
-start_by : (s : State) (who : ℕ) (o : Op) (h : ℕ) (ms : List Move) → makes_kind kind.Task o ≡ true → Answers s who o (Handle h) ms → StartedAs s o h (after_moves ms s)
+start_by : (s : State) (who : ℕ) (o : Op) (h : ℕ) (ms : List Move) → makes_object kind.Task o ≡ true → Answers s who o (Handle h) ms → StartedAs s o h (after_moves ms s)
 start_by s who o _ _ e (is.starts job args priority cores detached group h f) = new_start s o h _ refl f.fresh
 start_by s who o _ _ e (is.enqueues q args cores detached group h x d p f n) = new_start s o h _ (x, refl) f.fresh
 start_by s who _ _ _ e _ = true_false e refl
@@ -59,7 +59,7 @@ abbrev pub MadeAs : Op → ℕ → State → Type 0
 MadeAs (op.ActionCreate job k cores) h t = HasObject kind.Action h (SameAction (new_action job k cores.0)) t
 MadeAs _ h t = ⊥
 
-make_by : (s : State) (who : ℕ) (o : Op) (h : ℕ) (ms : List Move) → makes_kind kind.Action o ≡ true → Answers s who o (Handle h) ms → MadeAs o h (after_moves ms s)
+make_by : (s : State) (who : ℕ) (o : Op) (h : ℕ) (ms : List Move) → makes_object kind.Action o ≡ true → Answers s who o (Handle h) ms → MadeAs o h (after_moves ms s)
 make_by s who _ _ _ e (is.creates_action job k cores h f) = has_new h (SameAction (new_action job k cores.0)) (new_action job k cores.0) s.actions (fresh_unlisted kind.Action s h f) (record { job = refl; kind = refl; cores = refl })
 make_by s who _ _ _ e _ = true_false e refl
 
@@ -72,7 +72,7 @@ abbrev pub QueueAs : Op → ℕ → State → Type 0
 QueueAs (op.QueueCreate id job priority limit ordered retain) h t = HasObject kind.Queue h (SameQueue (new_queue id job priority limit ordered retain)) t
 QueueAs _ h t = ⊥
 
-queue_by : (s : State) (who : ℕ) (o : Op) (h : ℕ) (ms : List Move) → makes_kind kind.Queue o ≡ true → Answers s who o (Handle h) ms → QueueAs o h (after_moves ms s)
+queue_by : (s : State) (who : ℕ) (o : Op) (h : ℕ) (ms : List Move) → makes_object kind.Queue o ≡ true → Answers s who o (Handle h) ms → QueueAs o h (after_moves ms s)
 queue_by s who _ _ _ e (is.creates_queue id job priority limit ordered retain h n f) =
     has_new h (SameQueue (new_queue id job priority limit ordered retain)) (new_queue id job priority limit ordered retain) s.queues (fresh_unlisted kind.Queue s h f) (record { job = refl; priority = refl; ordered = refl })
 queue_by s who _ _ _ e _ = true_false e refl

@@ -2,7 +2,7 @@
 use Rattle.history_law.proofs.Names.{◌≡◌, ℕ, zero, suc, ◌+◌, ◌<◌, ◌≤◌, Bool, true, false, List, [], ◌∷◌, Option, Some, None, refl, subst, arith, ◌==◌, ◌-◌, ◌&&◌, nat_lt, length, replicate, slice_index, slice_set, nat_tests, length-set, Terms, Op, Reply, Handle, live_object, listed, Sem, new_sem, total, sem_busy, sem_taken, sem_given, State, NodeEntry, Legal, some_same, entries_that, says_ok, looks_at_sem, unlocks_sem, gets_sem, gives_sem, by_seat, SemsKeepTo, limit_of, Legal-prefix, Answers, Move, after_moves}
 use Rattle.mtapi_values.specs.declared.handles.ObjectKind.TheVariants as kind
 use Rattle.mtapi_machine.specs.declared.ops.Op.TheVariants as op
-use Rattle.history_law.specs.Words.{makes as makes_object}
+use Rattle.history_law.specs.Words.{makes_object}
 use Rattle.history_law.proofs.Answered.{true_false}
 use Rattle.history_law.proofs.lists.Handles.{OnceIn}
 use Rattle.history_law.proofs.locks.Locks.{Lock, LockStep, FitIn, count_in, has_in, as_step, step_same, step_quiet, step_gets, step_gives, step_leaves, step_beside, New, new_lock, Kind, none_got, counts_with, counts_any}

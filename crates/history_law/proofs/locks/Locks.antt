@@ -1,6 +1,6 @@
 -- Locks that seats get and give back: what each entry does to one, and so every list of entries. A kind of lock says what is counted of it.
 use Rattle.history_law.proofs.Names.{nat_tests, ◌≡◌, ℕ, ◌+◌, ◌<◌, ◌≤◌, Bool, true, false, List, [], ◌∷◌, ◌++◌, Option, Some, None, refl, sym, ap, subst, arith, zero, suc, ◌==◌, ◌&&◌, Listed, live_object, listed, issue, change, with_fields, gone, Handle, Terms, State, FieldsOf, objects_of, opening, seats, Move, after_moves, NodeEntry, IsNext, next, LegalFrom, Legal, after_from, after, Legal-front, Legal-rest, entries_that, some_entry, issues, by_seat, limit_of, MadeWith, ObjectKind, Op, fst_true, along, Answers, and-false, answered}
-use Rattle.history_law.specs.Words.{makes as makes_object}
+use Rattle.history_law.specs.Words.{makes_object}
 use Rattle.history_law.proofs.Accepted.{stands_after}
 use Rattle.history_law.proofs.lists.AtHandles.{at_unlisted, at_issue_here, at_issue_other, where_changed, where_retired}
 use Rattle.history_law.proofs.lists.Counts.{one_if, counts_along, counts_behind, passes}

@@ -1,5 +1,5 @@
 -- What each move leaves of the tallies of a cell: what they wrote, what they read, the mutex that they name, and how they ended.
-use Rattle.history_law.proofs.Names.{arith, nat_tests, ◌≡◌, ℕ, Bool, true, false, cond, List, Option, ◌⊎◌, inl, inr, refl, ◌∙◌, ap, subst, ◌==◌, ◌&&◌, not, ℤ, pos, option_map, Failed, Op, Listed, with_fields, gone, is_member, freed, let_go, Mutex, Segment, Task, Notes, TallyNotes, Running, is_unended, with_state, with_notes, ended, new_task, tally_args, cell_in, number_in, State, Move, Segments, starts_task, runs_task, ends_task, ends_waiting, withdraws, notes, leaves, frees_members, lets_members_go, makes, alters, removes, apply, IsMade, makes_kind, fst_true, rest_keeps, is_tally_end, record_of, is_completed, sum_of}
+use Rattle.history_law.proofs.Names.{arith, nat_tests, ◌≡◌, ℕ, Bool, true, false, cond, List, Option, ◌⊎◌, inl, inr, refl, ◌∙◌, ap, subst, ◌==◌, ◌&&◌, not, ℤ, pos, option_map, Failed, Op, Listed, with_fields, gone, is_member, freed, let_go, Mutex, Segment, Task, Notes, TallyNotes, Running, is_unended, with_state, with_notes, ended, new_task, tally_args, cell_in, number_in, State, Move, Segments, starts_task, runs_task, ends_task, ends_waiting, withdraws, notes, leaves, frees_members, lets_members_go, makes, alters, removes, apply, IsMade, makes_of_sort, fst_true, rest_keeps, is_tally_end, record_of, is_completed, sum_of}
 use Rattle.history_law.proofs.Answered.{true_false}
 use Rattle.history_law.proofs.SeatMoves.{May, MayEnd, Noted, Does, is_tally_lock, is_tally_read, is_tally_write, writes_cells, EndsTally}
 use Rattle.history_law.proofs.TaskMoves.{IsKept, same_found}
@@ -107,7 +107,7 @@ module _ (S C : ℕ) where
   abbrev pub cells_of : List (Listed Segment) → Option (List ℤ)
   cells_of l = option_map (λ (x : Segment). x.cells) (record_of l S)
 
-  pub cells_move : (v : Option (List ℤ)) (who : ℕ) (o : Op) → makes_kind Segments o ≡ false → writes_cells o ≡ false → (s : State) (x : Move) → IsMade s o x → May s who o x → cells_of s.segments ≡ v → cells_of (apply x s).segments ≡ v
+  pub cells_move : (v : Option (List ℤ)) (who : ℕ) (o : Op) → makes_of_sort Segments o ≡ false → writes_cells o ≡ false → (s : State) (x : Move) → IsMade s o x → May s who o x → cells_of s.segments ≡ v → cells_of (apply x s).segments ≡ v
   cells_move v who o m n s (makes Segments j x) i k e = true_false i.by m
   cells_move v who o m n s (alters Segments j f) i k e = by_cells k
     where

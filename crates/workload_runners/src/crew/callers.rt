@@ -6,7 +6,7 @@ ghost use Rattle.workload_runners.specs.Turns.{SameSeat, AddsOwn};
 ghost use Rattle.workload_runners.specs.Carries.{OpensAs, MainAs};
 ghost use Rattle.workload_runners.specs.Crews.{AreReady, IsCrewOf, IsJoined, CameBack, GaveUp};
 
-use crate::crew::back::{Back, Crew, Hands, stopped};
+use crate::crew::back::{Back, Hands, ReturnedSeats, stopped};
 use crate::crew::jobs::CallerJob;
 use crate::statements::{Stop, carry_out};
 use node_core::{Journaled, Op};
@@ -78,7 +78,7 @@ fn main_part<R: Wait>(
     parts: &[Part],
     statements: &[Statement],
     hands: Hands,
-) -> Crew
+) -> ReturnedSeats
     requires ready { AreReady cell.now parts.now hands }
     requires none { hands.callers.items ≡ [] }
     ensures crew { IsCrewOf cell.now parts.now statements.now hands result }
@@ -95,7 +95,7 @@ fn main_part<R: Wait>(
         None => seat,
         Some(_) => closed(rt, cell, seat),
     };
-    Crew {
+    ReturnedSeats {
         main,
         others: room,
         refused: false,
@@ -134,7 +134,7 @@ pub(crate) fn give_up<R: Wait>(
     parts: &[Part],
     statements: &[Statement],
     hands: Hands,
-) -> Crew
+) -> ReturnedSeats
     requires ready { AreReady cell.now parts.now hands }
     ensures crew { IsCrewOf cell.now parts.now statements.now hands result }
     ensures refused { result.refused ≡ true }
@@ -146,7 +146,7 @@ pub(crate) fn give_up<R: Wait>(
         callers: _,
         room,
     } = hands;
-    Crew {
+    ReturnedSeats {
         main: closed(rt, cell, main),
         others: room,
         refused: true,
@@ -155,11 +155,11 @@ pub(crate) fn give_up<R: Wait>(
 }
 
 // The crew with one more seat that came back.
-pub(crate) fn joined(crew: Crew, back: Back) -> Crew
+pub(crate) fn joined(crew: ReturnedSeats, back: Back) -> ReturnedSeats
     requires { vec_len crew.others < vec_capacity crew.others }
     ensures { IsJoined crew back result }
 {
-    let Crew {
+    let ReturnedSeats {
         main,
         mut others,
         refused,
@@ -167,7 +167,7 @@ pub(crate) fn joined(crew: Crew, back: Back) -> Crew
     } = crew;
     let Back { seat, stop: other } = back;
     let _ = others.push(seat);
-    Crew {
+    ReturnedSeats {
         main,
         others,
         refused,
@@ -187,7 +187,7 @@ pub(crate) fn start_callers<B: Beside, R: StartsThreads + Wait + Sync>(
     statements: &[Statement],
     beside: &mut B,
     hands: Hands,
-) -> Crew
+) -> ReturnedSeats
     requires ready { AreReady cell.now parts.now hands }
     ensures crew { IsCrewOf cell.now parts.now statements.now hands result }
     ensures counts { Counts result.refused (B.refusals beside.old) (B.refusals beside.new) }
@@ -209,7 +209,7 @@ pub(crate) fn start_callers<B: Beside, R: StartsThreads + Wait + Sync>(
         rt,
         job,
         hands,
-        |beside: &mut B, hands: Hands| -> Crew
+        |beside: &mut B, hands: Hands| -> ReturnedSeats
             requires { AreReady cell.now parts.now hands × IsSync R.row }
             ensures crew { IsCrewOf cell.entry.now parts.entry.now statements.entry.now hands result }
             ensures counts { Counts result.refused (B.refusals beside.old) (B.refusals beside.new) }

@@ -5,7 +5,7 @@ ghost use Rattle.run_beside.specs.Pairs.{Counts};
 ghost use Rattle.workload_runners.specs.Turns.{Seat};
 ghost use Rattle.workload_runners.specs.Crews.{AreAllReady, IsWholeCrewOf, IsOf, IsEnded, AreMet};
 
-use crate::crew::back::{AllHands, Crew};
+use crate::crew::back::{AllHands, ReturnedSeats};
 use crate::crew::callers::{give_up, joined, start_callers};
 use crate::crew::jobs::WorkerJob;
 use crate::statements::Stop;
@@ -20,7 +20,12 @@ use turn_looks::turn;
 use workload_file::{Part, Statement};
 
 /// Main meets all seats that have come back, and then makes this call. Where a start was refused nothing is done.
-pub(crate) fn end_with<R: Wait>(rt: &R, cell: &TurnCell<Journaled>, crew: Crew, op: Op) -> Crew
+pub(crate) fn end_with<R: Wait>(
+    rt: &R,
+    cell: &TurnCell<Journaled>,
+    crew: ReturnedSeats,
+    op: Op,
+) -> ReturnedSeats
     requires of_crew { IsOf cell.now crew }
     ensures ended { IsEnded op crew result }
     ensures of_cell { IsOf cell.now result }
@@ -34,12 +39,17 @@ pub(crate) fn end_with<R: Wait>(rt: &R, cell: &TurnCell<Journaled>, crew: Crew, 
     ended
 }
 
-fn end_all<R: Wait>(rt: &R, cell: &TurnCell<Journaled>, crew: Crew, op: Op) -> Crew
+fn end_all<R: Wait>(
+    rt: &R,
+    cell: &TurnCell<Journaled>,
+    crew: ReturnedSeats,
+    op: Op,
+) -> ReturnedSeats
     requires of_crew { IsOf cell.now crew }
     ensures ended { IsEnded op crew result }
     ensures of_cell { IsOf cell.now result }
 {
-    let Crew {
+    let ReturnedSeats {
         mut main,
         mut others,
         refused,
@@ -47,13 +57,13 @@ fn end_all<R: Wait>(rt: &R, cell: &TurnCell<Journaled>, crew: Crew, op: Op) -> C
     } = crew;
     meet_all(cell, &mut main, &mut others);
     match turn(rt, cell, &mut main, op) {
-        Ok(_) => Crew {
+        Ok(_) => ReturnedSeats {
             main,
             others,
             refused,
             stop,
         },
-        Err(spent) => Crew {
+        Err(spent) => ReturnedSeats {
             main,
             others,
             refused,
@@ -88,7 +98,7 @@ pub(crate) fn start_workers<S: ActionSource, B: Beside, R: StartsThreads + Wait 
     acts: &mut S,
     beside: &mut B,
     all: AllHands,
-) -> Crew
+) -> ReturnedSeats
     requires ready { AreAllReady cell.now parts.now all }
     ensures crew { IsWholeCrewOf cell.now parts.now statements.now all result }
     ensures counts { Counts result.refused (B.refusals beside.old) (B.refusals beside.new) }
@@ -110,7 +120,7 @@ pub(crate) fn start_workers<S: ActionSource, B: Beside, R: StartsThreads + Wait 
         rt,
         job,
         all,
-        |beside: &mut B, all: AllHands| -> Crew
+        |beside: &mut B, all: AllHands| -> ReturnedSeats
             requires { AreAllReady cell.now parts.now all × IsSync R.row }
             ensures crew { IsWholeCrewOf cell.entry.now parts.entry.now statements.entry.now all result }
             ensures counts { Counts result.refused (B.refusals beside.old) (B.refusals beside.new) }

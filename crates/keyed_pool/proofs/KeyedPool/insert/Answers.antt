@@ -1,15 +1,15 @@
 use Rattle.std.proofs.Common.{vec_len, vec_capacity}
 use Rattle.std.specs.Prelude.{slice_index_or}
 use Rattle.std.proofs.lemmas.List.{get_or_default}
-use Rattle.keyed_pool.specs.declared.Entry.{Entry}
+use Rattle.keyed_pool.specs.declared.IndexEntry.{IndexEntry}
 use Rattle.keyed_pool.proofs.IndexLemmas.{found_live, spare, IsIndexed-grown}
 use Rattle.keyed_pool.proofs.KeyedPool.insert.Goals as goal
 
 pub returns-in-Ok-clause-refused : goal.returns-in-Ok-clause-refused
 returns-in-Ok-clause-refused g c =
     let entries = c.self.inside.entries.items in
-    let none : Entry = record { id = 0; handle = 0 } in
-    let e : Entry = slice_index_or entries c.in-Ok.field-0 none in
+    let none : IndexEntry = record { id = 0; handle = 0 } in
+    let e : IndexEntry = slice_index_or entries c.in-Ok.field-0 none in
     let located = rw (c.deref.ensures.value, c.id-id.ensures) at c.in-Ok.ensures in
     let live = found_live g.T.HasId.id_of c.self.inside.pool entries _ _ c.self.invariant _ c.in-Ok.field-0 e located (get_or_default entries c.in-Ok.field-0 none e located.0) in
     rw (← c.self.view_is) (e.handle, live.0, live.1, live.2)

@@ -1,4 +1,4 @@
-use Rattle.journal_check.proofs.Names.{◌≡◌, ◌<◌, Bool, false, None, Decides, subst, sym, ◌∙◌, Reply, Terms, after, Node, seat_count, is_full_of, refusal_of, Judges}
+use Rattle.journal_check.proofs.Names.{◌≡◌, ◌<◌, Bool, false, None, Decides, subst, sym, ◌∙◌, Reply, Terms, after, PoolNode, seat_count, is_full_of, refusal_of, Judges}
 use Rattle.std.proofs.lemmas.Result.{IfOk-weaker}
 use Rattle.node_steps.specs.Stands.{terms_of}
 use Rattle.journal_check.proofs.Creates.{judged_full, judges_same, judges_from}
@@ -13,7 +13,7 @@ returns-then-is_full c =
     (subst (λ (r : Reply). Decides c.same_reply.result (e.reply ≡ r)) c.limit_of.ensures c.same_reply.ensures) (λ L h. c.is_full.ensures.full L h ∙ c.if-is_full.true))
 
 pub make-requires-clause-seat : goal.make-requires-clause-seat
-make-requires-clause-seat c = subst (λ (n : Node). c.args.entry.now.who < seat_count (terms_of n)) (sym c.is_full.ensures.same.node) c.requires.seat
+make-requires-clause-seat c = subst (λ (n : PoolNode). c.args.entry.now.who < seat_count (terms_of n)) (sym c.is_full.ensures.same.node) c.requires.seat
 
 pub make-requires-clause-room : goal.make-requires-clause-room
 make-requires-clause-room c = (c.requires.room.0, c.is_full.ensures.same.there c.requires.room.0 c.requires.room.1, c.requires.room.2)
