@@ -1,13 +1,16 @@
 //! How each task ended, by the entries of a journal.
-ghost use Rattle.std.specs.Prelude.{◌≡◌, ◌≤◌, ℕ, IsTrue, IfOk, OnOk, None, nat_eq};
+ghost use Rattle.std.specs.Prelude.{◌≡◌, ◌≤◌, ℕ, IsTrue, IfOk, OnOk, Some, None, true, nat_eq};
 ghost use Rattle.std.specs.HashMap.{get};
-ghost use Rattle.run_report.specs.Seen.{nothing_seen, seen_from};
+ghost use Rattle.mtapi_machine.specs.WorkRows.{task_end};
+ghost use Rattle.run_report.specs.Changes.{change_of};
+ghost use Rattle.run_report.specs.Seen.{nothing_seen, put, seen_from};
 ghost use Rattle.run_report.specs.Ends.{names_each_end, with_named_end, AreEnds};
 
 use crate::changes::{EndEffect, change_of};
 use crate::short_ends::ShortEnd;
 use crate::standings::{Standings, standings_of};
-use mtapi_machine::Entry;
+use action_fn::Finished;
+use mtapi_machine::{Entry, Op, Reply};
 use std::alloc::{AllocError, Global};
 use std::collections::HashMap;
 
@@ -37,6 +40,63 @@ fn note_named_end(
     Ok(())
 }
 
+// Notes how a task ended whose action answered.
+fn note_finish(
+    alloc: Global,
+    ended: &mut HashMap<u64, ShortEnd>,
+    task: u64,
+    done: &Finished,
+) -> Result<(), AllocError>
+    ensures { OnOk result ((h : ℕ)
+        → get nat_eq ended.new h ≡ put task (Some (task_end done.now.end)) (get nat_eq ended.old) h) }
+{
+    ended.insert(task, ShortEnd::answered(alloc, done.end())?)?;
+    Ok(())
+}
+
+// Notes the end that an entry names, if it names one. Whether the entry ends no other task. The three entries of a task that ran are looked
+// at first: of these the last alone names an end.
+#[tactic(auto, unfolding(crate::specs::Changes::change_of, crate::specs::Ends::names_each_end, crate::specs::Ends::with_named_end))]
+fn note_entry(
+    alloc: Global,
+    ended: &mut HashMap<u64, ShortEnd>,
+    entry: &Entry,
+) -> Result<bool, AllocError>
+    ensures one { IfOk result (λ one. IsTrue one
+        → names_each_end (change_of entry.now.op entry.now.reply) ≡ true) }
+    ensures noted { IfOk result (λ one. IsTrue one
+        → (h : ℕ) → get nat_eq ended.new h ≡ with_named_end (change_of entry.now.op entry.now.reply) (get nat_eq ended.old) h) }
+{
+    match (&entry.op, &entry.reply) {
+        (Op::Pick, Reply::Picked { .. }) => Ok(true),
+        (Op::TaskStart { .. }, Reply::Handle(_)) => Ok(true),
+        (Op::Finish { task, done }, Reply::Ok) => {
+            note_finish(alloc, ended, task.0, done)?;
+            Ok(true)
+        }
+        _ => note_change(alloc, ended, entry),
+    }
+}
+
+// The same for every entry, by what it changes.
+fn note_change(
+    alloc: Global,
+    ended: &mut HashMap<u64, ShortEnd>,
+    entry: &Entry,
+) -> Result<bool, AllocError>
+    ensures one { IfOk result (λ one. IsTrue one
+        → names_each_end (change_of entry.now.op entry.now.reply) ≡ true) }
+    ensures noted { IfOk result (λ one. IsTrue one
+        → (h : ℕ) → get nat_eq ended.new h ≡ with_named_end (change_of entry.now.op entry.now.reply) (get nat_eq ended.old) h) }
+{
+    let change = change_of(entry);
+    if !names_each_end(&change) {
+        return Ok(false);
+    }
+    note_named_end(alloc, ended, change)?;
+    Ok(true)
+}
+
 // Notes each end that an entry names, up to the first entry that may end other tasks. Whether there is none.
 fn note_named_ends(
     alloc: Global,
@@ -48,11 +108,9 @@ fn note_named_ends(
         → AreEnds (get nat_eq ended.new) (seen_from workers nothing_seen entries.now)) }
 {
     for entry in entries {
-        let change = change_of(entry);
-        if !names_each_end(&change) {
+        if !note_entry(alloc, ended, entry)? {
             return Ok(false);
         }
-        note_named_end(alloc, ended, change)?;
     }
     Ok(true)
 }

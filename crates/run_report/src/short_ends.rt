@@ -1,8 +1,10 @@
 //! Ends of tasks that take little room.
 ghost use Rattle.std.specs.Prelude.{◌≡◌, ◌∷◌, [], IfOk, IfSome};
 ghost use Rattle.mtapi_values.specs.declared.ends.TaskEnd.TheVariants.{Completed};
+ghost use Rattle.mtapi_machine.specs.WorkRows.{task_end};
 ghost use Rattle.run_report.specs.ShortEnds.{in_full};
 
+use action_fn::ActEnd;
 use mtapi_values::{Args, MtapiStatus, TaskEnd};
 use std::alloc::{AllocError, Global};
 use std::marker::Model;
@@ -40,31 +42,33 @@ fn one_number(number: i64) -> TaskEnd
     TaskEnd::Completed(numbers)
 }
 
-// The number, where the end is an answer of one number.
-fn only_number(end: &TaskEnd) -> Option<i64>
-    ensures { IfSome result (λ number. end.now ≡ Completed (number ∷ [])) }
+// The number, where there is one alone.
+fn only_number(numbers: &Args) -> Option<i64>
+    ensures { IfSome result (λ number. numbers.now ≡ number ∷ []) }
 {
-    match end {
-        TaskEnd::Completed(numbers) => match numbers.as_slice() {
-            [number] => Some(*number),
-            _ => None,
-        },
-        TaskEnd::Cancelled | TaskEnd::Failed(_) => None,
+    match numbers.as_slice() {
+        [number] => Some(*number),
+        _ => None,
+    }
+}
+
+// The end of a task that answered these numbers.
+fn short_answer(alloc: Global, numbers: Args) -> Result<Short, AllocError>
+    ensures { IfOk result (λ short. in_full short ≡ Completed numbers) }
+{
+    match only_number(&numbers) {
+        Some(number) => Ok(Short::Number(number)),
+        None => Ok(Short::Full(Box::new(alloc, TaskEnd::Completed(numbers))?)),
     }
 }
 
 fn short_of(alloc: Global, end: TaskEnd) -> Result<Short, AllocError>
     ensures { IfOk result (λ short. in_full short ≡ end) }
 {
-    if let Some(number) = only_number(&end) {
-        return Ok(Short::Number(number));
-    }
     match end {
         TaskEnd::Cancelled => Ok(Short::Cancelled),
         TaskEnd::Failed(status) => Ok(Short::Failed(status)),
-        TaskEnd::Completed(numbers) => {
-            Ok(Short::Full(Box::new(alloc, TaskEnd::Completed(numbers))?))
-        }
+        TaskEnd::Completed(numbers) => short_answer(alloc, numbers),
     }
 }
 
@@ -78,6 +82,21 @@ impl ShortEnd {
         ensures { IfOk result (λ short. short ≡ end) }
     {
         let short = short_of(alloc, end)?;
+        Ok(ShortEnd { short })
+    }
+
+    /// In short how a task ends whose action answered so.
+    ///
+    /// # Errors
+    ///
+    /// - `AllocError`: as for `new`.
+    pub fn answered(alloc: Global, end: ActEnd) -> Result<ShortEnd, AllocError>
+        ensures { IfOk result (λ short. short ≡ task_end end) }
+    {
+        let short = match end {
+            ActEnd::Done(numbers) => short_answer(alloc, numbers)?,
+            ActEnd::Fails(status) => Short::Failed(status),
+        };
         Ok(ShortEnd { short })
     }
 

@@ -1,4 +1,5 @@
-use Rattle.run_report.proofs.Names.{sym, ◌∙◌, nat_eq, get}
+use Rattle.run_report.proofs.Names.{refl, nat_eq, get}
+use Rattle.run_report.specs.Changes.{change_of}
 use Rattle.run_report.proofs.NamedEnds.{named_none, named_next}
 use Rattle.run_report.proofs.ends.note_named_ends.Goals as goal
 
@@ -8,6 +9,6 @@ loop-entry-init c = λ workers. named_none workers (get nat_eq c.args.ended.now)
 pub loop-entry-preserved : goal.loop-entry-preserved
 loop-entry-preserved c =
     λ workers.
-    named_next workers c.loop-entry.entry-index c.args.entries.now c.entry-item.result c.change_of-change.result (get nat_eq c.loop-entry.ended) (get nat_eq c.note_named_end.new.ended)
-    c.loop-entry-test.true c.entry-item.is c.change_of-change.ensures (sym c.names_each_end.ensures ∙ c.if-not-names_each_end.false)
-    (c.loop-entry.invariant workers) c.in_ok-note_named_end.ensures
+    named_next workers c.loop-entry.entry-index c.args.entries.now c.entry-item.result (change_of c.entry-item.result.op c.entry-item.result.reply) (get nat_eq c.loop-entry.ended) (get nat_eq c.note_entry.new.ended)
+    c.loop-entry-test.true c.entry-item.is refl (c.in_ok-note_entry.ensures.one c.if-not-branch.false)
+    (c.loop-entry.invariant workers) (c.in_ok-note_entry.ensures.noted c.if-not-branch.false)
