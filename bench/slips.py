@@ -37,6 +37,7 @@ from common import TOP
 
 SLIPS = os.path.join(TOP, "bench", "slips")
 SECONDS = 900  # that one check or one run may take
+SHOWN = 200  # letters of a complaint
 COMPLAINT = re.compile(r"^(\S+?):\d+:\d+: error: (.*)$", re.M)
 NOT_DECIDED = re.compile(r"declarations? that depends? on")
 
@@ -217,7 +218,7 @@ def main():
         for slip in sorted(slips, key=lambda slip: (slip.refused_by, slip.name)):
             word, why = tried(folder, slip)
             counts[word] += 1
-            print(f"{word:8} {slip.name}: {slip.say} ({slip.refused_by}: {why})", flush=True)
+            print(f"{word:8} {slip.name}: {slip.say} ({slip.refused_by}: {why[:SHOWN]})", flush=True)
     print(f"{counts['refused']} refused, {counts['PROVES']} prove, {counts['BAD SLIP']} bad")
     return 0 if counts["refused"] == len(slips) else 1
 
