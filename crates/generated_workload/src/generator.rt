@@ -1,6 +1,5 @@
 //! The workload that is generated.
-ghost use Rattle.std.specs.Prelude.{◌≡◌, ◌≤◌, ◌<◌, ◌++◌, ◌∷◌, [], ℤ, List, pos, Some, None, OnOk, IfOk, IsTrue};
-ghost use Rattle.workload_file.specs.Values.{is_name};
+ghost use Rattle.std.specs.Prelude.{◌≡◌, ◌≤◌, ◌<◌, ◌++◌, ◌∷◌, [], ℤ, List, pos, Some, None, OnOk, IfOk};
 ghost use Rattle.workload_file.specs.Formed.{WellFormed};
 ghost use Rattle.generated_workload.specs.Generated.{binding, all_cores, first_statements, start, task_deed, task_name, task_statement, tasks, last_statement, generated_settings, generated};
 
@@ -8,17 +7,6 @@ use mtapi_values::{Args, Kind, Mask, NodeAttr, Timeout};
 use number_text::push_number;
 use std::alloc::{AllocError, Global};
 use workload_file::{Deed, Name, Part, PartList, Statement, StatementList, Workload};
-
-/// The name that these bytes are.
-fn named(text: &[u8]) -> Name
-    requires { IsTrue (is_name text.now) }
-    ensures { result ≡ text.now }
-{
-    let Some(name) = Name::new(text) else {
-        unreachable!()
-    };
-    name
-}
 
 fn binding(line: u64, name: Name, deed: Deed) -> Statement
     ensures { result ≡ binding line name deed }
@@ -38,7 +26,7 @@ fn task_name(alloc: Global, text: &mut Vec<u8>, i: u32) -> Result<Name, AllocErr
     text.clear();
     text.push(b't')?;
     push_number(alloc, text, u64::from(i))?;
-    Ok(named(text))
+    Ok(Name::known(text))
 }
 
 /// A task of this job in the group.
@@ -104,14 +92,14 @@ fn first_statements(alloc: Global) -> Result<StatementList, AllocError>
         kind: Kind::Add,
         cores: Mask::init(true),
     };
-    list.push(binding(2, named(b"a"), add))?;
+    list.push(binding(2, Name::known(b"a"), add))?;
     let triangle = Deed::Action {
         job: 2,
         kind: Kind::Triangle,
         cores: Mask::init(true),
     };
-    list.push(binding(3, named(b"b"), triangle))?;
-    list.push(binding(4, named(b"g"), Deed::Group))?;
+    list.push(binding(3, Name::known(b"b"), triangle))?;
+    list.push(binding(4, Name::known(b"g"), Deed::Group))?;
     Ok(list)
 }
 
@@ -170,7 +158,7 @@ fn made(alloc: Global, n: u32, workers: u32) -> Result<Workload, AllocError>
     let mut parts = PartList::new(alloc);
     parts.push(Part {
         line: 0,
-        name: named(b"main"),
+        name: Name::known(b"main"),
         statements,
     })?;
     Ok(Workload {

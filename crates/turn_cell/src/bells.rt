@@ -1,10 +1,23 @@
 //! A bell: threads sleep until it rings. It changes nothing that a clause speaks of, and no clause says that a sleep ends.
+use std::hint;
 use std::sync::Wait;
 use std::sync::atomic::{AtomicU64, Ordering};
 use std::time::Duration;
 
 /// So long a sleep is at most, in microseconds, while one of those that belong to the bell may be awake.
 pub const SHORT_SLEEP: u64 = 1_000;
+
+// So often a thread that spins looks whether the bell has rung: for some ten microseconds.
+const MOST_SPINS: u32 = 200;
+
+// Nobody spins.
+const NOBODY: u64 = 0;
+
+// Somebody spins, and hears the next ring by itself.
+const SPINS: u64 = 1;
+
+// Somebody spins, for whom the bell has rung.
+const HEARS: u64 = 2;
 
 /// A bell, how many threads belong to it, and how many of them listen for it.
 #[derive(Drop)]
@@ -16,6 +29,8 @@ pub struct Bell {
     long: AtomicU64,
     // How often there may have been work since one that was awake last took some, while others listened.
     missed: AtomicU64,
+    // Whether somebody spins, and whether the bell has rung for it.
+    spinner: AtomicU64,
 }
 
 impl Bell {
@@ -26,6 +41,7 @@ impl Bell {
             listeners: AtomicU64::new(0),
             long: AtomicU64::new(0),
             missed: AtomicU64::new(0),
+            spinner: AtomicU64::new(NOBODY),
         }
     }
 
@@ -82,6 +98,30 @@ impl Bell {
         }
     }
 
+    // Changes the word of the one that spins from one value to another. Whether it had the first.
+    fn turn_spinner(&self, from: u64, to: u64) -> bool {
+        let found = self
+            .spinner
+            .compare_exchange(from, to, Ordering::SeqCst, Ordering::SeqCst);
+        found.is_ok()
+    }
+
+    /// Spins for some ten microseconds at most, until it has rung since, and tells how often it has rung: to be woken
+    /// takes longer. One thread at a time spins, so that one processor at most is kept from others; a further one comes
+    /// back at once.
+    pub fn spin(&self, rings: u64) -> u64 {
+        if self.turn_spinner(NOBODY, SPINS) {
+            for _ in 0..MOST_SPINS {
+                if self.rings.load(Ordering::SeqCst) != rings {
+                    break;
+                }
+                hint::spin_loop();
+            }
+            self.spinner.store(NOBODY, Ordering::SeqCst);
+        }
+        self.rings.load(Ordering::SeqCst)
+    }
+
     /// Sleeps where it hasn't rung since, for so many microseconds at most, and tells how often it has rung.
     pub fn sleep<R: Wait>(&self, rt: &R, rings: u64, micros: u64) -> u64 {
         if micros > SHORT_SLEEP {
@@ -95,14 +135,17 @@ impl Bell {
         self.rings.load(Ordering::SeqCst)
     }
 
-    /// Rings, and wakes one thread that sleeps; all, where somebody may sleep long, so that none comes late.
+    /// Rings, and wakes one thread that sleeps, unless one spins, which hears it by itself; all, where somebody may sleep
+    /// long, so that none comes late.
     pub fn ring(&self) {
         if self.long.load(Ordering::SeqCst) != 0 {
             self.ring_all();
             return;
         }
         self.rings.fetch_add(1, Ordering::SeqCst);
-        self.rings.wake_one();
+        if !self.turn_spinner(SPINS, HEARS) {
+            self.rings.wake_one();
+        }
     }
 
     /// Rings, and wakes all threads that sleep.

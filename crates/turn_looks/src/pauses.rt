@@ -35,6 +35,8 @@ pub struct Pause {
     asleep: AtomicU64,
     // How often the bell had rung when it was last heard, while it listens.
     heard: Option<u64>,
+    // Whether it has spun on the bell, since there was something to do.
+    spun: bool,
 }
 
 impl Pause {
@@ -57,6 +59,7 @@ impl Pause {
             left,
             asleep: AtomicU64::new(0),
             heard: None,
+            spun: false,
         }
     }
 
@@ -71,6 +74,7 @@ impl Pause {
         self.short = 0;
         self.micros = 1;
         self.idle = SHORT_SLEEP;
+        self.spun = false;
     }
 
     // The length of a sleep that this bell ends: a millisecond while somebody that belongs to it is awake, who may not ring for all work,
@@ -85,7 +89,8 @@ impl Pause {
         length
     }
 
-    /// Waits once for a bell: it spins, then listens, and then sleeps until it rings. True where it begins to listen.
+    /// Waits once for a bell: it spins, then listens, then spins until it rings, which asks for no turn, and then sleeps
+    /// until it rings. True where it begins to listen.
     pub fn wait_for<R: Wait>(&mut self, rt: &R, bell: &Bell) -> bool {
         if self.short < SPINS {
             self.short += 1;
@@ -96,6 +101,11 @@ impl Pause {
             None => {
                 self.heard = Some(bell.listen());
                 true
+            }
+            Some(rings) if !self.spun => {
+                self.spun = true;
+                self.heard = Some(bell.spin(rings));
+                false
             }
             Some(rings) => {
                 let micros = self.length(bell);

@@ -104,7 +104,7 @@ fn bound_name(naming: Naming, name: &[u8]) -> Option<Name>
     ensures { result ≡ bound_name naming name.now }
 {
     match naming {
-        Naming::Binds(_) => Name::new(name),
+        Naming::Binds(_) => Some(Name::known(name)),
         Naming::Bare | Naming::Caller | Naming::Uses(_) => None,
     }
 }
@@ -123,7 +123,7 @@ fn change_with(
 {
     match word {
         Word::Node => LineEffect::Node(settings_with(values)),
-        Word::Caller => LineEffect::Caller(Name::new(name).unwrap()),
+        Word::Caller => LineEffect::Caller(Name::known(name)),
         _ => LineEffect::Statement(Statement {
             line,
             name: bound_name(word.naming(), name),

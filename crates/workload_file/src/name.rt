@@ -65,9 +65,18 @@ impl Name {
         if !is_name(text) {
             return None;
         }
+        Some(Name::known(text))
+    }
+
+    /// The name of these bytes, which were found to be one, so that they aren't looked at again. It takes no memory.
+    #[tactic(auto, unfolding(crate::specs::Values::is_name))]
+    pub fn known(text: &[u8]) -> Name
+        requires { IsTrue (is_name text.now) }
+        ensures { result ≡ text.now }
+    {
         let mut name = ArrayVec::new();
         let _ = name.try_extend_from_slice(text);
-        Some(Name { text: name })
+        Name { text: name }
     }
 
     /// The bytes of the name, 1 to 16. It takes no memory.
