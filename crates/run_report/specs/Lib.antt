@@ -11,3 +11,4 @@ pub mod Summary
 pub mod RunReplies
 pub mod ShortEnds
 pub mod Ends
+pub mod WorkedLines

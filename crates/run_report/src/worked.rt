@@ -1,8 +1,10 @@
 //! Facts on the definition of the report. Each function does nothing: its contract is the fact.
 
 ghost use Rattle.run_report.specs.Worked.{WorkedReports};
+ghost use Rattle.run_report.specs.WorkedLines.{WorkedLines};
 
-/// Worked reports.
+/// Worked reports, and the lines of which they are made.
 pub fn worked_reports()
-    ensures { WorkedReports }
+    ensures reports { WorkedReports }
+    ensures lines { WorkedLines }
 {}

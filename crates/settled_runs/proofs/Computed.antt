@@ -3,7 +3,7 @@ use Rattle.settled_runs.proofs.Names.{refl, digits, fits, answer_of, numbers_tex
 
 pub worked_settled : WorkedSettled
 unfolding has_begin digits fits answer_of report totals totals_text with_tasks with_parts with_plain_tasks with_plain_parts plain_summary one_task after_from live_of issue change listed issued_at retired is_full may_issue has_worker end_each is_ready can_take has_better decided further_told end_at shown_of task_lines_of task_name call_lines_of numbers_text end_text task_in plain_end plain_fault faults_behind plain_call_line plain_calls_from plain_report is_settled_deed are_settled sets_up_first has_one_kind_a_job has_different_ids keep_limits have_one_fault_a_group is_settled is_begin
-worked_settled = record { failing_settled = refl; failing_report = refl; failing_summary = refl; shared_settled = refl; shared_report = refl; sum_settled = refl; sum_report = refl; sum_summary = refl; two_actions = refl; begin_alone = refl }
+worked_settled = record { failing_settled = refl; failing_report = refl; failing_summary = refl; shared_settled = refl; shared_report = refl; sum_settled = refl; sum_report = refl; sum_summary = refl; two_actions = refl; priority_one = refl; all_room = refl; two_waits = refl; begin_alone = refl }
 
 pub worked_unsettled : WorkedUnsettled
 unfolding has_begin digits fits answer_of report one_task after_from live_of issue change listed issued_at retired is_full may_issue has_worker end_each is_ready can_take has_better decided further_told end_at shown_of task_lines_of task_name call_lines_of numbers_text end_text task_in plain_end plain_fault faults_behind plain_call_line plain_calls_from plain_report is_settled_deed are_settled sets_up_first has_one_kind_a_job has_different_ids keep_limits have_one_fault_a_group is_settled is_begin

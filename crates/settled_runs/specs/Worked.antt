@@ -98,6 +98,12 @@ pub record WorkedSettled : Type 0 where
   pub sum_report : report One sum_load one_task ≡ plain_report sum_load
   pub sum_summary : summary One sum_load one_task ≡ plain_summary sum_load
   pub two_actions : alone (action 1 kind.Add ∷ action 1 kind.Add ∷ action 2 kind.Mul ∷ start [] None ∷ []) ≡ true
+  -- a priority above 0, of a task and of a queue
+  pub priority_one : alone (action 1 kind.Add ∷ deed.Start 1 [] 1 every_core false None ∷ deed.Queue 1 1 1 1 true false ∷ deed.Enqueue 2 [] every_core false None ∷ []) ≡ true
+  -- as many actions, groups, queues and tasks as there is room for, and as many tasks of a queue as its limit
+  pub all_room : alone (action 1 kind.Add ∷ action 2 kind.Add ∷ action 3 kind.Add ∷ deed.Group ∷ deed.Group ∷ queue 1 ∷ queue 2 ∷ put 5 ∷ put 5 ∷ start [] None ∷ []) ≡ true
+  -- a wait for a task of a queue, and a wait for each of two
+  pub two_waits : alone (action 1 kind.Add ∷ queue 1 ∷ put 1 ∷ start [] None ∷ wait 3 ∷ wait 2 ∷ []) ≡ true
   pub begin_alone : alone (deed.Begin ∷ action 1 kind.Add ∷ start [] None ∷ []) ≡ true
 
 -- Others

@@ -60,6 +60,7 @@ fn is_last(cause: Cause) -> bool
 /// - `AllocError`: memory ran out.
 pub fn mistakes_of(alloc: Global, bytes: &[u8]) -> Result<Mistakes, AllocError>
     requires { length bytes.now ≤ 1048576 }
+    ensures few { IfOk result (λ m. length m.told.items ≤ 50) }
     // There is none exactly where the text is a workload.
     ensures none { IfOk result (λ m. (m.told.items ≡ []) ↔ IsWorkload bytes.now) }
     // The first is the reader's, and each other one is the reader's too when those before it are mended.

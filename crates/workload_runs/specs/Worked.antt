@@ -1,4 +1,4 @@
--- Worked calls: what each kind of statement makes, with numbers that all differ. Each is found by computing.
+-- Worked calls: what each kind of statement makes, with numbers that all differ, and what seats make. Each is found by computing.
 use Rattle.std.specs.Prelude.{◌≡◌, ℕ, true, false, List, [], ◌∷◌, pos, negsuc, Some, None}
 use Rattle.mtapi_values.specs.declared.kinds.Kind.TheVariants as kind
 use Rattle.mtapi_values.specs.declared.masks.Mask.{Mask}
@@ -7,7 +7,15 @@ use Rattle.mtapi_values.specs.declared.handles.GroupHandle.{GroupHandle}
 use Rattle.workload_file.specs.declared.workload.Deed.{Deed}
 use Rattle.workload_file.specs.declared.workload.Deed.TheVariants as deed
 use Rattle.mtapi_machine.specs.declared.ops.Op.TheVariants as op
+use Rattle.mtapi_values.specs.Timeouts.{looks_of}
+use Rattle.mtapi_values.specs.declared.ends.TaskEnd.TheVariants.{Cancelled}
+use Rattle.mtapi_values.specs.declared.statuses.MtapiStatus.TheVariants as mtapi
+use Rattle.mtapi_values.specs.declared.statuses.MrapiStatus.TheVariants as mrapi
+use Rattle.history.specs.Histories.{entry}
+use Rattle.mtapi_machine.specs.declared.replies.Reply.TheVariants as reply
 use Rattle.workload_runs.specs.Calls.{Call, Once, Looking, call_of}
+use Rattle.workload_runs.specs.Lines.{line, lines_of, before_it, looks_before, is_timeout, head_of, tail_of_main}
+use Rattle.workload_runs.specs.RunOf.{is_work, all_work}
 
 -- the handles that seven statements bound, of which the third was refused
 abbrev pub bound : List ℕ
@@ -82,9 +90,50 @@ pub record WorkedSegmentCalls : Type 0 where
   pub read : Makes (deed.Read 6 82) (Once (op.ShmemRead (record { 0 = 966 }) 82))
   pub write : Makes (deed.Write 0 83 (negsuc 84)) (Once (op.ShmemWrite (record { 0 = 900 }) 83 (negsuc 84)))
 
--- the calls of all kinds of statements
+-- the lines of a seat, in order, with their numbers; the looks of a call; and what main makes before its statements and behind them
+pub record WorkedSeats : Type 0 where
+  pub lines : lines_of 3 (entry 3 op.Enter reply.Ok ∷ entry 4 op.Enter reply.Pending ∷ entry 2 op.Pick reply.Idle ∷ entry 3 (op.QueueGet 9) (reply.Handle 911) ∷ []) (21 ∷ 22 ∷ 23 ∷ 24 ∷ []) ≡ line op.Enter reply.Ok 21 ∷ line (op.QueueGet 9) (reply.Handle 911) 24 ∷ []
+  pub none_kept : before_it (op.QueueGet 9) None ≡ []
+  pub one_kept : before_it (op.QueueGet 9) (Some 5) ≡ line (op.QueueGet 9) reply.Pending 5 ∷ []
+  pub no_look_before : looks_before None ≡ 0
+  pub looks_before_it : looks_before (Some 5) ≡ 6
+  pub one_look : looks_of timeout.NoWait ≡ Some 1
+  pub looks : looks_of (timeout.Looks 5) ≡ Some 6
+  pub no_last_look : looks_of timeout.Infinite ≡ None
+  pub mtapi_timeout : is_timeout (reply.Mtapi mtapi.Timeout) ≡ true
+  pub mrapi_timeout : is_timeout (reply.Mrapi mrapi.Timeout) ≡ true
+  pub no_timeout : is_timeout (reply.Mtapi mtapi.GroupCompleted) ≡ false
+  pub no_lock_timeout : is_timeout (reply.Mrapi mrapi.ErrSpent) ≡ false
+  pub head_with_begin : head_of true ≡ line op.Initialize reply.Ok 0 ∷ []
+  pub head_without_begin : head_of false ≡ line op.Initialize reply.Ok 0 ∷ line op.Release reply.Ok 0 ∷ []
+  pub tail : tail_of_main ≡ line op.Close reply.Ok 0 ∷ line op.Final reply.Ok 0 ∷ []
+
+-- no status is work, nor is another answer than the op's own, nor an op of a caller
+pub record WorkedWork : Type 0 where
+  pub picked : is_work op.Pick (reply.Picked (record { 0 = 1 }) (record { 0 = 2 }) kind.Add []) ≡ true
+  pub idle : is_work op.Pick reply.Idle ≡ true
+  pub stop : is_work op.Pick reply.Stop ≡ false
+  pub pick_pending : is_work op.Pick reply.Pending ≡ false
+  pub pick_refused : is_work op.Pick (reply.Mtapi mtapi.ErrParameter) ≡ false
+  pub asked_refused : is_work (op.Asked (record { 0 = 1 })) (reply.Mtapi mtapi.ErrParameter) ≡ false
+  pub watch_end_refused : is_work (op.WatchEnd (record { 0 = 1 })) (reply.Mtapi mtapi.ErrParameter) ≡ false
+  pub tally_lock_refused : is_work (op.TallyLock (record { 0 = 1 })) (reply.Mtapi mtapi.ErrParameter) ≡ false
+  pub tally_lock_pending : is_work (op.TallyLock (record { 0 = 1 })) reply.Pending ≡ true
+  pub tally_read_refused : is_work (op.TallyRead (record { 0 = 1 })) (reply.Mtapi mtapi.ErrParameter) ≡ false
+  pub tally_read_pending : is_work (op.TallyRead (record { 0 = 1 })) reply.Pending ≡ false
+  pub tally_write_refused : is_work (op.TallyWrite (record { 0 = 1 }) (pos 2)) (reply.Mtapi mtapi.ErrParameter) ≡ false
+  pub tally_end_refused : is_work (op.TallyEnd (record { 0 = 1 })) (reply.Mtapi mtapi.ErrParameter) ≡ false
+  pub look : is_work (op.TaskLook (record { 0 = 1 }) true) (reply.Ended Cancelled) ≡ false
+  pub creates : is_work op.GroupCreate (reply.Handle 1) ≡ false
+  pub closes : is_work op.Close reply.Ok ≡ false
+  pub all : all_work (line op.Pick reply.Idle 1 ∷ line (op.TallyLock (record { 0 = 1 })) reply.Pending 2 ∷ []) ≡ true
+  pub not_the_last : all_work (line op.Pick reply.Idle 1 ∷ line op.Pick reply.Stop 2 ∷ []) ≡ false
+
+-- the calls of all kinds of statements, and what seats make
 pub record WorkedCalls : Type 0 where
   pub tasks : WorkedTaskCalls
   pub groups : WorkedGroupCalls
   pub locks : WorkedLockCalls
   pub segments : WorkedSegmentCalls
+  pub seats : WorkedSeats
+  pub work : WorkedWork

@@ -1,5 +1,8 @@
-use Rattle.run_report.proofs.Computed.{worked_reports}
+use Rattle.run_report.proofs.Computed.{worked_reports, worked_lines}
 use Rattle.run_report.proofs.worked.worked_reports.Goals as goal
 
-pub returns : goal.returns
-returns c = worked_reports
+pub returns-clause-reports : goal.returns-clause-reports
+returns-clause-reports c = worked_reports
+
+pub returns-clause-lines : goal.returns-clause-lines
+returns-clause-lines c = worked_lines

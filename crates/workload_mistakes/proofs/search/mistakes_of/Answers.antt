@@ -26,6 +26,7 @@ reading-preserved c =
     let told = c.reading.told.items in
     let same = c.deref-in-Faulty-2.ensures.value ∙ c.reading.invariant.text in
     record {
+      few = omega (arith, c.in_ok-push-in-Faulty.ensures.len);
       each = rw c.in_ok-push-in-Faulty.ensures.items (one_told told m.mistake c.in-Faulty.line c.in-Faulty.cause c.args.bytes.now c.reading.text.items
           c.reading.invariant.each c.reading.invariant.text (rw c.deref.ensures.value at c.in-Faulty.ensures) m.ensures.line m.ensures.cause);
       text = rw c.in_ok-push-in-Faulty.ensures.items (c.in_ok-text-in-Faulty.ensures ∙ ap (λ (t : List ℕ). mended m.mistake t) same ∙ sym (after_one told m.mistake c.args.bytes.now));

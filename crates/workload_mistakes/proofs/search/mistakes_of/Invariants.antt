@@ -1,8 +1,9 @@
-use Rattle.workload_mistakes.proofs.Names.{◌≡◌, ◌-◌, length, after, AreFaulty}
+use Rattle.workload_mistakes.proofs.Names.{◌≡◌, ◌≤◌, ◌-◌, length, after, AreFaulty}
 use Rattle.workload_mistakes.proofs.search.mistakes_of.Given as goal
 
 abbrev pub invariant-reading : goal.invariant-reading
 invariant-reading l = record {
+  few : length l.told.items ≤ 50;
   each : AreFaulty l.told.items l.bytes;
   text : l.text.items ≡ after l.told.items l.bytes;
 }
