@@ -18,3 +18,31 @@ fn summaries(rt: HostRuntime) {
         check(&rt, rt.alloc(), &words, b"", &how, 0, LARGE, b"");
     }
 }
+
+// 7, 1 and 9.
+const SMALL: &[u8] = b"tasks 3 completed 3 cancelled 0 error 0 refused 0 sum 17\n";
+
+/// Where the words don't say, there are 4 workers, each in a thread that is started: the fifth start is none.
+#[test]
+fn workers_absent(rt: HostRuntime) {
+    let fourth = Hindrance {
+        thread_fails: 4,
+        ..unhindered()
+    };
+    let refused = b"mtapi: thread refused\n";
+    check(
+        &rt,
+        rt.alloc(),
+        &["gen", "3"],
+        b"",
+        &fourth,
+        7,
+        b"",
+        refused,
+    );
+    let fifth = Hindrance {
+        thread_fails: 5,
+        ..unhindered()
+    };
+    check(&rt, rt.alloc(), &["gen", "3"], b"", &fifth, 0, SMALL, b"");
+}
