@@ -1,4 +1,4 @@
-# The words that take files: `run`, `check`, `picture`, `trace` and `explain`. Sourced by `mtapi`.
+# The words that take files: `run`, `check`, `picture` and `explain`. Sourced by `mtapi`.
 # shellcheck shell=bash disable=SC2154,SC2034 # what isn't set here is of the script that sources this
 
 most_input=67108864 # bytes of an input; what an unproved run is given has to be shorter
@@ -158,14 +158,12 @@ take_run() {
     fi
 }
 
-# `picture` and `trace`: the words of the program, how many these are before, and the files behind them.
-draw() {
-    local words=("${@:2:$1}")
-    shift $(($1 + 1))
+# `picture [FILE [KEPT]]`.
+picture() {
     make_scratch
     on_signals true
     take_run "$@"
-    program_on mtapi_picture whole drawn "${words[@]}"
+    program_on mtapi_picture whole drawn
     show "$scratch/drawn"
     leave "$ended_with"
 }

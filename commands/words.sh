@@ -19,7 +19,6 @@ beside|verify [-v] FILE|runs the workload in FILE and checks its journal; writes
 beside|expect [-v] FILE REPORT|runs the workload in FILE; status 1 and the difference if it doesn't write REPORT
 beside|bounded [-v] FILE [LOOKS]|runs it with LOOKS looks ($default_looks if not given) in place of each timeout=inf, and names the waits that ran out
 beside|picture [FILE [KEPT]]|draws a run as an SVG: of what 'run --journal' wrote, or of the workload in FILE, which it runs unless KEPT has the journal
-beside|trace [FILE [KEPT]]|writes such a run as Trace Event JSON, which Perfetto and chrome://tracing open
 repository|test|runs every test and every program, unproved, in minutes; proves nothing
 repository|prove|proves and builds the programs, which run from then on, until a source changes, and proves the libraries on which a program of one's own stands
 repository|prove --command|proves and builds the programs alone
@@ -150,7 +149,7 @@ are_known() {
     case $word in
     -h | --help | --version | test) [ $# -eq 0 ] ;;
     run | explain) are_files 1 "$@" ;;
-    check | picture | trace) are_files 2 "$@" ;;
+    check | picture) are_files 2 "$@" ;;
     gen) { [ $# -eq 1 ] || [ $# -eq 2 ]; } && is_number "$1" "$most_tasks" && is_number "${2-1}" "$most_workers" ;;
     verify) [ $# -eq 1 ] && is_file "$1" ;;
     expect) [ $# -eq 2 ] && are_files 2 "$@" ;;
