@@ -4,7 +4,7 @@ use Rattle.std.proofs.lemmas.List.{length-append}
 use Rattle.std.proofs.lemmas.Bool.Decides.{nat_tests}
 use Rattle.std.specs.Prelude.{IfErr, IfOk}
 use Rattle.history.specs.Histories.{entry}
-use Rattle.mtapi_values.specs.Attributes.{ActionAttributes, NodeSettings, TaskAttributes}
+use Rattle.mtapi_values.specs.Attributes.{NodeSettings, TaskAttributes}
 use Rattle.mtapi_values.specs.declared.handles.ActionHandle.{ActionHandle}
 use Rattle.mtapi_values.specs.declared.handles.GroupHandle.{GroupHandle}
 use Rattle.mtapi_values.specs.declared.handles.TaskHandle.{TaskHandle}
@@ -69,17 +69,15 @@ starts_more who g place [] task n is =
 starts_more who g place (t ∷ tasks) task n is =
     ap (λ (l : List NodeEntry). entry who (TaskStart 1 (pos place ∷ []) 0 every_worker false (Some g)) (reply.Handle t) ∷ l) (starts_more who g (suc place) tasks task n (omega (arith, is)))
 
-pub started_none : (g : GroupHandle) (attr : ActionAttributes) (a b c : Seat) (x : Result ActionHandle MtapiStatus) (h : ActionHandle) (y : Result GroupHandle MtapiStatus)
-    → attr ≡ record { global = false; affinity = 18446744073709551615; domain_shared = false }
-    → Called mtapi handle (ActionCreate 1 Echo (record { 0 = attr.affinity })) a b (with_number (λ k. k.0) x) → x ≡ Ok h → Called mtapi handle GroupCreate b c (with_number (λ k. k.0) y) → y ≡ Ok g → HasStarted g 0 a c
-started_none g attr a b c x h y usual made is grouped was =
+pub started_none : (g : GroupHandle) (a b c : Seat) (x : Result ActionHandle MtapiStatus) (h : ActionHandle) (y : Result GroupHandle MtapiStatus)
+    → Called mtapi handle (ActionCreate 1 Echo every_worker) a b (with_number (λ k. k.0) x) → x ≡ Ok h → Called mtapi handle GroupCreate b c (with_number (λ k. k.0) y) → y ≡ Ok g → HasStarted g 0 a c
+started_none g a b c x h y made is grouped was =
     let create = ActionCreate 1 Echo every_worker in
-    let so : Called mtapi handle create a b (with_number (λ k. k.0) x) = subst (λ (u : ActionAttributes). Called mtapi handle (ActionCreate 1 Echo (record { 0 = u.affinity })) a b (with_number (λ k. k.0) x)) usual made in
     record {
       action = h.0;
       tasks = [];
       many = refl;
-      asked = then_given (λ (k : GroupHandle). k.0) (entry a.number create (reply.Handle h.0) ∷ []) GroupCreate a b c y g (then_given (λ (k : ActionHandle). k.0) [] create a a b x h (went_none a) so is) grouped was;
+      asked = then_given (λ (k : GroupHandle). k.0) (entry a.number create (reply.Handle h.0) ∷ []) GroupCreate a b c y g (then_given (λ (k : ActionHandle). k.0) [] create a a b x h (went_none a) made is) grouped was;
     }
 
 pub started_more : (g : GroupHandle) (n : ℕ) (attr : TaskAttributes) (a b c : Seat) (x : Result TaskHandle MtapiStatus) (t : TaskHandle)

@@ -69,3 +69,9 @@ abbrev pub FailsBy : Unfinished → (Failure → Type 0) → Type 0
 FailsBy (unfinished.Node f) P = P f
 FailsBy (unfinished.Refused refusal) P = ⊥
 FailsBy (unfinished.NoResult place) P = Unit {0}
+
+-- if a piece has no result, this holds of its place
+abbrev pub IfNoResult : Unfinished → (ℕ → Type 0) → Type 0
+IfNoResult (unfinished.Node f) P = Unit {0}
+IfNoResult (unfinished.Refused refusal) P = Unit {0}
+IfNoResult (unfinished.NoResult place) P = P place

@@ -3,8 +3,8 @@
 ghost use Rattle.std.specs.Prelude.{◌≡◌, ◌<◌, ◌^◌, Some, IfOk, IfErr, map, vec_len};
 ghost use Rattle.node_with_workers.specs.Clients.{IfRefused};
 ghost use Rattle.node_with_workers.specs.declared.failure.Failure.TheVariants.{Memory};
-ghost use Rattle.typed_pieces.specs.Places.{AreKept};
-ghost use Rattle.typed_pieces.specs.Runs.{FailsBy, HasRun, HasRunAll, RefusesPieces};
+ghost use Rattle.typed_pieces.specs.Places.{AreKept, IsFirstWithout};
+ghost use Rattle.typed_pieces.specs.Runs.{FailsBy, HasRun, HasRunAll, IfNoResult, RefusesPieces};
 
 use crate::client::PieceClient;
 use crate::node::{Worked, with_pieces};
@@ -12,7 +12,7 @@ use crate::piece::Piece;
 use crate::pieces::Pieces;
 use crate::table::Handed;
 use crate::unfinished::Unfinished;
-use mtapi_values::{ActionAttr, Kind, MtapiStatus, NodeAttr, TaskAttr, Timeout};
+use mtapi_values::{MtapiStatus, NodeAttr, TaskAttr, Timeout};
 use node_with_workers::Failure;
 use sched_workers::Caller;
 use std::alloc::Global;
@@ -44,7 +44,7 @@ impl<J: Piece> PieceClient<J> for AllPieces {
         caller: &mut Caller,
         pieces: &Pieces<L, J>,
     ) -> Result<(), MtapiStatus> {
-        caller.action_create(rt, JOB, Kind::Echo, ActionAttr::new())?;
+        pieces.action(rt, caller, JOB)?;
         let group = caller.group_create(rt)?;
         for place in 0..self.count {
             pieces.start(rt, caller, place, JOB, TaskAttr::new(), Some(group))?;
@@ -53,15 +53,23 @@ impl<J: Piece> PieceClient<J> for AllPieces {
     }
 }
 
-// The results, if each is there.
-fn all_there<D: Drop>(alloc: Global, results: Vec<Option<D>>) -> Result<Vec<D>, Unfinished>
+/// The results, if each is there.
+///
+/// # Errors
+///
+/// - `Node(Memory)`: there was none for the list of them.
+/// - `NoResult`: the result of this place isn't there, and it is the first such place.
+pub fn all_there<D: Drop>(alloc: Global, results: Vec<Option<D>>) -> Result<Vec<D>, Unfinished>
     ensures there { IfOk result (λ v. map Some v.items ≡ results.items) }
     ensures causes { IfErr result (λ u. FailsBy u (λ e. e ≡ Memory)) }
+    ensures first { vec_len results < 2 ^ 32 → IfErr result (λ u. IfNoResult u (λ place. IsFirstWithout results.items place)) }
+    ensures within { IfErr result (λ u. IfNoResult u (λ place. place < vec_len results)) }
 {
     let mut there = Vec::with_capacity(alloc, results.len())?;
     for result in results {
         let Some(done) = result else {
-            return Err(Unfinished::NoResult(there.len()));
+            let place = u32::try_from(there.len()).unwrap_or(u32::MAX);
+            return Err(Unfinished::NoResult(place));
         };
         let Ok(()) = there.push(done) else {
             return Err(Unfinished::Node(Failure::Memory));
@@ -78,7 +86,8 @@ fn all_there<D: Drop>(alloc: Global, results: Vec<Option<D>>) -> Result<Vec<D>, 
 /// # Errors
 ///
 /// - `Node`: as with `with_pieces`. `Refused` is with `ErrTaskLimit` if there are too many pieces.
-/// - `NoResult`: a task completed without a result of its piece. It doesn't occur, but no clause says so.
+/// - `NoResult`: a task completed without a result of the piece of this place, which is the first such one. It doesn't occur, but no clause
+///   says so.
 pub fn run_pieces<J: Piece + Send, R: Threads + Wait + Sync>(
     rt: &R,
     alloc: Global,
@@ -90,6 +99,7 @@ where
     ensures run { IfOk result (λ w. HasRun settings w.journal) }
     ensures awaited { vec_len pieces < 2 ^ 32 → IfOk result (λ w. HasRunAll settings (vec_len pieces) w.journal) }
     ensures causes { IfErr result (λ u. FailsBy u (λ e. IfRefused e (RefusesPieces settings))) }
+    ensures missing { IfErr result (λ u. IfNoResult u (λ place. place < vec_len pieces)) }
     ensures kept { IfOk result (λ w. AreKept J.promise pieces.items (map Some w.results.items)) }
     ensures places { IfOk result (λ w. vec_len w.results ≡ vec_len pieces) }
 {

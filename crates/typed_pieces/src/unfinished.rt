@@ -3,7 +3,7 @@
 use crate::refusal::Refusal;
 use mtapi_values::MtapiStatus;
 use node_with_workers::Failure;
-use std::alloc::AllocError;
+use std::alloc::{AllocError, AllocFailed};
 use thiserror::Error;
 
 /// Why a run of pieces gave no results.
@@ -17,7 +17,7 @@ pub enum Unfinished {
     Refused(Refusal),
     /// The piece of this place has no result. It is the first one.
     #[error("no result of piece {0}")]
-    NoResult(usize),
+    NoResult(u32),
 }
 
 impl From<Failure> for Unfinished {
@@ -39,6 +39,18 @@ impl From<AllocError> for Unfinished {
     ghost from_gives = { λ _ unfinished. unfinished ≡ Node Memory };
 
     fn from(_error: AllocError) -> Unfinished {
+        Unfinished::Node(Failure::Memory)
+    }
+}
+
+impl<T: Drop> From<AllocFailed<T>> for Unfinished {
+    ghost use Rattle.std.specs.Prelude.{◌≡◌};
+    ghost use Rattle.node_with_workers.specs.declared.failure.Failure.TheVariants.{Memory};
+    ghost use Rattle.typed_pieces.specs.declared.unfinished.Unfinished.TheVariants.{Node};
+
+    ghost from_gives = { λ _ unfinished. unfinished ≡ Node Memory };
+
+    fn from(_error: AllocFailed<T>) -> Unfinished {
         Unfinished::Node(Failure::Memory)
     }
 }

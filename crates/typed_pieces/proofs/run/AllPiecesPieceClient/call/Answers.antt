@@ -3,10 +3,10 @@ use Rattle.typed_pieces.proofs.Runs.{awaited, goes_on, started_more, started_non
 use Rattle.typed_pieces.proofs.run.AllPiecesPieceClient.call.Goals as goal
 
 pub loop-place-init : goal.loop-place-init
-loop-place-init g c = goes_on _ _ _ _ (started_none _ _ _ _ _ _ _ _ c.new.ensures c.action_create.ensures c.in_ok-action_create.was c.group_create.ensures c.in_ok-group.was)
+loop-place-init g c = goes_on _ _ _ _ (started_none _ _ _ _ _ _ _ c.action.ensures c.in_ok-action.was c.group_create.ensures c.in_ok-group.was)
 
 pub loop-place-preserved : goal.loop-place-preserved
-loop-place-preserved g c = goes_on _ _ _ _ (started_more _ _ _ _ _ _ _ _ c.new-in-loop-place.ensures c.loop-place.invariant.2 c.start.ensures c.in_ok-start.was)
+loop-place-preserved g c = goes_on _ _ _ _ (started_more _ _ _ _ _ _ _ _ c.new.ensures c.loop-place.invariant.2 c.start.ensures c.in_ok-start.was)
 
 pub returns-clause-kept : goal.returns-clause-kept
 returns-clause-kept g c =
