@@ -2,7 +2,7 @@
 //! the search, and the others are cancelled: by themselves they would look on for hours.
 #![tactic(auto)]
 
-use mtapi_values::{ActionAttr, Kind, NodeAttr, TaskAttr, TaskHandle, Timeout};
+use mtapi_values::{NodeAttr, TaskAttr, TaskHandle, Timeout};
 use sched_workers::Caller;
 use std::alloc::Global;
 use std::io;
@@ -58,16 +58,16 @@ impl PieceClient<Search> for UntilFound {
         caller: &mut Caller,
         pieces: &Pieces<L, Search>,
     ) -> Result<(), Refusal> {
-        caller.action_create(rt, JOB, Kind::Echo, ActionAttr::new())?;
+        pieces.action(rt, caller, JOB)?;
         let group = caller.group_create(rt)?;
         let mut tasks = [TaskHandle(0); WORKERS as usize];
         for place in 0..WORKERS as u32 {
             let attr = TaskAttr::new();
             tasks[place as usize] = pieces.start(rt, caller, place, JOB, attr, Some(group))?;
         }
-        let (first, _) = caller.group_wait_any(rt, group, Timeout::Infinite)?;
+        let first = pieces.wait_any(rt, caller, group, Timeout::Infinite)?;
         for other in 0..WORKERS as u32 {
-            if tasks[other as usize] != first {
+            if Some(other) != first {
                 pieces.cancel(rt, caller, other, tasks[other as usize])?;
             }
         }

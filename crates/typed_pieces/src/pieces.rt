@@ -2,18 +2,21 @@
 
 ghost use Rattle.std.specs.Prelude.{◌≡◌, [], ◌∷◌, pos, IfSome};
 ghost use Rattle.typed_pieces.specs.Places.{IsKeptAt};
-ghost use Rattle.sched_workers.specs.Answers.{Called, with_number, enqueue_of, start_of};
+ghost use Rattle.sched_workers.specs.Answers.{Called, Waited, with_number, enqueue_of, start_of};
 ghost use Rattle.workload_runners.specs.Replies.{done, handle, mtapi};
+ghost use Rattle.workload_runs.specs.declared.calls.Wanted.TheVariants.{FirstMember};
+ghost use Rattle.mtapi_values.specs.Timeouts.{looks_of};
 ghost use Rattle.mtapi_values.specs.declared.kinds.Kind.TheVariants.{Echo};
 ghost use Rattle.mtapi_machine.specs.declared.ops.Op.TheVariants.{ActionCreate, TaskCancel};
 ghost use Rattle.typed_pieces.specs.Runs.{every_worker};
+ghost use Rattle.typed_pieces.specs.Told as told;
 
 use crate::piece::Piece;
 use crate::shared::Shared;
 use crate::table::Handed;
 use mtapi_values::{
-    ActionAttr, ActionHandle, Args, GroupHandle, Kind, MtapiStatus, QueueHandle, TaskAttr,
-    TaskHandle,
+    ActionAttr, ActionHandle, Args, GroupHandle, Kind, MtapiStatus, QueueHandle, TaskAttr, TaskEnd,
+    TaskHandle, Timeout,
 };
 use sched_workers::Caller;
 use std::sync::Wait;
@@ -26,6 +29,39 @@ pub fn args_of(place: u32) -> Args
     let mut args = Args::new();
     let _ = args.push(i64::from(place));
     args
+}
+
+// This number, if it can be a place.
+#[tactic(auto, using(crate::proofs::Told::place_is))]
+fn as_place(number: i64) -> Option<u32>
+    ensures { result ≡ told.as_place number }
+{
+    u32::try_from(number).ok()
+}
+
+// The place of the piece whose task ended so.
+fn place_of(end: &TaskEnd) -> Option<u32>
+    ensures { result ≡ told.place_of end.now }
+{
+    match end {
+        TaskEnd::Completed(args) => match args.as_slice() {
+            [number] => as_place(*number),
+            _ => None,
+        },
+        _ => None,
+    }
+}
+
+// The place alone of what a wait for any member of a group gave.
+fn place_alone(
+    member: Result<(TaskHandle, TaskEnd), MtapiStatus>,
+) -> Result<Option<u32>, MtapiStatus>
+    ensures { result ≡ told.place_alone member }
+{
+    match member {
+        Ok((_, end)) => Ok(place_of(&end)),
+        Err(status) => Err(status),
+    }
 }
 
 /// The pieces of a node.
@@ -109,6 +145,25 @@ impl<'a, L: Handed<J>, J: Piece> Pieces<'a, L, J> {
         caller.task_cancel(rt, task)?;
         self.shared.cancels.add(place as usize);
         Ok(())
+    }
+
+    /// Waits until a task of this group has ended, and gives the place of its piece: each task once, in the order of their ends. It is `None` if
+    /// the task was cancelled before it began, or has other arguments than one place. Of a task of another kind than `echo`, whose piece wasn't
+    /// run, it may be any number that the kind answers.
+    ///
+    /// # Errors
+    ///
+    /// Those of `group_wait_any`.
+    pub fn wait_any<R: Wait>(
+        &self,
+        rt: &R,
+        caller: &mut Caller,
+        group: GroupHandle,
+        timeout: Timeout,
+    ) -> Result<Option<u32>, MtapiStatus>
+        ensures { Waited mtapi told.first_place (FirstMember group) (looks_of timeout) caller.old caller.new result }
+    {
+        place_alone(caller.group_wait_any(rt, group, timeout))
     }
 
     /// Takes the result of this place while the node runs, if its piece has run. It is none of the results in the end.

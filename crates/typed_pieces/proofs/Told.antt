@@ -1,0 +1,38 @@
+-- What a wait for any member of a group says of places.
+use Rattle.std.proofs.Common.{◌≡◌, ◌<◌, ◌^◌, ℕ, ℤ, pos, negsuc, Option, Some, Result, Ok, Err, inl, inr, refl, subst, sym, arith, OkIff, unsigned_abs}
+use Rattle.std.specs.Int.{FitsUnsignedBits}
+use Rattle.std.specs.Result.{result_ok}
+use Rattle.std.proofs.lemmas.Bool.Decides.{nat_tests}
+use Rattle.mtapi_values.specs.declared.ends.TaskEnd.{TaskEnd}
+use Rattle.mtapi_values.specs.declared.handles.TaskHandle.{TaskHandle}
+use Rattle.mtapi_values.specs.declared.statuses.MtapiStatus.{MtapiStatus}
+use Rattle.mtapi_machine.specs.declared.replies.Reply.{Reply}
+use Rattle.workload_runs.specs.declared.calls.Wanted.{Wanted}
+use Rattle.workload_runners.specs.Replies.{given, mtapi}
+use Rattle.workload_runners.specs.Turns.{Seat}
+use Rattle.sched_workers.specs.Answers.{Answers, Waited}
+use Rattle.typed_pieces.specs.Told.{as_place, first_place, place_alone, place_of}
+
+-- what a conversion to 32 bits gives is the place
+pub place_is : {E : Type 0} (z : ℤ) (r : Result ℕ E) → OkIff r (FitsUnsignedBits 32 z) (unsigned_abs z) → result_ok r ≡ as_place z
+place_is (pos n) (Ok x) p = let low : n < 2 ^ 32 = p.0 in let same : x ≡ n = p.1 in grind (arith, nat_tests, low, same)
+place_is (pos n) (Err e) over = grind (arith, nat_tests)
+place_is (negsuc n) (Ok x) p = absurd p.0
+place_is (negsuc n) (Err e) over = refl
+
+place_told : (r : Reply) (member : TaskHandle × TaskEnd) → Answers mtapi given r (Ok member) → Answers mtapi first_place r (Ok (place_of member.1))
+place_told r member e1 = grind (arith, nat_tests)
+
+refusal_told : (r : Reply) (status : MtapiStatus) → Answers mtapi given r (Err status) → Answers mtapi first_place r (Err status)
+refusal_told r status e1 = grind (arith, nat_tests)
+
+place_waited : (w : Wanted) (limit : Option ℕ) (old new : Seat) (x : Result (TaskHandle × TaskEnd) MtapiStatus) → Waited mtapi given w limit old new x → Waited mtapi first_place w limit old new (place_alone x)
+place_waited w limit old new (Ok member) (inl a) = inl (a.0, a.1, place_told a.0 member a.2)
+place_waited w limit old new (Ok member) (inr a) = absurd cc
+place_waited w limit old new (Err status) (inl a) = inl (a.0, a.1, refusal_told a.0 status a.2)
+place_waited w limit old new (Err status) (inr a) = inr (a.0, cc)
+
+-- a wait for any member of a group, with the place alone
+pub waited : (w : Wanted) (limit : Option ℕ) (old new : Seat) (x : Result (TaskHandle × TaskEnd) MtapiStatus) (y : Result (Option ℕ) MtapiStatus)
+    → Waited mtapi given w limit old new x → y ≡ place_alone x → Waited mtapi first_place w limit old new y
+waited w limit old new x y a is = subst (λ (z : Result (Option ℕ) MtapiStatus). Waited mtapi first_place w limit old new z) (sym is) (place_waited w limit old new x a)
