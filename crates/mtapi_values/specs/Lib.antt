@@ -8,3 +8,4 @@ pub mod Kinds
 pub mod Layouts
 pub mod Timeouts
 pub mod AttributeTables
+pub mod Worked

@@ -12,6 +12,7 @@ mod names;
 pub mod seats;
 pub mod statuses;
 pub mod timeouts;
+pub mod worked;
 
 pub use attributes::{ActionAttr, MutexAttr, NodeAttr, QueueAttr, TaskAttr};
 pub use ends::TaskEnd;

@@ -69,7 +69,7 @@ pub enum MtapiStatus {
     ErrAttrReadonly = 27,
     /// The core's number is 64 or more.
     ErrCoreNum = 28,
-    /// The seat has used up its turns.
+    /// The turns of the cell are used up.
     ErrSpent = 29,
 }
 
@@ -134,7 +134,7 @@ pub enum MrapiStatus {
     ErrShmAttached = 27,
     /// The caller isn't attached to the segment.
     ErrShmNotattached = 28,
-    /// The seat has used up its turns.
+    /// The turns of the cell are used up.
     ErrSpent = 29,
     /// No room for a further semaphore.
     ErrSemLimit = 30,
