@@ -33,3 +33,5 @@ pub mod Causes
 pub mod RowReplies
 pub mod RowRest
 pub mod Unmoved
+pub mod WorkedWords
+pub mod RefusedFields

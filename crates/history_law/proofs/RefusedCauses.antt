@@ -9,7 +9,7 @@ use Rattle.mtapi_objects.specs.Queues.{is_in, is_shut_in}
 use Rattle.mtapi_objects.specs.Tasks.{is_unstarted, watch_end, added}
 use Rattle.mtapi_machine.specs.declared.ops.Op.TheVariants as op
 use Rattle.mtapi_machine.specs.WorkRows.{task_end}
-use Rattle.history_law.specs.Causes.{IsLeft, Cause, by_cancel, by_disabled_queue, by_close, by_deleted_queue, by_deleted_action, by_disabled_action, by_answer, by_watch, by_failed_tally, by_sum, by_tally, HasCause}
+use Rattle.history_law.specs.Causes.{IsLeft, Cause, by_cancel, by_disabled_queue, by_close, by_deleted_queue, by_deleted_action, by_disabled_action, by_answer, by_watch, by_failed_tally, by_sum, by_tally}
 use Rattle.history_law.specs.RefusedCauses.{may_end, unbegun, tally_at, with_queue, two_actions, CausesRefuse}
 use Rattle.history_law.proofs.Refused.{true_false}
 use Rattle.history_law.proofs.Worked.{computed}

@@ -1,12 +1,11 @@
 -- The lists that the further clauses refuse, by computing.
-use Rattle.history_law.proofs.Names.{◌≡◌, ℕ, ◌<◌, ◌≤◌, true, false, List, [], ◌∷◌, ◌++◌, Option, Some, IsSome, refl, sym, ◌∙◌, arith, pos, TaskEnd, Cancelled, live_of, issue, change, listed, issued_at, retired, is_full, may_issue, has_worker, end_each, is_ready, can_take, has_better, NodeEntry, after_from, after, end_at, usual, main, first_handle, next_handle, task, the_action, EndsOnce, ObeysMasks, GivenInOrder, EndedBefore, RunsInOrder, NotInBoth, too_early, up_to_the_end, two_put, puts_one, some_same}
+use Rattle.history_law.proofs.Names.{◌≡◌, ◌<◌, ◌≤◌, true, List, [], ◌∷◌, ◌++◌, Some, IsSome, refl, sym, ◌∙◌, arith, pos, Cancelled, live_of, issue, change, listed, issued_at, retired, is_full, may_issue, has_worker, end_each, is_ready, can_take, has_better, NodeEntry, after_from, after, end_at, usual, main, first_handle, next_handle, task, the_action, EndsOnce, ObeysMasks, GivenInOrder, EndedBefore, RunsInOrder, NotInBoth, too_early, up_to_the_end, two_put, puts_one, some_same}
 use Rattle.mtapi_values.specs.declared.kinds.Kind.TheVariants as kind
 use Rattle.mtapi_values.specs.declared.handles.ObjectKind.TheVariants as object
 use Rattle.mtapi_values.specs.declared.handles.Layout.TheVariants.{Two}
 use Rattle.mtapi_objects.specs.Groups.{endings}
 use Rattle.mtapi_machine.specs.declared.ops.Op.TheVariants as op
 use Rattle.mtapi_machine.specs.declared.replies.Reply.TheVariants as reply
-use Rattle.history_law.specs.Ends.{OneEnd}
 use Rattle.history_law.specs.Order.{number_at}
 use Rattle.history_law.specs.Refused.{makes_action, gives_first}
 use Rattle.history_law.specs.RefusedClauses.{made_here, for_another_core, started_here, on_the_tasks_core, picked_unstarted, picked_unmade, gives_second, ended_crosswise, given_crosswise, cancels_first, picks_next, picks_late, picked_late, ClausesRefuse}

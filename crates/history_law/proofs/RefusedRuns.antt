@@ -13,7 +13,7 @@ refuses_accepted f =
     not_some (sym no_end ∙ x.ended)
 
 -- nought isn't one
-not_one : zero ≡ suc zero → ⊥
+pub not_one : zero ≡ suc zero → ⊥
 not_one e = omega arith
 
 refuses_twice : OnceListed (with_tasks (listed_once a_task ∷ listed_once a_task ∷ [])) → ⊥

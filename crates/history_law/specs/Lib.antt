@@ -19,3 +19,5 @@ pub mod WorkedSum
 pub mod TallyHolds
 pub mod Quiet
 pub mod Causes
+pub mod WorkedWords
+pub mod RefusedFields

@@ -14,6 +14,8 @@ ghost use Rattle.history_law.specs.Refused.{LawsRefuse};
 ghost use Rattle.history_law.specs.RefusedRuns.{RunLawsRefuse};
 ghost use Rattle.history_law.specs.RefusedCauses.{CausesRefuse};
 ghost use Rattle.history_law.specs.RefusedClauses.{ClausesRefuse};
+ghost use Rattle.history_law.specs.RefusedFields.{FieldsRefuse};
+ghost use Rattle.history_law.specs.WorkedWords.{WorkedWords};
 ghost use Rattle.history_law.specs.Exclusion.{MutexesKeepTo, SemsKeepTo, RwlsKeepTo};
 ghost use Rattle.history_law.specs.Told.{TellsItsEnd};
 ghost use Rattle.history_law.specs.Tally.{HoldsTheSum};
@@ -203,12 +205,15 @@ pub fn law_ordered(
 {}
 
 /// For each law a list that it refuses, so that none of them says nothing: for a law of a list one that isn't legal, and for one of the
-/// run in threads one that lacks what the law asks for. Further ones refuse what a law would let through without one of its clauses.
+/// run in threads one that lacks what the law asks for. Further ones refuse what a law would let through without one of its clauses,
+/// or without one of its fields. The words of the laws take of all ops and replies those that they name.
 pub fn worked_refusals()
     ensures of_lists { LawsRefuse }
     ensures of_runs { RunLawsRefuse }
     ensures of_causes { CausesRefuse }
     ensures of_clauses { ClausesRefuse }
+    ensures of_fields { FieldsRefuse }
+    ensures of_words { WorkedWords }
 {}
 
 /// An Ok `enter` stands behind an Ok `release`, and an Ok `final` behind a Stop of each worker.

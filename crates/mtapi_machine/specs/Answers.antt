@@ -75,7 +75,7 @@ is_mrapi (op.ShmemRead h cell) = true
 is_mrapi (op.ShmemWrite h cell value) = true
 is_mrapi _ = false
 
--- a status that refuses: not that for the end of the time, nor that for want of tickets
+-- a status that refuses: not that for the end of the time, nor that for turns that are used up
 abbrev pub is_refusal : MtapiStatus → Bool
 is_refusal m.Timeout = false
 is_refusal m.ErrSpent = false

@@ -27,8 +27,10 @@ actions_made =
     ∷ main_not (op.ActionDisable (action h2)) reply.Ok (reply.Mtapi status.ErrActionDisabled)
     ∷ main (op.ActionDisable (action h2)) reply.Ok
     ∷ main_not (op.JobGet 1) (reply.Number (pos 1)) (reply.Mtapi status.ErrJobInvalid)
+    ∷ refused (start (pos 1 ∷ [])) status.ErrActionDisabled (reply.Handle h1)
     ∷ main (op.ActionEnable (action h2)) reply.Ok
     ∷ main (op.ActionEnable (action h2)) reply.Ok
+    ∷ main_not (start (pos 1 ∷ [])) (reply.Handle h1) (reply.Mtapi status.ErrActionDisabled)
     ∷ main (op.ActionDelete (action h2)) reply.Ok
     ∷ refused (op.ActionDelete (action h2)) status.ErrActionInvalid reply.Ok
     ∷ refused (op.ActionDisable (action h2)) status.ErrActionInvalid reply.Ok

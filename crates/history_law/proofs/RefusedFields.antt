@@ -1,0 +1,63 @@
+-- What the fields of laws refuse, by computing.
+use Rattle.history_law.proofs.Names.{◌≡◌, ℕ, zero, suc, ◌++◌, refl, sym, ◌∙◌, ap, arith, live_of, count_listed, issue, change, listed, issued_at, retired, is_full, may_issue, has_worker, runs_on, is_ready, can_take, has_better, after_from, after, usual, first_handle, next_handle, Holds, started, takes, some_same}
+use Rattle.std.specs.Prelude.{[], ◌∷◌, ℤ}
+use Rattle.mtapi_values.specs.declared.kinds.Kind.TheVariants as kind
+use Rattle.mtapi_objects.specs.Tasks.{Running}
+use Rattle.history_law.specs.Seats.{Free, Work}
+use Rattle.history_law.specs.RefusedFields.{FieldsRefuse, one_runs, two_run, has_left, watched, watching}
+use Rattle.history_law.proofs.Refused.{not_some, true_false}
+use Rattle.history_law.proofs.RefusedRuns.{not_one}
+
+has : Holds one_runs 0 first_handle watched
+unfolding live_of
+has = record { task = watching; found = refl; runs = record { state = refl; arguments = refl; looked = refl; reported = refl; did = refl }; alone = refl }
+
+-- the task of the handle is the watch
+is_watch : {w : ℕ} {x : Work} (k : Holds one_runs w first_handle x) → watching ≡ k.task
+unfolding live_of
+is_watch k = some_same k.found
+
+two_are : Holds two_run 0 first_handle watched → ⊥
+two_are k = let e : suc (suc zero) ≡ suc zero = k.alone in omega arith
+
+not_found : Holds one_runs 0 next_handle watched → ⊥
+unfolding live_of
+not_found k = not_some k.found
+
+not_live : Holds has_left 0 first_handle watched → ⊥
+unfolding live_of
+not_live k = not_some k.found
+
+other_kind : Running 0 kind.Watch ≡ Running 0 kind.Tally → ⊥
+other_kind e = cc
+
+other_worker : Running 0 kind.Watch ≡ Running 1 kind.Watch → ⊥
+other_worker e = cc
+
+has_arguments : {z : ℤ} → [] ≡ z ∷ [] → ⊥
+has_arguments e = cc
+
+-- worker 0 has no task, and then one
+none_runs : Free (after usual started) 0
+unfolding started after_from live_of issue change listed issued_at retired is_full may_issue has_worker is_ready can_take has_better
+none_runs = refl
+
+one_then : count_listed (runs_on 0) (after usual (started ++ takes)).tasks ≡ 1
+unfolding started after_from live_of issue change listed issued_at retired is_full may_issue has_worker is_ready can_take has_better
+one_then = refl
+
+pub fields_refuse : FieldsRefuse
+fields_refuse = record {
+  has = has;
+  alone = two_are;
+  found = not_found;
+  left = not_live;
+  worker = λ k. other_worker (ap (λ t. t.state) (is_watch k) ∙ k.runs.state);
+  kind = λ k. other_kind (ap (λ t. t.state) (is_watch k) ∙ k.runs.state);
+  arguments = λ k. has_arguments (ap (λ t. t.args) (is_watch k) ∙ k.runs.arguments);
+  looked = λ k. not_one (ap (λ t. t.notes.looks) (is_watch k) ∙ k.runs.looked);
+  reported = λ k. true_false (sym (ap (λ t. t.notes.seen) (is_watch k) ∙ k.runs.reported));
+  did = λ k. not_one (ap (λ t. t.notes.tally.stage) (is_watch k) ∙ ap (λ n. n.stage) k.runs.did);
+  free = λ f. not_one (sym (f.free none_runs) ∙ one_then);
+  dead = λ terms before behind k h x. x.dead;
+}
