@@ -25,14 +25,11 @@ pub use Rattle.std.proofs.lemmas.List.Sums.{passes_at_first, split_at_first}
 pub use Rattle.std.proofs.lemmas.Option.{slice_get-map}
 pub use Rattle.std.proofs.lemmas.Result.{err_from_is_err_and}
 pub use Rattle.std.proofs.lemmas.Slice.Eq.{bytes_eq-Decides}
-pub use Rattle.std.specs.BTreeMap.{get_by}
-pub use Rattle.std.specs.Cmp.{unsigned_tied}
 pub use Rattle.std.specs.Fmt.{decimal}
 pub use Rattle.std.specs.Global.{Vec}
 pub use Rattle.std.specs.Io.KnownBytes.{IsAtEnd}
 pub use Rattle.std.specs.List.{AllByRecursion, find, flat_map, join_with_byte, list_all, list_any, onto_first, position_or_len}
 pub use Rattle.std.specs.Option.{option_map}
-pub use Rattle.std.specs.Ordering.{is_eq, nat_cmp}
 pub use Rattle.std.specs.Prelude.{IfSome, OnOk, codes, filter, is_some, nat_le, nat_lt, option_and_then, slice_get}
 pub use Rattle.std.specs.Str.{bytes_eq}
 pub use Rattle.workload_file.specs.Alike.{AddsAlike, AddsNothing, AreStill, DifferAt, GivesStill, IsInserted, IsPlain, IsSwapped, IsWrittenOut, has_equals, still, still_part}

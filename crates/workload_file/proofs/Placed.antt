@@ -1,8 +1,8 @@
 -- Options at their places, and words that add nothing.
 use Rattle.std.proofs.lemmas.Bool.Decides.{nat_tests}
-use Rattle.workload_file.proofs.Cited.{◌≡◌, ℕ, zero, suc, ◌<◌, ◌≤◌, ◌+◌, ◌-◌, ◌⊎◌, List, [], ◌∷◌, ◌++◌, length, Bool, true, false, cond, eqb, Option, Some, None, Ok, is_some, refl, sym, ap, ◌∙◌, arith, inl, inr, map, get_or, take, drop, replicate, find, list_any, bytes_eq, option_map, or_parts, and_parts, and_from, cases_Bool, Field, Key, Word, Statement, OptionValue, Reading, fields, key_text, key_of, value_of, text_of, field_of, is_known, has_twice, value_at, values_in, length-map, length-append, take_more, take_all, with_change, is_statement, is_comment, words_meet, word_causes, words_say}
+use Rattle.workload_file.proofs.Cited.{◌≡◌, ℕ, zero, suc, ◌<◌, ◌≤◌, ◌+◌, ◌-◌, ◌⊎◌, List, [], ◌∷◌, ◌++◌, length, Bool, true, false, cond, eqb, Option, Some, None, Ok, is_some, refl, sym, ap, ◌∙◌, arith, inl, inr, map, get_or, take, drop, replicate, find, list_any, list_all, subst, bytes_eq, option_map, or_parts, and_parts, and_from, cases_Bool, Field, Key, Word, Statement, OptionValue, Reading, fields, key_text, key_of, value_of, text_of, field_of, is_known, has_twice, value_at, values_in, length-map, length-append, take_more, take_all, with_change, is_statement, is_comment, words_meet, word_causes, words_say}
 use Rattle.std.specs.Prelude.{set}
-use Rattle.std.proofs.lemmas.List.{length-drop, map-set}
+use Rattle.std.proofs.lemmas.List.{drop_all, drop_more, length-drop, map-set}
 use Rattle.std.specs.Option.{option_copied}
 use Rattle.workload_file.specs.Options.{opens}
 use Rattle.workload_file.specs.Texts.{texts}
@@ -159,19 +159,36 @@ split words d h = ap texts (first_rest words d h)
 pub place_low : (xs : List (Option (Bor (List ℕ)))) (n : ℕ) (words : List (Bor (List ℕ))) (word : List ℕ) (w : Word) (place : ℕ) → n ≡ length xs → map option_copied xs ≡ texts_in (fields w) (texts words) → IsOptionAt (fields w) word place → place < n
 place_low xs n words word w place e1 e2 e3 = grind (arith, nat_tests, option_below, texts_long)
 
-pub given_more : (xs : List (Option (Bor (List ℕ)))) (words : List (Bor (List ℕ))) (d v : Bor (List ℕ)) (w : Word) (place : ℕ) → 1 ≤ length words → map option_copied xs ≡ texts_in (fields w) (texts (rest_of words)) → IsOptionAt (fields w) (get_or words 0 d).now place → v.now ≡ value_of (get_or words 0 d).now → map option_copied (set xs place (Some v)) ≡ texts_in (fields w) (texts words)
-given_more xs words d v w place some is at value =
-    let word = (get_or words 0 d).now in
+-- the words from a place on, with the one before it
+before : (words : List (Bor (List ℕ))) (at : ℕ) (d : Bor (List ℕ)) → 0 < at → at ≤ length words → texts (drop (at - 1) words) ≡ (get_or words (at - 1) d).now ∷ texts (drop at words)
+before words at d low high =
+    let back : at - 1 + 1 ≡ at = omega (arith, low) in
+    subst (λ k. texts (drop (at - 1) words) ≡ (get_or words (at - 1) d).now ∷ texts (drop k words)) back (ap texts (drop_more words (at - 1) d (omega (arith, low, high))))
+
+pub given_more : (xs : List (Option (Bor (List ℕ)))) (words : List (Bor (List ℕ))) (at : ℕ) (d v : Bor (List ℕ)) (w : Word) (place : ℕ) → 0 < at → at ≤ length words → map option_copied xs ≡ texts_in (fields w) (texts (drop at words)) → IsOptionAt (fields w) (get_or words (at - 1) d).now place → v.now ≡ value_of (get_or words (at - 1) d).now → map option_copied (set xs place (Some v)) ≡ texts_in (fields w) (texts (drop (at - 1) words))
+given_more xs words at d v w place low high is option value =
+    let word = (get_or words (at - 1) d).now in
     map-set option_copied xs place (Some v)
     ∙ (ap (λ (l : List (Option (List ℕ))). set l place (Some v.now)) is
-    ∙ (ap (λ (x : List ℕ). set (texts_in (fields w) (texts (rest_of words))) place (Some x)) value
-    ∙ (texts_put word (texts (rest_of words)) (fields w) place (fields_apart w) at ∙ ap (texts_in (fields w)) (sym (split words d some)))))
+    ∙ (ap (λ (x : List ℕ). set (texts_in (fields w) (texts (drop at words))) place (Some x)) value
+    ∙ (texts_put word (texts (drop at words)) (fields w) place (fields_apart w) option ∙ ap (texts_in (fields w)) (sym (before words at d low high)))))
 
-pub twice_more : (xs : List (Option (Bor (List ℕ)))) (words : List (Bor (List ℕ))) (d : Bor (List ℕ)) (w : Word) (place : ℕ) (x : Option (Bor (List ℕ))) (here twice rest : Bool) → 1 ≤ length words → map option_copied xs ≡ texts_in (fields w) (texts (rest_of words)) → IsOptionAt (fields w) (get_or words 0 d).now place → rest ≡ has_twice (texts (rest_of words)) → x ≡ get_or xs place x → here ≡ is_some x → ((here ≡ true) × (twice ≡ true)) ⊎ ((here ≡ false) × (twice ≡ rest)) → twice ≡ has_twice (texts words)
-twice_more xs words d w place x here twice rest some is at before found e by =
-    let word = (get_or words 0 d).now in
-    let there : here ≡ list_any (λ v. bytes_eq (key_of v) (key_of word)) (texts (rest_of words)) = e ∙ (ap is_some found ∙ given_twice xs (fields w) (texts (rest_of words)) word place x is at) in
-    rw (split words d some) (either word (texts (rest_of words)) here twice rest there before by)
+pub twice_more : (xs : List (Option (Bor (List ℕ)))) (words : List (Bor (List ℕ))) (at : ℕ) (d : Bor (List ℕ)) (w : Word) (place : ℕ) (x : Option (Bor (List ℕ))) (here twice rest : Bool) → 0 < at → at ≤ length words → map option_copied xs ≡ texts_in (fields w) (texts (drop at words)) → IsOptionAt (fields w) (get_or words (at - 1) d).now place → rest ≡ has_twice (texts (drop at words)) → x ≡ get_or xs place x → here ≡ is_some x → ((here ≡ true) × (twice ≡ true)) ⊎ ((here ≡ false) × (twice ≡ rest)) → twice ≡ has_twice (texts (drop (at - 1) words))
+twice_more xs words at d w place x here twice rest low high is option later found e by =
+    let word = (get_or words (at - 1) d).now in
+    let there : here ≡ list_any (λ v. bytes_eq (key_of v) (key_of word)) (texts (drop at words)) = e ∙ (ap is_some found ∙ given_twice xs (fields w) (texts (drop at words)) word place x is option) in
+    rw (before words at d low high) (either word (texts (drop at words)) here twice rest there later by)
+
+pub known_more : (p : List ℕ → Bool) (words : List (Bor (List ℕ))) (at : ℕ) (d : Bor (List ℕ)) → 0 < at → at ≤ length words → true ≡ list_all p (texts (drop at words)) → p (get_or words (at - 1) d).now ≡ true → true ≡ list_all p (texts (drop (at - 1) words))
+known_more p words at d low high all e = rw (before words at d low high, e) all
+
+pub unknown_at : (p : List ℕ → Bool) (words : List (Bor (List ℕ))) (i : ℕ) (d : Bor (List ℕ)) → i < length words → p (get_or words i d).now ≡ false → false ≡ list_all p (texts words)
+unknown_at p [] i d lt e = absurd (omega (arith, lt))
+unknown_at p (w ∷ ws) zero d lt e = rw e refl
+unknown_at p (w ∷ ws) (suc i) d lt e = elim (cases_Bool (p w.now)) [ inl t ↦ rw t (unknown_at p ws i d (omega (arith, lt)) e) | inr n ↦ rw n refl ]
+
+pub no_words : (words : List (Bor (List ℕ))) → drop (length words) words ≡ []
+no_words words = drop_all (length words) words (omega arith)
 
 pub none_twice : (words : List (Bor (List ℕ))) → length words < 1 → false ≡ has_twice (texts words)
 unfolding has_twice

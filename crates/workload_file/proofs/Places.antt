@@ -1,6 +1,7 @@
 -- The index of a part's names, and the places at which the names are bound.
 use Rattle.std.proofs.lemmas.Bool.Decides.{nat_tests}
-use Rattle.workload_file.proofs.Cited.{◌≡◌, ℕ, ◌+◌, ◌<◌, ◌≤◌, List, [], ◌∷◌, ◌++◌, Bool, true, false, cond, eqb, length, Option, Some, None, is_some, not, refl, arith, inl, inr, pow_mono, pow-add, ◌*◌, ◌-◌, ◌^◌, get_or, take, drop, take_all, sym, ◌∙◌, nat_lt, nat_le, length_push, position_or_len, list_all, bytes_eq, bytes_eq-Decides, position_or_len_push, cases_Bool, eq-eqb, and_parts, eqb-true, Statement, bound_at, is_called, first_of_two, nat_cmp, is_eq, unsigned_tied, is_name, is_name_byte, begins_with_letter}
+use Rattle.workload_file.proofs.Cited.{◌≡◌, ℕ, ◌+◌, ◌<◌, ◌≤◌, List, [], ◌∷◌, ◌++◌, Bool, true, false, cond, eqb, length, Option, Some, None, is_some, not, refl, arith, inl, inr, pow_mono, pow-add, ◌*◌, ◌-◌, ◌^◌, get_or, drop, sym, nat_lt, nat_le, length_push, position_or_len, list_all, bytes_eq, bytes_eq-Decides, position_or_len_push, cases_Bool, eq-eqb, and_parts, eqb-true, Statement, bound_at, is_called, first_of_two, is_name, is_name_byte, begins_with_letter}
+use Rattle.std.proofs.lemmas.List.{drop_all, drop_more}
 use Rattle.workload_file.specs.Indexed.{key_of}
 
 pub bytes_are : (xs ys : List ℕ) → bytes_eq xs ys ≡ true → xs ≡ ys
@@ -35,25 +36,23 @@ apart_sym xs ys h =
 
 -- ---- the number of a text
 
-pub key_empty : (text : List ℕ) → length text < 1 → 0 ≡ key_of text
+pub key_none : (text : List ℕ) → 0 ≡ key_of (drop (length text) text)
 unfolding key_of
-key_empty [] h = refl
-key_empty (b ∷ bs) h = absurd (omega (arith, h))
-
-pub key_more : (text : List ℕ) → 1 ≤ length text → get_or text 0 0 + 256 * key_of (take (length text - 1) (drop 1 text)) ≡ key_of text
-unfolding key_of
-key_more text e1 = grind (arith, nat_tests, key_of, take_all)
-
-one_less : (text : List ℕ) → 1 ≤ length text → length (take (length text - 1) (drop 1 text)) + 1 ≡ length text
-one_less text e1 = grind (arith, nat_tests, take_all)
+key_none text = rw (drop_all (length text) text (omega arith)) refl
 
 -- one digit more
-pub key_next : (text : List ℕ) (first rest : ℕ) → 1 ≤ length text → first < 256 → rest < 2 ^ (8 * length (take (length text - 1) (drop 1 text))) → first + 256 * rest < 2 ^ (8 * length text)
-key_next text first rest low digit fits =
-    let n : ℕ = length (take (length text - 1) (drop 1 text)) in
-    let more : 2 ^ (8 * n + 8) ≡ 2 ^ (8 * n) * 256 = pow-add 2 (8 * n) 8 in
-    let same : 8 * length text ≡ 8 * n + 8 = omega (arith, one_less text low) in
-    rw same (omega (arith, digit, fits, more))
+pub key_more : (text : List ℕ) (at key d : ℕ) → 0 < at → at ≤ length text → key ≡ key_of (drop at text) → key * 256 + get_or text (at - 1) d ≡ key_of (drop (at - 1) text)
+unfolding key_of
+key_more text at key d low high e =
+    let back : at - 1 + 1 ≡ at = omega (arith, low) in
+    let below : at - 1 < length text = omega (arith, low, high) in
+    rw (drop_more text (at - 1) d below, back) (omega (arith, e))
+
+pub key_next : (n at key digit : ℕ) → 0 < at → at ≤ n → key < 2 ^ (8 * (n - at)) → digit < 256 → key * 256 + digit < 2 ^ (8 * (n - (at - 1)))
+key_next n at key digit low high fits small =
+    let more : 2 ^ (8 * (n - at) + 8) ≡ 2 ^ (8 * (n - at)) * 256 = pow-add 2 (8 * (n - at)) 8 in
+    let same : 8 * (n - (at - 1)) ≡ 8 * (n - at) + 8 = omega (arith, low, high) in
+    rw same (omega (arith, small, fits, more))
 
 -- up to 16 digits fit 128 bits
 pub key_wide : (n k : ℕ) → n ≤ 16 → k < 2 ^ (8 * n) → k < 2 ^ 128
@@ -84,29 +83,20 @@ names_same : (xs ys : List ℕ) → is_name xs ≡ true → is_name ys ≡ true 
 unfolding is_name
 names_same xs ys e1 e2 e3 = grind (arith, nat_tests, and_parts, begins_with_letter, nat_le, is_name_byte, digits_same)
 
-cmp_eq : (k l : ℕ) → is_eq (nat_cmp k l) ≡ true → k ≡ l
-cmp_eq k l h = eqb-true k l (sym (unsigned_tied k l) ∙ h)
-
-cmp_same : (k : ℕ) → is_eq (nat_cmp k k) ≡ true
-cmp_same k = unsigned_tied k k ∙ eq-eqb k k refl
-
 -- keys apart of names apart
-keys_apart : (xs ys : List ℕ) → is_name xs ≡ true → is_name ys ≡ true → bytes_eq xs ys ≡ false → is_eq (nat_cmp (key_of xs) (key_of ys)) ≡ false
+keys_apart : (xs ys : List ℕ) → is_name xs ≡ true → is_name ys ≡ true → bytes_eq xs ys ≡ false → eqb (key_of xs) (key_of ys) ≡ false
 keys_apart xs ys h k apart =
-    elim (cases_Bool (is_eq (nat_cmp (key_of xs) (key_of ys)))) [
-      | inl t ↦ absurd (let same = names_same xs ys h k (cmp_eq (key_of xs) (key_of ys) t) in let yes : bytes_eq xs ys ≡ true = rw same (bytes_same ys) in cc)
+    elim (cases_Bool (eqb (key_of xs) (key_of ys))) [
+      | inl t ↦ absurd (let same = names_same xs ys h k (eqb-true (key_of xs) (key_of ys) t) in let yes : bytes_eq xs ys ≡ true = rw same (bytes_same ys) in cc)
       | inr f ↦ f
     ]
 
 -- ---- numbers of 64 bits and longer ones, each in a map of its own
 
-apart : (key k : ℕ) → (key ≡ k → ⊥) → is_eq (nat_cmp key k) ≡ false
-apart key k differ = elim (cases_Bool (is_eq (nat_cmp key k))) [ inl t ↦ absurd (differ (cmp_eq key k t)) | inr f ↦ f ]
-
-pub put_short : (key k place : ℕ) (new old long : Option ℕ) → key < 2 ^ 64 → new ≡ cond (is_eq (nat_cmp key k)) (Some place) old → cond (nat_lt k (2 ^ 64)) new long ≡ cond (is_eq (nat_cmp key k)) (Some place) (cond (nat_lt k (2 ^ 64)) old long)
+pub put_short : (key k place : ℕ) (new old long : Option ℕ) → key < 2 ^ 64 → new ≡ cond (eqb key k) (Some place) old → cond (nat_lt k (2 ^ 64)) new long ≡ cond (eqb key k) (Some place) (cond (nat_lt k (2 ^ 64)) old long)
 put_short key k place new old long e1 e2 = grind (arith, nat_tests)
 
-pub put_long : (key k place : ℕ) (new old short : Option ℕ) → 2 ^ 64 ≤ key → new ≡ cond (is_eq (nat_cmp key k)) (Some place) old → cond (nat_lt k (2 ^ 64)) short new ≡ cond (is_eq (nat_cmp key k)) (Some place) (cond (nat_lt k (2 ^ 64)) short old)
+pub put_long : (key k place : ℕ) (new old short : Option ℕ) → 2 ^ 64 ≤ key → new ≡ cond (eqb key k) (Some place) old → cond (nat_lt k (2 ^ 64)) short new ≡ cond (eqb key k) (Some place) (cond (nat_lt k (2 ^ 64)) short old)
 put_long key k place new old short e1 e2 = grind (arith, nat_tests)
 
 pub none_is : (x : Option ℕ) (none : Bool) → is_some x ≡ not none → none ≡ true → x ≡ None
@@ -116,13 +106,13 @@ pub alone : (x : Option ℕ) → x ≡ first_of_two x None
 alone x = grind (arith, nat_tests)
 
 -- the place of each text, after a name that had none got one
-pub put : (name other : List ℕ) (place : ℕ) (before : Option ℕ) → is_name name ≡ true → (bytes_eq name other ≡ true → before ≡ None) → cond (is_name other) (cond (is_eq (nat_cmp (key_of name) (key_of other))) (Some place) before) None ≡ first_of_two (cond (is_name other) before None) (cond (bytes_eq name other) (Some place) None)
+pub put : (name other : List ℕ) (place : ℕ) (before : Option ℕ) → is_name name ≡ true → (bytes_eq name other ≡ true → before ≡ None) → cond (is_name other) (cond (eqb (key_of name) (key_of other)) (Some place) before) None ≡ first_of_two (cond (is_name other) before None) (cond (bytes_eq name other) (Some place) None)
 put name other place before named none =
     elim (cases_Bool (bytes_eq name other)) [
       | inl t ↦
           let same : other ≡ name = sym (bytes_are name other t) in
           let absent = none t in
-          rw (absent, same, named, cmp_same (key_of name), bytes_same name) refl
+          rw (absent, same, named, eq-eqb (key_of name) (key_of name) refl, bytes_same name) refl
       | inr f ↦
           elim (cases_Bool (is_name other)) [
             | inl y ↦ rw (y, keys_apart name other named y f, f) (alone before)

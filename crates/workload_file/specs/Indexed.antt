@@ -1,12 +1,11 @@
 -- What the reader keeps beside the workload so far.
-use Rattle.std.specs.Prelude.{◌≡◌, ℕ, ◌+◌, ◌*◌, ◌^◌, ◌≤◌, nat_lt, List, [], ◌∷◌, length, Option, Some, None, Result, Ok, Err, if◌then◌else◌}
+use Rattle.std.specs.Prelude.{◌≡◌, ℕ, ◌+◌, ◌*◌, ◌^◌, ◌≤◌, nat_eq, nat_lt, List, [], ◌∷◌, length, Option, Some, None, Result, Ok, Err, if◌then◌else◌}
 use Rattle.workload_file.specs.declared.reading.Reader.{Reader}
 use Rattle.workload_file.specs.declared.reading.Reading.{Reading}
 use Rattle.workload_file.specs.declared.reading.LineEffect.{LineEffect}
 use Rattle.workload_file.specs.declared.reading.LineEffect.TheVariants as change
 use Rattle.workload_file.specs.declared.index.NameIndex.{NameIndex}
-use Rattle.std.specs.BTreeMap.{get_by}
-use Rattle.std.specs.Ordering.{nat_cmp}
+use Rattle.std.specs.HashMap.{get}
 use Rattle.workload_file.specs.Names.{bound_at, is_called}
 use Rattle.workload_file.specs.Values.{is_name}
 
@@ -22,7 +21,7 @@ key_of (b ∷ bs) = b + 256 * key_of bs
 
 -- the place that the index has at a number: those of 64 bits stand apart
 abbrev pub place_at : NameIndex → ℕ → Option ℕ
-place_at index key = if nat_lt key (2 ^ 64) then get_by (nat_cmp key) index.short else get_by (nat_cmp key) index.long
+place_at index key = if nat_lt key (2 ^ 64) then get nat_eq index.short key else get nat_eq index.long key
 
 -- the place at which the index has a name; it has no other text
 abbrev pub found : NameIndex → List ℕ → Option ℕ

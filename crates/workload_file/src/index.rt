@@ -1,21 +1,20 @@
 //! The places at which names are bound.
-ghost use Rattle.std.specs.Prelude.{◌≡◌, ◌≤◌, ◌<◌, ◌^◌, ◌*◌, ℕ, List, None, Some, OnOk, IfOk, IsTrue, is_none, true, length, if◌then◌else◌};
-ghost use Rattle.std.specs.Ordering.{nat_cmp, is_eq};
+ghost use Rattle.std.specs.Prelude.{◌≡◌, ◌≤◌, ℕ, List, None, Some, OnOk, IfOk, IsTrue, is_none, true, length, nat_eq, if◌then◌else◌};
 ghost use Rattle.workload_file.specs.Values.{is_name};
 ghost use Rattle.workload_file.specs.Indexed.{found, key_of, place_at, with_name};
 
 use crate::name::is_name;
 use std::alloc::{AllocError, Global};
-use std::collections::BTreeMap;
+use std::collections::HashMap;
 
 /// The place of each name, found without a scan.
 ///
-/// The maps are ordered by numbers and not by texts: a number stands in the map's own memory, and is compared in one step.
-/// It is no hash: no two names have the same number. Those of up to eight bytes stand apart, since 64 bits are compared faster.
+/// The keys are numbers and not texts: a number stands in the map's own memory, and is compared in one step. No two names have
+/// the same number. Those of up to eight bytes stand apart, since 64 bits are hashed and compared faster.
 #[derive(Drop)]
 pub struct NameIndex {
-    short: BTreeMap<u64, u32>,
-    long: BTreeMap<u128, u32>,
+    short: HashMap<u64, u32>,
+    long: HashMap<u128, u32>,
 }
 
 /// The first number that 64 bits don't hold.
@@ -25,12 +24,12 @@ const LONG: u128 = 1 << 64;
 fn key_of(name: &[u8]) -> u128
     requires short { length name.now ≤ 16 }
     ensures value { result ≡ key_of name.now }
-    ensures fits { result < 2 ^ (8 * length name.now) }
 {
-    match name {
-        [] => 0,
-        [first, rest @ ..] => u128::from(*first) + 256 * key_of(rest),
+    let mut key = 0;
+    'digits: for at in (0..name.len()).rev() {
+        key = key * 256 + u128::from(name[at]);
     }
+    key
 }
 
 impl NameIndex {
@@ -39,8 +38,8 @@ impl NameIndex {
         ensures { (name : List ℕ) → found result name ≡ None }
     {
         NameIndex {
-            short: BTreeMap::new(alloc),
-            long: BTreeMap::new(alloc),
+            short: HashMap::new(alloc),
+            long: HashMap::new(alloc),
         }
     }
 
@@ -59,7 +58,7 @@ impl NameIndex {
     fn put(&mut self, key: u128, place: u32) -> Result<Option<u32>, AllocError>
         ensures before { IfOk result (λ before. before ≡ place_at self.old key) }
         ensures updates { OnOk result ((k : ℕ)
-            → place_at self.new k ≡ (if is_eq (nat_cmp key k) then Some place else place_at self.old k)) }
+            → place_at self.new k ≡ (if nat_eq key k then Some place else place_at self.old k)) }
     {
         if key < LONG {
             Ok(self.short.insert(key as u64, place)?)

@@ -58,23 +58,16 @@ fn place_each<'a>(given: &mut Vec<Option<&'a [u8]>>, word: Word, words: &[&'a [u
     ensures twice { result.known ≡ true → result.twice ≡ has_twice (texts words.now) }
     ensures given { result.known ≡ true → map option_copied given.new.items ≡ texts_in (fields word) (texts words.now) }
 {
-    match words {
-        [] => Placed { known: true, twice: false },
-        [first, rest @ ..] => {
-            let placed = place_each(given, word, rest);
-            if !placed.known {
-                return placed;
-            }
-            match option_in(word.fields(), first) {
-                Some((place, value)) => {
-                    let twice = given[place].is_some() || placed.twice;
-                    given[place] = Some(value);
-                    Placed { known: true, twice }
-                }
-                None => Placed { known: false, twice: false },
-            }
-        }
+    let fields = word.fields();
+    let mut twice = false;
+    'words: for at in (0..words.len()).rev() {
+        let Some((place, value)) = option_in(fields, words[at]) else {
+            return Placed { known: false, twice };
+        };
+        twice = given[place].is_some() || twice;
+        given[place] = Some(value);
     }
+    Placed { known: true, twice }
 }
 
 /// The text of each option of a statement, in the order of the table. Each word is looked at once.
