@@ -20,7 +20,7 @@ use Rattle.mcapi_msg.specs.Legal.{Legal, after}
 abbrev pub Seat : Type 0
 Seat = SeatView PostTerms MsgOp MsgReply
 
--- the status that a mailer answers for want of tickets, and that no op says
+-- the status that a mailer answers for turns that are used up, and that no op says
 abbrev pub is_spent : MsgStatus → Bool
 is_spent status.Spent = true
 is_spent _ = false
@@ -52,7 +52,7 @@ module _ {A : Type 0} (P : MsgReply → Result A MsgStatus → Type 0) where
   abbrev pub IsAnswer : MsgReply → Type 0
   IsAnswer r = (x : Result A MsgStatus) × P r x
 
-  -- its answer to a reply, and the one for want of tickets
+  -- its answer to a reply, and the one for turns that are used up
   abbrev pub AnsweredBy : Result MsgReply ℕ → Result A MsgStatus → Type 0
   AnsweredBy (Ok r) x = P r x
   AnsweredBy (Err s) x = x ≡ Err status.Spent
@@ -64,7 +64,7 @@ module _ {A : Type 0} (P : MsgReply → Result A MsgStatus → Type 0) where
     pub by_row : Allows (row (state_at old new o said turned) old.number o said) said
     pub answer : P said x
 
-  -- the call made one turn; or it made none, since the tickets had run out
+  -- the call made one turn; or it made none, since the turns were used up
   abbrev pub Called : MsgOp → Seat → Seat → Result A MsgStatus → Type 0
   Called o old new x = Answers o old new x ⊎ (Unturned old new × (x ≡ Err status.Spent))
 
@@ -85,7 +85,7 @@ pub record Looks (at : EndpointHandle) (limit : Option ℕ) (old new : Seat) (x 
 abbrev pub RanOut : EndpointHandle → Option ℕ → Seat → Seat → Type 0
 RanOut at limit old new = StillLooking Legal (look_for at) reply.Pending limit old new
 
--- the call looked until it had an answer; or the tickets ran out before
+-- the call looked until it had an answer; or the turns were used up before
 abbrev pub Received : EndpointHandle → Option ℕ → Seat → Seat → Result (ℕ × ℕ × List ℕ) MsgStatus → Type 0
 Received at limit old new x = Looks at limit old new x ⊎ (RanOut at limit old new × (x ≡ Err status.Spent))
 

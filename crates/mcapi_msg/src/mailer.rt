@@ -143,7 +143,7 @@ impl<'a> Mailer<'a> {
     ///
     /// - `PortTaken`: a live endpoint has this port.
     /// - `EndpointLimit`: there is no room for a further endpoint.
-    /// - `Spent`: the cell has used up its turns. Nothing enters the history.
+    /// - `Spent`: the turns of the cell are used up. Nothing enters the history.
     pub fn open<R: Wait>(&mut self, rt: &R, port: u32) -> Result<EndpointHandle, MsgStatus>
         ensures called { Called Names (op.Open port) self.old self.new result }
         ensures same { SameSeat self.old self.new }
@@ -157,7 +157,7 @@ impl<'a> Mailer<'a> {
     /// # Errors
     ///
     /// - `PortUnknown`: no live endpoint has this port.
-    /// - `Spent`: the cell has used up its turns. Nothing enters the history.
+    /// - `Spent`: the turns of the cell are used up. Nothing enters the history.
     pub fn find<R: Wait>(&mut self, rt: &R, port: u32) -> Result<EndpointHandle, MsgStatus>
         ensures called { Called Names (op.Find port) self.old self.new result }
         ensures same { SameSeat self.old self.new }
@@ -173,7 +173,7 @@ impl<'a> Mailer<'a> {
     /// - `EndpointInvalid`: the handle is no live endpoint's.
     /// - `PriorityRange`: the priority isn't 0 to 3.
     /// - `Full`: as many messages wait at the endpoint as may.
-    /// - `Spent`: the cell has used up its turns. Nothing enters the history.
+    /// - `Spent`: the turns of the cell are used up. Nothing enters the history.
     pub fn send<R: Wait>(
         &mut self,
         rt: &R,
@@ -197,7 +197,7 @@ impl<'a> Mailer<'a> {
     /// - `EndpointInvalid`: the handle is no live endpoint's.
     /// - `NotOwner`: another seat opened the endpoint.
     /// - `Timeout`: all the looks that the timeout allows were made, and none found a message.
-    /// - `Spent`: the cell has used up its turns. Each look before found no message.
+    /// - `Spent`: the turns of the cell are used up. Each look before found no message.
     pub fn recv<R: Wait>(
         &mut self,
         rt: &R,
@@ -218,7 +218,7 @@ impl<'a> Mailer<'a> {
     ///
     /// - `EndpointInvalid`: the handle is no live endpoint's.
     /// - `NotOwner`: another seat opened the endpoint.
-    /// - `Spent`: the cell has used up its turns. Nothing enters the history.
+    /// - `Spent`: the turns of the cell are used up. Nothing enters the history.
     pub fn shut<R: Wait>(&mut self, rt: &R, at: EndpointHandle) -> Result<(), MsgStatus>
         ensures called { Called Done (op.Shut at) self.old self.new result }
         ensures same { SameSeat self.old self.new }

@@ -22,7 +22,7 @@ pub enum MsgStatus {
     Full = 7,
     /// Another seat opened the endpoint.
     NotOwner = 8,
-    /// The cell has used up its turns.
+    /// The turns of the cell are used up.
     Spent = 9,
 }
 

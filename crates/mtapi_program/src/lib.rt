@@ -64,7 +64,7 @@ pub fn run_words<R: StartsThreads + Wait + Sync, S: Source, W: Sink, E: Sink, B:
         → IfSome result.journal (λ journal.
         Ran (asked_of (texts words.now)) (S.left src.old) journal (AppendsFront (W.held out.old) (W.held out.new))) }
 
-    // A workload, without a fault and with a thread for everyone, ends with 0, with 6 when out of memory, or with spent tickets; and an
+    // A workload, without a fault and with a thread for everyone, ends with 0, with 6 when out of memory, or with turns that are used up; and an
     // input that is judged, without a fault, with 0, 3, 6 or 9.
     ensures complete { reads (asked_of (texts words.now)) ≡ true → (Rose (S.faults src.old) (S.faults src.new) → ⊥)
         → (Rose (W.faults out.old) (W.faults out.new) → ⊥)
@@ -75,7 +75,7 @@ pub fn run_words<R: StartsThreads + Wait + Sync, S: Source, W: Sink, E: Sink, B:
         → (Rose (W.faults out.old) (W.faults out.new) → ⊥)
         → (result.status ≡ 0) ⊎ (result.status ≡ 3) ⊎ (result.status ≡ 6) ⊎ (result.status ≡ 9) }
 
-    // The status with its cause, the journal, what shows that the tickets ran out, what was written and what was said are those of one
+    // The status with its cause, the journal, what shows that the turns are used up, what was written and what was said are those of one
     // end of the command; and no more is read than it takes.
     ensures ended { HasEnded (asked_of (texts words.now))
         (record { left = S.left src.old; reads = S.faults src.old; writes = W.faults out.old; held = W.held out.old; threads = B.refusals beside.old; says = E.faults err.old; said = E.held err.old })

@@ -104,7 +104,7 @@ journal_of end.InputTooLong = None
 journal_of (end.JournalLine line) = None
 journal_of end.JournalCut = None
 
--- what shows that the tickets ran out, where they did
+-- what shows that the turns are used up, where they did
 abbrev pub spent_of : End → Option ℕ
 spent_of (end.Spent s) = Some s
 spent_of _ = None
@@ -143,7 +143,7 @@ has_line end.InputTooLong = false
 has_line (end.JournalLine line) = true
 has_line end.JournalCut = false
 
--- The outcome is told by an end: its status, its journal, what shows that tickets ran out, and its message on the error output.
+-- The outcome is told by an end: its status, its journal, what shows that the turns are used up, and its message on the error output.
 pub record IsTold (end : End) (e e' : ℕ) (o o' : Option (List ℕ)) (outcome : Outcome) : Type 0 where
   pub status : outcome.status ≡ status_of end
   pub journal : outcome.journal ≡ journal_of end

@@ -52,7 +52,7 @@ abbrev pub StartsNothing : ℕ → Type 0
 StartsNothing status = (status ≡ 2) ⊎ (status ≡ 3) ⊎ (status ≡ 4)
 
 -- How the command ended: with an end that has its cause, and with which that was written which it writes; the status, the journal, what
--- shows that the tickets ran out and the message are those of this end.
+-- shows that the turns are used up and the message are those of this end.
 pub record HasEnded (words : Option Asked) (a b : Streams) (outcome : Outcome) : Type 0 where
   pub end : End
   pub run : judges words ≡ false → Ends words a.left (outside a) (outside b) end

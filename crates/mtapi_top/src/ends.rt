@@ -24,7 +24,7 @@ pub enum End {
     Memory,
     /// A thread was refused.
     NoThread,
-    /// The tickets of the run's turns ran out.
+    /// The turns of the run are used up.
     Spent(Spent),
     /// A journal was judged, and the verdict was written.
     Judged(Verdict),

@@ -187,7 +187,7 @@ fn end_of<R: Threads + Wait + Sync, S: Source, W: Sink, A: ActionSource, B: Besi
 /// - `5`: a write failed. A prefix of the output was written; with the other ones nothing was.
 /// - `6`: there was no memory.
 /// - `7`: a thread was refused.
-/// - `8`: the tickets of the run's turns ran out.
+/// - `8`: the turns of the run are used up.
 /// - `9`: the verdict on the journal isn't yes. It was written.
 pub fn command<R: Threads + Wait + Sync, S: Source, W: Sink, E: Sink, A: ActionSource, B: Beside>(
     rt: &R,
@@ -242,7 +242,7 @@ pub fn command<R: Threads + Wait + Sync, S: Source, W: Sink, E: Sink, A: ActionS
     ensures nothing { (result.status ≡ 0 → ⊥) → (result.status ≡ 5 → ⊥) → (result.status ≡ 9 → ⊥)
         → W.held out.new ≡ W.held out.old }
 
-    // A workload, without a fault and with a thread for everyone, ends with 0, with 6 when out of memory, or with spent tickets.
+    // A workload, without a fault and with a thread for everyone, ends with 0, with 6 when out of memory, or with turns that are used up.
     ensures complete { reads (asked_of (texts words.now)) ≡ true → (Rose (S.faults src.old) (S.faults src.new) → ⊥)
         → (Rose (W.faults out.old) (W.faults out.new) → ⊥)
         → (Rose (B.refusals beside.old) (B.refusals beside.new) → ⊥)

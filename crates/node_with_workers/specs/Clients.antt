@@ -67,6 +67,6 @@ abbrev pub IfRefused : Failure → (MtapiStatus → Type 0) → Type 0
 IfRefused (failure.Refused status) P = P status
 IfRefused _ P = Unit {0}
 
--- where the failure is a refusal it has this status, and the tickets shown to the seat hadn't run out
+-- where the failure is a refusal it has this status, and the turns shown to the seat weren't used up
 abbrev pub SaysOf : Seat → MtapiStatus → Failure → Type 0
 SaysOf seat status f = IfRefused f (λ s. (s ≡ status) × (seat.shown < 2 ^ 62))

@@ -38,7 +38,7 @@ pub struct Called<T: Drop> {
     pub told: T,
 }
 
-/// Why a call of this seat answered a status: the tickets of the cell have run out, or the node refused it.
+/// Why a call of this seat answered a status: the turns of the cell are used up, or the node refused it.
 pub(crate) fn failure_of(seat: &TurnSeat<Journaled>, status: MtapiStatus) -> Failure
     ensures { SaysOf seat.now status result }
 {
@@ -119,7 +119,7 @@ pub(crate) fn call_inside<R: Wait, D: Client>(
     }
 }
 
-/// Begins the end of the node, and wakes the workers. It is refused where a client has begun it, or where the tickets ran out.
+/// Begins the end of the node, and wakes the workers. It is refused where a client has begun it, or where the turns are used up.
 pub(crate) fn closed<R: Wait>(
     rt: &R,
     cell: &TurnCell<Journaled>,

@@ -18,8 +18,8 @@ pub enum Failure {
     /// The node refused to open or to end.
     #[error("refused with {0}")]
     Refused(MtapiStatus),
-    /// The tickets of its cell ran out.
-    #[error("the tickets ran out")]
+    /// The turns of its cell are used up.
+    #[error("the turns are used up")]
     Spent(Spent),
 }
 

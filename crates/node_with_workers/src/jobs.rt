@@ -35,7 +35,7 @@ impl<'a, A: ActionSet + Drop + Send> Job for Waiting<'a, A> {
 
     ghost promise = { λ j d. SameSeat j.seat d.seat };
 
-    // It serves until the node closes or its tickets run out; where a worker stopped too early, the end of the node is refused.
+    // It serves until the node closes or its turns are used up; where a worker stopped too early, the end of the node is refused.
     fn go<R: Wait>(self, rt: &R) -> Over<A> {
         let Waiting {
             cell,

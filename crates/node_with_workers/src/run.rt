@@ -25,7 +25,7 @@ pub struct Done<T: Drop, A: Drop> {
     pub told: T,
     /// The journal of all calls.
     pub journal: RunJournal,
-    /// The workers' sets of actions, in the order of the workers' numbers.
+    /// The workers' sets of actions. They come in the order of the workers' numbers, which no clause says.
     pub sets: Vec<A>,
 }
 
@@ -38,7 +38,7 @@ pub struct AllDone<T: Drop, U: Drop, A: Drop> {
     pub others: Vec<U>,
     /// The journal of all calls.
     pub journal: RunJournal,
-    /// The workers' sets of actions, in the order of the workers' numbers.
+    /// The workers' sets of actions. They come in the order of the workers' numbers, which no clause says.
     pub sets: Vec<A>,
 }
 
@@ -68,7 +68,7 @@ fn deal(seats: Vec<TurnSeat<Journaled>>, others: usize) -> Result<Dealt, AllocEr
     })
 }
 
-// Ends the node, closes its cell, and takes the journal out of it. Where a worker's tickets ran out it hasn't stopped, and the end is
+// Ends the node, closes its cell, and takes the journal out of it. Where a worker's turns were used up it hasn't stopped, and the end is
 // refused.
 fn end<R: Wait, T: Drop, U: Drop, A: Drop>(
     rt: &R,
@@ -118,7 +118,7 @@ fn end<R: Wait, T: Drop, U: Drop, A: Drop>(
 ///
 /// - `Memory`: there was no memory for the node, for its cell, for the lists of its callers and workers, or for the journal.
 /// - `NoThread`: a thread was refused. Main's client made no call, and the threads that were started have ended.
-/// - `Spent`: the tickets of the cell ran out.
+/// - `Spent`: the turns of the cell are used up.
 /// - `Refused`: a client ended the node.
 pub fn with_callers<R: StartsThreads + Wait + Sync, S: ActionSource, C: Client, D: Client + Send>(
     rt: &R,
@@ -177,7 +177,7 @@ impl Client for Nobody {
 ///
 /// - `Memory`: there was no memory for the node, for its cell, for the list of its workers or for the journal.
 /// - `NoThread`: a thread was refused. The client made no call, and the workers that were started have ended.
-/// - `Spent`: the tickets of the cell ran out.
+/// - `Spent`: the turns of the cell are used up.
 /// - `Refused`: the client ended the node.
 pub fn with_workers<R: StartsThreads + Wait + Sync, S: ActionSource, C: Client>(
     rt: &R,

@@ -24,16 +24,16 @@ module _ {S A : Type 0} (standard : Standard S) (read : Reply → Option A) wher
   abbrev pub Answers : Reply → Result A S → Type 0
   Answers r x = by_status (standard.status r) (read r) x
 
-  -- the answer to a reply, and the one for want of tickets
+  -- the answer to a reply, and the one for turns that are used up
   abbrev pub AnsweredBy : Result Reply ℕ → Result A S → Type 0
   AnsweredBy (Ok r) x = Answers r x
   AnsweredBy (Err s) x = x ≡ Err standard.spent
 
-  -- the call made one turn, and answers its reply; or it made none, since the tickets had run out
+  -- the call made one turn, and answers its reply; or it made none, since the turns were used up
   abbrev pub Called : Op → Seat → Seat → Result A S → Type 0
   Called o old new x = ((r : Reply) × Turned old o r new × Answers r x) ⊎ (Unturned old new × (x ≡ Err standard.spent))
 
-  -- the call made these looks, and answers the reply that decided; or the tickets ran out before there was one
+  -- the call made these looks, and answers the reply that decided; or the turns were used up before there was one
   abbrev pub Waited : Wanted → Option ℕ → Seat → Seat → Result A S → Type 0
   Waited w limit old new x = ((r : Reply) × Looked w limit old new r × Answers r x) ⊎ (StillLooking w limit old new × (x ≡ Err standard.spent))
 

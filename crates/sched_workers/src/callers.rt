@@ -36,7 +36,7 @@ use workload_runs::Wanted;
 ///
 /// A call is one turn of the cell, or one turn for each look. What a method refuses stands at it,
 /// in the order in which it is tried. Besides, every method answers `ErrSpent`, and makes no
-/// further turn, where the tickets of the cell have run out. A status leaves the node as it was,
+/// further turn, where the turns of the cell are used up. A status leaves the node as it was,
 /// with two exceptions: after the `Timeout` of `task_wait` this caller no longer stands as the
 /// waiter, and the status of a member that `group_wait_all` gives comes once all members are freed.
 ///

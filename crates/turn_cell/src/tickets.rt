@@ -1,4 +1,4 @@
-//! The number of tickets, and what shows that they ran out.
+//! The number of tickets, and what shows that the turns are used up.
 ghost use Rattle.std.specs.Prelude.{◌≡◌, ℕ, ◌^◌, ◌≤◌};
 
 use std::marker::Model;

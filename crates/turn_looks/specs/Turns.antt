@@ -21,7 +21,7 @@ module _ {T P Q : Type 0} where
     pub seen : new.seen ≡ (old.seen ++ between) ++ entry old.number op reply ∷ []
     pub legal : is_legal new.terms new.seen
 
-  -- the tickets had run out, and nothing was added
+  -- the turns were used up, and nothing was added
   pub record Unturned (old new : SeatView T P Q) : Type 0 where
     pub same : SameSeat old new
     pub mine : new.mine ≡ old.mine

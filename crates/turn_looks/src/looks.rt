@@ -95,7 +95,7 @@ fn look_on<O: Object, W: LookFor<O>, R: Wait>(
 ///
 /// # Errors
 ///
-/// - `Spent`: the tickets of the cell ran out. Each look before, fewer than the timeout allows,
+/// - `Spent`: the turns of the cell are used up. Each look before, fewer than the timeout allows,
 ///   answered "not yet".
 pub fn look<O: Object, W: LookFor<O>, R: Wait>(
     rt: &R,

@@ -7,6 +7,6 @@ use turn_cell::Spent;
 pub enum ServeEnd {
     /// A pick was answered Stop.
     Stopped,
-    /// The tickets ran out.
+    /// The turns are used up.
     Spent(Spent),
 }

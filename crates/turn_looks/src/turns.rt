@@ -11,7 +11,7 @@ use turn_cell::{Spent, TurnCell, TurnSeat};
 ///
 /// # Errors
 ///
-/// - `Spent`: the tickets of the cell ran out. Nothing enters the history.
+/// - `Spent`: the turns of the cell are used up. Nothing enters the history.
 pub fn turn<O: Object, R: Wait>(
     rt: &R,
     cell: &TurnCell<O>,

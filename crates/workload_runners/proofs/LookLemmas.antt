@@ -1,5 +1,5 @@
 -- What the looks of a call say beyond the entries that they add.
-use Rattle.workload_runners.proofs.Names.{[], ◌++◌, ◌+◌, ◌∷◌, ◌≡◌, Allows, Bool, Every, InTime, Legal, Legal-prefix, Looked, Op, Option, Pending, Reply, Seat, State, Turned, Wanted, arith, entry, false, is_pending, is_timeout, journal_legal, nat_tests, op_of, opening, refl, row, subst, time_after, true, ℕ}
+use Rattle.workload_runners.proofs.Names.{[], ◌++◌, ◌+◌, ◌∷◌, ◌∙◌, ◌≡◌, after, ap, Allows, Bool, Every, InTime, JournaledTerms, Legal, Legal-prefix, Looked, Op, Option, Pending, Reply, Seat, State, Terms, Turned, Wanted, arith, entry, false, is_pending, is_timeout, journal_legal, nat_tests, op_of, opening, refl, row, subst, time_after, true, ℕ}
 use Rattle.workload_runners.proofs.WantedRows.{wanted_says}
 use Rattle.workload_runners.proofs.Depths.{Shallow, shallow_after}
 use Rattle.turn_looks.specs.Looks as looks
@@ -44,6 +44,9 @@ looked w limit a c r l =
       decides = λ e. not_pending r (l.decides e);
       found = (wanted_says w (state_at l.before c (op_of w l.last) r t) a.number l.last r at).found (in_time_at l.before c (op_of w l.last) r t) (shallow_at l.before c (op_of w l.last) r t);
       late = not_late w l.last (state_at l.before c (op_of w l.last) r t) a.number r (in_time_at l.before c (op_of w l.last) r t) at;
-      state = state_at l.before c (op_of w l.last) r t;
-      allowed = at;
+      front = l.before.seen ++ t.between;
+      seen = subst (λ (k : ℕ). c.seen ≡ (l.before.seen ++ t.between) ++ entry k (op_of w l.last) r ∷ []) l.pended.same.number t.seen;
+      allowed =
+          subst (λ (n : Terms). Allows (row (after n (l.before.seen ++ t.between)) a.number (op_of w l.last) r) r)
+          (ap (λ (x : JournaledTerms). x.node) (t.same.terms ∙ l.pended.same.terms)) at;
     }

@@ -22,7 +22,7 @@ pub record AnswersLook (w : Wanted) (s : State) (last : Bool) (r : Reply) : Type
   -- what isn't Pending has an answer
   pub found : Every InTime s.tasks → Every Shallow s.mutexes → is_pending r ≡ false → found w r ≡ true
 
--- a refusal is neither the end of the time nor the status for want of tickets
+-- a refusal is neither the end of the time nor the status for turns that are used up
 not_timeout : (c : MtapiStatus) → is_refusal c ≡ true → is_timeout (reply.Mtapi c) ≡ false
 not_timeout c e1 = grind (arith, nat_tests)
 
@@ -89,7 +89,7 @@ endings_early g (r ∷ rs) a = by r.live (endings_early g rs a.1)
         member false = more
     by false more = more
 
--- what all members of a group say: neither the end of the time nor the status for want of tickets
+-- what all members of a group say: neither the end of the time nor the status for turns that are used up
 abbrev IsPlain : Option MtapiStatus → Type 0
 IsPlain o = (is_timeout (verdict o) ≡ false) × (says mtapi done (verdict o) ≡ true)
 

@@ -54,7 +54,7 @@ pub record IsOf (z : Cell) (c : ReturnedSeats) : Type 0 where
   pub main : c.main.cell ≡ z.id
   pub others : All (λ (s : Seat). s.cell ≡ z.id) c.others.items
 
--- where a start was refused, main closed and made no other call; or the tickets had run out, and it made none
+-- where a start was refused, main closed and made no other call; or the turns were used up, and it made none
 abbrev pub GaveUp : Seat → Seat → Type 0
 GaveUp old new = ((r : Reply) × Turned old Close r new) ⊎ Unturned old new
 

@@ -3,10 +3,9 @@ use Rattle.std.specs.Prelude.{◌≡◌, ℕ, ◌+◌, ◌<◌, ◌≤◌, ◌^�
 use Rattle.history.specs.Histories.{entry}
 use Rattle.mtapi_machine.specs.declared.replies.Reply.{Reply}
 use Rattle.mtapi_machine.specs.declared.replies.Reply.TheVariants.{Pending}
-use Rattle.mtapi_machine.specs.State.{State}
 use Rattle.mtapi_machine.specs.Row.{Allows}
 use Rattle.mtapi_machine.specs.Rows.{row}
-use Rattle.mtapi_machine.specs.Legal.{NodeEntry}
+use Rattle.mtapi_machine.specs.Legal.{NodeEntry, after}
 use Rattle.mtapi_machine.specs.Kept.{is_pending}
 use Rattle.workload_runs.specs.Lines.{is_timeout}
 use Rattle.workload_runs.specs.declared.calls.Wanted.{Wanted}
@@ -22,7 +21,8 @@ pends who w n = replicate n (entry who (op_of w false) Pending)
 
 -- some looks found the thing not ready, and one more had the answer. Where there is a limit they are at most so many, and the
 -- answer came with `last` exactly at the limit; where there is none, no look is the last. TIMEOUT comes with `last` alone, and the
--- status for want of tickets never
+-- status for turns that are used up never. The look with the answer is the last entry of what the seat has seen, and the answer is one that
+-- its row allows in the state after all entries before it
 pub record Looked (w : Wanted) (limit : Option ℕ) (old new : Seat) (answer : Reply) : Type 0 where
   pub same : SameSeat old new
   pub pending : ℕ
@@ -32,8 +32,9 @@ pub record Looked (w : Wanted) (limit : Option ℕ) (old new : Seat) (answer : R
   pub decides : last ≡ false → is_pending answer ≡ false
   pub late : is_timeout answer ≡ true → last ≡ true
   pub found : is_pending answer ≡ false → found w answer ≡ true
-  pub state : State
-  pub allowed : Allows (row state old.number (op_of w last) answer) answer
+  pub front : List NodeEntry
+  pub seen : new.seen ≡ front ++ entry old.number (op_of w last) answer ∷ []
+  pub allowed : Allows (row (after old.terms.node front) old.number (op_of w last) answer) answer
 
 -- some looks found the thing not ready, fewer than the limit where there is one, and then the tickets had run out
 abbrev pub StillLooking : Wanted → Option ℕ → Seat → Seat → Type 0

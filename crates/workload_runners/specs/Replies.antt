@@ -45,7 +45,7 @@ abbrev pub given : Reply → Option (TaskHandle × TaskEnd)
 given (reply.Given t e) = Some (t, e)
 given _ = None
 
--- the statuses of one standard: the one that a reply says, and the one that a caller answers for want of tickets and that no op says
+-- the statuses of one standard: the one that a reply says, and the one that a caller answers for turns that are used up and that no op says
 pub record Standard (S : Type 0) : Type 0 where
   pub status : Reply → Option S
   pub spent : S
@@ -78,7 +78,7 @@ module _ {S A : Type 0} (standard : Standard S) (read : Reply → Option A) wher
   says_status (Some c) b = not (standard.is_spent c)
   says_status None b = b
 
-  -- the reply has something to read, or says a status of the standard other than that for want of tickets
+  -- the reply has something to read, or says a status of the standard other than that for turns that are used up
   abbrev pub says : Reply → Bool
   says r = says_status (standard.status r) (is_some (read r))
 

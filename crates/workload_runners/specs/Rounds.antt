@@ -64,7 +64,7 @@ pub record AtWork (s : Seat) (h : ℕ) (x : Work) : Type 0 where
   pub worker : s.number < s.terms.node.settings.workers
   pub holds : Holds (after s.terms.node s.seen) s.number h x
 
--- the tickets ran out
+-- the turns are used up
 pub record Stranded (old new : Seat) : Type 0 where
   pub same : SameSeat old new
   pub shown : 2 ^ 62 ≤ new.shown

@@ -20,7 +20,7 @@ SameSeat old new = looks.SameSeat old new
 abbrev pub Turned : Seat → Op → Reply → Seat → Type 0
 Turned old o r new = looks.Turned journal_legal old o r new
 
--- the tickets had run out, and nothing was added
+-- the turns were used up, and nothing was added
 abbrev pub Unturned : Seat → Seat → Type 0
 Unturned old new = looks.Unturned old new
 

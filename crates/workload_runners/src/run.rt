@@ -25,7 +25,7 @@ use workload_file::Workload;
 pub enum RunError {
     /// A thread was refused. Main's seat tells the calls that main made.
     Refused(TurnSeat<Journaled>),
-    /// The tickets ran out.
+    /// The turns are used up.
     Spent(Spent),
     /// Want of memory.
     Memory,
@@ -36,7 +36,7 @@ pub enum RunError {
 pub enum NoRun {
     /// A thread was refused.
     Refused,
-    /// The tickets ran out.
+    /// The turns are used up.
     Spent(Spent),
     /// Want of memory.
     Memory,
@@ -143,7 +143,7 @@ fn journal_after(cell: TurnCell<Journaled>, crew: ReturnedSeats) -> Result<RunJo
 ///
 /// - `Refused`: a thread was refused. Main made no statement, and all threads that were started
 ///   have ended. No other answer is given where a thread was refused.
-/// - `Spent`: the tickets of the cell ran out.
+/// - `Spent`: the turns of the cell are used up.
 /// - `Memory`: there was no memory for the cell, for the handles of a caller, or for the journal.
 pub fn run_node<S: ActionSource, B: Beside, R: StartsThreads + Wait + Sync>(
     rt: &R,

@@ -20,7 +20,7 @@ use workload_runs::{Call, Wanted, call_of};
 /// Why a caller stopped before its last statement.
 #[derive(Debug, Drop)]
 pub enum Stop {
-    /// The tickets ran out.
+    /// The turns are used up.
     Spent(Spent),
     /// Want of memory.
     Memory,

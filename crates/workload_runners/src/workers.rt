@@ -307,7 +307,7 @@ impl<'a> Worker<'a> {
     ///
     /// # Errors
     ///
-    /// - `ServeEnd::Spent`: the tickets of the cell ran out. A task that it runs stays running
+    /// - `ServeEnd::Spent`: the turns of the cell are used up. A task that it runs stays running
     ///   then.
     pub fn serve<R: Wait, A: ActionSet>(
         self,
