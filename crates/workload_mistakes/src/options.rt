@@ -2,7 +2,7 @@
 use crate::hints::{Hint, hint_at};
 use crate::reading::{Verdict, verdict_on};
 use crate::table::{KINDS, row_of, value_text};
-use crate::words::{Piece, nearest};
+use crate::words::{Piece, are_near, nearest};
 use std::alloc::{AllocError, Global};
 use workload_file::Cause;
 
@@ -82,6 +82,24 @@ fn usage_of(pieces: &[Piece]) -> &'static [u8] {
     }
 }
 
+/// The option of a statement of whose key this one is the front, or a letter away.
+fn option_like(pieces: &[Piece], key: &[u8]) -> Option<&'static [u8]> {
+    let [first, ..] = pieces else {
+        return None;
+    };
+    let row = row_of(first.text)?;
+    for word in row.usage.split_whitespace() {
+        let word = word.strip_prefix('[').unwrap_or(word);
+        let word = word.strip_suffix(']').unwrap_or(word);
+        if let Some(name) = word.strip_suffix('=') {
+            if name.as_bytes().starts_with(key) || are_near(name.as_bytes(), key) {
+                return Some(word.as_bytes());
+            }
+        }
+    }
+    None
+}
+
 /// What is said of a word that is no option of its statement.
 pub fn option_hint(alloc: Global, pieces: &[Piece]) -> Result<Hint, AllocError> {
     let (option, before) = refused_option(alloc, pieces, Cause::UnknownOption)?;
@@ -108,6 +126,9 @@ pub fn option_hint(alloc: Global, pieces: &[Piece]) -> Result<Hint, AllocError> 
             b": an option is key=value without spaces: ",
             usage,
         );
+    }
+    if let Some(meant) = option_like(pieces, key_of(word)) {
+        return hint_at(alloc, at, word, b": perhaps ", meant);
     }
     hint_at(
         alloc,
