@@ -1,5 +1,5 @@
 -- Without a fault the picture of a journal is written, unless memory ran out.
-use Rattle.std.proofs.Common.{◌≡◌, ◌⊎◌, ℕ, ◌<◌, ◌≤◌, List, Option, Some, None, Ok, Err, inl, inr, refl, sym, ◌∙◌, subst, arith}
+use Rattle.std.proofs.Common.{◌≡◌, ◌⊎◌, ℕ, List, Option, Some, None, Ok, Err, inl, inr, refl, sym, ◌∙◌, subst, arith}
 use Rattle.std.specs.Prelude.{IfSome, Result}
 use Rattle.std.specs.Global.{Vec}
 use Rattle.byte_io.specs.declared.whole.ReadAllError.{ReadAllError}

@@ -8,8 +8,9 @@ ghost use Rattle.mtapi_picture.specs.declared.command.End.TheVariants as end;
 use byte_io::{ReadAllError, Sink, Source, read_all, say, write_all};
 use journal_text::{InputPart, JournalError, parts_of, read_journal};
 use node_journals::Journal;
-use run_picture::{picture_of, svg_of};
+use run_picture::svg_of;
 use std::alloc::{AllocError, Global};
+use workload_file::{LoadError, Workload, read_workload};
 
 /// How the program ends.
 #[derive(Clone, Copy, Drop)]
@@ -49,17 +50,37 @@ fn journal_in(alloc: Global, rest: &[u8]) -> Result<Journal, End>
     }
 }
 
-/// The SVG of a journal.
-fn svg_in(alloc: Global, journal: &Journal) -> Result<String, AllocError> {
+/// The workload that stands before the journal, if one does, for its names.
+fn workload_in(alloc: Global, front: &[u8]) -> Result<Option<Workload>, AllocError> {
+    if front.is_empty() {
+        return Ok(None);
+    }
+    let mut part = InputPart { left: front };
+    match read_workload(alloc, &mut part) {
+        Ok(load) => Ok(Some(load)),
+        Err(LoadError::Memory) => Err(AllocError),
+        Err(_) => Ok(None),
+    }
+}
+
+/// The SVG of a journal, with the names of the workload that stands before it.
+fn svg_in(alloc: Global, front: &[u8], journal: &Journal) -> Result<String, AllocError> {
+    let load = workload_in(alloc, front)?;
     let workers = journal.settings.workers().min(16);
     let seats = workers + journal.callers.min(9);
     let skipped = journal.entries.skipped();
-    let picture = picture_of(alloc, seats, journal.entries.as_slice(), skipped)?;
-    svg_of(alloc, workers, seats, &picture)
+    svg_of(
+        alloc,
+        load.as_ref(),
+        workers,
+        seats,
+        journal.entries.as_slice(),
+        skipped,
+    )
 }
 
 /// The SVG of the journal that the rest of an input is, or how the program ends without one.
-fn picture_in(alloc: Global, rest: &[u8]) -> Result<String, End>
+fn picture_in(alloc: Global, front: &[u8], rest: &[u8]) -> Result<String, End>
     requires { length rest.now ≤ 67108864 }
     ensures some { IfOk result (λ _. IsJournal rest.now) }
     ensures none { IfErr result (RestFails rest.now) }
@@ -68,13 +89,13 @@ fn picture_in(alloc: Global, rest: &[u8]) -> Result<String, End>
         Ok(journal) => journal,
         Err(end) => return Err(end),
     };
-    match svg_in(alloc, &journal) {
+    match svg_in(alloc, front, &journal) {
         Ok(svg) => Ok(svg),
         Err(_) => Err(End::Memory),
     }
 }
 
-/// Reads a journal, and writes the picture of its run.
+/// Reads a journal, and writes the picture of its run, with the names of the workload that stands before it.
 #[tactic(auto, using(crate::proofs::Complete::completes))]
 pub fn draw<S: Source, W: Sink>(alloc: Global, src: &mut S, out: &mut W) -> End
     ensures drawn { IfSome (S.left src.old) (λ bytes. Draws (W.held out.old) (W.held out.new) bytes result) }
@@ -91,8 +112,8 @@ pub fn draw<S: Source, W: Sink>(alloc: Global, src: &mut S, out: &mut W) -> End
         Err(ReadAllError::Read) => return End::ReadFault,
         Err(ReadAllError::TooLong) => return End::TooLong,
     };
-    let (_, rest) = parts_of(&bytes);
-    match picture_in(alloc, rest) {
+    let (front, rest) = parts_of(&bytes);
+    match picture_in(alloc, front, rest) {
         Ok(svg) => match write_all(out, svg.as_bytes()) {
             Ok(()) => End::Done,
             Err(_) => End::WriteFault,

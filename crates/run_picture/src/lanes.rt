@@ -1,244 +1,405 @@
-//! The lanes of queues and mutexes in a picture.
-ghost use Rattle.std.specs.Prelude.{◌≤◌};
+//! The rows of objects: how many tasks wait in a queue, and who holds a mutex, a semaphore, a reader-writer lock or a segment.
 
-use crate::elements::{owner_class, push_across, push_line, push_path, seat_name};
-use crate::shapes::{Level, QueueLane, Span};
-use crate::sheet::{Sheet, column, lane_top, mutex_place, next_column};
-use crate::strokes::{Stroke, drawn};
-use std::alloc::{AllocError, Global};
+use crate::lists::{at, put};
+use crate::marks::{Chart, Mark, Style, mark_at, push_mark};
+use crate::objects::{Object, Sort, object_of};
+use mtapi_machine::{Entry, Op, Reply};
+use mtapi_values::Kind;
+use std::alloc::AllocError;
 
-/// From here on a lane is so high.
+/// How many objects have a row: the first ones.
+const MOST_LANES: usize = 64;
+
+/// The row of an object, and how the object stands.
 #[derive(Clone, Copy, Drop)]
-pub struct Point {
-    /// Where.
-    pub at: u64,
-    /// How high.
-    pub height: u64,
+pub struct Lane {
+    pub object: Object,
+    /// The id of the object.
+    pub id: u32,
+    /// Whether it wasn't deleted.
+    pub live: bool,
+    /// Where it was made.
+    pub made: usize,
+    /// Of a queue: whether it keeps its tasks while it is disabled.
+    pub retain: bool,
+    /// How often all of its tasks ended together.
+    pub emptied: u64,
+    /// How many tasks wait in it, and from which place on.
+    pub count: u64,
+    pub since: usize,
+    /// The greatest number of tasks that waited in it; or else of seats that held it at a time.
+    pub most: u64,
+    /// The greatest number of looks that were left out before one call on it.
+    pub longest: u64,
 }
 
-/// What is drawn of the points in one column.
+/// A part of the row of an object that one seat at a time holds.
 #[derive(Clone, Copy, Drop)]
-pub struct Step {
-    /// Where.
-    pub at: u64,
-    /// The greatest height.
-    pub high: u64,
-    /// The last one.
-    pub last: u64,
+pub struct Slot {
+    /// The number of the lane.
+    pub lane: usize,
+    /// The number of the part, counted from 0.
+    pub number: u64,
+    /// Who holds it.
+    pub holder: Option<Holder>,
 }
 
-/// How high a count stands in a lane where the greatest is as high as the lane.
-fn height_of(count: u64, longest: u64) -> u64 {
-    (u128::from(count) * 20 / u128::from(longest.max(1))).min(20) as u64
+/// A seat that holds an object.
+#[derive(Clone, Copy, Drop)]
+pub struct Holder {
+    pub seat: u32,
+    /// How often.
+    pub depth: u64,
+    /// From which place on.
+    pub from: usize,
 }
 
-/// Adds the point of a level, if it is of this lane.
-fn push_point(
-    points: &mut Vec<Point>,
-    sheet: Sheet,
-    lane: &QueueLane,
-    level: &Level,
-) -> Result<(), AllocError> {
-    if level.lane == lane.lane {
-        points.push(Point {
-            at: column(sheet, u128::from(level.at as u64)),
-            height: height_of(level.count, lane.longest),
-        })?;
+/// What a call does with what it names.
+#[derive(Clone, Copy, Drop)]
+enum Holding {
+    Takes,
+    GivesBack,
+    Accesses,
+    Deletes,
+    Nothing,
+}
+
+fn holding_of(op: &Op, reply: &Reply) -> Holding {
+    match (op, reply) {
+        (Op::MutexLook { .. }, Reply::Number(_)) => Holding::Takes,
+        (Op::SemLook { .. } | Op::RwlLook { .. } | Op::ShmemAttach { .. }, Reply::Ok) => {
+            Holding::Takes
+        }
+        (Op::MutexUnlock { .. } | Op::SemUnlock { .. }, Reply::Ok) => Holding::GivesBack,
+        (Op::RwlUnlock { .. } | Op::ShmemDetach { .. }, Reply::Ok) => Holding::GivesBack,
+        (Op::ShmemRead { .. }, Reply::Number(_)) => Holding::Accesses,
+        (Op::ShmemWrite { .. }, Reply::Ok) => Holding::Accesses,
+        (Op::MutexDelete { .. } | Op::SemDelete { .. }, Reply::Ok) => Holding::Deletes,
+        (Op::RwlDelete { .. } | Op::ShmemDelete { .. }, Reply::Ok) => Holding::Deletes,
+        _ => Holding::Nothing,
+    }
+}
+
+/// The id of an object that has a row, and whether it is a queue that keeps its tasks, where an op makes one.
+fn made_by(op: &Op) -> Option<(u32, bool)> {
+    match op {
+        Op::QueueCreate { id, retain, .. } => Some((*id, *retain)),
+        Op::MutexCreate { id, .. }
+        | Op::SemCreate { id, .. }
+        | Op::RwlCreate { id, .. }
+        | Op::ShmemCreate { id, .. } => Some((*id, false)),
+        _ => None,
+    }
+}
+
+/// Adds the row of an object that an entry made, if there is room.
+fn add_lane(lanes: &mut Vec<Lane>, place: usize, entry: &Entry) -> Result<(), AllocError> {
+    match (made_by(&entry.op), &entry.reply, object_of(entry)) {
+        (Some((id, retain)), Reply::Handle(_), Some(object)) if lanes.len() < MOST_LANES => {
+            lanes.push(Lane {
+                object,
+                id,
+                live: true,
+                made: place,
+                retain,
+                emptied: 0,
+                count: 0,
+                since: place,
+                most: 0,
+                longest: 0,
+            })?;
+        }
+        _ => {}
     }
     Ok(())
 }
 
-fn points_of(
-    alloc: Global,
-    sheet: Sheet,
-    lane: &QueueLane,
-    levels: &[Level],
-) -> Result<Vec<Point>, AllocError> {
-    let mut points = Vec::new(alloc);
-    for level in levels {
-        push_point(&mut points, sheet, lane, level)?;
+/// The number of the lane of an object.
+pub fn lane_of(lanes: &[Lane], object: Object) -> Option<usize> {
+    for (number, lane) in lanes.iter().enumerate() {
+        if lane.object == object {
+            return Some(number);
+        }
     }
-    Ok(points)
+    None
 }
 
-/// Goes on to a point, and adds the step that it ends.
-fn push_step(steps: &mut Vec<Step>, step: Step, point: Point) -> Result<Step, AllocError> {
-    if step.at < point.at {
-        steps.push(step)?;
-        Ok(Step {
-            at: point.at,
-            high: step.last.max(point.height),
-            last: point.height,
-        })
-    } else {
-        Ok(Step {
-            at: step.at,
-            high: step.high.max(point.height),
-            last: point.height,
-        })
+/// The number of the lane of the live object of this kind with this id.
+fn lane_named(lanes: &[Lane], sort: Sort, id: i64) -> Option<usize> {
+    for (number, lane) in lanes.iter().enumerate() {
+        if lane.live && lane.object.sort == sort && i64::from(lane.id) == id {
+            return Some(number);
+        }
     }
+    None
 }
 
-fn steps_of(alloc: Global, points: &[Point]) -> Result<Vec<Step>, AllocError> {
-    let mut steps = Vec::new(alloc);
-    let mut step = Step {
-        at: 110,
-        high: 0,
-        last: 0,
+/// The place of the first slot of a lane that this seat holds, or that is free.
+fn slot_held(slots: &[Slot], lane: usize, seat: Option<u32>) -> Option<usize> {
+    for (place, slot) in slots.iter().enumerate() {
+        let held = match slot.holder {
+            Some(holder) => Some(holder.seat),
+            None => None,
+        };
+        if slot.lane == lane && held == seat {
+            return Some(place);
+        }
+    }
+    None
+}
+
+/// A slot that this seat takes, or takes once more.
+fn taken(slot: Slot, seat: u32, place: usize) -> Slot {
+    let holder = match slot.holder {
+        Some(holder) => Holder {
+            depth: holder.depth.saturating_add(1),
+            ..holder
+        },
+        None => Holder {
+            seat,
+            depth: 1,
+            from: place,
+        },
     };
-    for point in points {
-        step = push_step(&mut steps, step, *point)?;
+    Slot {
+        holder: Some(holder),
+        ..slot
     }
-    steps.push(step)?;
-    Ok(steps)
 }
 
-fn push_step_text(
-    alloc: Global,
-    out: &mut String,
-    base: u64,
-    step: &Step,
-) -> Result<(), AllocError> {
-    let x = step.at;
-    let last = base.saturating_sub(step.last);
-    if step.high == step.last {
-        out.push_str(&format!(in alloc; "H{x}V{last}")?)
+/// A further slot of a lane.
+fn add_slot(chart: &mut Chart, number: usize, lane: Lane) -> Result<usize, AllocError> {
+    let place = chart.slots.len();
+    chart.slots.push(Slot {
+        lane: number,
+        number: lane.most,
+        holder: None,
+    })?;
+    let most = lane.most.saturating_add(1);
+    put(&mut chart.lanes, number, Lane { most, ..lane });
+    Ok(place)
+}
+
+/// A seat takes an object.
+fn take(chart: &mut Chart, number: usize, seat: u32, place: usize) -> Result<(), AllocError> {
+    let Some(lane) = at(chart.lanes.as_slice(), number) else {
+        return Ok(());
+    };
+    let held = slot_held(chart.slots.as_slice(), number, Some(seat));
+    let found = match held {
+        Some(at) => at,
+        None => match slot_held(chart.slots.as_slice(), number, None) {
+            Some(at) => at,
+            None => add_slot(chart, number, lane)?,
+        },
+    };
+    if let Some(slot) = at(chart.slots.as_slice(), found) {
+        put(&mut chart.slots, found, taken(slot, seat, place));
+    }
+    Ok(())
+}
+
+/// What a seat held of an object until this place.
+fn push_held(chart: &mut Chart, slot: Slot, holder: Holder, to: usize) -> Result<(), AllocError> {
+    let row = chart.seats.len().saturating_add(slot.lane);
+    let mark = Mark {
+        row,
+        slot: slot.number,
+        to,
+        ..mark_at(Style::Held, holder.seat, holder.from)
+    };
+    push_mark(chart, mark)
+}
+
+/// A seat gives a slot back, once or altogether.
+fn give_back(chart: &mut Chart, found: usize, place: usize, whole: bool) -> Result<(), AllocError> {
+    let Some(slot) = at(chart.slots.as_slice(), found) else {
+        return Ok(());
+    };
+    let Some(holder) = slot.holder else {
+        return Ok(());
+    };
+    let depth = holder.depth.saturating_sub(1);
+    let left = if whole || depth == 0 {
+        push_held(chart, slot, holder, place)?;
+        None
     } else {
-        let high = base.saturating_sub(step.high);
-        out.push_str(&format!(in alloc; "H{x}V{high}V{last}")?)
+        Some(Holder { depth, ..holder })
+    };
+    let slot = Slot {
+        holder: left,
+        ..slot
+    };
+    put(&mut chart.slots, found, slot);
+    Ok(())
+}
+
+/// A read or a write of a segment, in the part of its row that the seat holds.
+fn push_access(
+    chart: &mut Chart,
+    number: usize,
+    seat: u32,
+    place: usize,
+) -> Result<(), AllocError> {
+    let found = slot_held(chart.slots.as_slice(), number, Some(seat)).unwrap_or(0);
+    let slot = match at(chart.slots.as_slice(), found) {
+        Some(slot) => slot.number,
+        None => 0,
+    };
+    let mark = Mark {
+        row: chart.seats.len().saturating_add(number),
+        slot,
+        ..mark_at(Style::Access, seat, place)
+    };
+    push_mark(chart, mark)
+}
+
+/// What a call does with the object that it names.
+fn hold(chart: &mut Chart, place: usize, entry: &Entry, number: usize) -> Result<(), AllocError> {
+    match holding_of(&entry.op, &entry.reply) {
+        Holding::Takes => take(chart, number, entry.who, place),
+        Holding::GivesBack => {
+            match slot_held(chart.slots.as_slice(), number, Some(entry.who)) {
+                Some(found) => give_back(chart, found, place, false),
+                None => Ok(()),
+            }
+        }
+        Holding::Accesses => push_access(chart, number, entry.who, place),
+        Holding::Deletes => {
+            if let Some(lane) = at(chart.lanes.as_slice(), number) {
+                put(
+                    &mut chart.lanes,
+                    number,
+                    Lane {
+                        live: false,
+                        ..lane
+                    },
+                );
+            }
+            Ok(())
+        }
+        Holding::Nothing => Ok(()),
     }
 }
 
-fn push_steps(
-    alloc: Global,
-    out: &mut String,
-    base: u64,
-    steps: &[Step],
-) -> Result<(), AllocError> {
-    for step in steps {
-        push_step_text(alloc, out, base, step)?;
+/// The ids of the mutex and the segment of a tally.
+fn tally_ids(entry: &Entry) -> Option<(i64, i64)> {
+    match &entry.reply {
+        Reply::Picked { kind, args, .. } => match (kind, args.as_slice()) {
+            (Kind::Tally, [mutex, segment, ..]) => Some((*mutex, *segment)),
+            _ => None,
+        },
+        _ => None,
+    }
+}
+
+/// Gives back all that a worker's tally has.
+fn end_tally(chart: &mut Chart, who: u32, place: usize) -> Result<(), AllocError> {
+    for found in 0..chart.slots.len() {
+        if let Some(slot) = at(chart.slots.as_slice(), found)
+            && let Some(holder) = slot.holder
+            && holder.seat == who
+        {
+            give_back(chart, found, place, true)?;
+        }
     }
     Ok(())
 }
 
-fn push_line_begin(alloc: Global, out: &mut String, base: u64) -> Result<(), AllocError> {
-    out.push_str(&format!(in alloc; "M110 {base}")?)
-}
-
-fn push_line_end(alloc: Global, out: &mut String, base: u64) -> Result<(), AllocError> {
-    out.push_str(&format!(in alloc; "H1310V{base}Z")?)
-}
-
-/// How many tasks waited in a queue.
-fn push_queue(
-    alloc: Global,
-    out: &mut String,
-    sheet: Sheet,
-    levels: &[Level],
-    lane: &QueueLane,
+/// What a worker's tally, which it picked by this entry, does with its mutex and its segment.
+fn note_tally(
+    chart: &mut Chart,
+    place: usize,
+    entry: &Entry,
+    picked: &Entry,
 ) -> Result<(), AllocError> {
-    let base = lane_top(sheet, u128::from(lane.lane)) + 23;
-    let points = points_of(alloc, sheet, lane, levels)?;
-    let steps = steps_of(alloc, &points)?;
-    push_path(alloc, out, "queue", "")?;
-    push_line_begin(alloc, out, base)?;
-    push_steps(alloc, out, base, &steps)?;
-    push_line_end(alloc, out, base)?;
-    out.push_str("\"/>\n")
-}
-
-/// How many tasks waited in each queue.
-pub fn push_queues(
-    alloc: Global,
-    out: &mut String,
-    sheet: Sheet,
-    levels: &[Level],
-    lanes: &[QueueLane],
-) -> Result<(), AllocError> {
-    for lane in lanes {
-        push_queue(alloc, out, sheet, levels, lane)?;
+    let Some((mutex, segment)) = tally_ids(picked) else {
+        return Ok(());
+    };
+    let mutex = lane_named(chart.lanes.as_slice(), Sort::Mutex, mutex);
+    let segment = lane_named(chart.lanes.as_slice(), Sort::Segment, segment);
+    match (&entry.op, &entry.reply, mutex, segment) {
+        (Op::TallyLock { .. }, Reply::Asked(true), Some(mutex), Some(segment)) => {
+            take(chart, mutex, entry.who, place)?;
+            take(chart, segment, entry.who, place)
+        }
+        (Op::TallyRead { .. }, Reply::Number(_), _, Some(segment)) => {
+            push_access(chart, segment, entry.who, place)
+        }
+        (Op::TallyWrite { .. }, Reply::Ok, _, Some(segment)) => {
+            push_access(chart, segment, entry.who, place)
+        }
+        (Op::TallyEnd { .. }, Reply::Ended(_), _, _) => end_tally(chart, entry.who, place),
+        _ => Ok(()),
     }
+}
+
+/// Notes the looks that were left out before a call on an object.
+fn note_longest(chart: &mut Chart, number: usize, looks: u64) {
+    if let Some(lane) = at(chart.lanes.as_slice(), number) {
+        let longest = lane.longest.max(looks);
+        put(&mut chart.lanes, number, Lane { longest, ..lane });
+    }
+}
+
+/// Follows the rows of objects at one entry; the seat runs what it picked by the other one.
+pub fn note_lanes(
+    chart: &mut Chart,
+    place: usize,
+    entry: &Entry,
+    looks: u64,
+    picked: Option<&Entry>,
+) -> Result<(), AllocError> {
+    add_lane(&mut chart.lanes, place, entry)?;
+    if let Some(object) = object_of(entry)
+        && let Some(number) = lane_of(chart.lanes.as_slice(), object)
+    {
+        note_longest(chart, number, looks);
+        hold(chart, place, entry, number)?;
+    }
+    match picked {
+        Some(picked) => note_tally(chart, place, entry, picked),
+        None => Ok(()),
+    }
+}
+
+/// From this place on so many tasks wait in a queue.
+pub fn set_level(
+    chart: &mut Chart,
+    number: usize,
+    place: usize,
+    count: u64,
+) -> Result<(), AllocError> {
+    let Some(lane) = at(chart.lanes.as_slice(), number) else {
+        return Ok(());
+    };
+    if lane.count > 0 {
+        let mark = Mark {
+            row: chart.seats.len().saturating_add(number),
+            to: place.saturating_sub(1).max(lane.since),
+            count: lane.count,
+            ..mark_at(Style::Level, 0, lane.since)
+        };
+        push_mark(chart, mark)?;
+    }
+    let lane = Lane {
+        count,
+        since: place,
+        most: lane.most.max(count),
+        ..lane
+    };
+    put(&mut chart.lanes, number, lane);
     Ok(())
 }
 
-/// A span as a stroke, of one pixel at least.
-fn span_stroke(sheet: Sheet, span: &Span) -> Stroke {
-    let from = column(sheet, u128::from(span.from as u64));
-    Stroke {
-        row: span.lane,
-        owner: span.owner,
-        from,
-        to: next_column(sheet, span.to).max(from + 1),
+/// Ends what is held, and the levels, behind the last entry.
+pub fn end_lanes(chart: &mut Chart) -> Result<(), AllocError> {
+    let end = chart.entries;
+    for found in 0..chart.slots.len() {
+        give_back(chart, found, end.saturating_sub(1), true)?;
     }
-}
-
-fn span_strokes(alloc: Global, sheet: Sheet, spans: &[Span]) -> Result<Vec<Stroke>, AllocError> {
-    let mut strokes = Vec::new(alloc);
-    for span in spans {
-        strokes.push(span_stroke(sheet, span))?;
-    }
-    Ok(strokes)
-}
-
-/// The owner's name, if there is room.
-fn push_owner_name(
-    alloc: Global,
-    out: &mut String,
-    sheet: Sheet,
-    y: u64,
-    stroke: &Stroke,
-) -> Result<(), AllocError>
-    requires { y ≤ 4398046511104 }
-{
-    if 24 <= stroke.to.saturating_sub(stroke.from) {
-        let name = seat_name(alloc, sheet.workers, stroke.owner)?;
-        let x = stroke.from + 4;
-        push_line(alloc, out, " class=\"name\"", x, y + 4, name.as_str())?;
+    for number in 0..chart.lanes.len() {
+        set_level(chart, number, end, 0)?;
     }
     Ok(())
-}
-
-/// An owner's part of a lane, in its colour.
-fn push_owner(
-    alloc: Global,
-    out: &mut String,
-    sheet: Sheet,
-    stroke: &Stroke,
-) -> Result<(), AllocError> {
-    let y = lane_top(sheet, mutex_place(sheet, stroke.row)) + 13;
-    let class = owner_class(alloc, stroke.owner)?;
-    push_path(alloc, out, class.as_str(), " line")?;
-    push_across(
-        alloc,
-        out,
-        stroke.from,
-        y,
-        stroke.to.saturating_sub(stroke.from),
-    )?;
-    out.push_str("\"/>\n")?;
-    push_owner_name(alloc, out, sheet, y, stroke)
-}
-
-fn push_owners(
-    alloc: Global,
-    out: &mut String,
-    sheet: Sheet,
-    parts: &[Stroke],
-) -> Result<(), AllocError> {
-    for part in parts {
-        push_owner(alloc, out, sheet, part)?;
-    }
-    Ok(())
-}
-
-/// Who owned each mutex.
-pub fn push_spans(
-    alloc: Global,
-    out: &mut String,
-    sheet: Sheet,
-    spans: &[Span],
-) -> Result<(), AllocError> {
-    let strokes = span_strokes(alloc, sheet, spans)?;
-    let parts = drawn(alloc, &strokes)?;
-    push_owners(alloc, out, sheet, &parts)
 }

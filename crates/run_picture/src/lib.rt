@@ -1,21 +1,20 @@
-//! The picture of a run: what a journal shows of its workers, callers, queues and mutexes, and an SVG of it.
+//! The picture of a run: what a journal shows of its workers, callers, tasks and objects, as an SVG with the names of its workload.
+//!
+//! One pass over the entries (`follow`) fills a table of rows and marks (`marks`), and one writer (`page`, `drawing`) draws it.
 #![tactic(auto)]
 
 mod drawing;
-mod elements;
-mod grounds;
+mod follow;
 mod lanes;
-mod locks;
-mod lookups;
+mod lists;
+mod marks;
+mod names;
+mod objects;
 mod page;
-mod pictures;
-mod rows;
-mod shapes;
+mod seats;
 mod sheet;
-mod strokes;
-mod table;
-mod waits;
+mod tasks;
+mod titles;
+mod words;
 
 pub use page::svg_of;
-pub use pictures::{Picture, picture_of};
-pub use shapes::{Bar, BarEnd, Level, MutexLane, QueueLane, Span, Tick, TickSort};
