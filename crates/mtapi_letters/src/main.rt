@@ -8,73 +8,50 @@ use std::alloc::Global;
 use std::sync::Wait;
 use std::thread::Threads;
 use std::{env, io};
-use typed_pieces::{Piece, TaskContext, Unfinished, run_pieces};
+use typed_pieces::{Unfinished, map_pieces};
 
-/// How often each letter from a to z was met, be it large or small.
-type Counts = [u64; 26];
-
-/// A part of the text.
-#[derive(Drop)]
-struct Part<'a>(&'a [u8]);
-
-impl<'a> Piece for Part<'a> {
-    type Done = Counts;
-
-    ghost promise = { λ _ _. Unit {0} };
-
-    fn go<R: Wait>(self, _rt: &R, _task: &TaskContext) -> Counts {
-        let mut counts = [0u64; 26];
-        for byte in self.0 {
-            let letter = byte.to_ascii_lowercase().wrapping_sub(b'a') as usize;
-            if letter < 26 {
-                counts[letter] = counts[letter].wrapping_add(1);
-            }
+// How often each letter from a to z stands in this part, be it large or small.
+fn letters_of(part: &[u8]) -> [u64; 26] {
+    let mut counts = [0u64; 26];
+    for byte in part {
+        let letter = byte.to_ascii_lowercase().wrapping_sub(b'a') as usize;
+        if letter < 26 {
+            counts[letter] = counts[letter].wrapping_add(1);
         }
-        counts
     }
+    counts
 }
 
+// The letters of each of at most 64 parts.
 fn count<R: Threads + Wait + Sync>(
     rt: &R,
     alloc: Global,
     text: &[u8],
     workers: u64,
-) -> Result<Counts, Unfinished> {
+) -> Result<Vec<[u64; 26]>, Unfinished> {
     let mut settings = NodeAttr::new();
     settings.set(NodeAttr::WORKERS, workers)?;
-    // At most 64 parts.
-    let parts = text.chunks(text.len() / 64 + 1).map(|part| Part(part));
-    let parts = parts.collect(alloc)?;
-    let mut sum = [0u64; 26];
-    for counts in &run_pieces(rt, alloc, settings, parts)?.results {
-        for letter in 0..26 {
-            sum[letter] = sum[letter].saturating_add(counts[letter]);
-        }
-    }
-    Ok(sum)
+    let parts = text.chunks(text.len() / 64 + 1).collect(alloc)?;
+    Ok(map_pieces(rt, alloc, settings, parts, &letters_of)?.results)
 }
 
-fn print(rt: &HostRuntime, counts: &Counts) -> io::Result<()> {
+fn main(rt: HostRuntime) -> io::Result<()> {
+    let word = env::args(&rt)?.nth(1);
+    let workers = word.map_or(4, |word| word.parse().unwrap_or(0));
+    let text = match read_all(rt.alloc(), &mut StdSource::new(rt.stdin()), 1 << 30) {
+        Ok(text) => text,
+        Err(error) => return println!(rt; "{error}"),
+    };
+    let parts = match count(&rt, rt.alloc(), &text, workers) {
+        Ok(parts) => parts,
+        Err(unfinished) => return println!(rt; "{unfinished}"),
+    };
     for letter in 0..26u8 {
-        let count = counts[letter as usize];
+        let all = parts.iter().map(|counts| counts[letter as usize]);
+        let count = all.fold(0u64, |sum, count| sum.saturating_add(count));
         if count > 0 {
             println!(rt; "{}: {count}", (b'a' + letter) as char)?;
         }
     }
     Ok(())
-}
-
-fn main(rt: HostRuntime) -> io::Result<()> {
-    let workers = match env::args(&rt)?.skip(1).next() {
-        Some(word) => word.parse().unwrap_or(0),
-        None => 4,
-    };
-    let text = match read_all(rt.alloc(), &mut StdSource::new(rt.stdin()), 1 << 30) {
-        Ok(text) => text,
-        Err(error) => return println!(rt; "{error}"),
-    };
-    match count(&rt, rt.alloc(), &text, workers) {
-        Ok(counts) => print(&rt, &counts),
-        Err(unfinished) => println!(rt; "{unfinished}"),
-    }
 }

@@ -1,5 +1,5 @@
 //! A search that stops early: the workers of a node look for a divisor of a number, each among others. The first that one of them finds ends
-//! the search, and the others are cancelled: by themselves they would look on for hours.
+//! the search, and the others are cancelled: by themselves they would look on for hours. Its result is taken while the node runs.
 #![tactic(auto)]
 
 use mtapi_values::{NodeAttr, TaskAttr, TaskHandle, Timeout};
@@ -42,12 +42,21 @@ impl Piece for Search {
     }
 }
 
+/// The results that were taken while the node ran.
+#[derive(Drop)]
+struct Taken {
+    /// Whether that of the first search was there while it went on.
+    early: bool,
+    /// That of the search that ended first.
+    divisor: Option<u64>,
+}
+
 /// Starts all searches, and cancels the others once one has ended.
 #[derive(Drop)]
 struct UntilFound;
 
 impl PieceClient<Search> for UntilFound {
-    type Told = Result<(), Refusal>;
+    type Told = Result<Taken, Refusal>;
 
     ghost promise = { λ _ _ _ _ _. Unit {0} };
 
@@ -57,7 +66,7 @@ impl PieceClient<Search> for UntilFound {
         rt: &R,
         caller: &mut Caller,
         pieces: &Pieces<L, Search>,
-    ) -> Result<(), Refusal> {
+    ) -> Result<Taken, Refusal> {
         pieces.action(rt, caller, JOB)?;
         let group = caller.group_create(rt)?;
         let mut tasks = [TaskHandle(0); WORKERS as usize];
@@ -66,28 +75,39 @@ impl PieceClient<Search> for UntilFound {
             tasks[place as usize] = pieces.start(rt, caller, place, JOB, attr, Some(group))?;
         }
         let first = pieces.wait_any(rt, caller, group, Timeout::Infinite)?;
+        // No even number divides an odd one, so the first search goes on until it is cancelled.
+        let early = pieces.take_done(rt, 0).is_some();
         for other in 0..WORKERS as u32 {
             if Some(other) != first {
                 pieces.cancel(rt, caller, other, tasks[other as usize])?;
             }
         }
         caller.group_wait_all(rt, group, Timeout::Infinite)?;
-        Ok(())
+        let divisor = match first {
+            Some(place) => pieces.take_done(rt, place).flatten(),
+            None => None,
+        };
+        Ok(Taken { early, divisor })
     }
 }
 
-fn divisor_of<R: Threads + Wait + Sync>(rt: &R, alloc: Global) -> Result<Option<u64>, Unfinished> {
+fn first_found<R: Threads + Wait + Sync>(rt: &R, alloc: Global) -> Result<Taken, Unfinished> {
     let mut settings = NodeAttr::new();
     settings.set(NodeAttr::WORKERS, WORKERS)?;
     let pieces = (2..2 + WORKERS).map(|first| Search(first)).collect(alloc)?;
     let worked = with_pieces(rt, alloc, settings, pieces, UntilFound)?;
-    worked.told?;
-    Ok(worked.results.into_iter().flatten().flatten().next())
+    Ok(worked.told?)
 }
 
 fn main(rt: HostRuntime) -> io::Result<()> {
-    match divisor_of(&rt, rt.alloc()) {
-        Ok(Some(divisor)) => {
+    match first_found(&rt, rt.alloc()) {
+        Ok(Taken { early: true, .. }) => println!(rt; "a search had a result before it ended"),
+        Ok(
+            Taken {
+                divisor: Some(divisor),
+                ..
+            },
+        ) => {
             let other = NUMBER / divisor.max(1);
             println!(rt;
                 "{NUMBER} is {} times {}",
@@ -95,7 +115,7 @@ fn main(rt: HostRuntime) -> io::Result<()> {
                 divisor.max(other)
             )
         }
-        Ok(None) => println!(rt; "no divisor"),
+        Ok(_) => println!(rt; "no divisor"),
         Err(unfinished) => println!(rt; "{unfinished}"),
     }
 }

@@ -1,6 +1,7 @@
 -- What a write at a place, and a new table, keep.
 use Rattle.std.proofs.Common.{◌≡◌, ℕ, ◌⊎◌, List, [], ◌∷◌, Option, Some, None, zero, suc, refl, ap, subst, sym, ◌∙◌, inl, inr, ⊎_elim, slice_get, slice_set, map, IfSome}
-use Rattle.std.proofs.lemmas.Option.{same_Some, none-some}
+use Rattle.std.specs.List.{All}
+use Rattle.std.proofs.lemmas.Option.{same_Some, none-some, get_or_from_slice_get, slice_get_within}
 use Rattle.std.proofs.Math.Logic.{∥∥₁_map}
 use Rattle.typed_pieces.specs.Places.{AreFrom, AreKept, IsKeptAt}
 
@@ -51,3 +52,14 @@ no_result (h ∷ hs) (suc i) d is = no_result hs i d is
 -- where there is no result, each keeps what it promises
 pub kept_none : {J D : Type 0} (p : J → D → Type 0) (hs ps : List J) (xs : List (Option D)) → xs ≡ map (λ _. None) ps → ∥ AreKept p hs xs ∥₁
 kept_none {J} {D} p hs ps xs all = ∣ (λ i j d at is. absurd (no_result ps i d (subst (λ ys. slice_get ys i ≡ Some (Some d)) all is))) ∣₁
+
+-- what holds of each piece that is handed in holds of those that a type names, if they are the same
+pub all_ready : {J : Type 0} (P : J → Type 0) (hs ps : List J) → hs ≡ ps → All P ps → ∥ All P hs ∥₁
+all_ready P hs ps same all = ∣ subst (λ l. All P l) (sym same) all ∣₁
+
+-- and of the one that was taken of its place
+pub taken_ready : {J : Type 0} (P : J → Type 0) (hs : List J) (xs : List (Option J)) (i : ℕ) (r : Option J) → AreFrom hs xs → slice_get xs i ≡ Some r → ∥ All P hs ∥₁ → IfSome r (λ j. ∥ P j ∥₁)
+taken_ready P hs xs i None from at all = tt
+taken_ready P hs xs i (Some j) from at all =
+    let here = from i j at in
+    ∥∥₁_map all (λ p. subst P (get_or_from_slice_get hs i j j here) (p i j (slice_get_within hs i j here)))

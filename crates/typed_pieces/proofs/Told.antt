@@ -1,5 +1,5 @@
 -- What a wait for any member of a group says of places.
-use Rattle.std.proofs.Common.{◌≡◌, ◌<◌, ◌^◌, ℕ, ℤ, pos, negsuc, Option, Some, Result, Ok, Err, inl, inr, refl, subst, sym, arith, OkIff, unsigned_abs}
+use Rattle.std.proofs.Common.{◌≡◌, ◌<◌, ◌^◌, ℕ, ℤ, pos, negsuc, Option, Result, Ok, Err, inl, inr, refl, subst, sym, arith, OkIff, unsigned_abs}
 use Rattle.std.specs.Int.{FitsUnsignedBits}
 use Rattle.std.specs.Result.{result_ok}
 use Rattle.std.proofs.lemmas.Bool.Decides.{nat_tests}

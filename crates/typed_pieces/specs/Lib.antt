@@ -1,3 +1,6 @@
+pub mod Levels
 pub mod Places
 pub mod Runs
+pub mod Split
+pub mod SplitRuns
 pub mod Told

@@ -52,7 +52,7 @@ pub record HasAwaited (places : ℕ) (old new : Seat) : Type 0 where
 abbrev pub HasRunAll : NodeSettings → ℕ → Journal → Type 0
 HasRunAll settings places journal = IsRun {C = Unit {0}} {T = Unit {0}} (λ _ old new _. HasAwaited places old new) tt settings tt journal
 
--- the last call of this seat was refused with this status; or a further one wasn't made, since the tickets had run out
+-- the last call of this seat was refused with this status; or a further one wasn't made, since the turns were used up
 abbrev pub EndsRefused : MtapiStatus → Seat → Type 0
 EndsRefused status s =
     ((before : List NodeEntry) × (o : Op) × (s.mine ≡ before ++ entry s.number o (reply.Mtapi status) ∷ [])) ⊎ ((status ≡ ErrSpent) × (2 ^ 62 ≤ s.shown))

@@ -1,6 +1,7 @@
 //! Pieces that are all run, and waited for.
 
 ghost use Rattle.std.specs.Prelude.{◌≡◌, ◌<◌, ◌^◌, Some, IfOk, IfErr, map, vec_len};
+ghost use Rattle.std.specs.List.{All};
 ghost use Rattle.node_with_workers.specs.Clients.{IfRefused};
 ghost use Rattle.node_with_workers.specs.declared.failure.Failure.TheVariants.{Memory};
 ghost use Rattle.typed_pieces.specs.Places.{AreKept, IsFirstWithout};
@@ -96,6 +97,7 @@ pub fn run_pieces<J: Piece + Send, R: Threads + Wait + Sync>(
 ) -> Result<Worked<(), J::Done>, Unfinished>
 where
     J::Done: Send,
+    requires ready { All J.ready pieces.items }
     ensures run { IfOk result (λ w. HasRun settings w.journal) }
     ensures awaited { vec_len pieces < 2 ^ 32 → IfOk result (λ w. HasRunAll settings (vec_len pieces) w.journal) }
     ensures causes { IfErr result (λ u. FailsBy u (λ e. IfRefused e (RefusesPieces settings))) }

@@ -1,6 +1,7 @@
 //! The pieces that wait, and the results, each at the place of its piece.
 
 ghost use Rattle.std.specs.Prelude.{◌≡◌, List, [], Some, None, IfOk, IfSome, length, map, slice_get};
+ghost use Rattle.std.specs.List.{All};
 ghost use Rattle.typed_pieces.specs.Places.{AreFrom, AreKept, IsKeptAt};
 
 use crate::piece::Piece;
@@ -74,6 +75,7 @@ pub struct Table<L: Handed<J>, J: Piece> {
     /// The results.
     pub results: Results<L, J>,
     ghost from: { AreFrom L.pieces waiting.items },
+    ghost ready: { ∥ All J.ready L.pieces ∥₁ },
 }
 
 // A place without a result for each piece.
@@ -93,7 +95,8 @@ fn all_wait<J: Drop>(alloc: Global, pieces: Vec<J>) -> Result<Vec<Option<J>>, Al
 impl<L: Handed<J>, J: Piece> Table<L, J> {
     /// A table in which each piece waits.
     pub fn new(alloc: Global, pieces: Vec<J>) -> Result<Table<L, J>, AllocError>
-        requires { L.pieces ≡ pieces.items }
+        requires named { L.pieces ≡ pieces.items }
+        requires ready { All J.ready pieces.items }
     {
         let results = Results::none(alloc, &pieces)?;
         let waiting = all_wait(alloc, pieces)?;
@@ -102,7 +105,8 @@ impl<L: Handed<J>, J: Piece> Table<L, J> {
 
     /// Takes the piece of this place, if it hasn't been taken.
     pub fn take(&mut self, place: usize) -> Option<J>
-        ensures { IfSome result (λ j. slice_get L.pieces place ≡ Some j) }
+        ensures from { IfSome result (λ j. slice_get L.pieces place ≡ Some j) }
+        ensures ready { IfSome result (λ j. ∥ J.ready j ∥₁) }
     {
         if place < self.waiting.len() {
             self.waiting[place].take()

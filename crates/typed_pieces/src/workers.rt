@@ -8,6 +8,23 @@ use action_fn::{ActionSet, ActionSource, Finished, answer_of};
 use mtapi_values::{Args, Kind};
 use std::sync::Wait;
 
+/// A piece that may go.
+#[derive(Drop)]
+pub struct Ready<J: Piece> {
+    piece: J,
+    ghost ready: { ∥ J.ready piece ∥₁ },
+}
+
+impl<J: Piece> Ready<J> {
+    /// Does the work of the piece.
+    pub fn run<R: Wait>(self, rt: &R, task: &TaskContext) -> J::Done
+        ensures { J.promise self.piece result }
+    {
+        let Ready { piece } = self;
+        piece.go(rt, task)
+    }
+}
+
 /// Runs the piece whose place the argument of an `echo` names, if it hasn't run, and answers what each kind answers.
 #[derive(Drop)]
 pub struct PieceRunner<'a, L: Handed<J>, J: Piece> {
@@ -20,7 +37,7 @@ impl<'a, L: Handed<J>, J: Piece> PieceRunner<'a, L, J> {
         let Shared { table, cancels } = self.shared;
         let taken = table.lock(rt).take(place);
         if let Some(piece) = taken {
-            let done = piece.go(rt, &TaskContext { cancels, place });
+            let done = Ready { piece }.run(rt, &TaskContext { cancels, place });
             table.lock(rt).results.put(place, done);
         }
     }

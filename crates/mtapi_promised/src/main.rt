@@ -1,0 +1,49 @@
+//! What a caller may rely on of each result: squares that are proved to be the squares, and a product of matrices by blocks, each of which has as
+//! many rows as it was given.
+#![tactic(auto)]
+
+mod callers;
+mod product;
+mod squares;
+
+use callers::squares_below;
+use product::{matrix, product_of, row_of};
+use squares::squares_of;
+use std::alloc::Global;
+use std::io;
+use std::sync::Wait;
+use std::thread::Threads;
+use typed_pieces::Unfinished;
+
+// How many rows the product has, and how many of them are those of the product by one thread.
+fn compare<R: Threads + Wait + Sync>(rt: &R, alloc: Global) -> Result<(usize, usize), Unfinished> {
+    let (left, right) = (matrix(alloc, 1)?, matrix(alloc, 2)?);
+    let blocks = left.chunks(8).collect(alloc)?;
+    let (mut rows, mut same) = (0usize, 0usize);
+    let mut expected = left.iter();
+    for block in product_of(rt, alloc, blocks, &right)? {
+        for row in &block? {
+            rows = rows.saturating_add(1);
+            if expected.next().map(|left| row_of(left, &right)) == Some(*row) {
+                same = same.saturating_add(1);
+            }
+        }
+    }
+    Ok((rows, same))
+}
+
+fn main(rt: HostRuntime) -> io::Result<()> {
+    let numbers = vec![in rt.alloc(); 1, 2, 3, 65_536, 4_294_967_295]?;
+    match squares_of(&rt, rt.alloc(), numbers) {
+        Ok(squares) => println!(rt; "squares: {squares:?}")?,
+        Err(unfinished) => println!(rt; "{unfinished}")?,
+    }
+    match compare(&rt, rt.alloc()) {
+        Ok((rows, same)) => println!(rt; "{rows} rows, {same} as by one thread")?,
+        Err(unfinished) => println!(rt; "{unfinished}")?,
+    }
+    match squares_below(&rt, rt.alloc(), 8) {
+        Ok(squares) => println!(rt; "by two callers: {squares:?}"),
+        Err(unfinished) => println!(rt; "{unfinished}"),
+    }
+}

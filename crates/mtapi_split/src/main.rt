@@ -1,0 +1,29 @@
+//! Work that splits, on the workers of a node: the placings of eight queens are counted, and a list is sorted by halves.
+#![tactic(auto)]
+
+mod queens;
+mod sort;
+
+use mtapi_values::{MtapiStatus, NodeAttr};
+use std::io;
+
+const WORKERS: u64 = 4;
+
+fn settings() -> Result<NodeAttr, MtapiStatus> {
+    let mut settings = NodeAttr::new();
+    settings.set(NodeAttr::WORKERS, WORKERS)?;
+    Ok(settings)
+}
+
+fn main(rt: HostRuntime) -> io::Result<()> {
+    match queens::eight_queens(&rt, rt.alloc()) {
+        Ok(placings) => println!(rt; "eight queens: {placings} placings")?,
+        Err(failure) => println!(rt; "{failure}")?,
+    }
+    let numbers = (1..=10_000u32).map(|n| n.wrapping_mul(2_654_435_761));
+    match sort::sorted(&rt, rt.alloc(), numbers.collect(rt.alloc())?) {
+        Ok(Ok(sorted)) => println!(rt; "{} sorted numbers", sorted.len()),
+        Ok(Err(error)) => println!(rt; "{error}"),
+        Err(failure) => println!(rt; "{failure}"),
+    }
+}

@@ -1,0 +1,5 @@
+use Rattle.std.proofs.Common.{◌≡◌, take, drop}
+use Rattle.typed_pieces.proofs.level.first_of.Given as goal
+
+abbrev pub invariant-loop : goal.invariant-loop
+invariant-loop g l = (l.first.items ≡ take l.counter l.fn.results.items) × (l.results.items ≡ drop l.counter l.fn.results.items)
