@@ -1,11 +1,14 @@
-//! A program with a node that two callers share: each adds numbers to a cell of a segment, under a mutex.
+//! A program with a node that two callers share: each adds numbers to a cell of a segment, under a mutex. Its workers' sets of actions come
+//! back, each with the number of its worker.
 #![tactic(auto)]
 
 ghost use Rattle.workload_runners.specs.Turns.{SameSeat};
 ghost use Rattle.node_with_workers.specs.Clients.{StillBegins};
 
-use action_fn::StandardActions;
-use mtapi_values::{MrapiStatus, MutexAttr, MutexHandle, NodeAttr, ShmemHandle, Timeout};
+use action_fn::{ActionSet, ActionSource, Finished, StandardActions};
+use mtapi_values::{
+    Args, Kind, MrapiStatus, MutexAttr, MutexHandle, NodeAttr, ShmemHandle, Timeout,
+};
 use node_with_workers::{Client, with_callers};
 use sched_workers::Caller;
 use std::sync::Wait;
@@ -71,16 +74,45 @@ impl Client for Adding {
     }
 }
 
+/// The pure kinds, and the number of the worker that has them.
+#[derive(Drop)]
+struct Numbered(u32);
+
+impl ActionSet for Numbered {
+    fn run<R: Wait>(&mut self, rt: &R, kind: Kind, args: Args) -> Finished {
+        StandardActions.run(rt, kind, args)
+    }
+}
+
+/// Gives each worker a set with its number.
+#[derive(Drop)]
+struct Numbering;
+
+impl ActionSource for Numbering {
+    type Set = Numbered;
+
+    fn for_worker(&mut self, worker: u32) -> Numbered {
+        Numbered(worker)
+    }
+}
+
 fn main(rt: HostRuntime) -> io::Result<()> {
     let others = vec![in rt.alloc(); Adding(100)]?;
     let main = Adding(50);
-    let mut acts = StandardActions;
-    match with_callers(&rt, rt.alloc(), NodeAttr::new(), &mut acts, main, others) {
-        Ok(done) => match (done.told, done.others.into_iter().next()) {
-            // Whoever wrote last wrote the larger sum.
-            (Ok(a), Some(Ok(b))) => println!(rt; "the segment held {}", a.max(b)),
-            _ => println!(rt; "a call was refused"),
-        },
+    let mut settings = NodeAttr::new();
+    let _ = settings.set(NodeAttr::WORKERS, 3);
+    let mut acts = Numbering;
+    match with_callers(&rt, rt.alloc(), settings, &mut acts, main, others) {
+        Ok(done) => {
+            for set in &done.sets {
+                println!(rt; "the set of worker {}", set.0)?;
+            }
+            match (done.told, done.others.into_iter().next()) {
+                // Whoever wrote last wrote the larger sum.
+                (Ok(a), Some(Ok(b))) => println!(rt; "the segment held {}", a.max(b)),
+                _ => println!(rt; "a call was refused"),
+            }
+        }
         Err(failure) => println!(rt; "{failure}"),
     }
 }
