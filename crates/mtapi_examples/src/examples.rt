@@ -6,12 +6,15 @@ use std::thread::Threads;
 use std::{fs, io};
 
 /// The examples, which lie where this runs, and how often each is run.
-pub(crate) const EXAMPLES: [(&str, u32); 10] = [
+pub(crate) const EXAMPLES: [(&str, u32); 13] = [
+    ("affinity", 1),
     ("callers", 10),
     ("errors", 1),
     ("first", 1),
     ("group", 1),
     ("lock", 10),
+    ("nine", 10),
+    ("pipe", 10),
     ("queue", 1),
     ("realistic", 100),
     ("refusals", 1),
