@@ -21,6 +21,8 @@ mod judged_runs;
 #[cfg(test)]
 mod meeting;
 #[cfg(test)]
+mod monitor;
+#[cfg(test)]
 mod reports;
 #[cfg(test)]
 mod runs;

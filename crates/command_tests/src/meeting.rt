@@ -1,4 +1,4 @@
-//! Two actions of two workers run at one time.
+//! Two actions of two workers run at one time, each by the set that was made for its worker's number.
 
 use crate::runs::{run_with, table, unhindered};
 use action_fn::{ActionSet, ActionSource, Finished, FnTable};
@@ -33,17 +33,23 @@ impl<'a> ActionSet for Meeting<'a> {
     }
 }
 
-/// Gives each worker such a set.
+/// Gives each worker such a set, and notes for which ones.
 #[derive(Drop)]
 struct Meetings<'a> {
     begun: &'a AtomicU64,
     met: &'a AtomicU64,
+    // A 1, and a digit for each worker.
+    workers: u64,
 }
 
 impl<'a> ActionSource for Meetings<'a> {
     type Set = Meeting<'a>;
 
-    fn for_worker(&mut self, _worker: u32) -> Meeting<'a> {
+    fn for_worker(&mut self, worker: u32) -> Meeting<'a> {
+        self.workers = self
+            .workers
+            .saturating_mul(10)
+            .saturating_add(u64::from(worker));
         Meeting {
             plain: table(),
             begun: self.begun,
@@ -73,6 +79,7 @@ fn two_actions_meet(rt: HostRuntime) {
     let mut acts = Meetings {
         begun: &begun,
         met: &met,
+        workers: 1,
     };
     let mut beside = Threads::new();
     let said = run_with(
@@ -87,4 +94,6 @@ fn two_actions_meet(rt: HostRuntime) {
     assert_eq!(rt; said.status, 0);
     assert_eq!(rt; said.out.bytes(), TWO_ENDS);
     assert_eq!(rt; met.load(Ordering::SeqCst), 1);
+    // Worker 1 is started before worker 0.
+    assert_eq!(rt; acts.workers, 110);
 }
