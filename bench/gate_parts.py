@@ -1,11 +1,11 @@
 #!/usr/bin/env python3
-"""What the gate takes, crate by crate: `bench/gate_parts.py [LOG]`.
+"""What the gate takes, crate by crate: `bench/gate_parts.py [--anew] [LOG]`.
 
 Runs `rt ci` at the top of the repository, with its output in the file LOG (`out/gate.log` of the system's folder for
-such files if none is named), and looks once a second at the processes that it started. At the end it prints a table of
-processor-seconds: for each crate its proof, its tests, its must-fail edits, and what compiling took; the largest first,
-then all in all and the time on the clock. A process that lives for less than a second may be missed. The status is that
-of `rt ci`.
+such files if none is named), and looks once a second at the processes that it started. With `--anew` it proves and tries
+all, whatever an earlier run has passed. At the end it prints a table of processor-seconds: for each crate its proof, its
+tests, its must-fail edits, and what compiling took; the largest first, then all in all and the time on the clock. A
+process that lives for less than a second may be missed. The status is that of `rt ci`.
 """
 
 import os
@@ -66,10 +66,12 @@ def part_of(process, words):
 
 
 def main():
-    log = sys.argv[1] if len(sys.argv) > 1 else os.path.join(tempfile.gettempdir(), "gate.log")
+    flags = [it for it in sys.argv[1:] if it == "--anew"]
+    logs = [it for it in sys.argv[1:] if it != "--anew"]
+    log = logs[0] if logs else os.path.join(tempfile.gettempdir(), "gate.log")
     kind, seconds, began = {}, {}, time.time()
     with open(log, "w") as output:
-        gate = subprocess.Popen(["rt", "ci"], cwd=TOP, stdin=subprocess.DEVNULL, stdout=output, stderr=subprocess.STDOUT)
+        gate = subprocess.Popen(["rt", "ci", *flags], cwd=TOP, stdin=subprocess.DEVNULL, stdout=output, stderr=subprocess.STDOUT)
     while gate.poll() is None:
         found = processes()
         for it in below(gate.pid, found):

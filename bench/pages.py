@@ -7,7 +7,8 @@ The word behind the three backquotes of a block says what it is:
 - `workload`: `mtapi run` of it writes the next block, if that is a `report`; `workload NAME` is kept as the file NAME;
 - `sh`: commands, run if `./mtapi` is among them; they write the next block, if that is a `report`, or else what stands
   behind `# prints: ` in them, if anything;
-- `output CRATE`: the stored output of the program of this crate.
+- `output CRATE`: the stored output of the program of this crate;
+- `part FILE`: lines that stand so in this file, one behind the other, but for their indents.
 """
 
 import os
@@ -25,6 +26,18 @@ def write(folder, command, text=""):
     return subprocess.run(["bash", "-c", command], cwd=folder, input=text, stdout=subprocess.PIPE, text=True).stdout
 
 
+def without_indents(text):
+    return "\n".join(line.strip() for line in text.splitlines())
+
+
+def part_of(name, text):
+    """The text, if it is a part of the file."""
+    with open(os.path.join(TOP, name)) as file:
+        if without_indents(text) in without_indents(file.read()):
+            return text
+    return f"other lines in {name}\n"
+
+
 def tried(blocks, folder):
     """What each block that can be tried says, and what is so. All are run in this folder."""
     for (sort, name, text), (next_sort, _, next_text) in zip(blocks, blocks[1:] + [("", "", "")]):
@@ -38,6 +51,8 @@ def tried(blocks, folder):
             yield report or "".join(it + "\n" for it in re.findall(r"# prints: (.*)", text)) or so, so
         elif sort == "output":
             yield text, write(folder, f"cat crates/{name}/stdout")
+        elif sort == "part":
+            yield text, part_of(name, text)
 
 
 def main():

@@ -18,8 +18,8 @@ changed, so that the code's own proof refuses nothing; a definition that no code
 all of whose proofs are; or `case NAME`, where NAME is a crate, whose tests, program and cases are run unproved, or what a
 line of the output of `mtapi_examples` has that isn't as the stored output says.
 
-Each slip is made in a copy of the repository in a scratch folder, over what checks kept on this machine, and is taken back
-before the next one. Prints for each `refused`, with the first complaint; `PROVES`, if nothing fails; or `BAD SLIP`, if the
+Each slip is made in a copy of the repository in a scratch folder, over the proved libraries that checks left in `out/rlib` here
+and what else they kept on this machine, and is taken back before the next one. Prints for each `refused`, with the first complaint; `PROVES`, if nothing fails; or `BAD SLIP`, if the
 text doesn't stand there once or a changed file has a fault of its own. Fails if a slip isn't refused. A slip takes 10 to 60
 seconds; several calls may run beside one another, each on slips of its own.
 """
@@ -77,9 +77,19 @@ def named(words):
     return [slip for slip in slips if not words or any(slip.name.startswith(word) for word in words)]
 
 
+def linked(source, target):
+    """A further name of this file where the disk allows it, or a copy."""
+    try:
+        os.link(source, target)
+    except OSError:
+        shutil.copy2(source, target)
+
+
 def scratch_copy(folder):
-    """A copy of the repository in this folder, without what checks made."""
+    """A copy of the repository in this folder. Of what checks made it has the proved libraries."""
     shutil.copytree(os.path.join(TOP, "crates"), os.path.join(folder, "crates"), ignore=shutil.ignore_patterns("out", "must-fail"))
+    for library in glob.glob(os.path.join(TOP, "crates", "*", "out", "rlib")):
+        shutil.copytree(library, os.path.join(folder, os.path.relpath(library, TOP)), copy_function=linked)
     for file in ("crates.txt", "HANDLES"):
         shutil.copy(os.path.join(TOP, file), folder)
     subprocess.run(["git", "init", "-q", folder], check=True)
@@ -101,10 +111,10 @@ def made(folder, slip):
 
 
 def taken_back(folder, slip):
-    """The files of the slip as they were."""
+    """The files of the slip as they were, with their times, so that no library counts as old."""
     for change in slip.changes:
         if os.path.exists(os.path.join(TOP, change.file)):
-            shutil.copy(os.path.join(TOP, change.file), os.path.join(folder, change.file))
+            shutil.copy2(os.path.join(TOP, change.file), os.path.join(folder, change.file))
 
 
 def said_by(command, crate, stdin=subprocess.DEVNULL):

@@ -1,4 +1,4 @@
-# The words that take files: `run`, `check`, `picture` and `explain`. Sourced by `mtapi`.
+# The words that take files: `run`, `check`, `picture`, `trace` and `explain`. Sourced by `mtapi`.
 # shellcheck shell=bash disable=SC2154,SC2034 # what isn't set here is of the script that sources this
 
 most_input=67108864 # bytes of an input; what an unproved run is given has to be shorter
@@ -72,6 +72,14 @@ begins_with_report() {
     text_before_journal "$1" | LC_ALL=C awk 'NF && $1 !~ /^#/ { found = $1 ~ /^[!=]$/ || $1 ~ /\./; exit } END { exit !found }'
 }
 
+# What `run --journal` wrote has a report and no workload in front of its journal.
+need_workload() {
+    if begins_with_report "$1"; then
+        tell "$(name_of "$2"): a report and a journal, but no workload here: use check FILE $2"
+        leave "$refused"
+    fi
+}
+
 # Makes one input of the workload in a file and the journal in another one.
 join_journal() {
     end_last_line "$scratch/$1"
@@ -132,6 +140,7 @@ check() {
         join_journal input kept whole
     else
         need_journal input "$1"
+        need_workload input "$1"
         mv "$scratch/input" "$scratch/whole"
     fi
     program_on "$command_crate" whole verdict check
@@ -168,6 +177,16 @@ picture() {
     leave "$ended_with"
 }
 
+# `trace [FILE [KEPT]]`.
+trace() {
+    make_scratch
+    on_signals true
+    take_run "$@"
+    program_on mtapi_trace whole traced
+    show "$scratch/traced"
+    leave "$ended_with"
+}
+
 # `explain [FILE]`: of a file each mistake stands behind the file's name, as compilers have it.
 explain() {
     if [ $# -eq 0 ]; then run_program mtapi_explain; fi
@@ -180,12 +199,13 @@ explain() {
     leave "$ended_with"
 }
 
+# By lines and columns; what is no mistake stands last.
 place_mistakes() {
     LC_ALL=C name=$1 awk -v bold="$bold" -v plain="$plain" '
         match($0, /^line [0-9]+, column [0-9]+: /) {
             split($0, words, /[ ,:]+/)
-            print bold ENVIRON["name"] ":" words[2] ":" words[4] ":" plain " " substr($0, RLENGTH + 1)
+            print words[2], words[4], bold ENVIRON["name"] ":" words[2] ":" words[4] ":" plain " " substr($0, RLENGTH + 1)
             next
         }
-        { print }' "$scratch/told"
+        { print 1000000000, 0, $0 }' "$scratch/told" | LC_ALL=C sort -s -n -k 1,1 -k 2,2 | cut -d ' ' -f 3-
 }

@@ -15,7 +15,7 @@ manual_text() {
     cat <<END
 .TH MTAPI 1 "" "$(head -n 1 "$stage/version")"
 .SH NAME
-mtapi \\- runs workloads on a task runtime that is proved, and judges, draws and explains their runs
+mtapi \\- runs workloads on a task runtime that is proved, and judges, draws, traces and explains their runs
 .SH SYNOPSIS
 $(used_words | awk -F '|' '{ if (NR > 1) print ".br"; print ".B mtapi " $2 }' | sed 's/-/\\-/g')
 .SH DESCRIPTION

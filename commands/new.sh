@@ -107,7 +107,7 @@ tell_next() {
         echo "              yet ('./mtapi prove' before './mtapi new' spares that)"
     fi
     echo "  rt run      to prove, build and run it: half a minute once it is proved"
-    echo "$folder/crates/$name/src/main.rt is yours to change; docs/embedding.md tells what a piece is and may do."
+    echo "$folder/crates/$name/src/main.rt is yours to change; docs/embedding.md tells what else there is."
 }
 
 new() {

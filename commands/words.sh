@@ -19,6 +19,7 @@ beside|verify [-v] FILE|runs the workload in FILE and checks its journal; writes
 beside|expect [-v] FILE REPORT|runs the workload in FILE; status 1 and the difference if it doesn't write REPORT
 beside|bounded [-v] FILE [LOOKS]|runs it with LOOKS looks ($default_looks if not given) in place of each timeout=inf, and names the waits that ran out
 beside|picture [FILE [KEPT]]|draws a run as an SVG: of what 'run --journal' wrote, or of the workload in FILE, which it runs unless KEPT has the journal
+beside|trace [FILE [KEPT]]|writes such a run as a trace, which Perfetto and chrome://tracing show
 repository|test|runs every test and every program, unproved, in minutes; proves nothing
 repository|prove|proves and builds the programs, which run from then on, until a source changes, and proves the libraries on which a program of one's own stands
 repository|prove --command|proves and builds the programs alone
@@ -30,16 +31,18 @@ END
 
 # The statuses, with when each comes.
 status_table() {
+    local failed='; with test, new, install and uninstall if they failed' no_toolchain="the toolchain isn't there, or "
+    if [ -n "$installed" ]; then failed='' no_toolchain=''; fi
     cat <<END
 0|if all was written; with check the verdict is yes
-1|with expect if the report is another one; with test, new, install and uninstall if they failed
+1|with expect if the report is another one$failed
 2|if the words are none
 3|if the input is refused
 4, 5|if a read failed; if a write failed
 6, 7, 8|if memory ran out; if a thread was refused; if the turns of the run are used up
 9|with check and verify if the verdict isn't yes
 126|if there is no answer, which is told
-127|if the toolchain isn't there, or the program was built for a newer processor
+127|if ${no_toolchain}the program was built for a newer processor
 END
 }
 
@@ -55,6 +58,11 @@ all_words() {
 
 is_word() {
     all_words | grep -xF -e "$1" >/dev/null
+}
+
+# Whether an installed command lacks this word, which the script in the repository takes.
+is_of_repository() {
+    [ -n "$installed" ] && installed='' is_word "$1"
 }
 
 # The uses of a word, each as a line of usage; of another one the usage text of the command.
@@ -88,6 +96,10 @@ nearest() {
 # Why these words are none, where that can be said in a line.
 tell_why() {
     local near words
+    if is_of_repository "$1" && ! is_word "$1"; then
+        tell "'$1' is a word of ./mtapi in the repository"
+        return
+    fi
     if ! is_word "$1"; then
         mapfile -t words <<<"$(all_words)"
         near=$(nearest "$1" "${words[@]}" --help --version)
@@ -149,7 +161,7 @@ are_known() {
     case $word in
     -h | --help | --version | test) [ $# -eq 0 ] ;;
     run | explain) are_files 1 "$@" ;;
-    check | picture) are_files 2 "$@" ;;
+    check | picture | trace) are_files 2 "$@" ;;
     gen) { [ $# -eq 1 ] || [ $# -eq 2 ]; } && is_number "$1" "$most_tasks" && is_number "${2-1}" "$most_workers" ;;
     verify) [ $# -eq 1 ] && is_file "$1" ;;
     expect) [ $# -eq 2 ] && are_files 2 "$@" ;;
@@ -211,7 +223,8 @@ $(help_on repository)
 Until the program is proved, each call compiles and runs it unproved, which takes about a minute and is said on standard
 error. Workloads to run: examples/, crates/mtapi_examples/data/
 Pages: README.md, docs/tutorial.md (to begin), docs/workload-text.md (what a workload may say),
-docs/report.md (what the output means), docs/checking.md (check), docs/picture.md (picture)
+docs/report.md (what the output means), docs/checking.md (check), docs/picture.md (picture),
+docs/trace.md (trace)
 END
 }
 
