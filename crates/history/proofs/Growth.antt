@@ -25,7 +25,8 @@ module _ {Op Reply : Type 0} where
   own_more who [] e is = ap (λ (b : Bool). cond b (e ∷ []) []) (eq-eqb e.who who is)
   own_more who (x ∷ l) e is =
       let rest = own_more who l e is in
-      elim (x.who == who) as (λ b. cond b (x ∷ entries_of who (l ++ e ∷ [])) (entries_of who (l ++ e ∷ [])) ≡ cond b (x ∷ entries_of who l) (entries_of who l) ++ e ∷ [])
+      elim (x.who == who) as (λ b. cond b (x ∷ entries_of who (l ++ e ∷ [])) (entries_of who (l ++ e ∷ []))
+      ≡ cond b (x ∷ entries_of who l) (entries_of who l) ++ e ∷ [])
       [ true ↦ ap (λ m. x ∷ m) rest | false ↦ rest ]
 
   -- one entry more, of another seat
@@ -40,7 +41,8 @@ module _ {Op Reply : Type 0} where
   entries_append who [] m = refl
   entries_append who (x ∷ l) m =
       let rest = entries_append who l m in
-      elim (x.who == who) as (λ b. cond b (x ∷ entries_of who (l ++ m)) (entries_of who (l ++ m)) ≡ cond b (x ∷ entries_of who l) (entries_of who l) ++ entries_of who m)
+      elim (x.who == who) as (λ b. cond b (x ∷ entries_of who (l ++ m)) (entries_of who (l ++ m))
+      ≡ cond b (x ∷ entries_of who l) (entries_of who l) ++ entries_of who m)
       [ true ↦ ap (λ n. x ∷ n) rest | false ↦ rest ]
 
   -- a list that an entry extended begins with the earlier list
@@ -48,5 +50,6 @@ module _ {Op Reply : Type 0} where
   extends_starts before e after x = starts_through after (before ++ x.0) before (e ∷ [], x.1) (x.0, refl)
 
   -- what is extended later extends the earlier list
-  pub extends_later : (first before : List (Entry Op Reply)) (e : Entry Op Reply) (after : List (Entry Op Reply)) → StartsWith before first → Extends before e after → Extends first e after
+  pub extends_later : (first before : List (Entry Op Reply)) (e : Entry Op Reply) (after : List (Entry Op Reply)) → StartsWith before first
+      → Extends before e after → Extends first e after
   extends_later first before e after s x = (s.0 ++ x.0, x.1 ∙ ap (λ l. l ++ e ∷ []) (ap (λ l. l ++ x.0) s.1 ∙ append_assoc first s.0 x.0))

@@ -1,1 +1,4 @@
 pub mod Growth
+pub mod Row
+pub mod Legal
+pub mod Replay

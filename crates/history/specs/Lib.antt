@@ -1,1 +1,4 @@
 pub mod Histories
+pub mod Row
+pub mod Legal
+pub mod Replay

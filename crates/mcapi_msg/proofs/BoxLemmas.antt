@@ -1,5 +1,5 @@
 -- What is kept of the live endpoints and the rings in reserve, after each change.
-use Rattle.mcapi_msg.proofs.Names.{nat_tests, Bool, cond, ◌≡◌, ℕ, ◌<◌, ◌≤◌, List, [], ◌∷◌, ◌++◌, length, Some, None, replicate, sym, ap, subst, ◌∙◌, inl, inr, arith, length-append, cases_eq, Slots, slot_of, generation_of, free_slot, slot_value, Inserts, with_value, without, IsFull, NoneLive, get-fresh, live_count-new, max_of-new, live_count-insert, max_of-insert, live_count-with_value, max_of-with_value, live_count-without, max_of-without, Mailbox, Waiting, RingTable, empty_rings, with_last, without_front, AreEmpty, HasFree, IsKept}
+use Rattle.mcapi_msg.proofs.Names.{nat_tests, Bool, cond, ◌≡◌, ℕ, ◌<◌, ◌≤◌, List, [], ◌∷◌, ◌++◌, length, Some, None, replicate, sym, ap, subst, ◌∙◌, inl, inr, arith, length-append, cases_eq, Slots, slot_of, generation_of, free_slot, slot_value, Inserts, with_value, without, IsFull, NoneLive, get-fresh, live_count-new, max_of-new, live_count-insert, max_of-insert, live_count-with_value, max_of-with_value, live_count-without, max_of-without, Mailbox, Waiting, RingTable, empty_rings, with_last, without_front, AreEmpty, HasFree, IsKept, same_Some}
 use Rattle.handle_pool.proofs.GetLemmas.{get-insert_same, get-insert_other, get-with_value_same, get-with_value_other, get-without_same, get-without_other}
 use Rattle.handle_pool.proofs.OneEachLemmas.{OneEach-new, OneEach-insert, OneEach-with_value, OneEach-without}
 
@@ -11,10 +11,8 @@ pub empty_joined : (limit : ℕ) (xs ys : List RingTable) → AreEmpty limit xs 
 empty_joined limit [] ys e f = f
 empty_joined limit (x ∷ xs) ys e f = (e.0, empty_joined limit xs ys e.1 f)
 
-some_is : {A : Type 0} (x y : A) → Some x ≡ Some y → x ≡ y
-some_is x y e = cc
-
-pub kept-new : (limit max capacity : ℕ) (p : Slots Mailbox) (spare : List RingTable) → limit ≤ 256 → p.slots ≡ replicate max (free_slot 1) → length spare ≡ max → AreEmpty limit spare → max ≤ capacity → IsKept limit p spare capacity
+pub kept-new : (limit max capacity : ℕ) (p : Slots Mailbox) (spare : List RingTable) → limit ≤ 256 → p.slots ≡ replicate max (free_slot 1) → length spare ≡ max
+    → AreEmpty limit spare → max ≤ capacity → IsKept limit p spare capacity
 kept-new limit max capacity p spare few fresh count empty room = record {
   few = few;
   ports = OneEach-new (λ m. m.port) p max fresh;
@@ -24,7 +22,8 @@ kept-new limit max capacity p spare few fresh count empty room = record {
   room = omega (arith, max_of-new p max fresh);
 }
 
-pub kept-insert : (limit capacity h : ℕ) (p q : Slots Mailbox) (m : Mailbox) (r : RingTable) (spare rest : List RingTable) → IsKept limit p spare capacity → spare ≡ rest ++ r ∷ [] → m.rings ≡ r → NoneLive (slot_value p) (λ v. v.port ≡ m.port) → Inserts p q h m → IsKept limit q rest capacity
+pub kept-insert : (limit capacity h : ℕ) (p q : Slots Mailbox) (m : Mailbox) (r : RingTable) (spare rest : List RingTable) → IsKept limit p spare capacity
+    → spare ≡ rest ++ r ∷ [] → m.rings ≡ r → NoneLive (slot_value p) (λ v. v.port ≡ m.port) → Inserts p q h m → IsKept limit q rest capacity
 kept-insert limit capacity h p q m r spare rest kept was own new inserts =
     let empty : AreEmpty limit (rest ++ r ∷ []) = subst (AreEmpty limit) was kept.empty in
     let parts = empty_split limit rest (r ∷ []) empty in
@@ -33,22 +32,31 @@ kept-insert limit capacity h p q m r spare rest kept was own new inserts =
       ports = OneEach-insert (λ m. m.port) p q h m kept.ports new inserts;
       limits = λ k n found. elim (cases_eq k h) [
         | inl here ↦
-            let is : m ≡ n = some_is m n (sym (get-insert_same p q h m inserts) ∙ ap (slot_value q) (sym here) ∙ found) in
+            let is : m ≡ n = same_Some m n (sym (get-insert_same p q h m inserts) ∙ ap (slot_value q) (sym here) ∙ found) in
             ap (λ (x : Mailbox). x.rings.limit) (sym is) ∙ (ap (λ (x : RingTable). x.limit) own ∙ ap (λ (x : RingTable). x.limit) parts.1.0)
         | inr away ↦ kept.limits k n (sym (get-insert_other p q h k m inserts away) ∙ found)
       ];
       empty = parts.0;
-      count = omega (arith, kept.count, live_count-insert p q h m inserts, max_of-insert p q h m inserts, ap (λ (l : List RingTable). length l) was, length-append rest (r ∷ []));
+      count = omega (
+        arith,
+        kept.count,
+        live_count-insert p q h m inserts,
+        max_of-insert p q h m inserts,
+        ap
+            (λ (l : List RingTable). length l) was,
+        length-append rest (r ∷ []),
+      );
       room = omega (arith, kept.room, max_of-insert p q h m inserts);
     }
 
-pub kept-with_value : (limit capacity h : ℕ) (p : Slots Mailbox) (old new : Mailbox) (spare : List RingTable) → IsKept limit p spare capacity → slot_value p h ≡ Some old → new.port ≡ old.port → new.rings.limit ≡ old.rings.limit → IsKept limit (with_value p h new) spare capacity
+pub kept-with_value : (limit capacity h : ℕ) (p : Slots Mailbox) (old new : Mailbox) (spare : List RingTable) → IsKept limit p spare capacity
+    → slot_value p h ≡ Some old → new.port ≡ old.port → new.rings.limit ≡ old.rings.limit → IsKept limit (with_value p h new) spare capacity
 kept-with_value limit capacity h p old new spare kept found port same = record {
   few = kept.few;
   ports = OneEach-with_value (λ m. m.port) p h old new kept.ports found port;
   limits = λ k n at. elim (cases_eq k h) [
     | inl here ↦
-        let is : new ≡ n = some_is new n (sym (get-with_value_same p h old new found) ∙ ap (slot_value (with_value p h new)) (sym here) ∙ at) in
+        let is : new ≡ n = same_Some new n (sym (get-with_value_same p h old new found) ∙ ap (slot_value (with_value p h new)) (sym here) ∙ at) in
         ap (λ (x : Mailbox). x.rings.limit) (sym is) ∙ (same ∙ kept.limits h old found)
     | inr away ↦ kept.limits k n (sym (get-with_value_other p h k old new found away) ∙ at)
   ];
@@ -57,7 +65,8 @@ kept-with_value limit capacity h p old new spare kept found port same = record {
   room = omega (arith, kept.room, max_of-with_value p h new);
 }
 
-pub kept-without : (limit capacity h : ℕ) (p : Slots Mailbox) (old : Mailbox) (spare after : List RingTable) (r : RingTable) → IsKept limit p spare capacity → slot_value p h ≡ Some old → r ≡ empty_rings old.rings.limit → after ≡ spare ++ r ∷ [] → IsKept limit (without p h) after capacity
+pub kept-without : (limit capacity h : ℕ) (p : Slots Mailbox) (old : Mailbox) (spare after : List RingTable) (r : RingTable) → IsKept limit p spare capacity
+    → slot_value p h ≡ Some old → r ≡ empty_rings old.rings.limit → after ≡ spare ++ r ∷ [] → IsKept limit (without p h) after capacity
 kept-without limit capacity h p old spare after r kept found cleared is = record {
   few = kept.few;
   ports = OneEach-without (λ m. m.port) p h old kept.ports found;
@@ -66,12 +75,21 @@ kept-without limit capacity h p old spare after r kept found cleared is = record
     | inr away ↦ kept.limits k n (sym (get-without_other p h k old found away) ∙ at)
   ];
   empty = subst (AreEmpty limit) (sym is) (empty_joined limit spare (r ∷ []) kept.empty (cleared ∙ ap empty_rings (kept.limits h old found), tt));
-  count = omega (arith, kept.count, live_count-without p h old found, max_of-without p h, ap (λ (l : List RingTable). length l) is, length-append spare (r ∷ []));
+  count = omega (
+    arith,
+    kept.count,
+    live_count-without p h old found,
+    max_of-without p h,
+    ap (λ (l : List RingTable). length l) is,
+    length-append spare (r
+        ∷ []),
+  );
   room = omega (arith, kept.room, max_of-without p h);
 }
 
 -- while a slot is in use, the reserve has room for its rings
-pub reserve_fits : (limit capacity h : ℕ) (p : Slots Mailbox) (old : Mailbox) (spare : List RingTable) → IsKept limit p spare capacity → slot_value p h ≡ Some old → length spare < capacity
+pub reserve_fits : (limit capacity h : ℕ) (p : Slots Mailbox) (old : Mailbox) (spare : List RingTable) → IsKept limit p spare capacity
+    → slot_value p h ≡ Some old → length spare < capacity
 reserve_fits limit capacity h p old spare kept found = omega (arith, kept.count, kept.room, live_count-without p h old found)
 
 -- where a slot is free, there are rings for it
@@ -92,7 +110,8 @@ pub without_front-limit : (r : RingTable) → (without_front r).limit ≡ r.limi
 without_front-limit r = grind (arith, nat_tests)
 
 -- rings from the reserve are empty
-pub popped_empty : (limit capacity : ℕ) (p : Slots Mailbox) (r : RingTable) (spare rest : List RingTable) → IsKept limit p spare capacity → spare ≡ rest ++ r ∷ [] → r ≡ empty_rings limit
+pub popped_empty : (limit capacity : ℕ) (p : Slots Mailbox) (r : RingTable) (spare rest : List RingTable) → IsKept limit p spare capacity
+    → spare ≡ rest ++ r ∷ [] → r ≡ empty_rings limit
 popped_empty limit capacity p r spare rest kept was =
     let empty : AreEmpty limit (rest ++ r ∷ []) = subst (AreEmpty limit) was kept.empty in
     (empty_split limit rest (r ∷ []) empty).1.0

@@ -1,30 +1,13 @@
 -- What waits at an endpoint of one sender with one priority is what was sent and not yet received.
-use Rattle.mcapi_msg.proofs.Names.{nat_tests, ◌≡◌, ℕ, ◌+◌, Bool, true, false, cond, ◌&&◌, List, [], ◌∷◌, ◌++◌, Option, Some, None, refl, sym, ap, subst, ◌∙◌, arith, append_assoc, ◌==◌, append-nil, eqb-true, StartsWith, Listed, how_many, lookup, live_object, first_handle, update, retire, with_fields, EndpointHandle, Waiting, MsgOp, MsgReply, PostTerms, last_generation, Endpoint, new_endpoint, has_port, message, next_of, without_first, of_priority, with_message, with_first_gone, State, opening, Move, after_moves, Row, unless, gives, never, says, only, given, Allows, moves_of, handle_of, opens, row, names, nothing, MsgEntry, IsNext, row_of, next, Legal}
+use Rattle.mcapi_msg.proofs.Names.{nat_tests, ◌≡◌, ℕ, ◌+◌, Bool, true, false, cond, ◌&&◌, List, [], ◌∷◌, ◌++◌, Some, None, refl, sym, ap, subst, ◌∙◌, arith, append_assoc, ◌==◌, append-nil, eqb-true, StartsWith, Listed, how_many, lookup, live_object, first_handle, update, retire, with_fields, EndpointHandle, Waiting, MsgOp, MsgReply, PostTerms, last_generation, Endpoint, new_endpoint, has_port, message, next_of, without_first, of_priority, with_message, with_first_gone, State, opening, Move, apply, after_moves, gives, handle_of, opens, row, names, nothing, MsgEntry, IsNext, row_of, next, Legal}
 use Rattle.handle_pool.specs.Issued.{live_of, listed, may_issue, issue}
 use Rattle.handle_pool.specs.Stands.{Distinct}
 use Rattle.handle_pool.proofs.ListedLemmas.{at-issue, at-update, at-retire, Distinct-issue, Distinct-update, Distinct-retire, listed-issue, listed-change}
+use Rattle.history.proofs.Row.{AllDeeds, deeds, on_live, on_only}
 use Rattle.mcapi_msg.specs.declared.ops.MsgOp.TheVariants as op
 use Rattle.mcapi_msg.specs.Legal.{LegalFrom}
 use Rattle.mcapi_msg.specs.Fifo.{put_by, got_by, sent_to, received_at}
 use Rattle.mcapi_msg.proofs.RingLemmas.{IsFirst, first-is, of-more, of-without}
-
--- a reply and the moves that a row gives
-abbrev pub AllGives : (MsgReply → List Move → Type 0) → Row → Type 0
-AllGives P (unless c x w) = P x [] × AllGives P w
-AllGives P (gives x ms) = P x ms
-AllGives P never = Unit {0}
-
-pub gives_so : (P : MsgReply → List Move → Type 0) (w : Row) (r : MsgReply) → AllGives P w → Allows w r → P r (moves_of w)
-gives_so P (unless true x w) r a h = subst (λ (y : MsgReply). P y []) (sym h) a.0
-gives_so P (unless false x w) r a h = gives_so P w r a.1 h
-gives_so P (gives x ms) r a h = subst (λ (y : MsgReply). P y ms) (sym h) a
-gives_so P never r a h = absurd h
-
-pub on_given : {T : Type 0} (P : MsgReply → List Move → Type 0) (o : Option T) (x : MsgReply) (f : T → Row) → P x [] → ((y : T) → o ≡ Some y → AllGives P (f y)) → AllGives P (given o (says x) f)
-on_given P o x f e1 e2 = grind (arith, nat_tests)
-
-pub on_only : (P : MsgReply → List Move → Type 0) (b : Bool) (w : Row) → (b ≡ true → AllGives P w) → AllGives P (only b w)
-on_only P b w e1 = grind (arith, nat_tests)
 
 -- the bytes of the messages of this sender
 abbrev from : ℕ → List Waiting → List (List ℕ)
@@ -39,7 +22,9 @@ from-more sender w [] = pick (w.sender == sender)
     pick false = refl
 from-more sender w (x ∷ ws) = pick (x.sender == sender) (from-more sender w ws)
   where
-    pick : (b : Bool) → from sender (ws ++ w ∷ []) ≡ from sender ws ++ cond (w.sender == sender) (w.msg ∷ []) [] → cond b (x.msg ∷ from sender (ws ++ w ∷ [])) (from sender (ws ++ w ∷ [])) ≡ cond b (x.msg ∷ from sender ws) (from sender ws) ++ cond (w.sender == sender) (w.msg ∷ []) []
+    pick : (b : Bool) → from sender (ws ++ w ∷ []) ≡ from sender ws ++ cond (w.sender == sender) (w.msg ∷ []) []
+        → cond b (x.msg ∷ from sender (ws ++ w ∷ [])) (from sender (ws ++ w ∷ []))
+        ≡ cond b (x.msg ∷ from sender ws) (from sender ws) ++ cond (w.sender == sender) (w.msg ∷ []) []
     pick true e = ap (λ (l : List (List ℕ)). x.msg ∷ l) e
     pick false e = e
 
@@ -47,10 +32,12 @@ from-more sender w (x ∷ ws) = pick (x.sender == sender) (from-more sender w ws
 abbrev flow : ℕ → ℕ → List Waiting → List (List ℕ)
 flow sender priority ws = from sender (of_priority priority ws)
 
-flow-more : (sender priority who p : ℕ) (msg : List ℕ) (ws : List Waiting) → flow sender priority (ws ++ message who p msg ∷ []) ≡ flow sender priority ws ++ cond ((who == sender) && (p == priority)) (msg ∷ []) []
+flow-more : (sender priority who p : ℕ) (msg : List ℕ) (ws : List Waiting)
+    → flow sender priority (ws ++ message who p msg ∷ []) ≡ flow sender priority ws ++ cond ((who == sender) && (p == priority)) (msg ∷ []) []
 flow-more sender priority who p msg ws = grind (arith, nat_tests, of-more, from-more, of_priority, append-nil)
 
-flow-first : (sender priority : ℕ) (w : Waiting) (ws : List Waiting) → IsFirst w ws → flow sender priority ws ≡ cond ((w.sender == sender) && (w.priority == priority)) (w.msg ∷ []) [] ++ flow sender priority (without_first w.priority ws)
+flow-first : (sender priority : ℕ) (w : Waiting) (ws : List Waiting) → IsFirst w ws
+    → flow sender priority ws ≡ cond ((w.sender == sender) && (w.priority == priority)) (w.msg ∷ []) [] ++ flow sender priority (without_first w.priority ws)
 flow-first sender priority w ws e1 = grind (arith, nat_tests, without_first, of_priority, of-without, eqb-true)
 
 -- a handle that was never issued isn't live
@@ -59,7 +46,8 @@ unfolding listed live_of
 unlisted h [] e = refl
 unlisted h (r ∷ rs) e = pick (r.handle == h) refl r.live e (λ k. unlisted h rs k)
   where
-    pick : (b : Bool) → (r.handle == h) ≡ b → (live : Bool) → cond b 1 0 + how_many (λ x. x.handle == h) rs ≡ 0 → (how_many (λ x. x.handle == h) rs ≡ 0 → live_object rs h ≡ None) → lookup (cond live ((r.handle, r.fields) ∷ live_of rs) (live_of rs)) h ≡ None
+    pick : (b : Bool) → (r.handle == h) ≡ b → (live : Bool) → cond b 1 0 + how_many (λ x. x.handle == h) rs ≡ 0
+        → (how_many (λ x. x.handle == h) rs ≡ 0 → live_object rs h ≡ None) → lookup (cond live ((r.handle, r.fields) ∷ live_of rs) (live_of rs)) h ≡ None
     pick true is live k more = absurd (omega arith)
     pick false is true k more = ap (λ b. cond b (Some r.fields) (live_object rs h)) is ∙ more (omega arith)
     pick false is false k more = more (omega arith)
@@ -78,24 +66,29 @@ module _ (endpoint : EndpointHandle) (sender priority : ℕ) where
 
   -- an entry that puts and receives nothing there, and leaves the endpoints
   stays : (l : List (Listed Endpoint)) (sent got : List (List ℕ)) → Flows l sent got → Flows l (sent ++ []) (got ++ [])
-  stays l sent got f = subst (λ (x : List (List ℕ)). Flows l x (got ++ [])) (sym (append-nil sent)) (subst (λ (x : List (List ℕ)). Flows l sent x) (sym (append-nil got)) f)
+  stays l sent got f = subst (λ (x : List (List ℕ)). Flows l x (got ++ [])) (sym (append-nil sent))
+      (subst (λ (x : List (List ℕ)). Flows l sent x) (sym (append-nil got)) f)
 
   same_some : (x y : Endpoint) → Some x ≡ Some y → x ≡ y
   same_some x y e = cc
 
   -- where the endpoint is live, what waits there tells all
-  flows-live : (l : List (Listed Endpoint)) (sent got : List (List ℕ)) (x : Endpoint) → Distinct (live_of l) → live_object l endpoint.0 ≡ Some x → sent ≡ got ++ flow sender priority x.waiting → Flows l sent got
+  flows-live : (l : List (Listed Endpoint)) (sent got : List (List ℕ)) (x : Endpoint) → Distinct (live_of l) → live_object l endpoint.0 ≡ Some x
+      → sent ≡ got ++ flow sender priority x.waiting → Flows l sent got
   flows-live l sent got x e1 e2 e3 = grind (arith, nat_tests, same_some, unlisted)
 
   -- where the endpoint is as it was
-  flows-other : (l m : List (Listed Endpoint)) (sent got : List (List ℕ)) → Flows l sent got → Distinct (live_of m) → live_object m endpoint.0 ≡ live_object l endpoint.0 → (listed endpoint.0 m ≡ 0 → listed endpoint.0 l ≡ 0) → Flows m sent got
+  flows-other : (l m : List (Listed Endpoint)) (sent got : List (List ℕ)) → Flows l sent got → Distinct (live_of m)
+      → live_object m endpoint.0 ≡ live_object l endpoint.0 → (listed endpoint.0 m ≡ 0 → listed endpoint.0 l ≡ 0) → Flows m sent got
   flows-other l m sent got e1 e2 e3 e4 = grind (arith, nat_tests)
 
   -- where the endpoint isn't live any more
-  flows-gone : (l m : List (Listed Endpoint)) (sent got : List (List ℕ)) → Flows l sent got → Distinct (live_of m) → live_object m endpoint.0 ≡ None → (listed endpoint.0 m ≡ 0 → listed endpoint.0 l ≡ 0) → Flows m sent got
+  flows-gone : (l m : List (Listed Endpoint)) (sent got : List (List ℕ)) → Flows l sent got → Distinct (live_of m) → live_object m endpoint.0 ≡ None
+      → (listed endpoint.0 m ≡ 0 → listed endpoint.0 l ≡ 0) → Flows m sent got
   flows-gone l m sent got e1 e2 e3 e4 = grind (arith, nat_tests)
 
-  flows-issue : (l : List (Listed Endpoint)) (sent got : List (List ℕ)) (h port who : ℕ) → Flows l sent got → may_issue last_generation h l ≡ true → Flows (issue h (new_endpoint port who) l) sent got
+  flows-issue : (l : List (Listed Endpoint)) (sent got : List (List ℕ)) (h port who : ℕ) → Flows l sent got → may_issue last_generation h l ≡ true
+      → Flows (issue h (new_endpoint port who) l) sent got
   flows-issue l sent got h port who f may = pick (h == endpoint.0) refl
     where
       new : listed h l ≡ 0
@@ -113,19 +106,23 @@ module _ (endpoint : EndpointHandle) (sender priority : ℕ) where
       pick : (b : Bool) → (h == endpoint.0) ≡ b → Flows (issue h (new_endpoint port who) l) sent got
       pick true e =
           let none = f.unissued (ap (λ (n : ℕ). listed n l) (sym (eqb-true h endpoint.0 e)) ∙ new) in
-          flows-live _ sent got (new_endpoint port who) distinct (now ∙ ap (λ b. cond b (Some (new_endpoint port who)) (live_object l endpoint.0)) e) (none.0 ∙ ap (λ (x : List (List ℕ)). x ++ []) (sym none.1))
+          flows-live _ sent got (new_endpoint port who) distinct (now ∙ ap (λ b. cond b (Some (new_endpoint port who)) (live_object l endpoint.0)) e) (none.0
+          ∙ ap (λ (x : List (List ℕ)). x ++ []) (sym none.1))
       pick false e =
           flows-other l _ sent got f distinct (now ∙ ap (λ b. cond b (Some (new_endpoint port who)) (live_object l endpoint.0)) e)
           (λ k. let more = listed-issue endpoint.0 h (new_endpoint port who) l in omega (arith, more, k))
 
   -- the live endpoint k changes, and keeps its handle
-  now_updated : (l : List (Listed Endpoint)) (k : ℕ) (g : Endpoint → Endpoint) (e : Endpoint) (b : Bool) → live_object l k ≡ Some e → (k == endpoint.0) ≡ b → live_object (update k g l) endpoint.0 ≡ cond b (Some (g e)) (live_object l endpoint.0)
+  now_updated : (l : List (Listed Endpoint)) (k : ℕ) (g : Endpoint → Endpoint) (e : Endpoint) (b : Bool) → live_object l k ≡ Some e → (k == endpoint.0) ≡ b
+      → live_object (update k g l) endpoint.0 ≡ cond b (Some (g e)) (live_object l endpoint.0)
   now_updated l k g e b is same = at-update k endpoint.0 g e l is ∙ ap (λ c. cond c (Some (g e)) (live_object l endpoint.0)) same
 
   here : (l : List (Listed Endpoint)) (k : ℕ) (e : Endpoint) → live_object l k ≡ Some e → (k == endpoint.0) ≡ true → live_object l endpoint.0 ≡ Some e
   here l k e is same = ap (live_object l) (sym (eqb-true k endpoint.0 same)) ∙ is
 
-  flows-put : (l : List (Listed Endpoint)) (sent got : List (List ℕ)) (k who p : ℕ) (msg : List ℕ) (e : Endpoint) → Flows l sent got → live_object l k ≡ Some e → Flows (update k (with_message (message who p msg)) l) (sent ++ cond ((k == endpoint.0) && ((who == sender) && (p == priority))) (msg ∷ []) []) (got ++ [])
+  flows-put : (l : List (Listed Endpoint)) (sent got : List (List ℕ)) (k who p : ℕ) (msg : List ℕ) (e : Endpoint) → Flows l sent got → live_object l k ≡ Some e
+      → Flows (update k (with_message (message who p msg)) l) (sent ++ cond ((k == endpoint.0) && ((who == sender) && (p == priority))) (msg ∷ []) []) (got
+      ++ [])
   flows-put l sent got k who p msg e f is = pick (k == endpoint.0) refl
     where
       put : List (List ℕ)
@@ -134,7 +131,8 @@ module _ (endpoint : EndpointHandle) (sender priority : ℕ) where
       distinct : Distinct (live_of (update k (with_message (message who p msg)) l))
       distinct = Distinct-update k (with_message (message who p msg)) l f.distinct
 
-      pick : (b : Bool) → (k == endpoint.0) ≡ b → Flows (update k (with_message (message who p msg)) l) (sent ++ cond (b && ((who == sender) && (p == priority))) (msg ∷ []) []) (got ++ [])
+      pick : (b : Bool) → (k == endpoint.0) ≡ b
+          → Flows (update k (with_message (message who p msg)) l) (sent ++ cond (b && ((who == sender) && (p == priority))) (msg ∷ []) []) (got ++ [])
       pick true same =
           flows-live _ _ _ (with_message (message who p msg) e) distinct (now_updated l k (with_message (message who p msg)) e true is same)
           (ap (λ (x : List (List ℕ)). x ++ cond ((who == sender) && (p == priority)) (msg ∷ []) []) (f.live e (here l k e is same))
@@ -142,60 +140,85 @@ module _ (endpoint : EndpointHandle) (sender priority : ℕ) where
           ∙ (ap (λ (x : List (List ℕ)). got ++ x) (sym (flow-more sender priority who p msg e.waiting))
           ∙ ap (λ (x : List (List ℕ)). x ++ flow sender priority (e.waiting ++ message who p msg ∷ [])) (sym (append-nil got)))))
       pick false same =
-          stays _ sent got (flows-other l _ sent got f distinct (now_updated l k (with_message (message who p msg)) e false is same) (λ n. sym (listed-change endpoint.0 k (with_fields (with_message (message who p msg))) (λ r. refl) l) ∙ n))
+          stays _ sent got (flows-other l _ sent got f distinct (now_updated l k (with_message (message who p msg)) e false is same)
+          (λ n. sym (listed-change endpoint.0 k (with_fields (with_message (message who p msg))) (λ r. refl) l) ∙ n))
 
-  flows-take : (l : List (Listed Endpoint)) (sent got : List (List ℕ)) (k : ℕ) (w : Waiting) (e : Endpoint) → Flows l sent got → live_object l k ≡ Some e → next_of e.waiting ≡ Some w
-      → Flows (update k (with_first_gone w.priority) l) (sent ++ []) (got ++ cond ((k == endpoint.0) && ((w.sender == sender) && (w.priority == priority))) (w.msg ∷ []) [])
+  flows-take : (l : List (Listed Endpoint)) (sent got : List (List ℕ)) (k : ℕ) (w : Waiting) (e : Endpoint) → Flows l sent got → live_object l k ≡ Some e
+      → next_of e.waiting ≡ Some w
+      → Flows (update k (with_first_gone w.priority) l) (sent ++ []) (got
+      ++ cond ((k == endpoint.0) && ((w.sender == sender) && (w.priority == priority))) (w.msg ∷ []) [])
   flows-take l sent got k w e f is first = pick (k == endpoint.0) refl
     where
       distinct : Distinct (live_of (update k (with_first_gone w.priority) l))
       distinct = Distinct-update k (with_first_gone w.priority) l f.distinct
 
-      pick : (b : Bool) → (k == endpoint.0) ≡ b → Flows (update k (with_first_gone w.priority) l) (sent ++ []) (got ++ cond (b && ((w.sender == sender) && (w.priority == priority))) (w.msg ∷ []) [])
+      pick : (b : Bool) → (k == endpoint.0) ≡ b
+          → Flows (update k (with_first_gone w.priority) l) (sent ++ []) (got ++ cond (b && ((w.sender == sender) && (w.priority == priority))) (w.msg ∷ []) [])
       pick true same =
           flows-live _ _ _ (with_first_gone w.priority e) distinct (now_updated l k (with_first_gone w.priority) e true is same)
           (append-nil sent
           ∙ (f.live e (here l k e is same)
           ∙ (ap (λ (x : List (List ℕ)). got ++ x) (flow-first sender priority w e.waiting (first-is e.waiting w first))
-          ∙ sym (append_assoc got (cond ((w.sender == sender) && (w.priority == priority)) (w.msg ∷ []) []) (flow sender priority (without_first w.priority e.waiting))))))
+          ∙ sym (append_assoc got (cond ((w.sender == sender) && (w.priority == priority)) (w.msg ∷ []) [])
+          (flow sender priority (without_first w.priority e.waiting))))))
       pick false same =
-          stays _ sent got (flows-other l _ sent got f distinct (now_updated l k (with_first_gone w.priority) e false is same) (λ n. sym (listed-change endpoint.0 k (with_fields (with_first_gone w.priority)) (λ r. refl) l) ∙ n))
+          stays _ sent got (flows-other l _ sent got f distinct (now_updated l k (with_first_gone w.priority) e false is same)
+          (λ n. sym (listed-change endpoint.0 k (with_fields (with_first_gone w.priority)) (λ r. refl) l) ∙ n))
 
   flows-shut : (l : List (Listed Endpoint)) (sent got : List (List ℕ)) (k : ℕ) → Flows l sent got → Flows (retire k l) sent got
   flows-shut l sent got k e1 = grind (arith, nat_tests, listed-change, flows-gone, Distinct-retire, at-retire, live_object, flows-other)
 
   -- what an entry with this reply and these moves leaves
   abbrev After : State → ℕ → MsgOp → List (List ℕ) → List (List ℕ) → MsgReply → List Move → Type 0
-  After s who o sent got r ms = Flows (after_moves ms s).endpoints (sent ++ put_by endpoint sender priority who o r) (got ++ got_by endpoint sender priority o r)
+  After s who o sent got r ms = Flows (after_moves apply ms s).endpoints (sent ++ put_by endpoint sender priority who o r) (got
+      ++ got_by endpoint sender priority o r)
 
-  looked : (last : Bool) (s : State) (who : ℕ) (h : EndpointHandle) (sent got : List (List ℕ)) → Flows s.endpoints sent got → After s who (op.Recv h last) sent got (nothing last) []
+  looked : (last : Bool) (s : State) (who : ℕ) (h : EndpointHandle) (sent got : List (List ℕ)) → Flows s.endpoints sent got
+      → After s who (op.Recv h last) sent got (nothing last) []
   looked last s who h sent got e1 = grind (arith, nat_tests, stays)
 
-  row_flows : (s : State) (who : ℕ) (o : MsgOp) (r : MsgReply) (sent got : List (List ℕ)) → Flows s.endpoints sent got → AllGives (After s who o sent got) (row s who o r)
+  row_flows : (s : State) (who : ℕ) (o : MsgOp) (r : MsgReply) (sent got : List (List ℕ)) → Flows s.endpoints sent got
+      → AllDeeds (After s who o sent got) (row s who o r)
   row_flows s who (op.Open port) r sent got f = (
     stays _ sent got f,
-    (stays _ sent got f, on_only (After s who (op.Open port) sent got) (may_issue last_generation (handle_of r) s.endpoints) (gives (names (handle_of r)) (opens (handle_of r) (new_endpoint port who) ∷ [])) (λ may. stays _ sent got (flows-issue s.endpoints sent got (handle_of r) port who f may))),
+    (
+      stays _ sent got f,
+      on_only (After s who (op.Open port) sent got) (may_issue last_generation (handle_of r) s.endpoints)
+          (gives (names (handle_of r)) (opens (handle_of r) (new_endpoint port who) ∷ []))
+          (λ may. stays _ sent got (flows-issue s.endpoints sent got (handle_of r) port who f may)),
+    ),
   )
-  row_flows s who (op.Find port) r sent got f = on_given (After s who (op.Find port) sent got) (first_handle (has_port port) (live_of s.endpoints)) _ _ (stays _ sent got f) (λ h is. stays _ sent got f)
+  row_flows s who (op.Find port) r sent got f =
+      on_live (After s who (op.Find port) sent got) (first_handle (has_port port) (live_of s.endpoints)) _ _ (stays _ sent got f) (λ h is. stays _ sent got f)
   row_flows s who (op.Send to p msg) r sent got f =
-      on_given (After s who (op.Send to p msg) sent got) (live_object s.endpoints to.0) _ _ (stays _ sent got f) (λ e is. (stays _ sent got f, (stays _ sent got f, flows-put s.endpoints sent got to.0 who p msg e f is)))
+      on_live (After s who (op.Send to p msg) sent got) (live_object s.endpoints to.0) _ _ (stays _ sent got f)
+      (λ e is. (stays _ sent got f, (stays _ sent got f, flows-put s.endpoints sent got to.0 who p msg e f is)))
   row_flows s who (op.Recv h last) r sent got f =
-      on_given (After s who (op.Recv h last) sent got) (live_object s.endpoints h.0) _ _ (stays _ sent got f)
-      (λ e is. (stays _ sent got f, on_given (After s who (op.Recv h last) sent got) (next_of e.waiting) _ _ (looked last s who h sent got f) (λ w first. flows-take s.endpoints sent got h.0 w e f is first)))
+      on_live (After s who (op.Recv h last) sent got) (live_object s.endpoints h.0) _ _ (stays _ sent got f)
+      (λ e is. (
+        stays _ sent got f,
+        on_live (After s who (op.Recv h last) sent got) (next_of e.waiting) _ _ (looked last s who h sent got f)
+            (λ w first. flows-take s.endpoints sent got h.0 w e f is first),
+      ))
   row_flows s who (op.Shut h) r sent got f =
-      on_given (After s who (op.Shut h) sent got) (live_object s.endpoints h.0) _ _ (stays _ sent got f) (λ e is. (stays _ sent got f, stays _ sent got (flows-shut s.endpoints sent got h.0 f)))
+      on_live (After s who (op.Shut h) sent got) (live_object s.endpoints h.0) _ _ (stays _ sent got f)
+      (λ e is. (stays _ sent got f, stays _ sent got (flows-shut s.endpoints sent got h.0 f)))
 
-  step : (s : State) (e : MsgEntry) (sent got : List (List ℕ)) → IsNext s e → Flows s.endpoints sent got → Flows (next s e).endpoints (sent ++ put_by endpoint sender priority e.who e.op e.reply) (got ++ got_by endpoint sender priority e.op e.reply)
-  step s e sent got n f = gives_so (After s e.who e.op sent got) (row_of s e) e.reply (row_flows s e.who e.op e.reply sent got f) n.allowed
+  step : (s : State) (e : MsgEntry) (sent got : List (List ℕ)) → IsNext s e → Flows s.endpoints sent got
+      → Flows (next s e).endpoints (sent ++ put_by endpoint sender priority e.who e.op e.reply) (got ++ got_by endpoint sender priority e.op e.reply)
+  step s e sent got n f = deeds (After s e.who e.op sent got) (row_of s e) e.reply (row_flows s e.who e.op e.reply sent got f) n.allowed
 
-  along : (s : State) (L : List MsgEntry) (sent got : List (List ℕ)) → LegalFrom s L → Flows s.endpoints sent got → StartsWith (sent ++ sent_to endpoint sender priority L) (got ++ received_at endpoint sender priority L)
+  along : (s : State) (L : List MsgEntry) (sent got : List (List ℕ)) → LegalFrom s L → Flows s.endpoints sent got
+      → StartsWith (sent ++ sent_to endpoint sender priority L) (got ++ received_at endpoint sender priority L)
   unfolding LegalFrom sent_to received_at
   along s [] sent got h f = (f.begins.0, append-nil sent ∙ (f.begins.1 ∙ ap (λ (x : List (List ℕ)). x ++ f.begins.0) (sym (append-nil got))))
   along s (e ∷ L) sent got h f =
-      let more = along (next s e) L (sent ++ put_by endpoint sender priority e.who e.op e.reply) (got ++ got_by endpoint sender priority e.op e.reply) h.1 (step s e sent got h.0 f) in (
+      let more = along (next s e) L (sent ++ put_by endpoint sender priority e.who e.op e.reply) (got
+      ++ got_by endpoint sender priority e.op e.reply) h.1 (step s e sent got h.0 f) in (
         more.0,
         sym (append_assoc sent (put_by endpoint sender priority e.who e.op e.reply) (sent_to endpoint sender priority L))
-            ∙ (more.1 ∙ ap (λ (x : List (List ℕ)). x ++ more.0) (append_assoc got (got_by endpoint sender priority e.op e.reply) (received_at endpoint sender priority L))),
+            ∙ (more.1 ∙ ap (λ (x : List (List ℕ)). x
+            ++ more.0) (append_assoc got (got_by endpoint sender priority e.op e.reply) (received_at endpoint sender priority L))),
       )
 
   -- the law

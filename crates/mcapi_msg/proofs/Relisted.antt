@@ -17,7 +17,9 @@ module _ {A B : Type 0} (f : A → B) where
   live_of-relisted [] = refl
   live_of-relisted (r ∷ rs) = pick r.live (live_of-relisted rs)
     where
-      pick : (b : Bool) → live_of (relisted f rs) ≡ pairs (live_of rs) → cond b ((r.handle, f r.fields) ∷ live_of (relisted f rs)) (live_of (relisted f rs)) ≡ pairs (cond b ((r.handle, r.fields) ∷ live_of rs) (live_of rs))
+      pick : (b : Bool) → live_of (relisted f rs) ≡ pairs (live_of rs)
+          → cond b ((r.handle, f r.fields) ∷ live_of (relisted f rs)) (live_of (relisted f rs))
+          ≡ pairs (cond b ((r.handle, r.fields) ∷ live_of rs) (live_of rs))
       pick true e = ap (λ (l : List (ℕ × B)). (r.handle, f r.fields) ∷ l) e
       pick false e = e
 
@@ -79,7 +81,8 @@ module _ {A B : Type 0} (f : A → B) where
 
   pub is_full-relisted : (last max : ℕ) (l : List (Listed A)) → is_full last max (relisted f l) ≡ is_full last max l
   unfolding is_full
-  is_full-relisted last max l = (λ i. (ap (λ (es : List (ℕ × B)). length es) (live_of-relisted l) ∙ length-pairs (live_of l)) i + retired-relisted last l i == max)
+  is_full-relisted last max l = (λ i. (ap (λ (es : List (ℕ × B)). length es) (live_of-relisted l) ∙ length-pairs (live_of l)) i
+      + retired-relisted last l i == max)
 
   pub may_issue-relisted : (last h : ℕ) (l : List (Listed A)) → may_issue last h (relisted f l) ≡ may_issue last h l
   unfolding may_issue
@@ -95,12 +98,16 @@ module _ {A B : Type 0} (f : A → B) where
   retire-relisted h [] = refl
   retire-relisted h (r ∷ rs) = pick (r.live && (r.handle == h)) (retire-relisted h rs)
     where
-      pick : (b : Bool) → relisted f (retire h rs) ≡ retire h (relisted f rs) → relisted f (cond b (gone r ∷ rs) (r ∷ retire h rs)) ≡ cond b (record { handle = r.handle; live = false; fields = f r.fields } ∷ relisted f rs) (record { handle = r.handle; live = r.live; fields = f r.fields } ∷ retire h (relisted f rs))
+      pick : (b : Bool) → relisted f (retire h rs) ≡ retire h (relisted f rs)
+          → relisted f (cond b (gone r ∷ rs) (r ∷ retire h rs))
+          ≡ cond b (record { handle = r.handle; live = false; fields = f r.fields }
+          ∷ relisted f rs) (record { handle = r.handle; live = r.live; fields = f r.fields } ∷ retire h (relisted f rs))
       pick true e = refl
       pick false e = ap (λ (l : List (Listed B)). record { handle = r.handle; live = r.live; fields = f r.fields } ∷ l) e
 
   -- the live object of the handle changes into one that is seen so
-  pub update-relisted : (h : ℕ) (g : A → A) (x : A) (y : B) (l : List (Listed A)) → live_object l h ≡ Some x → f (g x) ≡ y → relisted f (update h g l) ≡ update h (λ _. y) (relisted f l)
+  pub update-relisted : (h : ℕ) (g : A → A) (x : A) (y : B) (l : List (Listed A)) → live_object l h ≡ Some x → f (g x) ≡ y
+      → relisted f (update h g l) ≡ update h (λ _. y) (relisted f l)
   unfolding relisted change live_of
   update-relisted h g x y [] found is = absurd (cc)
   update-relisted h g x y (r ∷ rs) found is = pick r.live (r.handle == h) refl found (λ more. update-relisted h g x y rs more is)
@@ -108,11 +115,15 @@ module _ {A B : Type 0} (f : A → B) where
       fields : (a b : A) → Some a ≡ Some b → a ≡ b
       fields a b e = cc
 
-      pick : (live same : Bool) → (r.handle == h) ≡ same → lookup (cond live ((r.handle, r.fields) ∷ live_of rs) (live_of rs)) h ≡ Some x → (live_object rs h ≡ Some x → relisted f (update h g rs) ≡ update h (λ _. y) (relisted f rs)) →
-          relisted f (cond (live && same) (record { handle = r.handle; live = live; fields = g r.fields } ∷ rs) (record { handle = r.handle; live = live; fields = r.fields } ∷ update h g rs))
-          ≡ cond (live && same) (record { handle = r.handle; live = live; fields = y } ∷ relisted f rs) (record { handle = r.handle; live = live; fields = f r.fields } ∷ update h (λ _. y) (relisted f rs))
+      pick : (live same : Bool) → (r.handle == h) ≡ same → lookup (cond live ((r.handle, r.fields) ∷ live_of rs) (live_of rs)) h ≡ Some x
+          → (live_object rs h ≡ Some x → relisted f (update h g rs) ≡ update h (λ _. y) (relisted f rs)) →
+          relisted f (cond (live && same) (record { handle = r.handle; live = live; fields = g r.fields }
+          ∷ rs) (record { handle = r.handle; live = live; fields = r.fields } ∷ update h g rs))
+          ≡ cond (live && same) (record { handle = r.handle; live = live; fields = y }
+          ∷ relisted f rs) (record { handle = r.handle; live = live; fields = f r.fields } ∷ update h (λ _. y) (relisted f rs))
       pick true true e at more =
           let own : r.fields ≡ x = fields r.fields x (sym (ap (λ b. cond b (Some r.fields) (lookup (live_of rs) h)) e) ∙ at) in
           (λ i. record { handle = r.handle; live = true; fields = (ap (λ (a : A). f (g a)) own ∙ is) i } ∷ relisted f rs)
-      pick true false e at more = ap (λ (l : List (Listed B)). record { handle = r.handle; live = true; fields = f r.fields } ∷ l) (more (sym (ap (λ b. cond b (Some r.fields) (lookup (live_of rs) h)) e) ∙ at))
+      pick true false e at more = ap (λ (l : List (Listed B)). record { handle = r.handle; live = true; fields = f r.fields }
+          ∷ l) (more (sym (ap (λ b. cond b (Some r.fields) (lookup (live_of rs) h)) e) ∙ at))
       pick false same e at more = ap (λ (l : List (Listed B)). record { handle = r.handle; live = false; fields = f r.fields } ∷ l) (more at)

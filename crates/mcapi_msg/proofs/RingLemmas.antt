@@ -1,5 +1,5 @@
 -- What the rings of an endpoint say of the messages that wait there.
-use Rattle.mcapi_msg.proofs.Names.{◌≡◌, ℕ, zero, suc, ◌+◌, ◌<◌, ◌≤◌, Bool, true, false, cond, List, [], ◌∷◌, ◌++◌, length, Option, Some, None, refl, sym, ap, subst, ◌∙◌, arith, ◌==◌, nat_lt, eq-eqb, nat_tests, Waiting, sooner, next_of, without_first, of_priority, RingTable, count_in, with_last, first_in, without_front, rings_of, InRange}
+use Rattle.mcapi_msg.proofs.Names.{◌≡◌, ℕ, zero, suc, ◌+◌, ◌<◌, ◌≤◌, Bool, true, false, cond, List, [], ◌∷◌, ◌++◌, length, Option, Some, None, refl, sym, ap, subst, ◌∙◌, arith, ◌==◌, nat_lt, eq-eqb, nat_tests, Waiting, sooner, next_of, without_first, of_priority, RingTable, count_in, with_last, first_in, without_front, rings_of, InRange, same_Some}
 
 -- a message more at the end, and at the front
 abbrev with_behind : Bool → Waiting → List Waiting → List Waiting
@@ -13,7 +13,9 @@ pub of-more : (p : ℕ) (w : Waiting) (ws : List Waiting) → of_priority p (ws 
 of-more p w [] = refl
 of-more p w (x ∷ ws) = pick (x.priority == p) (w.priority == p) (of-more p w ws)
   where
-    pick : (b c : Bool) → of_priority p (ws ++ w ∷ []) ≡ cond c (of_priority p ws ++ w ∷ []) (of_priority p ws) → cond b (x ∷ of_priority p (ws ++ w ∷ [])) (of_priority p (ws ++ w ∷ [])) ≡ cond c (cond b (x ∷ of_priority p ws) (of_priority p ws) ++ w ∷ []) (cond b (x ∷ of_priority p ws) (of_priority p ws))
+    pick : (b c : Bool) → of_priority p (ws ++ w ∷ []) ≡ cond c (of_priority p ws ++ w ∷ []) (of_priority p ws)
+        → cond b (x ∷ of_priority p (ws ++ w ∷ [])) (of_priority p (ws ++ w ∷ []))
+        ≡ cond c (cond b (x ∷ of_priority p ws) (of_priority p ws) ++ w ∷ []) (cond b (x ∷ of_priority p ws) (of_priority p ws))
     pick true true e = ap (λ (l : List Waiting). x ∷ l) e
     pick true false e = ap (λ (l : List Waiting). x ∷ l) e
     pick false true e = e
@@ -33,8 +35,10 @@ count-rings limit (w ∷ ws) r = pick (w.priority == 0) (w.priority == 1) (w.pri
     two : (n p q : ℕ) → (n == p) ≡ true → (n == q) ≡ true → (p == q) ≡ false → ⊥
     two n p q e f g = grind (arith, nat_tests)
 
-    pick : (a b c d : Bool) → (w.priority == 0) ≡ a → (w.priority == 1) ≡ b → (w.priority == 2) ≡ c → (w.priority == 3) ≡ d → count_in (rings_of limit ws) ≡ length ws →
-        length (with_ahead a w (of_priority 0 ws)) + length (with_ahead b w (of_priority 1 ws)) + length (with_ahead c w (of_priority 2 ws)) + length (with_ahead d w (of_priority 3 ws)) ≡ length (w ∷ ws)
+    pick : (a b c d : Bool) → (w.priority == 0) ≡ a → (w.priority == 1) ≡ b → (w.priority == 2) ≡ c → (w.priority == 3) ≡ d
+        → count_in (rings_of limit ws) ≡ length ws →
+        length (with_ahead a w (of_priority 0 ws)) + length (with_ahead b w (of_priority 1 ws)) + length (with_ahead c w (of_priority 2 ws))
+        + length (with_ahead d w (of_priority 3 ws)) ≡ length (w ∷ ws)
     pick true false false false e f g h k = omega arith
     pick false true false false e f g h k = omega arith
     pick false false true false e f g h k = omega arith
@@ -82,13 +86,15 @@ of-without p q (w ∷ ws) = pick (w.priority == p) (w.priority == q) (p == q) re
     kept [] = refl
     kept (x ∷ l) = refl
 
-    pick : (b c d : Bool) → (w.priority == p) ≡ b → (w.priority == q) ≡ c → (p == q) ≡ d → of_priority q (without_first p ws) ≡ dropped d (of_priority q ws) → of_priority q (cond b ws (w ∷ without_first p ws)) ≡ dropped d (cond c (w ∷ of_priority q ws) (of_priority q ws))
+    pick : (b c d : Bool) → (w.priority == p) ≡ b → (w.priority == q) ≡ c → (p == q) ≡ d → of_priority q (without_first p ws) ≡ dropped d (of_priority q ws)
+        → of_priority q (cond b ws (w ∷ without_first p ws)) ≡ dropped d (cond c (w ∷ of_priority q ws) (of_priority q ws))
     pick true true true e f g k = refl
     pick true true false e f g k = absurd (clash w.priority p q e f g)
     pick true false true e f g k = absurd (differ w.priority p q e f g)
     pick true false false e f g k = kept (of_priority q ws)
     pick false true true e f g k = absurd (other w.priority p q e f g)
-    pick false true false e f g k = ap (λ b. cond b (w ∷ of_priority q (without_first p ws)) (of_priority q (without_first p ws))) f ∙ ap (λ (l : List Waiting). w ∷ l) (k ∙ sym (kept (of_priority q ws)))
+    pick false true false e f g k = ap (λ b. cond b (w ∷ of_priority q (without_first p ws)) (of_priority q (without_first p ws))) f
+        ∙ ap (λ (l : List Waiting). w ∷ l) (k ∙ sym (kept (of_priority q ws)))
     pick false false d e f g k = ap (λ b. cond b (w ∷ of_priority q (without_first p ws)) (of_priority q (without_first p ws))) f ∙ k
 
 -- the message that is received first is the first of its priority, and no message has a smaller one
@@ -115,7 +121,13 @@ first-is (x ∷ ws) w e = pick (next_of ws) refl e (λ y is. first-is ws y is)
     one q small = grind (arith, nat_tests)
 
     mine : IsFirst x ws → IsFirst x (x ∷ ws)
-    mine f = record { rest = x ∷ f.rest; front = ap (λ b. cond b (x ∷ of_priority x.priority ws) (of_priority x.priority ws)) (own x) ∙ ap (λ (l : List Waiting). x ∷ l) f.front; none = λ q small. ap (λ b. cond b (x ∷ of_priority q ws) (of_priority q ws)) (one q small) ∙ f.none q small }
+    mine f = record {
+      rest = x ∷ f.rest;
+      front =
+          ap (λ b. cond b (x ∷ of_priority x.priority ws) (of_priority x.priority ws)) (own x) ∙ ap (λ (l : List Waiting). x ∷ l) f.front;
+      none =
+          λ q small. ap (λ b. cond b (x ∷ of_priority q ws) (of_priority q ws)) (one q small) ∙ f.none q small;
+    }
 
     lone : IsFirst x (x ∷ [])
     lone = record { rest = []; front = ap (λ b. cond b (x ∷ []) []) (own x); none = λ q small. ap (λ b. cond b (x ∷ []) []) (one q small) }
@@ -158,12 +170,10 @@ pub none-empty : (ws : List Waiting) → next_of ws ≡ None → ws ≡ []
 none-empty [] k = refl
 none-empty (y ∷ l) k = absurd (cc)
 
-pub take-none : (limit : ℕ) (ws : List Waiting) → next_of ws ≡ None → (first_in (rings_of limit ws) ≡ None) × (without_front (rings_of limit ws) ≡ rings_of limit ws)
+pub take-none : (limit : ℕ) (ws : List Waiting) → next_of ws ≡ None
+    → (first_in (rings_of limit ws) ≡ None) × (without_front (rings_of limit ws) ≡ rings_of limit ws)
 take-none limit [] e = (refl, refl)
 take-none limit (w ∷ ws) e = absurd (cc)
-
-some_same : {A : Type 0} (a b : A) → Some a ≡ Some b → a ≡ b
-some_same a b k = cc
 
 -- the priority of the message that is received first is below 4
 pub range-first : (ws : List Waiting) (w : Waiting) → InRange ws → next_of ws ≡ Some w → w.priority < 4
@@ -175,8 +185,8 @@ range-first (x ∷ ws) w r e = pick (next_of ws) refl e (λ y is. range-first ws
     either y false s = r.0
 
     pick : (o : Option Waiting) → next_of ws ≡ o → Some (sooner x o) ≡ Some w → ((y : Waiting) → next_of ws ≡ Some y → y.priority < 4) → w.priority < 4
-    pick None is k more = subst (λ (v : Waiting). v.priority < 4) (some_same x w k) r.0
-    pick (Some y) is k more = subst (λ (v : Waiting). v.priority < 4) (some_same _ w k) (either y (nat_lt y.priority x.priority) (more y is))
+    pick None is k more = subst (λ (v : Waiting). v.priority < 4) (same_Some x w k) r.0
+    pick (Some y) is k more = subst (λ (v : Waiting). v.priority < 4) (same_Some _ w k) (either y (nat_lt y.priority x.priority) (more y is))
 
 kept : (l : List Waiting) → l ≡ dropped false l
 kept l = grind (arith, nat_tests)
@@ -187,7 +197,8 @@ table limit a b c d = record { limit = limit; first = a; second = b; third = c; 
 abbrev table_without : ℕ → ℕ → List Waiting → List Waiting → List Waiting → List Waiting → RingTable
 table_without limit p a b c d = table limit (dropped (p == 0) a) (dropped (p == 1) b) (dropped (p == 2) c) (dropped (p == 3) d)
 
-table-without : (limit p : ℕ) (ws : List Waiting) → rings_of limit (without_first p ws) ≡ table_without limit p (of_priority 0 ws) (of_priority 1 ws) (of_priority 2 ws) (of_priority 3 ws)
+table-without : (limit p : ℕ) (ws : List Waiting)
+    → rings_of limit (without_first p ws) ≡ table_without limit p (of_priority 0 ws) (of_priority 1 ws) (of_priority 2 ws) (of_priority 3 ws)
 table-without limit p ws i = table limit (of-without p 0 ws i) (of-without p 1 ws i) (of-without p 2 ws i) (of-without p 3 ws i)
 
 -- what a take of these rings gives and leaves
@@ -197,17 +208,21 @@ TakesOf limit w old new = (first_in old ≡ Some w) × (without_front old ≡ ne
 takes_first : (limit : ℕ) (w : Waiting) (rest a b c d : List Waiting) → a ≡ w ∷ rest → TakesOf limit w (table limit a b c d) (table_without limit 0 a b c d)
 takes_first limit w rest a b c d e1 = grind (arith, nat_tests)
 
-takes_second : (limit : ℕ) (w : Waiting) (rest a b c d : List Waiting) → a ≡ [] → b ≡ w ∷ rest → TakesOf limit w (table limit a b c d) (table_without limit 1 a b c d)
+takes_second : (limit : ℕ) (w : Waiting) (rest a b c d : List Waiting) → a ≡ [] → b ≡ w ∷ rest
+    → TakesOf limit w (table limit a b c d) (table_without limit 1 a b c d)
 takes_second limit w rest a b c d e1 e2 = grind (arith, nat_tests)
 
-takes_third : (limit : ℕ) (w : Waiting) (rest a b c d : List Waiting) → a ≡ [] → b ≡ [] → c ≡ w ∷ rest → TakesOf limit w (table limit a b c d) (table_without limit 2 a b c d)
+takes_third : (limit : ℕ) (w : Waiting) (rest a b c d : List Waiting) → a ≡ [] → b ≡ [] → c ≡ w ∷ rest
+    → TakesOf limit w (table limit a b c d) (table_without limit 2 a b c d)
 takes_third limit w rest a b c d e1 e2 e3 = grind (arith, nat_tests)
 
-takes_fourth : (limit : ℕ) (w : Waiting) (rest a b c d : List Waiting) → a ≡ [] → b ≡ [] → c ≡ [] → d ≡ w ∷ rest → TakesOf limit w (table limit a b c d) (table_without limit 3 a b c d)
+takes_fourth : (limit : ℕ) (w : Waiting) (rest a b c d : List Waiting) → a ≡ [] → b ≡ [] → c ≡ [] → d ≡ w ∷ rest
+    → TakesOf limit w (table limit a b c d) (table_without limit 3 a b c d)
 takes_fourth limit w rest a b c d e1 e2 e3 e4 = grind (arith, nat_tests)
 
 -- a take gives the message that is received first, and leaves the others
-pub rings-take : (limit : ℕ) (ws : List Waiting) (w : Waiting) → InRange ws → next_of ws ≡ Some w → TakesOf limit w (rings_of limit ws) (rings_of limit (without_first w.priority ws))
+pub rings-take : (limit : ℕ) (ws : List Waiting) (w : Waiting) → InRange ws → next_of ws ≡ Some w
+    → TakesOf limit w (rings_of limit ws) (rings_of limit (without_first w.priority ws))
 rings-take limit ws w r e =
     subst (TakesOf limit w (rings_of limit ws)) (sym (table-without limit w.priority ws))
     (at w.priority refl (range-first ws w r e) (first-is ws w e))
@@ -218,9 +233,11 @@ rings-take limit ws w r e =
     empty : (p q : ℕ) (f : IsFirst w ws) → w.priority ≡ p → q < p → of_priority q ws ≡ []
     empty p q f is small = f.none q (omega arith)
 
-    at : (p : ℕ) → w.priority ≡ p → p < 4 → IsFirst w ws → TakesOf limit w (rings_of limit ws) (table_without limit p (of_priority 0 ws) (of_priority 1 ws) (of_priority 2 ws) (of_priority 3 ws))
+    at : (p : ℕ) → w.priority ≡ p → p < 4 → IsFirst w ws
+        → TakesOf limit w (rings_of limit ws) (table_without limit p (of_priority 0 ws) (of_priority 1 ws) (of_priority 2 ws) (of_priority 3 ws))
     at zero is small f = takes_first limit w f.rest _ _ _ _ (front 0 f is)
     at (suc zero) is small f = takes_second limit w f.rest _ _ _ _ (empty 1 0 f is (omega arith)) (front 1 f is)
     at (suc (suc zero)) is small f = takes_third limit w f.rest _ _ _ _ (empty 2 0 f is (omega arith)) (empty 2 1 f is (omega arith)) (front 2 f is)
-    at (suc (suc (suc zero))) is small f = takes_fourth limit w f.rest _ _ _ _ (empty 3 0 f is (omega arith)) (empty 3 1 f is (omega arith)) (empty 3 2 f is (omega arith)) (front 3 f is)
+    at (suc (suc (suc zero))) is small f = takes_fourth limit w f.rest _ _ _ _ (empty 3 0 f is (omega arith)) (empty 3 1 f is (omega arith))
+        (empty 3 2 f is (omega arith)) (front 3 f is)
     at (suc (suc (suc (suc n)))) is small f = absurd (omega arith)

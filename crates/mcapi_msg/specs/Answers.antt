@@ -93,4 +93,5 @@ Received at limit old new x = Looks at limit old new x ⊎ (RanOut at limit old 
 pub record TimedOut (at : EndpointHandle) (limit : Option ℕ) (old new : Seat) : Type 0 where
   pub earlier : ℕ
   pub all : limit ≡ Some (earlier + 1)
-  pub mine : new.mine ≡ old.mine ++ (pends Legal (look_for at) reply.Pending old.number earlier ++ entry old.number (look_for at true) (reply.Refused status.Timeout) ∷ [])
+  pub mine : new.mine ≡ old.mine ++ (pends Legal (look_for at) reply.Pending old.number earlier
+      ++ entry old.number (look_for at true) (reply.Refused status.Timeout) ∷ [])

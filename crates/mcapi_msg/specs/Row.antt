@@ -1,7 +1,8 @@
--- The state of the machine, the moves by which it changes, and how a row is written and read.
-use Rattle.std.specs.Prelude.{◌≡◌, ℕ, Bool, true, false, List, [], ◌∷◌, Option, Some, None, if◌then◌else◌}
-use Rattle.std.specs.Bool.{MatchBool}
-use Rattle.handle_pool.specs.Issued.{Listed, live_object, issue, update, retire}
+-- The state of the machine, and the moves by which it changes.
+use Rattle.std.specs.Prelude.{ℕ, List, []}
+use Rattle.history.specs.Row.{Row as RowOf}
+pub use Rattle.history.specs.Row.{unless, gives, never, Allows, moves_of, says, only, live}
+use Rattle.handle_pool.specs.Issued.{Listed, issue, update, retire}
 use Rattle.mcapi_msg.specs.declared.messages.Waiting.{Waiting}
 use Rattle.mcapi_msg.specs.declared.ops.MsgReply.{MsgReply}
 use Rattle.mcapi_msg.specs.declared.ops.MsgReply.TheVariants.{Handle}
@@ -38,49 +39,9 @@ moved (shuts h) l = retire h l
 abbrev pub apply : Move → State → State
 apply m s = record s { endpoints = moved m s.endpoints }
 
--- the state after these moves, one after the other
-abbrev pub after_moves : List Move → State → State
-after_moves [] s = s
-after_moves (m ∷ ms) s = after_moves ms (apply m s)
-
 -- what an op does in a state
-pub data Row : Type 0 where
-  -- where the condition is met this reply answers and nothing changes; else the row goes on
-  unless : Bool → MsgReply → Row → Row
-  -- this reply, and the state changes by these moves
-  gives : MsgReply → List Move → Row
-  -- no reply
-  never : Row
-
--- the replies that a row allows
-abbrev pub Allows : Row → MsgReply → Type 0
-Allows (unless c x row) reply = MatchBool c (reply ≡ x) (Allows row reply)
-Allows (gives x moves) reply = reply ≡ x
-Allows never reply = ⊥
-
--- the moves that it makes
-abbrev pub moves_of : Row → List Move
-moves_of (unless c x row) = if c then [] else moves_of row
-moves_of (gives x moves) = moves
-moves_of never = []
-
--- this reply, and nothing changes
-abbrev pub says : MsgReply → Row
-says x = gives x []
-
--- the row where the condition is met, and else no reply
-abbrev pub only : Bool → Row → Row
-only true row = row
-only false row = never
-
--- the row of what is there, and the other one where there is nothing
-abbrev pub given : {T : Type 0} → Option T → Row → (T → Row) → Row
-given None other row = other
-given (Some x) other row = row x
-
--- an op on the live endpoint of this handle, and the other row where there is none
-abbrev pub on : State → ℕ → Row → (Endpoint → Row) → Row
-on s h other row = given (live_object s.endpoints h) other row
+abbrev pub Row : Type 0
+Row = RowOf MsgReply Move
 
 -- the handle that a reply chooses
 abbrev pub handle_of : MsgReply → ℕ

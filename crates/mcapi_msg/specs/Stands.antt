@@ -2,6 +2,7 @@
 use Rattle.std.specs.Prelude.{◌≡◌, ℕ, ◌<◌, List, [], ◌∷◌, length}
 use Rattle.handle_pool.specs.Issued.{Listed}
 use Rattle.handle_pool.specs.Stands.{Stands as SlotsStand}
+use Rattle.history.specs.Row.{after_moves}
 use Rattle.mcapi_msg.specs.declared.messages.Waiting.{Waiting}
 use Rattle.mcapi_msg.specs.declared.boxes.Mailbox.{Mailbox}
 use Rattle.mcapi_msg.specs.declared.ops.MsgOp.{MsgOp}
@@ -9,7 +10,7 @@ use Rattle.mcapi_msg.specs.declared.ops.MsgReply.{MsgReply}
 use Rattle.mcapi_msg.specs.declared.post.Post.{Post}
 use Rattle.mcapi_msg.specs.declared.post.PostTerms.{PostTerms}
 use Rattle.mcapi_msg.specs.Endpoints.{last_generation, Endpoint, of_priority}
-use Rattle.mcapi_msg.specs.Row.{State, Allows, moves_of, after_moves}
+use Rattle.mcapi_msg.specs.Row.{State, apply, Allows, moves_of}
 use Rattle.mcapi_msg.specs.Rows.{row}
 use Rattle.mcapi_msg.specs.Rings.{RingTable}
 use Rattle.mcapi_msg.specs.Legal.{MsgEntry, Legal, after}
@@ -59,7 +60,7 @@ state_of p l = record { terms = terms_of p; endpoints = l }
 -- the step from p to q, with these endpoints then, is one of the machine's
 pub record StepsTo (p : Post) (l : List (Listed Endpoint)) (who : ℕ) (op : MsgOp) (r : MsgReply) (q : Post) (k : List (Listed Endpoint)) : Type 0 where
   pub allowed : Allows (row (state_of p l) who op r) r
-  pub leads : after_moves (moves_of (row (state_of p l) who op r)) (state_of p l) ≡ state_of p k
+  pub leads : after_moves apply (moves_of (row (state_of p l) who op r)) (state_of p l) ≡ state_of p k
   pub holds : Holds q k
   pub terms : terms_of q ≡ terms_of p
 

@@ -4,7 +4,6 @@ use Rattle.mtapi_values.specs.declared.statuses.MtapiStatus.TheVariants as m
 use Rattle.mtapi_machine.specs.declared.replies.Reply.TheVariants as reply
 use Rattle.mtapi_machine.specs.declared.ops.Op.TheVariants as op
 use Rattle.mtapi_values.specs.Seats.{is_seat}
-use Rattle.mtapi_objects.specs.Tasks.{Ended}
 use Rattle.mtapi_machine.proofs.Refusals.{entry_stays, idle_stays}
 use Rattle.mtapi_machine.proofs.Changes.{some_same, update-same, at-update}
 
@@ -23,10 +22,12 @@ keeps s r never k a = absurd a
 same_seat : (who : ℕ) (w : Option ℕ) → is_seat who w ≡ true → Some who ≡ w
 same_seat who w e1 = grind (arith, nat_tests)
 
-looks_keep : (s : State) (who h : ℕ) (last : Bool) (x : TaskState) → update h (with_notes (with_waiter (Some who))) s.tasks ≡ s.tasks → KeepsAt s Pending (looks_at who h last x)
+looks_keep : (s : State) (who h : ℕ) (last : Bool) (x : TaskState) → update h (with_notes (with_waiter (Some who))) s.tasks ≡ s.tasks
+    → KeepsAt s Pending (looks_at who h last x)
 looks_keep s who h last x e1 = grind (arith, nat_tests)
 
-look_keeps : (s : State) (who : ℕ) (t : TaskHandle) (last : Bool) (o : Option Task) → live_object s.tasks t.0 ≡ o → holds (λ x. is_seat who x.notes.waiter) o ≡ true →
+look_keeps : (s : State) (who : ℕ) (t : TaskHandle) (last : Bool) (o : Option Task) → live_object s.tasks t.0 ≡ o
+    → holds (λ x. is_seat who x.notes.waiter) o ≡ true →
     KeepsAt s Pending (live o (says (Mtapi m.ErrTaskInvalid)) (λ x. mtapi_unless (task_look_refusals who x) (looks_at who t.0 last x.state)))
 look_keeps s who t last o e1 e2 = grind (arith, nat_tests, looks_keep, update-same, with_notes, with_waiter, same_seat)
 
@@ -51,10 +52,12 @@ changes s r never k a e = a
 no_seat : (who : ℕ) (w : Option ℕ) → Some who ≡ w → is_seat who w ≡ false → ⊥
 no_seat who w e1 e2 = grind (arith, nat_tests)
 
-looks_change : (s : State) (who h : ℕ) (last : Bool) (x : TaskState) → (update h (with_notes (with_waiter (Some who))) s.tasks ≡ s.tasks → ⊥) → ChangesAt s Pending (looks_at who h last x)
+looks_change : (s : State) (who h : ℕ) (last : Bool) (x : TaskState) → (update h (with_notes (with_waiter (Some who))) s.tasks ≡ s.tasks → ⊥)
+    → ChangesAt s Pending (looks_at who h last x)
 looks_change s who h last x e1 = grind (arith, nat_tests)
 
-look_changes : (s : State) (who : ℕ) (t : TaskHandle) (last : Bool) (o : Option Task) → live_object s.tasks t.0 ≡ o → holds (λ x. is_seat who x.notes.waiter) o ≡ false →
+look_changes : (s : State) (who : ℕ) (t : TaskHandle) (last : Bool) (o : Option Task) → live_object s.tasks t.0 ≡ o
+    → holds (λ x. is_seat who x.notes.waiter) o ≡ false →
     ChangesAt s Pending (live o (says (Mtapi m.ErrTaskInvalid)) (λ x. mtapi_unless (task_look_refusals who x) (looks_at who t.0 last x.state)))
 look_changes s who t last o e1 e2 = grind (arith, nat_tests, looks_change, no_seat, some_same, at-update, with_notes, with_waiter)
 
@@ -82,11 +85,14 @@ dropped_in s who o (Mrapi x) h d = absurd (cc)
 pub dropped_stays : (s : State) (e : NodeEntry) → IsNext s e → is_dropped s e ≡ true → next s e ≡ s
 dropped_stays s e h d = dropped_in s e.who e.op e.reply h d
 
-legal_step : (s : State) (e : NodeEntry) (b : Bool) (es : List NodeEntry) → is_dropped s e ≡ b → IsNext s e → LegalFrom (next s e) (kept (next s e) es) → LegalFrom s (cond b (kept (next s e) es) (e ∷ kept (next s e) es))
+legal_step : (s : State) (e : NodeEntry) (b : Bool) (es : List NodeEntry) → is_dropped s e ≡ b → IsNext s e → LegalFrom (next s e) (kept (next s e) es)
+    → LegalFrom s (cond b (kept (next s e) es) (e ∷ kept (next s e) es))
 unfolding LegalFrom
 legal_step s e b es e1 e2 e3 = grind (arith, nat_tests, dropped_stays)
 
-after_step : (s : State) (e : NodeEntry) (b : Bool) (es : List NodeEntry) → is_dropped s e ≡ b → IsNext s e → after_from (next s e) (kept (next s e) es) ≡ after_from (next s e) es → after_from s (cond b (kept (next s e) es) (e ∷ kept (next s e) es)) ≡ after_from (next s e) es
+after_step : (s : State) (e : NodeEntry) (b : Bool) (es : List NodeEntry) → is_dropped s e ≡ b → IsNext s e
+    → after_from (next s e) (kept (next s e) es) ≡ after_from (next s e) es
+    → after_from s (cond b (kept (next s e) es) (e ∷ kept (next s e) es)) ≡ after_from (next s e) es
 unfolding after_from
 after_step s e b es e1 e2 e3 = grind (arith, nat_tests, after_from, dropped_stays)
 
@@ -101,11 +107,13 @@ unfolding LegalFrom kept after_from
 after-kept s [] h = refl
 after-kept s (e ∷ es) h = after_step s e (is_dropped s e) es refl h.0 (after-kept (next s e) es h.1)
 
-is_drop : (s : State) (who : ℕ) (o : Op) (b : Bool) → IsNext s (entry who o Pending) → next s (entry who o Pending) ≡ s → pends_alike s who o ≡ b → pends_alike s who o ≡ true
+is_drop : (s : State) (who : ℕ) (o : Op) (b : Bool) → IsNext s (entry who o Pending) → next s (entry who o Pending) ≡ s → pends_alike s who o ≡ b
+    → pends_alike s who o ≡ true
 is_drop s who o true h k d = d
 is_drop s who o false h k d = absurd (pending_changes s who o h d k)
 
-pending_drop : (s : State) (who : ℕ) (o : Op) (r : Reply) → r ≡ Pending → IsNext s (entry who o r) → next s (entry who o r) ≡ s → drops (pends_alike s who o) r ≡ true
+pending_drop : (s : State) (who : ℕ) (o : Op) (r : Reply) → r ≡ Pending → IsNext s (entry who o r) → next s (entry who o r) ≡ s
+    → drops (pends_alike s who o) r ≡ true
 pending_drop s who o r e1 e2 e3 = grind (arith, nat_tests, is_drop, pends_alike)
 
 drops_only : (alike : Bool) (r : Reply) → drops alike r ≡ true → (r ≡ Idle) ⊎ (r ≡ Pending)

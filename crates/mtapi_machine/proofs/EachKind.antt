@@ -16,7 +16,8 @@ own_kind kind.Rwl = refl
 own_kind kind.Shmem = refl
 
 -- what an empty list has, each list has before the first entry
-pub at_opening : (P : (T : Type 0) → List (Listed T) → Type 0) → ((T : Type 0) → P T []) → (terms : Terms) (k : ObjectKind) → P (FieldsOf k) ((objects_of k).list (opening terms))
+pub at_opening : (P : (T : Type 0) → List (Listed T) → Type 0) → ((T : Type 0) → P T []) → (terms : Terms) (k : ObjectKind)
+    → P (FieldsOf k) ((objects_of k).list (opening terms))
 at_opening P none terms kind.Action = none _
 at_opening P none terms kind.Task = none _
 at_opening P none terms kind.Group = none _
@@ -49,8 +50,10 @@ abbrev pub OnEach : ((T : Type 0) → Objects T → List (Listed T) → List (Li
 OnEach P s t = (k : ObjectKind) → P (FieldsOf k) (objects_of k) ((objects_of k).list s) ((objects_of k).list t)
 
 -- the state with other actions and tasks, or with another list of a sort: what each list has with itself is left to show of these alone
-module _ (P : (T : Type 0) → Objects T → List (Listed T) → List (Listed T) → Type 0) (same : (T : Type 0) (o : Objects T) (l : List (Listed T)) → P T o l l) (s : State) where
-  pub each_so : (p : Phase) (b : Bool) (marks : List Bool) (starts ends : ℕ) (l : List (Listed Action)) (ts : List (Listed Task)) → P Action actions s.actions l → P Task tasks s.tasks ts →
+module _ (P : (T : Type 0) → Objects T → List (Listed T) → List (Listed T) → Type 0) (same : (T : Type 0) (o : Objects T) (l : List (Listed T))
+    → P T o l l) (s : State) where
+  pub each_so : (p : Phase) (b : Bool) (marks : List Bool) (starts ends : ℕ) (l : List (Listed Action)) (ts : List (Listed Task)) → P Action actions s.actions l
+      → P Task tasks s.tasks ts →
       OnEach P s (record s { phase = p; released = b; stopped = marks; starts = starts; ends = ends; actions = l; tasks = ts })
   each_so p b marks starts ends l ts v w kind.Action = v
   each_so p b marks starts ends l ts v w kind.Task = w

@@ -12,7 +12,6 @@ use Rattle.mtapi_values.specs.declared.handles.ShmemHandle.{ShmemHandle}
 use Rattle.mtapi_values.specs.contracts.kinds.Kind as kind
 use Rattle.mtapi_values.specs.contracts.statuses.MtapiStatus as mtapi
 use Rattle.mtapi_values.specs.contracts.statuses.MrapiStatus as mrapi
-use Rattle.mtapi_values.specs.contracts.ends.TaskEnd as end
 use Rattle.mtapi_values.specs.contracts.ends.TaskEndPartialEq.TheImpl as end_eq
 use Rattle.action_fn.specs.declared.finished.Finished.{Finished}
 use Rattle.mtapi_machine.specs.declared.ops.Op.TheVariants as ops
@@ -133,9 +132,12 @@ op_decides a b q = derived_decides op.enum (λ c. IsNoFinish (op.the_make c)) _ 
                   (
                     (λ x y q. one_decides actions_decide x y),
                     (
-                      (λ x y q. more_decide Decides-eqb (more_decide args_decide (more_decide Decides-eqb (more_decide masks_decide (more_decide booleans_Decides (one_decides (option_decides groups_decide)))))) x y),
+                      (λ x y q. more_decide Decides-eqb (more_decide args_decide
+                          (more_decide Decides-eqb (more_decide masks_decide (more_decide booleans_Decides (one_decides (option_decides groups_decide)))))) x
+                          y),
                       (
-                        (λ x y q. more_decide queues_decide (more_decide args_decide (more_decide masks_decide (more_decide booleans_Decides (one_decides (option_decides groups_decide))))) x y),
+                        (λ x y q. more_decide queues_decide (more_decide args_decide
+                            (more_decide masks_decide (more_decide booleans_Decides (one_decides (option_decides groups_decide))))) x y),
                         (
                           (λ x y q. more_decide tasks_decide (one_decides booleans_Decides) x y),
                           (
@@ -149,7 +151,9 @@ op_decides a b q = derived_decides op.enum (λ c. IsNoFinish (op.the_make c)) _ 
                                   (
                                     (λ x y q. more_decide groups_decide (one_decides booleans_Decides) x y),
                                     (
-                                      (λ x y q. more_decide Decides-eqb (more_decide Decides-eqb (more_decide Decides-eqb (more_decide Decides-eqb (more_decide booleans_Decides (one_decides booleans_Decides))))) x y),
+                                      (λ x y q. more_decide Decides-eqb (more_decide Decides-eqb
+                                          (more_decide Decides-eqb (more_decide Decides-eqb (more_decide booleans_Decides (one_decides booleans_Decides))))) x
+                                          y),
                                       (
                                         (λ x y q. one_decides Decides-eqb x y),
                                         (
@@ -201,9 +205,11 @@ op_decides a b q = derived_decides op.enum (λ c. IsNoFinish (op.the_make c)) _ 
                                                                                       (
                                                                                         (λ x y q. one_decides rwls_decide x y),
                                                                                         (
-                                                                                          (λ x y q. more_decide rwls_decide (more_decide booleans_Decides (one_decides booleans_Decides)) x y),
+                                                                                          (λ x y q. more_decide rwls_decide (more_decide booleans_Decides
+                                                                                              (one_decides booleans_Decides)) x y),
                                                                                           (
-                                                                                            (λ x y q. more_decide rwls_decide (one_decides booleans_Decides) x y),
+                                                                                            (λ x y q. more_decide rwls_decide (one_decides booleans_Decides) x
+                                                                                                y),
                                                                                             (
                                                                                               (λ x y q. more_decide Decides-eqb (one_decides Decides-eqb) x y),
                                                                                               (
@@ -215,9 +221,11 @@ op_decides a b q = derived_decides op.enum (λ c. IsNoFinish (op.the_make c)) _ 
                                                                                                     (
                                                                                                       (λ x y q. one_decides segments_decide x y),
                                                                                                       (
-                                                                                                        (λ x y q. more_decide segments_decide (one_decides Decides-eqb) x y),
+                                                                                                        (λ x y q. more_decide segments_decide (one_decides
+                                                                                                            Decides-eqb) x y),
                                                                                                         (
-                                                                                                          (λ x y q. more_decide segments_decide (more_decide Decides-eqb (one_decides Decides-int_eq)) x y),
+                                                                                                          (λ x y q. more_decide segments_decide (more_decide
+                                                                                                              Decides-eqb (one_decides Decides-int_eq)) x y),
                                                                                                           tt,
                                                                                                         ),
                                                                                                       ),

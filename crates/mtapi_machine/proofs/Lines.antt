@@ -73,13 +73,15 @@ pub last_is_next : (terms : Terms) (before : List NodeEntry) (e : NodeEntry) →
 unfolding LegalFrom
 last_is_next terms before e h = (Legal-rest (opening terms) before (e ∷ []) h.from).0
 
-none_if : (terms : Terms) (before : List NodeEntry) (e : NodeEntry) (xs : List Reply) → none_is_next (after_from (opening terms) before) e xs ≡ true → NoneIsLegal terms before e xs
+none_if : (terms : Terms) (before : List NodeEntry) (e : NodeEntry) (xs : List Reply) → none_is_next (after_from (opening terms) before) e xs ≡ true
+    → NoneIsLegal terms before e xs
 none_if terms before e [] h = tt
 none_if terms before e (x ∷ xs) h =
     let p = both_are _ _ h in
     (λ k. rejected_next _ (entry e.who e.op x) p.0 (last_is_next terms before _ k), none_if terms before e xs p.1)
 
-wrong_from : (terms : Terms) (before : List NodeEntry) (table : List Line) → wrong_differ (after_from (opening terms) before) table ≡ true → WrongIsIllegal terms before table
+wrong_from : (terms : Terms) (before : List NodeEntry) (table : List Line) → wrong_differ (after_from (opening terms) before) table ≡ true
+    → WrongIsIllegal terms before table
 unfolding wrong_differ
 wrong_from terms before [] h = tt
 wrong_from terms before (l ∷ ls) h =
@@ -88,12 +90,14 @@ wrong_from terms before (l ∷ ls) h =
       wrong_from terms (before ++ l.entry ∷ []) ls (ap (λ s. wrong_differ s ls) (after-one (opening terms) before l.entry) ∙ p.1),
     )
 
-pub works_if : (terms : Terms) (table : List Line) → Fits terms → replay (opening terms) (reported table) ≡ reported table → wrong_differ (opening terms) table ≡ true → Works terms table
+pub works_if : (terms : Terms) (table : List Line) → Fits terms → replay (opening terms) (reported table) ≡ reported table
+    → wrong_differ (opening terms) table ≡ true → Works terms table
 unfolding after_from
 works_if terms table f h k = record { legal = record { fits = f; from = legal_if _ _ h }; wrong = wrong_from terms [] table k }
 
 -- the terms of the tables
-pub fits_of : (workers tasks others : ℕ) → 1 ≤ workers → workers ≤ 16 → 1 ≤ tasks → tasks ≤ 1024 → 1 ≤ others → others ≤ 256 → Fits (node_of workers tasks others)
+pub fits_of : (workers tasks others : ℕ) → 1 ≤ workers → workers ≤ 16 → 1 ≤ tasks → tasks ≤ 1024 → 1 ≤ others → others ≤ 256
+    → Fits (node_of workers tasks others)
 fits_of workers tasks others e1 e2 e3 e4 e5 e6 = grind (arith, nat_tests)
 
 pub fits_small : Fits small

@@ -16,11 +16,13 @@ unfolding change KeepsStart
 changed-starts h f [] k = refl
 changed-starts h f (r ∷ rs) k = by_test (r.live && (r.handle == h)) (changed-starts h f rs k)
   where
-    by_test : (b : Bool) → start_numbers (change h f rs) ≡ start_numbers rs → start_numbers (cond b (f r ∷ rs) (r ∷ change h f rs)) ≡ r.fields.start ∷ start_numbers rs
+    by_test : (b : Bool) → start_numbers (change h f rs) ≡ start_numbers rs
+        → start_numbers (cond b (f r ∷ rs) (r ∷ change h f rs)) ≡ r.fields.start ∷ start_numbers rs
     by_test true e = ap (λ (n : ℕ). n ∷ start_numbers rs) (k r)
     by_test false e = ap (λ (ns : List ℕ). r.fields.start ∷ ns) e
 
-all-changed-starts : (p : Task → Bool) (f : Listed Task → Listed Task) (l : List (Listed Task)) → KeepsStart f → start_numbers (change_all p f l) ≡ start_numbers l
+all-changed-starts : (p : Task → Bool) (f : Listed Task → Listed Task) (l : List (Listed Task)) → KeepsStart f
+    → start_numbers (change_all p f l) ≡ start_numbers l
 unfolding change_all KeepsStart
 all-changed-starts p f [] k = refl
 all-changed-starts p f (r ∷ rs) k = λ i. by_test (r.live && p r.fields) i ∷ all-changed-starts p f rs k i
@@ -34,7 +36,8 @@ unfolding end_each
 ended-starts p e n [] = refl
 ended-starts p e n (r ∷ rs) = by_test (r.live && p r.fields) (ended-starts p e n rs) (ended-starts p e (n + 1) rs)
   where
-    by_test : (b : Bool) → start_numbers (end_each p e n rs) ≡ start_numbers rs → start_numbers (end_each p e (n + 1) rs) ≡ start_numbers rs → start_numbers (cond b (ended e n r ∷ end_each p e (n + 1) rs) (r ∷ end_each p e n rs)) ≡ r.fields.start ∷ start_numbers rs
+    by_test : (b : Bool) → start_numbers (end_each p e n rs) ≡ start_numbers rs → start_numbers (end_each p e (n + 1) rs) ≡ start_numbers rs
+        → start_numbers (cond b (ended e n r ∷ end_each p e (n + 1) rs) (r ∷ end_each p e n rs)) ≡ r.fields.start ∷ start_numbers rs
     by_test true d e = ap (λ (ns : List ℕ). r.fields.start ∷ ns) e
     by_test false d e = ap (λ (ns : List ℕ). r.fields.start ∷ ns) d
 
@@ -61,7 +64,8 @@ as-before s l v e = subst (λ (ns : List ℕ). Rises (ns ++ s.starts ∷ [])) (s
 
 started : (s : State) (h : ℕ) (t : NewTask) → Numbered s → Rises (start_numbers (issue h (new_task t s.starts) s.tasks) ++ (s.starts + 1) ∷ [])
 unfolding Numbered
-started s h t v = subst (λ (ns : List ℕ). Rises (ns ++ (s.starts + 1) ∷ [])) (sym (issued-starts h t s.starts s.tasks)) (one-more s.starts (start_numbers s.tasks) v)
+started s h t v = subst (λ (ns : List ℕ). Rises (ns ++ (s.starts + 1) ∷ [])) (sym (issued-starts h t s.starts s.tasks))
+    (one-more s.starts (start_numbers s.tasks) v)
 
 numbered_move : (s : State) (m : Move) → Numbered s → Numbered (apply m s)
 unfolding Numbered KeepsStart
@@ -76,7 +80,8 @@ numbered_move s (frees_members g) v = as-before s _ v (all-changed-starts _ free
 numbered_move s (lets_members_go g) v = as-before s _ v (all-changed-starts _ let_go s.tasks (λ r. refl))
 numbered_move s x v = rest_keeps Numbered (λ t g q m c r y p. p) x s v
 
-pub after_numbered : (s : State) (L : List NodeEntry) → Rises (start_numbers s.tasks ++ s.starts ∷ []) → Rises (start_numbers (after_from s L).tasks ++ (after_from s L).starts ∷ [])
+pub after_numbered : (s : State) (L : List NodeEntry) → Rises (start_numbers s.tasks ++ s.starts ∷ [])
+    → Rises (start_numbers (after_from s L).tasks ++ (after_from s L).starts ∷ [])
 unfolding Numbered
 after_numbered s L v = along Numbered (λ o t m e w. numbered_move t m w) s L v
 

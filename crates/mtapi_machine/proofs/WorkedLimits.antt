@@ -3,11 +3,13 @@ use Rattle.mtapi_machine.specs.WorkedLimits.{unlike, each_kind, each_resource, l
 use Rattle.mtapi_machine.proofs.Lines.{fits_unlike, works_if, wrong_differ}
 
 each_kind_works : Works unlike each_kind
-unfolding each_kind replay wrong_differ live_of issue change change_all listed issued_at retired is_full may_issue fits answer_of has_worker end_each endings is_ready can_take has_better
+unfolding each_kind replay wrong_differ live_of issue change change_all listed issued_at retired is_full may_issue fits answer_of has_worker end_each endings
+    is_ready can_take has_better
 each_kind_works = works_if unlike each_kind fits_unlike refl refl
 
 each_resource_works : Works unlike each_resource
-unfolding each_resource replay wrong_differ live_of issue change change_all listed issued_at retired is_full may_issue fits answer_of has_worker end_each endings is_ready can_take has_better
+unfolding each_resource replay wrong_differ live_of issue change change_all listed issued_at retired is_full may_issue fits answer_of has_worker end_each
+    endings is_ready can_take has_better
 each_resource_works = works_if unlike each_resource fits_unlike refl refl
 
 least_fits : Fits least

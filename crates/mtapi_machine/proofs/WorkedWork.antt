@@ -7,31 +7,41 @@ use Rattle.mtapi_machine.specs.WorkedWork.{picking, two_workers, finishing, stop
 use Rattle.mtapi_machine.proofs.Lines.{fits_of, fits_small, works_if, last_is_next, wrong_differ}
 
 picking_works : Works (node_of 1 4 2) picking
-unfolding picking replay wrong_differ live_of issue change change_all listed issued_at retired is_full may_issue fits answer_of has_worker end_each endings is_ready can_take has_better
+unfolding picking replay wrong_differ live_of issue change change_all listed issued_at retired is_full may_issue fits answer_of has_worker end_each endings
+    is_ready can_take has_better
 picking_works = works_if (node_of 1 4 2) picking (fits_of 1 4 2 (omega arith) (omega arith) (omega arith) (omega arith) (omega arith) (omega arith)) refl refl
 
 two_workers_works : Works (node_of 2 4 2) two_workers
-unfolding two_workers replay wrong_differ live_of issue change change_all listed issued_at retired is_full may_issue fits answer_of has_worker end_each endings is_ready can_take has_better
-two_workers_works = works_if (node_of 2 4 2) two_workers (fits_of 2 4 2 (omega arith) (omega arith) (omega arith) (omega arith) (omega arith) (omega arith)) refl refl
+unfolding two_workers replay wrong_differ live_of issue change change_all listed issued_at retired is_full may_issue fits answer_of has_worker end_each endings
+    is_ready can_take has_better
+two_workers_works = works_if (node_of 2 4 2) two_workers
+    (fits_of 2 4 2 (omega arith) (omega arith) (omega arith) (omega arith) (omega arith) (omega arith)) refl refl
 
 finishing_works : Works (node_of 2 1 2) finishing
-unfolding finishing replay wrong_differ live_of issue change change_all listed issued_at retired is_full may_issue fits answer_of has_worker end_each endings is_ready can_take has_better
-finishing_works = works_if (node_of 2 1 2) finishing (fits_of 2 1 2 (omega arith) (omega arith) (omega arith) (omega arith) (omega arith) (omega arith)) refl refl
+unfolding finishing replay wrong_differ live_of issue change change_all listed issued_at retired is_full may_issue fits answer_of has_worker end_each endings
+    is_ready can_take has_better
+finishing_works = works_if (node_of 2 1 2) finishing
+    (fits_of 2 1 2 (omega arith) (omega arith) (omega arith) (omega arith) (omega arith) (omega arith)) refl refl
 
 stopped_watch_works : Works small stopped_watch
-unfolding stopped_watch replay wrong_differ live_of issue change change_all listed issued_at retired is_full may_issue fits answer_of has_worker end_each endings is_ready can_take has_better
+unfolding stopped_watch replay wrong_differ live_of issue change change_all listed issued_at retired is_full may_issue fits answer_of has_worker end_each
+    endings is_ready can_take has_better
 stopped_watch_works = works_if small stopped_watch fits_small refl refl
 
 whole_watch_works : Works small whole_watch
-unfolding whole_watch replay wrong_differ live_of issue change change_all listed issued_at retired is_full may_issue fits answer_of has_worker end_each endings is_ready can_take has_better
+unfolding whole_watch replay wrong_differ live_of issue change change_all listed issued_at retired is_full may_issue fits answer_of has_worker end_each endings
+    is_ready can_take has_better
 whole_watch_works = works_if small whole_watch fits_small refl refl
 
 bad_watches_works : Works (node_of 2 4 2) bad_watches
-unfolding bad_watches replay wrong_differ live_of issue change change_all listed issued_at retired is_full may_issue fits answer_of has_worker end_each endings is_ready can_take has_better
-bad_watches_works = works_if (node_of 2 4 2) bad_watches (fits_of 2 4 2 (omega arith) (omega arith) (omega arith) (omega arith) (omega arith) (omega arith)) refl refl
+unfolding bad_watches replay wrong_differ live_of issue change change_all listed issued_at retired is_full may_issue fits answer_of has_worker end_each endings
+    is_ready can_take has_better
+bad_watches_works = works_if (node_of 2 4 2) bad_watches
+    (fits_of 2 4 2 (omega arith) (omega arith) (omega arith) (omega arith) (omega arith) (omega arith)) refl refl
 
 running_works : Works small running
-unfolding running replay wrong_differ live_of issue change change_all listed issued_at retired is_full may_issue fits answer_of has_worker end_each endings is_ready can_take has_better
+unfolding running replay wrong_differ live_of issue change change_all listed issued_at retired is_full may_issue fits answer_of has_worker end_each endings
+    is_ready can_take has_better
 running_works = works_if small running fits_small refl refl
 
 another_end_illegal : Legal small (reported running ++ entry 0 (finish h1 kind.Add (pos 2 ∷ pos 3 ∷ []) (Done (pos 6 ∷ []))) reply.Ok ∷ []) → ⊥

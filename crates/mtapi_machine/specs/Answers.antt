@@ -146,96 +146,154 @@ pub data Answers (s : State) (who : ℕ) : Op → Reply → List Move → Type 0
   finals_node : is_past_open s.phase ≡ true → all_marked (workers s) s.stopped ≡ true → Answers s who op.Final reply.Ok (phase_is Closed ∷ [])
   -- jobs and actions
   finds_job : (job : ℕ) → any_listed (has_job job) s.actions ≡ true → Answers s who (op.JobGet job) (reply.Number (pos job)) []
-  creates_action : (job : ℕ) (kind : Kind) (cores : Mask) (h : ℕ) → is_fresh actions s h ≡ true → Answers s who (op.ActionCreate job kind cores) (reply.Handle h) (makes_action h (new_action job kind cores.0) ∷ [])
-  deletes_action : (a : ActionHandle) (x : Action) → live_object s.actions a.0 ≡ Some x → Answers s who (op.ActionDelete a) reply.Ok (withdraws a.0 gone m.ErrActionDeleted ∷ [])
-  disables_action : (a : ActionHandle) (x : Action) → live_object s.actions a.0 ≡ Some x → Answers s who (op.ActionDisable a) reply.Ok (withdraws a.0 (with_fields (with_enabled false)) m.ErrActionDisabled ∷ [])
+  creates_action : (job : ℕ) (kind : Kind) (cores : Mask) (h : ℕ) → is_fresh actions s h ≡ true
+      → Answers s who (op.ActionCreate job kind cores) (reply.Handle h) (makes_action h (new_action job kind cores.0) ∷ [])
+  deletes_action : (a : ActionHandle) (x : Action) → live_object s.actions a.0 ≡ Some x
+      → Answers s who (op.ActionDelete a) reply.Ok (withdraws a.0 gone m.ErrActionDeleted ∷ [])
+  disables_action : (a : ActionHandle) (x : Action) → live_object s.actions a.0 ≡ Some x
+      → Answers s who (op.ActionDisable a) reply.Ok (withdraws a.0 (with_fields (with_enabled false)) m.ErrActionDisabled ∷ [])
   enables_action : (a : ActionHandle) (x : Action) → live_object s.actions a.0 ≡ Some x → Answers s who (op.ActionEnable a) reply.Ok (enables a.0 ∷ [])
   -- starts
-  starts : (job : ℕ) (args : List ℤ) (priority : ℕ) (cores : Mask) (detached : Bool) (group : Option GroupHandle) (h : ℕ) → Starts s (asked_for job args priority cores detached group) h
-      → Answers s who (op.TaskStart job args priority cores detached group) (reply.Handle h) (starts_task h (asked_for job args priority cores detached group) ∷ [])
-  enqueues : (q : QueueHandle) (args : List ℤ) (cores : Mask) (detached : Bool) (group : Option GroupHandle) (h : ℕ) (x : Queue) → live_object s.queues q.0 ≡ Some x → AreUnmet (put_refusals x) → Starts s (asked_of q.0 x args cores detached group) h
-      → (count_listed (is_unended_in q.0) s.tasks == x.limit) ≡ false → Answers s who (op.TaskEnqueue q args cores detached group) (reply.Handle h) (starts_task h (asked_of q.0 x args cores detached group) ∷ [])
+  starts : (job : ℕ) (args : List ℤ) (priority : ℕ) (cores : Mask) (detached : Bool) (group : Option GroupHandle) (h : ℕ)
+      → Starts s (asked_for job args priority cores detached group) h
+      → Answers s who (op.TaskStart job args priority cores detached group) (reply.Handle h) (starts_task h (asked_for job args priority cores detached group)
+      ∷ [])
+  enqueues : (q : QueueHandle) (args : List ℤ) (cores : Mask) (detached : Bool) (group : Option GroupHandle) (h : ℕ) (x : Queue)
+      → live_object s.queues q.0 ≡ Some x → AreUnmet (put_refusals x) → Starts s (asked_of q.0 x args cores detached group) h
+      → (count_listed (is_unended_in q.0) s.tasks == x.limit) ≡ false
+      → Answers s who (op.TaskEnqueue q args cores detached group) (reply.Handle h) (starts_task h (asked_of q.0 x args cores detached group) ∷ [])
   -- looks at a task, and cancelling
-  looks_over : (t : TaskHandle) (last : Bool) (x : Task) (e : TaskEnd) (n : ℕ) → live_object s.tasks t.0 ≡ Some x → AreUnmet (task_look_refusals who x) → x.state ≡ Ended e n → Answers s who (op.TaskLook t last) (reply.Ended e) (leaves t.0 ∷ [])
-  looks_early : (t : TaskHandle) (x : Task) → live_object s.tasks t.0 ≡ Some x → AreUnmet (task_look_refusals who x) → is_unended x ≡ true → Answers s who (op.TaskLook t false) reply.Pending (notes t.0 (with_waiter (Some who)) ∷ [])
-  looks_last : (t : TaskHandle) (x : Task) → live_object s.tasks t.0 ≡ Some x → AreUnmet (task_look_refusals who x) → is_unended x ≡ true → Answers s who (op.TaskLook t true) (reply.Mtapi m.Timeout) (notes t.0 (with_waiter None) ∷ [])
-  cancels_waiting : (t : TaskHandle) (x : Task) → live_object s.tasks t.0 ≡ Some x → x.state ≡ Scheduled → Answers s who (op.TaskCancel t) reply.Ok (ends_task t.0 Cancelled ∷ [])
-  cancels_running : (t : TaskHandle) (x : Task) (w : ℕ) (k : Kind) → live_object s.tasks t.0 ≡ Some x → x.state ≡ Running w k → Answers s who (op.TaskCancel t) reply.Ok (notes t.0 cancel_requested ∷ [])
-  cancels_over : (t : TaskHandle) (x : Task) (e : TaskEnd) (n : ℕ) → live_object s.tasks t.0 ≡ Some x → x.state ≡ Ended e n → Answers s who (op.TaskCancel t) reply.Ok []
+  looks_over : (t : TaskHandle) (last : Bool) (x : Task) (e : TaskEnd) (n : ℕ) → live_object s.tasks t.0 ≡ Some x → AreUnmet (task_look_refusals who x)
+      → x.state ≡ Ended e n → Answers s who (op.TaskLook t last) (reply.Ended e) (leaves t.0 ∷ [])
+  looks_early : (t : TaskHandle) (x : Task) → live_object s.tasks t.0 ≡ Some x → AreUnmet (task_look_refusals who x) → is_unended x ≡ true
+      → Answers s who (op.TaskLook t false) reply.Pending (notes t.0 (with_waiter (Some who)) ∷ [])
+  looks_last : (t : TaskHandle) (x : Task) → live_object s.tasks t.0 ≡ Some x → AreUnmet (task_look_refusals who x) → is_unended x ≡ true
+      → Answers s who (op.TaskLook t true) (reply.Mtapi m.Timeout) (notes t.0 (with_waiter None) ∷ [])
+  cancels_waiting : (t : TaskHandle) (x : Task) → live_object s.tasks t.0 ≡ Some x → x.state ≡ Scheduled
+      → Answers s who (op.TaskCancel t) reply.Ok (ends_task t.0 Cancelled ∷ [])
+  cancels_running : (t : TaskHandle) (x : Task) (w : ℕ) (k : Kind) → live_object s.tasks t.0 ≡ Some x → x.state ≡ Running w k
+      → Answers s who (op.TaskCancel t) reply.Ok (notes t.0 cancel_requested ∷ [])
+  cancels_over : (t : TaskHandle) (x : Task) (e : TaskEnd) (n : ℕ) → live_object s.tasks t.0 ≡ Some x → x.state ≡ Ended e n
+      → Answers s who (op.TaskCancel t) reply.Ok []
   -- groups
   creates_group : (h : ℕ) → is_fresh (all_of Groups) s h ≡ true → Answers s who op.GroupCreate (reply.Handle h) (makes Groups h new_group ∷ [])
-  deletes_group : (g : GroupHandle) (x : Group) → live_object s.groups g.0 ≡ Some x → Answers s who (op.GroupDelete g) reply.Ok (lets_members_go g.0 ∷ removes Groups g.0 ∷ [])
-  all_early : (g : GroupHandle) (x : Group) → live_object s.groups g.0 ≡ Some x → any_listed (is_unended_member g.0) s.tasks ≡ true → Answers s who (op.AllLook g false) reply.Pending []
+  deletes_group : (g : GroupHandle) (x : Group) → live_object s.groups g.0 ≡ Some x
+      → Answers s who (op.GroupDelete g) reply.Ok (lets_members_go g.0 ∷ removes Groups g.0 ∷ [])
+  all_early : (g : GroupHandle) (x : Group) → live_object s.groups g.0 ≡ Some x → any_listed (is_unended_member g.0) s.tasks ≡ true
+      → Answers s who (op.AllLook g false) reply.Pending []
   all_late : (g : GroupHandle) → Answers s who (op.AllLook g true) (reply.Mtapi m.Timeout) []
-  all_well : (g : GroupHandle) (last : Bool) (x : Group) → live_object s.groups g.0 ≡ Some x → any_listed (is_unended_member g.0) s.tasks ≡ false → first_fault (endings g.0 (live_of s.tasks)) ≡ None → Answers s who (op.AllLook g last) reply.Ok (frees_members g.0 ∷ [])
-  all_faulty : (g : GroupHandle) (last : Bool) (x : Group) (c : MtapiStatus) → live_object s.groups g.0 ≡ Some x → any_listed (is_unended_member g.0) s.tasks ≡ false → first_fault (endings g.0 (live_of s.tasks)) ≡ Some c
+  all_well : (g : GroupHandle) (last : Bool) (x : Group) → live_object s.groups g.0 ≡ Some x → any_listed (is_unended_member g.0) s.tasks ≡ false
+      → first_fault (endings g.0 (live_of s.tasks)) ≡ None → Answers s who (op.AllLook g last) reply.Ok (frees_members g.0 ∷ [])
+  all_faulty : (g : GroupHandle) (last : Bool) (x : Group) (c : MtapiStatus) → live_object s.groups g.0 ≡ Some x
+      → any_listed (is_unended_member g.0) s.tasks ≡ false → first_fault (endings g.0 (live_of s.tasks)) ≡ Some c
       → Answers s who (op.AllLook g last) (reply.Mtapi c) (frees_members g.0 ∷ [])
-  any_early : (g : GroupHandle) (x : Group) → live_object s.groups g.0 ≡ Some x → endings g.0 (live_of s.tasks) ≡ [] → Answers s who (op.AnyLook g false) reply.Pending []
+  any_early : (g : GroupHandle) (x : Group) → live_object s.groups g.0 ≡ Some x → endings g.0 (live_of s.tasks) ≡ []
+      → Answers s who (op.AnyLook g false) reply.Pending []
   any_late : (g : GroupHandle) → Answers s who (op.AnyLook g true) (reply.Mtapi m.Timeout) []
-  any_given : (g : GroupHandle) (last : Bool) (x : Group) (y : Ending) (ys : List Ending) (t : Task) (e : TaskEnd) (n : ℕ) → live_object s.groups g.0 ≡ Some x → endings g.0 (live_of s.tasks) ≡ y ∷ ys → live_object s.tasks y.task ≡ Some t → t.state ≡ Ended e n
+  any_given : (g : GroupHandle) (last : Bool) (x : Group) (y : Ending) (ys : List Ending) (t : Task) (e : TaskEnd) (n : ℕ) → live_object s.groups g.0 ≡ Some x
+      → endings g.0 (live_of s.tasks) ≡ y ∷ ys → live_object s.tasks y.task ≡ Some t → t.state ≡ Ended e n
       → Answers s who (op.AnyLook g last) (reply.Given (record { 0 = y.task }) e) (notes y.task in_no_group ∷ leaves y.task ∷ [])
   -- queues
-  creates_queue : (id job priority limit : ℕ) (ordered retain : Bool) (h : ℕ) → any_listed (λ y. y.id == id) s.queues ≡ false → is_fresh (all_of Queues) s h ≡ true
-      → Answers s who (op.QueueCreate id job priority limit ordered retain) (reply.Handle h) (makes Queues h (new_queue id job priority limit ordered retain) ∷ [])
+  creates_queue : (id job priority limit : ℕ) (ordered retain : Bool) (h : ℕ) → any_listed (λ y. y.id == id) s.queues ≡ false
+      → is_fresh (all_of Queues) s h ≡ true
+      → Answers s who (op.QueueCreate id job priority limit ordered retain) (reply.Handle h) (makes Queues h (new_queue id job priority limit ordered retain)
+      ∷ [])
   gets_queue : (id h : ℕ) → first_handle (λ y. y.id == id) (live_of s.queues) ≡ Some h → Answers s who (op.QueueGet id) (reply.Handle h) []
-  enables_queue : (q : QueueHandle) (x : Queue) → live_object s.queues q.0 ≡ Some x → Answers s who (op.QueueEnable q) reply.Ok (alters Queues q.0 (opened true) ∷ [])
-  retains_queue : (q : QueueHandle) (x : Queue) → live_object s.queues q.0 ≡ Some x → x.retain ≡ true → Answers s who (op.QueueDisable q) reply.Ok (alters Queues q.0 (opened false) ∷ [])
-  disables_queue : (q : QueueHandle) (x : Queue) → live_object s.queues q.0 ≡ Some x → x.retain ≡ false → Answers s who (op.QueueDisable q) reply.Ok (alters Queues q.0 (opened false) ∷ ends_waiting (is_in q.0) Cancelled ∷ [])
-  deletes_queue : (q : QueueHandle) (x : Queue) → live_object s.queues q.0 ≡ Some x → Answers s who (op.QueueDelete q) reply.Ok (ends_waiting (is_in q.0) (Failed m.ErrQueueDeleted) ∷ removes Queues q.0 ∷ [])
+  enables_queue : (q : QueueHandle) (x : Queue) → live_object s.queues q.0 ≡ Some x
+      → Answers s who (op.QueueEnable q) reply.Ok (alters Queues q.0 (opened true) ∷ [])
+  retains_queue : (q : QueueHandle) (x : Queue) → live_object s.queues q.0 ≡ Some x → x.retain ≡ true
+      → Answers s who (op.QueueDisable q) reply.Ok (alters Queues q.0 (opened false) ∷ [])
+  disables_queue : (q : QueueHandle) (x : Queue) → live_object s.queues q.0 ≡ Some x → x.retain ≡ false
+      → Answers s who (op.QueueDisable q) reply.Ok (alters Queues q.0 (opened false) ∷ ends_waiting (is_in q.0) Cancelled ∷ [])
+  deletes_queue : (q : QueueHandle) (x : Queue) → live_object s.queues q.0 ≡ Some x
+      → Answers s who (op.QueueDelete q) reply.Ok (ends_waiting (is_in q.0) (Failed m.ErrQueueDeleted) ∷ removes Queues q.0 ∷ [])
   -- work
   idles_in_new : is_new s.phase ≡ true → Answers s who op.Pick reply.Idle []
   idles : any_listed (can_take s who) s.tasks ≡ false → Answers s who op.Pick reply.Idle []
   stops_worker : nat_lt who (workers s) ≡ true → any_listed (runs_on who) s.tasks ≡ false → is_stop s ≡ true → Answers s who op.Pick reply.Stop (stops who ∷ [])
-  picks : (t : TaskHandle) (a : ActionHandle) (x : Task) (y : Action) → nat_lt who (workers s) ≡ true → any_listed (runs_on who) s.tasks ≡ false → live_object s.tasks t.0 ≡ Some x → live_object s.actions a.0 ≡ Some y
-      → is_ready s x ≡ true → is_eligible (workers s) who x.job x.cores y ≡ true → has_better s who x.priority ≡ false → Answers s who op.Pick (reply.Picked t a y.kind x.args) (runs_task t.0 who y.kind ∷ [])
-  finishes : (t : TaskHandle) (done : Answered) (x : Task) → HasTask s who t.0 x done.kind → AreUnmet (finish_refusals who done.kind done.args x) → Answers s who (op.Finish t done) reply.Ok (ends_task t.0 (task_end done.end) ∷ [])
-  asks : (t : TaskHandle) (x : Task) → HasTask s who t.0 x kinds.Watch → AreUnmet (asked_refusals who x) → Answers s who (op.Asked t) (reply.Asked x.notes.requested) (notes t.0 asked_once ∷ [])
-  ends_watch : (t : TaskHandle) (x : Task) → HasTask s who t.0 x kinds.Watch → AreUnmet (watch_end_refusals who x) → Answers s who (op.WatchEnd t) (reply.Ended (watch_end x)) (ends_task t.0 (watch_end x) ∷ [])
+  picks : (t : TaskHandle) (a : ActionHandle) (x : Task) (y : Action) → nat_lt who (workers s) ≡ true → any_listed (runs_on who) s.tasks ≡ false
+      → live_object s.tasks t.0 ≡ Some x → live_object s.actions a.0 ≡ Some y
+      → is_ready s x ≡ true → is_eligible (workers s) who x.job x.cores y ≡ true → has_better s who x.priority ≡ false
+      → Answers s who op.Pick (reply.Picked t a y.kind x.args) (runs_task t.0 who y.kind ∷ [])
+  finishes : (t : TaskHandle) (done : Answered) (x : Task) → HasTask s who t.0 x done.kind → AreUnmet (finish_refusals who done.kind done.args x)
+      → Answers s who (op.Finish t done) reply.Ok (ends_task t.0 (task_end done.end) ∷ [])
+  asks : (t : TaskHandle) (x : Task) → HasTask s who t.0 x kinds.Watch → AreUnmet (asked_refusals who x)
+      → Answers s who (op.Asked t) (reply.Asked x.notes.requested) (notes t.0 asked_once ∷ [])
+  ends_watch : (t : TaskHandle) (x : Task) → HasTask s who t.0 x kinds.Watch → AreUnmet (watch_end_refusals who x)
+      → Answers s who (op.WatchEnd t) (reply.Ended (watch_end x)) (ends_task t.0 (watch_end x) ∷ [])
   -- tallies
-  lock_early : (t : TaskHandle) (x : Task) → HasTask s who t.0 x kinds.Tally → (x.notes.tally.stage == 0) ≡ true → Answers s who (op.TallyLock t) reply.Pending []
-  lock_fails : (t : TaskHandle) (x : Task) (c : MtapiStatus) → HasTask s who t.0 x kinds.Tally → (x.notes.tally.stage == 0) ≡ true → gives_up_with c ≡ true → Answers s who (op.TallyLock t) (reply.Asked false) (notes t.0 (with_tally (tally_failed c)) ∷ [])
+  lock_early : (t : TaskHandle) (x : Task) → HasTask s who t.0 x kinds.Tally → (x.notes.tally.stage == 0) ≡ true
+      → Answers s who (op.TallyLock t) reply.Pending []
+  lock_fails : (t : TaskHandle) (x : Task) (c : MtapiStatus) → HasTask s who t.0 x kinds.Tally → (x.notes.tally.stage == 0) ≡ true → gives_up_with c ≡ true
+      → Answers s who (op.TallyLock t) (reply.Asked false) (notes t.0 (with_tally (tally_failed c)) ∷ [])
   lock_got : (t : TaskHandle) (x : Task) (y : Adds) (a b : ℕ) → HasTask s who t.0 x kinds.Tally → (x.notes.tally.stage == 0) ≡ true → HasBoth s x y a b
-      → Answers s who (op.TallyLock t) (reply.Asked true) (alters Mutexes a (locked_by who) ∷ alters Segments b (with_attached who true) ∷ notes t.0 (with_tally (tally_has a b)) ∷ [])
-  tally_reads : (t : TaskHandle) (x : Task) (y : Segment) → HasTask s who t.0 x kinds.Tally → (x.notes.tally.stage == 1) ≡ true → live_object s.segments x.notes.tally.segment ≡ Some y
-      → Answers s who (op.TallyRead t) (reply.Number (cell_of (cell_in (tally_args x.args)) y)) (notes t.0 (with_tally (tally_read (cell_of (cell_in (tally_args x.args)) y))) ∷ [])
-  tally_writes : (t : TaskHandle) (value : ℤ) (x : Task) (y : Segment) → HasTask s who t.0 x kinds.Tally → (not (x.notes.tally.stage == 2) || not (int_eq value (added x))) ≡ false → live_object s.segments x.notes.tally.segment ≡ Some y
-      → Answers s who (op.TallyWrite t value) reply.Ok (alters Segments x.notes.tally.segment (with_cell (cell_in (tally_args x.args)) value) ∷ notes t.0 (with_tally tally_written) ∷ [])
-  tally_ends_failed : (t : TaskHandle) (x : Task) → HasTask s who t.0 x kinds.Tally → (x.notes.tally.stage == 4) ≡ true → Answers s who (op.TallyEnd t) (reply.Ended x.notes.tally.verdict) (ends_task t.0 x.notes.tally.verdict ∷ [])
-  tally_ends : (t : TaskHandle) (x : Task) (y : Segment) (z : Mutex) → HasTask s who t.0 x kinds.Tally → (nat_lt x.notes.tally.stage 2 || ((x.notes.tally.stage == 2) && fits (added x))) ≡ false → (x.notes.tally.stage == 4) ≡ false
+      → Answers s who (op.TallyLock t) (reply.Asked true) (alters Mutexes a (locked_by who) ∷ alters Segments b (with_attached who true)
+      ∷ notes t.0 (with_tally (tally_has a b)) ∷ [])
+  tally_reads : (t : TaskHandle) (x : Task) (y : Segment) → HasTask s who t.0 x kinds.Tally → (x.notes.tally.stage == 1) ≡ true
+      → live_object s.segments x.notes.tally.segment ≡ Some y
+      → Answers s who (op.TallyRead t) (reply.Number (cell_of (cell_in (tally_args x.args)) y))
+      (notes t.0 (with_tally (tally_read (cell_of (cell_in (tally_args x.args)) y))) ∷ [])
+  tally_writes : (t : TaskHandle) (value : ℤ) (x : Task) (y : Segment) → HasTask s who t.0 x kinds.Tally
+      → (not (x.notes.tally.stage == 2) || not (int_eq value (added x))) ≡ false → live_object s.segments x.notes.tally.segment ≡ Some y
+      → Answers s who (op.TallyWrite t value) reply.Ok (alters Segments x.notes.tally.segment (with_cell (cell_in (tally_args x.args)) value)
+      ∷ notes t.0 (with_tally tally_written) ∷ [])
+  tally_ends_failed : (t : TaskHandle) (x : Task) → HasTask s who t.0 x kinds.Tally → (x.notes.tally.stage == 4) ≡ true
+      → Answers s who (op.TallyEnd t) (reply.Ended x.notes.tally.verdict) (ends_task t.0 x.notes.tally.verdict ∷ [])
+  tally_ends : (t : TaskHandle) (x : Task) (y : Segment) (z : Mutex) → HasTask s who t.0 x kinds.Tally
+      → (nat_lt x.notes.tally.stage 2 || ((x.notes.tally.stage == 2) && fits (added x))) ≡ false → (x.notes.tally.stage == 4) ≡ false
       → live_object s.segments x.notes.tally.segment ≡ Some y → live_object s.mutexes x.notes.tally.mutex ≡ Some z
-      → Answers s who (op.TallyEnd t) (reply.Ended (tally_verdict x)) (alters Segments x.notes.tally.segment (with_attached who false) ∷ alters Mutexes x.notes.tally.mutex unlocked ∷ ends_task t.0 (tally_verdict x) ∷ [])
+      → Answers s who (op.TallyEnd t) (reply.Ended (tally_verdict x)) (alters Segments x.notes.tally.segment (with_attached who false)
+      ∷ alters Mutexes x.notes.tally.mutex unlocked ∷ ends_task t.0 (tally_verdict x) ∷ [])
   -- mutexes
-  creates_mutex : (id : ℕ) (recursive : Bool) (h : ℕ) → any_listed (λ y. y.id == id) s.mutexes ≡ false → is_fresh (all_of Mutexes) s h ≡ true → Answers s who (op.MutexCreate id recursive) (reply.Handle h) (makes Mutexes h (new_mutex id recursive) ∷ [])
+  creates_mutex : (id : ℕ) (recursive : Bool) (h : ℕ) → any_listed (λ y. y.id == id) s.mutexes ≡ false → is_fresh (all_of Mutexes) s h ≡ true
+      → Answers s who (op.MutexCreate id recursive) (reply.Handle h) (makes Mutexes h (new_mutex id recursive) ∷ [])
   gets_mutex : (id h : ℕ) → first_handle (λ y. y.id == id) (live_of s.mutexes) ≡ Some h → Answers s who (op.MutexGet id) (reply.Handle h) []
-  deletes_mutex : (h : MutexHandle) (x : Mutex) → HasObject Mutexes s who h.0 x (mutex_delete_refusals x) → Answers s who (op.MutexDelete h) reply.Ok (removes Mutexes h.0 ∷ [])
-  mutex_early : (h : MutexHandle) (x : Mutex) → HasObject Mutexes s who h.0 x (mutex_look_refusals who x) → mutex_busy who x ≡ true → Answers s who (op.MutexLook h false) reply.Pending []
+  deletes_mutex : (h : MutexHandle) (x : Mutex) → HasObject Mutexes s who h.0 x (mutex_delete_refusals x)
+      → Answers s who (op.MutexDelete h) reply.Ok (removes Mutexes h.0 ∷ [])
+  mutex_early : (h : MutexHandle) (x : Mutex) → HasObject Mutexes s who h.0 x (mutex_look_refusals who x) → mutex_busy who x ≡ true
+      → Answers s who (op.MutexLook h false) reply.Pending []
   mutex_late : (h : MutexHandle) → Answers s who (op.MutexLook h true) (reply.Mrapi c.Timeout) []
-  locks_mutex : (h : MutexHandle) (last : Bool) (x : Mutex) → HasObject Mutexes s who h.0 x (mutex_look_refusals who x) → mutex_busy who x ≡ false → Answers s who (op.MutexLook h last) (reply.Number (pos (x.depth + 1))) (alters Mutexes h.0 (locked_by who) ∷ [])
-  unlocks_mutex : (h : MutexHandle) (key : ℕ) (x : Mutex) → HasObject Mutexes s who h.0 x (mutex_unlock_refusals who key x) → Answers s who (op.MutexUnlock h key) reply.Ok (alters Mutexes h.0 unlocked ∷ [])
+  locks_mutex : (h : MutexHandle) (last : Bool) (x : Mutex) → HasObject Mutexes s who h.0 x (mutex_look_refusals who x) → mutex_busy who x ≡ false
+      → Answers s who (op.MutexLook h last) (reply.Number (pos (x.depth + 1))) (alters Mutexes h.0 (locked_by who) ∷ [])
+  unlocks_mutex : (h : MutexHandle) (key : ℕ) (x : Mutex) → HasObject Mutexes s who h.0 x (mutex_unlock_refusals who key x)
+      → Answers s who (op.MutexUnlock h key) reply.Ok (alters Mutexes h.0 unlocked ∷ [])
   -- semaphores
-  creates_sem : (id limit h : ℕ) → any_listed (λ y. y.id == id) s.sems ≡ false → is_fresh (all_of Sems) s h ≡ true → Answers s who (op.SemCreate id limit) (reply.Handle h) (makes Sems h (new_sem id limit) ∷ [])
+  creates_sem : (id limit h : ℕ) → any_listed (λ y. y.id == id) s.sems ≡ false → is_fresh (all_of Sems) s h ≡ true
+      → Answers s who (op.SemCreate id limit) (reply.Handle h) (makes Sems h (new_sem id limit) ∷ [])
   gets_sem : (id h : ℕ) → first_handle (λ y. y.id == id) (live_of s.sems) ≡ Some h → Answers s who (op.SemGet id) (reply.Handle h) []
   deletes_sem : (h : SemHandle) (x : Sem) → HasObject Sems s who h.0 x (sem_delete_refusals x) → Answers s who (op.SemDelete h) reply.Ok (removes Sems h.0 ∷ [])
   sem_early : (h : SemHandle) (x : Sem) → HasObject Sems s who h.0 x [] → sem_busy x ≡ true → Answers s who (op.SemLook h false) reply.Pending []
   sem_late : (h : SemHandle) → Answers s who (op.SemLook h true) (reply.Mrapi c.Timeout) []
-  takes_sem : (h : SemHandle) (last : Bool) (x : Sem) → HasObject Sems s who h.0 x [] → sem_busy x ≡ false → Answers s who (op.SemLook h last) reply.Ok (alters Sems h.0 (sem_taken who) ∷ [])
-  gives_sem : (h : SemHandle) (x : Sem) → HasObject Sems s who h.0 x (sem_unlock_refusals who x) → Answers s who (op.SemUnlock h) reply.Ok (alters Sems h.0 (sem_given who) ∷ [])
+  takes_sem : (h : SemHandle) (last : Bool) (x : Sem) → HasObject Sems s who h.0 x [] → sem_busy x ≡ false
+      → Answers s who (op.SemLook h last) reply.Ok (alters Sems h.0 (sem_taken who) ∷ [])
+  gives_sem : (h : SemHandle) (x : Sem) → HasObject Sems s who h.0 x (sem_unlock_refusals who x)
+      → Answers s who (op.SemUnlock h) reply.Ok (alters Sems h.0 (sem_given who) ∷ [])
   -- reader-writer locks
-  creates_rwl : (id limit h : ℕ) → any_listed (λ y. y.id == id) s.rwls ≡ false → is_fresh (all_of Rwls) s h ≡ true → Answers s who (op.RwlCreate id limit) (reply.Handle h) (makes Rwls h (new_rwl id limit) ∷ [])
+  creates_rwl : (id limit h : ℕ) → any_listed (λ y. y.id == id) s.rwls ≡ false → is_fresh (all_of Rwls) s h ≡ true
+      → Answers s who (op.RwlCreate id limit) (reply.Handle h) (makes Rwls h (new_rwl id limit) ∷ [])
   gets_rwl : (id h : ℕ) → first_handle (λ y. y.id == id) (live_of s.rwls) ≡ Some h → Answers s who (op.RwlGet id) (reply.Handle h) []
   deletes_rwl : (h : RwlHandle) (x : Rwl) → HasObject Rwls s who h.0 x (rwl_delete_refusals x) → Answers s who (op.RwlDelete h) reply.Ok (removes Rwls h.0 ∷ [])
-  rwl_early : (h : RwlHandle) (writer : Bool) (x : Rwl) → HasObject Rwls s who h.0 x (rwl_look_refusals who x) → rwl_busy writer x ≡ true → Answers s who (op.RwlLook h writer false) reply.Pending []
+  rwl_early : (h : RwlHandle) (writer : Bool) (x : Rwl) → HasObject Rwls s who h.0 x (rwl_look_refusals who x) → rwl_busy writer x ≡ true
+      → Answers s who (op.RwlLook h writer false) reply.Pending []
   rwl_late : (h : RwlHandle) (writer : Bool) → Answers s who (op.RwlLook h writer true) (reply.Mrapi c.Timeout) []
-  takes_rwl : (h : RwlHandle) (writer last : Bool) (x : Rwl) → HasObject Rwls s who h.0 x (rwl_look_refusals who x) → rwl_busy writer x ≡ false → Answers s who (op.RwlLook h writer last) reply.Ok (alters Rwls h.0 (rwl_taken who writer) ∷ [])
-  gives_rwl : (h : RwlHandle) (writer : Bool) (x : Rwl) → HasObject Rwls s who h.0 x (rwl_unlock_refusals who writer x) → Answers s who (op.RwlUnlock h writer) reply.Ok (alters Rwls h.0 (rwl_given who writer) ∷ [])
+  takes_rwl : (h : RwlHandle) (writer last : Bool) (x : Rwl) → HasObject Rwls s who h.0 x (rwl_look_refusals who x) → rwl_busy writer x ≡ false
+      → Answers s who (op.RwlLook h writer last) reply.Ok (alters Rwls h.0 (rwl_taken who writer) ∷ [])
+  gives_rwl : (h : RwlHandle) (writer : Bool) (x : Rwl) → HasObject Rwls s who h.0 x (rwl_unlock_refusals who writer x)
+      → Answers s who (op.RwlUnlock h writer) reply.Ok (alters Rwls h.0 (rwl_given who writer) ∷ [])
   -- segments
-  creates_segment : (id cells h : ℕ) → any_listed (λ y. y.id == id) s.segments ≡ false → is_fresh (all_of Segments) s h ≡ true → Answers s who (op.ShmemCreate id cells) (reply.Handle h) (makes Segments h (new_segment id cells) ∷ [])
+  creates_segment : (id cells h : ℕ) → any_listed (λ y. y.id == id) s.segments ≡ false → is_fresh (all_of Segments) s h ≡ true
+      → Answers s who (op.ShmemCreate id cells) (reply.Handle h) (makes Segments h (new_segment id cells) ∷ [])
   gets_segment : (id h : ℕ) → first_handle (λ y. y.id == id) (live_of s.segments) ≡ Some h → Answers s who (op.ShmemGet id) (reply.Handle h) []
-  deletes_segment : (h : ShmemHandle) (x : Segment) → HasObject Segments s who h.0 x (shmem_delete_refusals x) → Answers s who (op.ShmemDelete h) reply.Ok (removes Segments h.0 ∷ [])
-  attaches : (h : ShmemHandle) (x : Segment) → HasObject Segments s who h.0 x (attach_refusals who x) → Answers s who (op.ShmemAttach h) reply.Ok (alters Segments h.0 (with_attached who true) ∷ [])
-  detaches : (h : ShmemHandle) (x : Segment) → HasObject Segments s who h.0 x (detach_refusals who x) → Answers s who (op.ShmemDetach h) reply.Ok (alters Segments h.0 (with_attached who false) ∷ [])
-  reads_cell : (h : ShmemHandle) (cell : ℕ) (x : Segment) → HasObject Segments s who h.0 x (cell_refusals who cell x) → Answers s who (op.ShmemRead h cell) (reply.Number (cell_of cell x)) []
-  writes_cell : (h : ShmemHandle) (cell : ℕ) (value : ℤ) (x : Segment) → HasObject Segments s who h.0 x (cell_refusals who cell x) → Answers s who (op.ShmemWrite h cell value) reply.Ok (alters Segments h.0 (with_cell cell value) ∷ [])
+  deletes_segment : (h : ShmemHandle) (x : Segment) → HasObject Segments s who h.0 x (shmem_delete_refusals x)
+      → Answers s who (op.ShmemDelete h) reply.Ok (removes Segments h.0 ∷ [])
+  attaches : (h : ShmemHandle) (x : Segment) → HasObject Segments s who h.0 x (attach_refusals who x)
+      → Answers s who (op.ShmemAttach h) reply.Ok (alters Segments h.0 (with_attached who true) ∷ [])
+  detaches : (h : ShmemHandle) (x : Segment) → HasObject Segments s who h.0 x (detach_refusals who x)
+      → Answers s who (op.ShmemDetach h) reply.Ok (alters Segments h.0 (with_attached who false) ∷ [])
+  reads_cell : (h : ShmemHandle) (cell : ℕ) (x : Segment) → HasObject Segments s who h.0 x (cell_refusals who cell x)
+      → Answers s who (op.ShmemRead h cell) (reply.Number (cell_of cell x)) []
+  writes_cell : (h : ShmemHandle) (cell : ℕ) (value : ℤ) (x : Segment) → HasObject Segments s who h.0 x (cell_refusals who cell x)
+      → Answers s who (op.ShmemWrite h cell value) reply.Ok (alters Segments h.0 (with_cell cell value) ∷ [])
 
 abbrev pub RowsAnswer : Type 0
 RowsAnswer = (s : State) (who : ℕ) (o : Op) (r : Reply) → Allows (row s who o r) r → Answers s who o r (moves_of (row s who o r))

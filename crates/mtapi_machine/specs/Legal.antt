@@ -1,6 +1,8 @@
 -- Legal histories.
-use Rattle.std.specs.Prelude.{◌<◌, ◌≤◌, List, [], ◌∷◌}
+use Rattle.std.specs.Prelude.{◌≤◌, List}
 use Rattle.history.specs.declared.entries.Entry.{Entry}
+use Rattle.history.specs.Legal as of
+use Rattle.history.specs.Legal.{Machine}
 use Rattle.action_fn.specs.Answers.{IsAnswered}
 use Rattle.mtapi_values.specs.Attributes.{AreNodeSettings}
 use Rattle.mtapi_machine.specs.declared.ops.Op.{Op}
@@ -8,7 +10,8 @@ use Rattle.mtapi_machine.specs.declared.ops.Op.TheVariants.{Finish}
 use Rattle.mtapi_machine.specs.declared.replies.Reply.{Reply}
 use Rattle.mtapi_machine.specs.declared.terms.Terms.{Terms}
 use Rattle.mtapi_machine.specs.State.{State, opening, seats}
-use Rattle.mtapi_machine.specs.Row.{Row, Allows, after_row}
+use Rattle.mtapi_machine.specs.Moves.{Move, apply}
+use Rattle.mtapi_machine.specs.Row.{Row}
 use Rattle.mtapi_machine.specs.Rows.{row}
 
 -- who asked what, and the reply
@@ -20,29 +23,31 @@ abbrev pub IsHonest : Op → Type 0
 IsHonest (Finish task done) = IsAnswered done
 IsHonest _ = Unit {0}
 
+-- the node as a machine
+abbrev pub node : Machine State Op Reply Move
+node = record { seats = seats; honest = IsHonest; row = row; apply = apply }
+
 -- the row of an entry's op
 abbrev pub row_of : State → NodeEntry → Row
-row_of s e = row s e.who e.op e.reply
+row_of = of.row_of node
 
 -- the entry may come next: it is by a seat, and the op's row allows the reply
-pub record IsNext (s : State) (e : NodeEntry) : Type 0 where
-  pub seat : e.who < seats s
-  pub honest : IsHonest e.op
-  pub allowed : Allows (row_of s e) e.reply
+abbrev pub IsNext : State → NodeEntry → Type 0
+IsNext = of.IsNext node
 
 -- the state after it
 abbrev pub next : State → NodeEntry → State
-next s e = after_row s (row_of s e)
+next = of.next node
 
 -- each entry may come next in its turn
 unfoldable pub LegalFrom : State → List NodeEntry → Type 0
-LegalFrom s [] = Unit {0}
-LegalFrom s (e ∷ es) = IsNext s e × LegalFrom (next s e) es
+unfolding of.LegalFrom
+LegalFrom = of.LegalFrom node
 
 -- the state after all entries
 unfoldable pub after_from : State → List NodeEntry → State
-after_from s [] = s
-after_from s (e ∷ es) = after_from (next s e) es
+unfolding of.after_from
+after_from = of.after_from node
 
 -- the terms are those of a node: each setting is in its range, and there are 1 to 9 callers; so there are at most 25 seats
 pub record Fits (terms : Terms) : Type 0 where

@@ -14,7 +14,8 @@ use Rattle.mtapi_machine.specs.KeyedRows.{keyed_queues, creates_keyed, gets}
 
 -- a new queue is enabled
 abbrev pub new_queue : ℕ → ℕ → ℕ → ℕ → Bool → Bool → Queue
-new_queue id job priority limit ordered retain = record { id = id; job = job; priority = priority; limit = limit; ordered = ordered; retain = retain; enabled = true }
+new_queue id job priority limit ordered retain =
+    record { id = id; job = job; priority = priority; limit = limit; ordered = ordered; retain = retain; enabled = true }
 
 abbrev pub queue_create : State → Reply → Queue → Row
 queue_create s r q =

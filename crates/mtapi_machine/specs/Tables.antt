@@ -55,7 +55,17 @@ pub record Works (terms : Terms) (table : List Line) : Type 0 where
 abbrev pub node_of : ℕ → ℕ → ℕ → Terms
 node_of workers tasks others = record {
   layout = One;
-  settings = record { workers = workers; tasks = tasks; actions = others; groups = others; queues = others; objects = others; priorities = 4; generations = 4294967295 };
+  settings = record {
+    workers = workers;
+    tasks = tasks;
+    actions = others;
+    groups = others;
+    queues = others;
+    objects = others;
+    priorities = 4;
+    generations =
+        4294967295;
+  };
   callers = 2;
 }
 

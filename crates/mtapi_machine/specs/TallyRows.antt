@@ -53,7 +53,8 @@ reads s who t =
 abbrev pub writes : State → ℕ → ℕ → ℤ → Row
 writes s who t value =
     on_tally s who t (λ x. unless (not (x.notes.tally.stage == 2) || not (int_eq value (added x))) (Mtapi m.ErrParameter)
-    (chosen segments s x.notes.tally.segment (λ y. gives Ok (alters Segments x.notes.tally.segment (with_cell (cell_in (tally_args x.args)) value) ∷ notes t (with_tally tally_written) ∷ []))))
+    (chosen segments s x.notes.tally.segment
+    (λ y. gives Ok (alters Segments x.notes.tally.segment (with_cell (cell_in (tally_args x.args)) value) ∷ notes t (with_tally tally_written) ∷ []))))
 
 -- it gives both back, and ends
 abbrev pub gives_back : State → ℕ → ℕ → Task → TaskEnd → Row

@@ -10,7 +10,7 @@ use Rattle.action_fn.specs.Answers.{Answered}
 use Rattle.mtapi_machine.specs.declared.replies.Reply.{Reply}
 use Rattle.mtapi_machine.specs.declared.replies.Reply.TheVariants.{Ok, Ended, Picked, Idle, Stop, Asked, Mtapi}
 use Rattle.handle_pool.specs.Issued.{live_of, live_object, any_listed}
-use Rattle.mtapi_objects.specs.Actions.{Action, is_eligible}
+use Rattle.mtapi_objects.specs.Actions.{is_eligible}
 use Rattle.mtapi_objects.specs.Tasks.{Task, is_unstarted, runs_on, finish_refusals, asked_refusals, asked_once, watch_end_refusals, watch_end}
 use Rattle.mtapi_objects.specs.Queues.{lets}
 use Rattle.mtapi_machine.specs.State.{State, workers, is_new, is_stop, actions, tasks}

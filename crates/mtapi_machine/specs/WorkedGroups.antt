@@ -85,7 +85,8 @@ whole_group =
     ∷ worker (finish h3 kind.Fail [] (Fails status.ErrActionFailed)) reply.Ok
     ∷ main_not (all h1) reply.Pending (reply.Mtapi status.ErrActionFailed)
     ∷ main (op.TaskCancel (task h2)) reply.Ok
-    ∷ line 1 (op.AllLook (group h1) true) (reply.Mtapi status.ErrActionFailed) (reply.Mtapi status.ErrTaskCancelled ∷ reply.Ok ∷ reply.Mtapi status.Timeout ∷ [])
+    ∷ line 1 (op.AllLook (group h1) true) (reply.Mtapi status.ErrActionFailed) (reply.Mtapi status.ErrTaskCancelled ∷ reply.Ok ∷ reply.Mtapi status.Timeout
+    ∷ [])
     ∷ main_not (all h1) reply.Ok (reply.Mtapi status.ErrActionFailed)
     ∷ main (op.TaskStart 2 [] 0 every_core false (Some (group h1))) (reply.Handle again1)
     ∷ main (start_in h1 (pos 1 ∷ [])) (reply.Handle 4294967299)

@@ -29,7 +29,8 @@ kinds_named =
     ∷ refused (look h1) status.ErrTaskInvalid reply.Pending
     ∷ refused (op.AllLook (group 4328521728) false) status.ErrGroupInvalid reply.Ok
     ∷ refused (op.ActionDelete (action 4328521728)) status.ErrActionInvalid reply.Ok
-    ∷ line 0 op.Pick (reply.Picked (task 4328521728) (action 4311744512) kind.Add (pos 1 ∷ [])) (reply.Picked (task h1) (action h1) kind.Add (pos 1 ∷ []) ∷ reply.Idle ∷ [])
+    ∷ line 0 op.Pick (reply.Picked (task 4328521728) (action 4311744512) kind.Add (pos 1 ∷ [])) (reply.Picked (task h1) (action h1) kind.Add (pos 1 ∷ [])
+    ∷ reply.Idle ∷ [])
     ∷ []
 
 -- a place that is used again has the next generation of its kind

@@ -25,7 +25,8 @@ starts_refused =
     ∷ main (op.ActionEnable (action h1)) reply.Ok
     ∷ refused (op.TaskStart 1 [] 3 second_core false (Some (group h1))) status.ErrNoCore (reply.Handle h1)
     ∷ refused (op.TaskStart 1 [] 4 first_core false (Some (group h1))) status.ErrParameter (reply.Handle h1)
-    ∷ line 1 (op.TaskStart 1 [] 3 first_core false (Some (group h1))) (reply.Handle h1) (reply.Handle 0 ∷ reply.Handle again1 ∷ reply.Mtapi status.ErrTaskLimit ∷ [])
+    ∷ line 1 (op.TaskStart 1 [] 3 first_core false (Some (group h1))) (reply.Handle h1) (reply.Handle 0 ∷ reply.Handle again1 ∷ reply.Mtapi status.ErrTaskLimit
+    ∷ [])
     ∷ main_not (op.TaskStart 1 [] 0 every_core true None) (reply.Handle h2) (reply.Handle h1)
     ∷ refused (op.TaskStart 1 [] 0 every_core true None) status.ErrTaskLimit (reply.Handle h3)
     ∷ refused (op.TaskStart 1 [] 0 second_core true None) status.ErrNoCore (reply.Mtapi status.ErrTaskLimit)

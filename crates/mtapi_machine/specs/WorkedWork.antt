@@ -126,7 +126,8 @@ bad_watches =
     ∷ line 0 (op.Asked (task h1)) (reply.Mtapi status.ErrParameter) (reply.Asked false ∷ [])
     ∷ line 1 (op.Asked (task h1)) (reply.Mtapi status.ErrTaskInvalid) (reply.Mtapi status.ErrParameter ∷ [])
     ∷ line 1 (op.WatchEnd (task h1)) (reply.Mtapi status.ErrTaskInvalid) (reply.Ended (Failed status.ErrActionFailed) ∷ [])
-    ∷ line 0 (op.WatchEnd (task h1)) (reply.Ended (Failed status.ErrActionFailed)) (reply.Mtapi status.ErrParameter ∷ reply.Ended (Failed status.ErrArgSize) ∷ [])
+    ∷ line 0 (op.WatchEnd (task h1)) (reply.Ended (Failed status.ErrActionFailed)) (reply.Mtapi status.ErrParameter ∷ reply.Ended (Failed status.ErrArgSize)
+    ∷ [])
     ∷ line 2 (start (negsuc 0 ∷ [])) (reply.Handle h2) []
     ∷ line 0 op.Pick (picked h2 kind.Watch (negsuc 0 ∷ [])) []
     ∷ line 0 (op.Asked (task h2)) (reply.Mtapi status.ErrParameter) (reply.Asked false ∷ [])

@@ -28,7 +28,8 @@ still g o i = grind (arith, nat_tests)
 idles : (s : State) (w : ℕ) (r : Reply) → takes_task op.Pick r ≡ false → picks s w r ≡ only (not (any_listed (can_take s w) s.tasks)) (says Idle)
 idles s w r i = grind (arith, nat_tests)
 
-pub pick_not_read : (s : State) (who : ℕ) (q r : Reply) → takes_task op.Pick q ≡ false → takes_task op.Pick r ≡ false → row s who op.Pick q ≡ row s who op.Pick r
+pub pick_not_read : (s : State) (who : ℕ) (q r : Reply) → takes_task op.Pick q ≡ false → takes_task op.Pick r ≡ false
+    → row s who op.Pick q ≡ row s who op.Pick r
 pick_not_read s who q r i j = grind (arith, nat_tests)
 
 pub takes_still : (g : Renaming) (r : Reply) → takes_task op.Pick r ≡ false → takes_task op.Pick (renamed_reply g op.Pick r) ≡ false
@@ -46,9 +47,11 @@ pub if_there : {T C : Type 0} (o : Option T) (v : T → Row) (q : Reply) → ((y
 if_there o v q i j = grind (arith, nat_tests)
 
 module _ {g : Renaming} {s : State} (n : Fits g s) (x : Room) (who : ℕ) where
-  picked_comes : (t : TaskHandle) (a : ActionHandle) (y : Kind) (args : List _) → Allows (picks (renamed g x s) who (Picked t a y args)) (Picked t a y args) → IsRenamed g None (Picked t a y args)
+  picked_comes : (t : TaskHandle) (a : ActionHandle) (y : Kind) (args : List _) → Allows (picks (renamed g x s) who (Picked t a y args)) (Picked t a y args)
+      → IsRenamed g None (Picked t a y args)
   picked_comes t a y args i =
-      if_there (live_object (renamed g x s).tasks t.0) _ (Picked t a y args) (λ z there j. if_there (live_object (renamed g x s).actions a.0) _ (Picked t a y args) (λ w here k.
+      if_there (live_object (renamed g x s).tasks t.0) _ (Picked t a y args)
+      (λ z there j. if_there (live_object (renamed g x s).actions a.0) _ (Picked t a y args) (λ w here k.
       let task : IsOther g kind.Task t.0 = found-other g kind.Task (HasTask g) (renamed_task g) t.0 z s.tasks n.tasks there in
       let action : IsOther g kind.Action a.0 = found-other g kind.Action NoHandle (λ u. u) a.0 w s.actions n.actions here in
       record {
@@ -73,4 +76,5 @@ module _ {g : Renaming} {s : State} (n : Fits g s) (x : Room) (who : ℕ) where
 
   pub reply_comes : (o : Op) (q : Reply) → made_kind o ≡ None → Allows (row (renamed g x s) who (renamed_op g o) q) q → IsRenamed g (answered_kind o) q
   reply_comes op.Pick q i a = pick_comes q a
-  reply_comes o q i a = (row_alike n x who o Ok i).comes q (subst (λ (w : Row). Allows w q) (not_read (renamed g x s) who (renamed_op g o) q (renamed_reply g o Ok) (still g o (ap is_some i))) a)
+  reply_comes o q i a = (row_alike n x who o Ok i).comes q
+      (subst (λ (w : Row). Allows w q) (not_read (renamed g x s) who (renamed_op g o) q (renamed_reply g o Ok) (still g o (ap is_some i))) a)

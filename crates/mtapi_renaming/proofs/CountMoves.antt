@@ -26,11 +26,13 @@ SameIn k s t = SameHandles ((objects_of k).list s) ((objects_of k).list t)
 abbrev pub SameMade : State → State → Type 0
 SameMade s t = (k : ObjectKind) → SameIn k s t
 
-same-so : (s : State) (p : Phase) (b : Bool) (marks : List Bool) (starts ends : ℕ) (l : List (Listed Action)) (ts : List (Listed Task)) → SameHandles s.actions l → SameHandles s.tasks ts →
+same-so : (s : State) (p : Phase) (b : Bool) (marks : List Bool) (starts ends : ℕ) (l : List (Listed Action)) (ts : List (Listed Task))
+    → SameHandles s.actions l → SameHandles s.tasks ts →
     SameMade s (record s { phase = p; released = b; stopped = marks; starts = starts; ends = ends; actions = l; tasks = ts })
 same-so s = each_so (λ T o l m. SameHandles l m) (λ T o l. handles-same l) s
 
-with-tasks : (s : State) (starts ends : ℕ) (ts : List (Listed Task)) → SameHandles s.tasks ts → SameMade s (record s { starts = starts; ends = ends; tasks = ts })
+with-tasks : (s : State) (starts ends : ℕ) (ts : List (Listed Task)) → SameHandles s.tasks ts
+    → SameMade s (record s { starts = starts; ends = ends; tasks = ts })
 with-tasks s starts ends ts w = same-so s s.phase s.released s.stopped starts ends s.actions ts (handles-same s.actions) w
 
 -- an action that is withdrawn keeps its handle, and isn't live again
@@ -47,29 +49,40 @@ MakesNothing m = Unit {0}
 pub move_same : (s : State) (o : Op) (m : Move) → IsMade s o m → MakesNothing m → SameMade s (apply m s)
 move_same s o (phase_is p) i idle k = same-so s p s.released s.stopped s.starts s.ends s.actions s.tasks (handles-same s.actions) (handles-same s.tasks) k
 move_same s o released i idle k = same-so s s.phase true s.stopped s.starts s.ends s.actions s.tasks (handles-same s.actions) (handles-same s.tasks) k
-move_same s o (stops w) i idle k = same-so s s.phase s.released (slice_set s.stopped w true) s.starts s.ends s.actions s.tasks (handles-same s.actions) (handles-same s.tasks) k
+move_same s o (stops w) i idle k = same-so s s.phase s.released (slice_set s.stopped w true) s.starts s.ends s.actions s.tasks (handles-same s.actions)
+    (handles-same s.tasks) k
 move_same s o (makes_action h a) i idle k = absurd idle
-move_same s o (enables h) i idle k = same-so s s.phase s.released s.stopped s.starts s.ends _ s.tasks (handles-change h (with_fields (with_enabled true)) (keeps-fields (with_enabled true)) s.actions) (handles-same s.tasks) k
+move_same s o (enables h) i idle k = same-so s s.phase s.released s.stopped s.starts s.ends _ s.tasks
+    (handles-change h (with_fields (with_enabled true)) (keeps-fields (with_enabled true)) s.actions) (handles-same s.tasks) k
 move_same s o (withdraws h f c) i idle k = grind (arith, nat_tests, same-so, handles-change, withdrawn, handles-ends)
 move_same s o (starts_task h t) i idle k = absurd idle
-move_same s o (runs_task h w y) i idle k = with-tasks s s.starts s.ends _ (handles-change h (with_fields (with_state (Running w y))) (keeps-fields (with_state (Running w y))) s.tasks) k
+move_same s o (runs_task h w y) i idle k =
+    with-tasks s s.starts s.ends _ (handles-change h (with_fields (with_state (Running w y))) (keeps-fields (with_state (Running w y))) s.tasks) k
 move_same s o (ends_task h e) i idle k = with-tasks s s.starts _ _ (handles-change h (ended e s.ends) (keeps-ended e s.ends) s.tasks) k
 move_same s o (ends_waiting p e) i idle k = with-tasks s s.starts _ _ (handles-ends (λ t. is_unstarted t && p t) e s.ends s.tasks) k
 move_same s o (notes h f) i idle k = with-tasks s s.starts s.ends _ (handles-change h (with_fields (with_notes f)) (keeps-fields (with_notes f)) s.tasks) k
 move_same s o (leaves h) i idle k = with-tasks s s.starts s.ends _ (handles-change h gone keeps-gone s.tasks) k
-move_same s o (frees_members g) i idle k = with-tasks s s.starts s.ends _ (handles-change_all (λ t. is_member g t && not (is_unended t)) freed keeps-freed s.tasks) k
+move_same s o (frees_members g) i idle k =
+    with-tasks s s.starts s.ends _ (handles-change_all (λ t. is_member g t && not (is_unended t)) freed keeps-freed s.tasks) k
 move_same s o (lets_members_go g) i idle k = with-tasks s s.starts s.ends _ (handles-change_all (is_member g) let_go keeps-let_go s.tasks) k
 move_same s o (makes t h v) i idle k = absurd idle
-move_same s o (alters t h f) i idle k = each_with (λ T o l m. SameHandles l m) (λ T o l. handles-same l) s t _ (handles-change h (with_fields f) (keeps-fields f) ((all_of t).list s)) k
-move_same s o (removes t h) i idle k = each_with (λ T o l m. SameHandles l m) (λ T o l. handles-same l) s t _ (handles-change h gone keeps-gone ((all_of t).list s)) k
+move_same s o (alters t h f) i idle k =
+    each_with (λ T o l m. SameHandles l m) (λ T o l. handles-same l) s t _ (handles-change h (with_fields f) (keeps-fields f) ((all_of t).list s)) k
+move_same s o (removes t h) i idle k = each_with (λ T o l m. SameHandles l m) (λ T o l. handles-same l) s t _
+    (handles-change h gone keeps-gone ((all_of t).list s)) k
 
 -- after each move, of the list of each kind: what a new object and the same handles bring
 pub each_move : (P : (T : Type 0) → Objects T → List (Listed T) → List (Listed T) → Type 0) (s : State) (o : Op) (m : Move) → IsMade s o m →
-    ((T : Type 0) (o : Objects T) (h : ℕ) (v : T) → is_fresh o s h ≡ true → P T o (o.list s) (issue h v (o.list s))) → ((T : Type 0) (o : Objects T) (l m : List (Listed T)) → SameHandles l m → P T o l m) → OnEach P s (apply m s)
-each_move P s o (makes_action h a) i new old k = each_so P (λ T o l. old T o l l (handles-same l)) s s.phase s.released s.stopped s.starts s.ends _ s.tasks (new Action actions h a i.may) (old Task tasks _ _ (handles-same s.tasks)) k
+    ((T : Type 0) (o : Objects T) (h : ℕ) (v : T) → is_fresh o s h ≡ true → P T o (o.list s) (issue h v (o.list s)))
+    → ((T : Type 0) (o : Objects T) (l m : List (Listed T)) → SameHandles l m → P T o l m) → OnEach P s (apply m s)
+each_move P s o (makes_action h a) i new old k =
+    each_so P (λ T o l. old T o l l (handles-same l)) s s.phase s.released s.stopped s.starts s.ends _ s.tasks (new Action actions h a i.may)
+    (old Task tasks _ _ (handles-same s.tasks)) k
 each_move P s o (starts_task h t) i new old k =
     let a = fst_true _ _ i.may in
-    each_so P (λ T o l. old T o l l (handles-same l)) s s.phase s.released s.stopped (s.starts + 1) s.ends s.actions _ (old Action actions _ _ (handles-same s.actions)) (new Task tasks h (new_task t s.starts) (snd_true _ _ (fst_true _ _ (fst_true _ _ a)))) k
+    each_so P (λ T o l. old T o l l (handles-same l)) s s.phase s.released s.stopped (s.starts
+    + 1) s.ends s.actions _ (old Action actions _ _ (handles-same s.actions))
+    (new Task tasks h (new_task t s.starts) (snd_true _ _ (fst_true _ _ (fst_true _ _ a)))) k
 each_move P s o (makes t h v) i new old k = each_with P (λ T o l. old T o l l (handles-same l)) s t _ (new (Fields t) (all_of t) h v i.may) k
 each_move P s o m i new old k = old (FieldsOf k) (objects_of k) _ _ (move_same s o m i tt k)
 
@@ -78,7 +91,8 @@ abbrev InTurnAll : State → Type 0
 InTurnAll s = (k : ObjectKind) → InTurn ((objects_of k).list s)
 
 turn_kept : (o : Op) (s : State) (m : Move) → IsMade s o m → InTurnAll s → InTurnAll (apply m s)
-turn_kept o s m i w k = each_move (λ T o l m. InTurn l → InTurn m) s o m i (λ T o h v j. turn-issue s.terms.settings.generations h v (o.list s) (snd_true _ _ j)) (λ T o l m. turn-same l m) k (w k)
+turn_kept o s m i w k = each_move (λ T o l m. InTurn l
+    → InTurn m) s o m i (λ T o h v j. turn-issue s.terms.settings.generations h v (o.list s) (snd_true _ _ j)) (λ T o l m. turn-same l m) k (w k)
 
 no_turn : (T : Type 0) → InTurn {T = T} []
 unfolding listed
@@ -106,9 +120,11 @@ then_none s t u v w = record { counts = λ k. length-same _ _ (w k) ∙ v.counts
 
 pub others_make_none : (s : State) (who : ℕ) (o : Op) (r : Reply) → made_kind o ≡ None → MakesNone s (after_row s (row s who o r))
 others_make_none s who o r e =
-    moves_keep o (λ t. MakesNone s t) (λ t m i v. then_none s t (apply m t) v (move_same t o m i (by_none t o m e i))) (moves_of (row s who o r)) s (row_made s who o r) (record { counts = λ k. refl; slots = λ k j. refl })
+    moves_keep o (λ t. MakesNone s t) (λ t m i v. then_none s t (apply m t) v (move_same t o m i (by_none t o m e i))) (moves_of (row s who o r)) s
+    (row_made s who o r) (record { counts = λ k. refl; slots = λ k j. refl })
 
-pub full_live : (terms : Terms) (L : List NodeEntry) (k : ObjectKind) → made_in k (after terms L) < (after terms L).terms.settings.generations → is_full_of k (after terms L) ≡ (live_in k (after terms L) == most_of k (after terms L))
+pub full_live : (terms : Terms) (L : List NodeEntry) (k : ObjectKind) → made_in k (after terms L) < (after terms L).terms.settings.generations
+    → is_full_of k (after terms L) ≡ (live_in k (after terms L) == most_of k (after terms L))
 full_live terms L k less =
     let s = after terms L in
     ap (λ (m : ℕ). is_full s.terms.settings.generations m ((objects_of k).list s)) (sym (most_is k s))

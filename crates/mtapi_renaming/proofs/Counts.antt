@@ -23,7 +23,8 @@ module _ {T : Type 0} where
   turn-issue last h v l may t j some = grind (arith, nat_tests, next-generation last h l may, issued_at-issue j h v l, listed-issue j h v l, t j)
 
   -- a handle may be issued exactly where it is the next of its slot
-  pub fresh-next : (last h : ℕ) (l : List (Listed T)) → InTurn l → may_issue last h l ≡ (nat_le (generation_of h) last && (generation_of h == issued_at h l + 1))
+  pub fresh-next : (last h : ℕ) (l : List (Listed T)) → InTurn l
+      → may_issue last h l ≡ (nat_le (generation_of h) last && (generation_of h == issued_at h l + 1))
   unfolding may_issue
   fresh-next last h l t = same_tests _ _ (λ e. grind (arith, nat_tests)) (λ e. grind (arith, nat_tests, t h))
 
@@ -32,10 +33,20 @@ module _ {T : Type 0} where
   few p (r ∷ rs) = grind (arith, few p rs)
 
   -- each handle of a list is listed there
-  none_last : (last : ℕ) (full l : List (Listed T)) → ((h : ℕ) → listed h l ≤ listed h full) → InTurn full → length full < last → how_many (λ r. not r.live && (generation_of r.handle == last)) l ≡ 0
+  none_last : (last : ℕ) (full l : List (Listed T)) → ((h : ℕ) → listed h l ≤ listed h full) → InTurn full → length full < last
+      → how_many (λ r. not r.live && (generation_of r.handle == last)) l ≡ 0
   unfolding listed issued_at
   none_last last full [] within t less = refl
-  none_last last full (r ∷ rs) within t less = grind (arith, nat_tests, within r.handle, t r.handle, few (λ q. slot_of q.handle == slot_of r.handle) full, none_last last full rs (λ h. grind (arith, within h)) t less)
+  none_last last full (r ∷ rs) within t less =
+      grind (
+        arith,
+        nat_tests,
+        within r.handle,
+        t r.handle,
+        few (λ q. slot_of q.handle == slot_of r.handle) full,
+        none_last last full rs
+            (λ h. grind (arith, within h)) t less,
+      )
 
   pub full-live : (last max : ℕ) (l : List (Listed T)) → InTurn l → length l < last → is_full last max l ≡ (length (live_of l) == max)
   unfolding is_full retired

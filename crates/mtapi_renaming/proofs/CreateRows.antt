@@ -16,7 +16,8 @@ pub record HoldsInParts (s : State) (P : ObjectKind → (Reply → Row) → Type
   pub sort : (t : Sort) (v : Fields t) → P (all_of t).kind (λ r. creates (all_of t) s r (λ b. makes t b v))
 
 module _ {s : State} {P : ObjectKind → (Reply → Row) → Type 0} (w : HoldsInParts s P) (who : ℕ) where
-  on_live : {T : Type 0} {k : ObjectKind} (o : Option T) (y : Reply) (v : T → Reply → Row) → is_plain y ≡ true → ((z : T) → P k (v z)) → P k (λ r. live o (says y) (λ z. v z r))
+  on_live : {T : Type 0} {k : ObjectKind} (o : Option T) (y : Reply) (v : T → Reply → Row) → is_plain y ≡ true → ((z : T) → P k (v z))
+      → P k (λ r. live o (says y) (λ z. v z r))
   on_live None y v p each = w.refusal y p
   on_live (Some z) y v p each = each z
 
@@ -24,24 +25,36 @@ module _ {s : State} {P : ObjectKind → (Reply → Row) → Type 0} (w : HoldsI
   Of k o = P k (λ r. row s who o r)
 
   pub create_row : (k : ObjectKind) (o : Op) → made_kind o ≡ Some k → Of k o
-  create_row k (op.ActionCreate job y cores) i = let e : kind.Action ≡ k = cc in subst (λ (j : ObjectKind). Of j (op.ActionCreate job y cores)) e (w.condition refl (w.condition refl (w.action (new_action job y cores.0))))
+  create_row k (op.ActionCreate job y cores) i = let e : kind.Action ≡ k = cc in
+      subst (λ (j : ObjectKind). Of j (op.ActionCreate job y cores)) e (w.condition refl (w.condition refl (w.action (new_action job y cores.0))))
   create_row k (op.TaskStart job args priority cores detached group) i =
       let e : kind.Task ≡ k = cc in subst (λ (j : ObjectKind). Of j (op.TaskStart job args priority cores detached group)) e
-      (w.condition refl (w.condition refl (w.condition refl (w.condition refl (w.condition refl (w.condition refl (w.task (asked_for job args priority cores detached group))))))))
+      (w.condition refl (w.condition refl (w.condition refl
+      (w.condition refl (w.condition refl (w.condition refl (w.task (asked_for job args priority cores detached group))))))))
   create_row k (op.TaskEnqueue queue args cores detached group) i =
       let e : kind.Task ≡ k = cc in subst (λ (j : ObjectKind). Of j (op.TaskEnqueue queue args cores detached group)) e
       (w.condition refl (w.condition refl (on_live (live_object s.queues queue.0) (Mtapi m.ErrQueueInvalid)
-      (λ z r. mtapi_unless (put_refusals z ++ start_refusals s (asked_of queue.0 z args cores detached group) ++ (count_listed (is_unended_in queue.0) s.tasks == z.limit, m.ErrQueueLimit) ∷ [])
+      (λ z r. mtapi_unless (put_refusals z ++ start_refusals s (asked_of queue.0 z args cores detached group)
+      ++ (count_listed (is_unended_in queue.0) s.tasks == z.limit, m.ErrQueueLimit) ∷ [])
       (creates tasks s r (λ b. starts_task b (asked_of queue.0 z args cores detached group)))) refl
-      (λ z. w.condition refl (w.condition refl (w.condition refl (w.condition refl (w.condition refl (w.condition refl (w.task (asked_of queue.0 z args cores detached group)))))))))))
+      (λ z. w.condition refl (w.condition refl
+      (w.condition refl (w.condition refl (w.condition refl (w.condition refl (w.task (asked_of queue.0 z args cores detached group)))))))))))
   create_row k op.GroupCreate i = let e : kind.Group ≡ k = cc in subst (λ (j : ObjectKind). Of j op.GroupCreate) e (w.condition refl (w.sort Groups new_group))
   create_row k (op.QueueCreate id job priority limit ordered retain) i =
       let e : kind.Queue ≡ k = cc in subst (λ (j : ObjectKind). Of j (op.QueueCreate id job priority limit ordered retain)) e
       (w.condition refl (w.condition refl (w.condition refl (w.condition refl (w.sort Queues (new_queue id job priority limit ordered retain))))))
-  create_row k (op.MutexCreate id recursive) i = let e : kind.Mutex ≡ k = cc in subst (λ (j : ObjectKind). Of j (op.MutexCreate id recursive)) e (w.condition refl (w.condition refl (w.condition refl (w.sort Mutexes (new_mutex id recursive)))))
-  create_row k (op.SemCreate id limit) i = let e : kind.Sem ≡ k = cc in subst (λ (j : ObjectKind). Of j (op.SemCreate id limit)) e (w.condition refl (w.condition refl (w.condition refl (w.condition refl (w.sort Sems (new_sem id limit))))))
-  create_row k (op.RwlCreate id limit) i = let e : kind.Rwl ≡ k = cc in subst (λ (j : ObjectKind). Of j (op.RwlCreate id limit)) e (w.condition refl (w.condition refl (w.condition refl (w.condition refl (w.sort Rwls (new_rwl id limit))))))
-  create_row k (op.ShmemCreate id cells) i = let e : kind.Shmem ≡ k = cc in subst (λ (j : ObjectKind). Of j (op.ShmemCreate id cells)) e (w.condition refl (w.condition refl (w.condition refl (w.condition refl (w.sort Segments (new_segment id cells))))))
+  create_row k (op.MutexCreate id recursive) i = let e : kind.Mutex ≡ k = cc in
+      subst (λ (j : ObjectKind). Of j (op.MutexCreate id recursive)) e
+      (w.condition refl (w.condition refl (w.condition refl (w.sort Mutexes (new_mutex id recursive)))))
+  create_row k (op.SemCreate id limit) i = let e : kind.Sem ≡ k = cc in
+      subst (λ (j : ObjectKind). Of j (op.SemCreate id limit)) e
+      (w.condition refl (w.condition refl (w.condition refl (w.condition refl (w.sort Sems (new_sem id limit))))))
+  create_row k (op.RwlCreate id limit) i = let e : kind.Rwl ≡ k = cc in
+      subst (λ (j : ObjectKind). Of j (op.RwlCreate id limit)) e
+      (w.condition refl (w.condition refl (w.condition refl (w.condition refl (w.sort Rwls (new_rwl id limit))))))
+  create_row k (op.ShmemCreate id cells) i = let e : kind.Shmem ≡ k = cc in
+      subst (λ (j : ObjectKind). Of j (op.ShmemCreate id cells)) e
+      (w.condition refl (w.condition refl (w.condition refl (w.condition refl (w.sort Segments (new_segment id cells))))))
   create_row k o i = absurd (cc)
 
 -- where the row allows the handle, this holds of the state after it
@@ -58,11 +71,13 @@ module _ {s : State} {Q : ObjectKind → State → Type 0} {h : ℕ} where
   unless_makes : {k : ObjectKind} {a : Bool} {y : Reply} {own : Reply → Row} → is_plain y ≡ true → Makes s Q h k own → Makes s Q h k (λ r. unless a y (own r))
   unless_makes i j = grind (arith, nat_tests)
 
-  creates_makes : {T : Type 0} {k : ObjectKind} (o : Objects T) (make : ℕ → Move) → is_plain o.limit ≡ true → Q k (apply (make h) s) → Makes s Q h k (λ r. creates o s r make)
+  creates_makes : {T : Type 0} {k : ObjectKind} (o : Objects T) (make : ℕ → Move) → is_plain o.limit ≡ true → Q k (apply (make h) s)
+      → Makes s Q h k (λ r. creates o s r make)
   creates_makes o make i j = grind (arith, nat_tests)
 
   -- and so it holds after an op that answers the handle of a new object
-  pub after_create : HoldsOfNew s Q h → (who : ℕ) (k : ObjectKind) (o : Op) → made_kind o ≡ Some k → Allows (row s who o (Handle h)) (Handle h) → Q k (after_row s (row s who o (Handle h)))
+  pub after_create : HoldsOfNew s Q h → (who : ℕ) (k : ObjectKind) (o : Op) → made_kind o ≡ Some k → Allows (row s who o (Handle h)) (Handle h)
+      → Q k (after_row s (row s who o (Handle h)))
   after_create v who k o i a = (create_row parts who k o i).makes a
     where
       parts : HoldsInParts s (Makes s Q h)

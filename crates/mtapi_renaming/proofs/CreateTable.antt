@@ -12,33 +12,56 @@ module _ {g : Renaming} {s : State} (n : Follows g s) (x : Room) (h other : ℕ)
   action_alike : (job : ℕ) (y : _) (cores : _) → Alike kind.Action (op.ActionCreate job y cores)
   action_alike job y cores = unless_creates refl refl (unless_creates refl refl (creates_action n (new_action job y cores.0)))
 
-  start_alike : (job : ℕ) (args : _) (priority : ℕ) (cores : _) (detached : Bool) (group : Option GroupHandle) → Alike kind.Task (op.TaskStart job args priority cores detached group)
+  start_alike : (job : ℕ) (args : _) (priority : ℕ) (cores : _) (detached : Bool) (group : Option GroupHandle)
+      → Alike kind.Task (op.TaskStart job args priority cores detached group)
   start_alike job args priority cores detached None =
-      unless_creates refl refl (unless_creates refl refl (starts_creates n (asked_for job args priority cores detached None) (λ c. creates_task n (asked_for job args priority cores detached None) c tt)))
+      unless_creates refl refl (unless_creates refl refl
+      (starts_creates n (asked_for job args priority cores detached None) (λ c. creates_task n (asked_for job args priority cores detached None) c tt)))
   start_alike job args priority cores detached (Some c) =
-      unless_creates refl refl (unless_creates refl refl (starts_creates n (asked_for job args priority cores detached (Some c)) (λ d. creates_task n (asked_for job args priority cores detached (Some c)) d tt)))
+      unless_creates refl refl (unless_creates refl refl
+      (starts_creates n (asked_for job args priority cores detached (Some c))
+      (λ d. creates_task n (asked_for job args priority cores detached (Some c)) d tt)))
 
-  enqueue_alike : (q : QueueHandle) (args : _) (cores : _) (detached : Bool) (group : Option GroupHandle) → Alike kind.Task (op.TaskEnqueue q args cores detached group)
+  enqueue_alike : (q : QueueHandle) (args : _) (cores : _) (detached : Bool) (group : Option GroupHandle)
+      → Alike kind.Task (op.TaskEnqueue q args cores detached group)
   enqueue_alike q args cores detached None =
-      unless_creates refl refl (unless_creates refl refl (on_queue n q.0 _ _ (λ y has. unless_creates refl refl (starts_creates n (asked_of q.0 y args cores detached None)
+      unless_creates refl refl (unless_creates refl refl
+      (on_queue n q.0 _ _ (λ y has. unless_creates refl refl (starts_creates n (asked_of q.0 y args cores detached None)
       (λ d. unless_creates (ap (λ (m : ℕ). m == y.limit) (count-in n.fits x q.0)) refl (creates_task n (asked_of q.0 y args cores detached None) d has))))))
   enqueue_alike q args cores detached (Some f) =
-      unless_creates refl refl (unless_creates refl refl (on_queue n q.0 _ _ (λ y has. unless_creates refl refl (starts_creates n (asked_of q.0 y args cores detached (Some f))
+      unless_creates refl refl (unless_creates refl refl
+      (on_queue n q.0 _ _ (λ y has. unless_creates refl refl (starts_creates n (asked_of q.0 y args cores detached (Some f))
       (λ d. unless_creates (ap (λ (m : ℕ). m == y.limit) (count-in n.fits x q.0)) refl (creates_task n (asked_of q.0 y args cores detached (Some f)) d has))))))
 
   queue_alike : (id job priority limit : ℕ) (ordered retain : Bool) → Alike kind.Queue (op.QueueCreate id job priority limit ordered retain)
   queue_alike id job priority limit ordered retain =
-      unless_creates refl refl (unless_creates refl refl (unless_creates (ap not (action-any n.fits x (has_job job))) refl (keyed_creates n keyed_queues (new_queue id job priority limit ordered retain) refl)))
+      unless_creates refl refl (unless_creates refl refl
+      (unless_creates (ap not (action-any n.fits x (has_job job))) refl
+      (keyed_creates n keyed_queues (new_queue id job priority limit ordered retain) refl)))
 
   -- the kind that the op makes
   pub create_alike : (k : ObjectKind) (o : Op) → made_kind o ≡ Some k → Alike k o
-  create_alike k (op.ActionCreate job y cores) i = let e : kind.Action ≡ k = cc in subst (λ (j : ObjectKind). Alike j (op.ActionCreate job y cores)) e (action_alike job y cores)
-  create_alike k (op.TaskStart job args priority cores detached group) i = let e : kind.Task ≡ k = cc in subst (λ (j : ObjectKind). Alike j (op.TaskStart job args priority cores detached group)) e (start_alike job args priority cores detached group)
-  create_alike k (op.TaskEnqueue q args cores detached group) i = let e : kind.Task ≡ k = cc in subst (λ (j : ObjectKind). Alike j (op.TaskEnqueue q args cores detached group)) e (enqueue_alike q args cores detached group)
-  create_alike k op.GroupCreate i = let e : kind.Group ≡ k = cc in subst (λ (j : ObjectKind). Alike j op.GroupCreate) e (unless_creates refl refl (creates_sort n Groups new_group))
-  create_alike k (op.QueueCreate id job priority limit ordered retain) i = let e : kind.Queue ≡ k = cc in subst (λ (j : ObjectKind). Alike j (op.QueueCreate id job priority limit ordered retain)) e (queue_alike id job priority limit ordered retain)
-  create_alike k (op.MutexCreate id recursive) i = let e : kind.Mutex ≡ k = cc in subst (λ (j : ObjectKind). Alike j (op.MutexCreate id recursive)) e (unless_creates refl refl (unless_creates refl refl (keyed_creates n keyed_mutexes (new_mutex id recursive) refl)))
-  create_alike k (op.SemCreate id limit) i = let e : kind.Sem ≡ k = cc in subst (λ (j : ObjectKind). Alike j (op.SemCreate id limit)) e (unless_creates refl refl (unless_creates refl refl (mrapi_creates (sem_create_refusals limit) (keyed_creates n keyed_sems (new_sem id limit) refl))))
-  create_alike k (op.RwlCreate id limit) i = let e : kind.Rwl ≡ k = cc in subst (λ (j : ObjectKind). Alike j (op.RwlCreate id limit)) e (unless_creates refl refl (unless_creates refl refl (mrapi_creates (rwl_create_refusals limit) (keyed_creates n keyed_rwls (new_rwl id limit) refl))))
-  create_alike k (op.ShmemCreate id cells) i = let e : kind.Shmem ≡ k = cc in subst (λ (j : ObjectKind). Alike j (op.ShmemCreate id cells)) e (unless_creates refl refl (unless_creates refl refl (mrapi_creates (shmem_create_refusals cells) (keyed_creates n keyed_segments (new_segment id cells) refl))))
+  create_alike k (op.ActionCreate job y cores) i = let e : kind.Action ≡ k = cc in
+      subst (λ (j : ObjectKind). Alike j (op.ActionCreate job y cores)) e (action_alike job y cores)
+  create_alike k (op.TaskStart job args priority cores detached group) i = let e : kind.Task ≡ k = cc in
+      subst (λ (j : ObjectKind). Alike j (op.TaskStart job args priority cores detached group)) e (start_alike job args priority cores detached group)
+  create_alike k (op.TaskEnqueue q args cores detached group) i = let e : kind.Task ≡ k = cc in
+      subst (λ (j : ObjectKind). Alike j (op.TaskEnqueue q args cores detached group)) e (enqueue_alike q args cores detached group)
+  create_alike k op.GroupCreate i = let e : kind.Group ≡ k = cc in
+      subst (λ (j : ObjectKind). Alike j op.GroupCreate) e (unless_creates refl refl (creates_sort n Groups new_group))
+  create_alike k (op.QueueCreate id job priority limit ordered retain) i = let e : kind.Queue ≡ k = cc in
+      subst (λ (j : ObjectKind). Alike j (op.QueueCreate id job priority limit ordered retain)) e (queue_alike id job priority limit ordered retain)
+  create_alike k (op.MutexCreate id recursive) i = let e : kind.Mutex ≡ k = cc in
+      subst (λ (j : ObjectKind). Alike j (op.MutexCreate id recursive)) e
+      (unless_creates refl refl (unless_creates refl refl (keyed_creates n keyed_mutexes (new_mutex id recursive) refl)))
+  create_alike k (op.SemCreate id limit) i = let e : kind.Sem ≡ k = cc in
+      subst (λ (j : ObjectKind). Alike j (op.SemCreate id limit)) e
+      (unless_creates refl refl (unless_creates refl refl (mrapi_creates (sem_create_refusals limit) (keyed_creates n keyed_sems (new_sem id limit) refl))))
+  create_alike k (op.RwlCreate id limit) i = let e : kind.Rwl ≡ k = cc in
+      subst (λ (j : ObjectKind). Alike j (op.RwlCreate id limit)) e
+      (unless_creates refl refl (unless_creates refl refl (mrapi_creates (rwl_create_refusals limit) (keyed_creates n keyed_rwls (new_rwl id limit) refl))))
+  create_alike k (op.ShmemCreate id cells) i = let e : kind.Shmem ≡ k = cc in
+      subst (λ (j : ObjectKind). Alike j (op.ShmemCreate id cells)) e
+      (unless_creates refl refl (unless_creates refl refl
+      (mrapi_creates (shmem_create_refusals cells) (keyed_creates n keyed_segments (new_segment id cells) refl))))
   create_alike k o i = absurd (cc)

@@ -33,7 +33,8 @@ module _ {T : Type 0} where
   handles-change h F same [] = tt
   handles-change h F same (r ∷ rs) = grind (arith, same r, keeps_itself r, handles-same rs, handles-change h F same rs)
 
-  pub handles-change_all : (p : T → Bool) (F : Listed T → Listed T) → ((r : Listed T) → KeepsHandle r (F r)) → (l : List (Listed T)) → SameHandles l (change_all p F l)
+  pub handles-change_all : (p : T → Bool) (F : Listed T → Listed T) → ((r : Listed T) → KeepsHandle r (F r)) → (l : List (Listed T))
+      → SameHandles l (change_all p F l)
   unfolding change_all
   handles-change_all p F same [] = tt
   handles-change_all p F same (r ∷ rs) = grind (arith, same r, keeps_itself r, handles-change_all p F same rs)

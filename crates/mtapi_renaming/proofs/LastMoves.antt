@@ -16,7 +16,8 @@ abbrev pub OnceAll : State → Type 0
 OnceAll s = (k : ObjectKind) → OnceIn k s
 
 once_kept : (o : Op) (s : State) (m : Move) → IsMade s o m → OnceAll s → OnceAll (apply m s)
-once_kept o s m i w k = each_move (λ T o l m. OnceEach l → OnceEach m) s o m i (λ T o h v j. once-issue s.terms.settings.generations h v (o.list s) (snd_true _ _ j)) (λ T o l m. once-same l m) k (w k)
+once_kept o s m i w k = each_move (λ T o l m. OnceEach l
+    → OnceEach m) s o m i (λ T o h v j. once-issue s.terms.settings.generations h v (o.list s) (snd_true _ _ j)) (λ T o l m. once-same l m) k (w k)
 
 none_once : (T : Type 0) → OnceEach {T = T} []
 unfolding listed
@@ -30,7 +31,8 @@ pub gone_is : (k : ObjectKind) (s : State) (hs : List ℕ) → gone_of k s hs �
 gone_is kind.Action s hs = refl
 gone_is k s hs = refl
 
-pub full_told : (terms : Terms) (L : List NodeEntry) (k : ObjectKind) → is_full_of k (after terms L) ≡ (live_in k (after terms L) + gone_of k (after terms L) (lasts_of k (after terms L)) == most_of k (after terms L))
+pub full_told : (terms : Terms) (L : List NodeEntry) (k : ObjectKind)
+    → is_full_of k (after terms L) ≡ (live_in k (after terms L) + gone_of k (after terms L) (lasts_of k (after terms L)) == most_of k (after terms L))
 full_told terms L k =
     let s = after terms L in
     ap (λ (m : ℕ). is_full s.terms.settings.generations m ((objects_of k).list s)) (sym (most_is k s))
@@ -47,20 +49,24 @@ pub terms_after : (terms : Terms) (L : List NodeEntry) → (after terms L).terms
 terms_after terms L = along (λ s. s.terms ≡ terms) (λ o s m i e. terms_stay s m ∙ e) (opening terms) L refl
 
 -- the last generation and the same handles
-lasts_in_same : {T : Type 0} (u v : Terms) (l m : List (Listed T)) → v ≡ u → SameHandles l m → lasts_in v.settings.generations m ≡ lasts_in u.settings.generations l
+lasts_in_same : {T : Type 0} (u v : Terms) (l m : List (Listed T)) → v ≡ u → SameHandles l m
+    → lasts_in v.settings.generations m ≡ lasts_in u.settings.generations l
 lasts_in_same u v l m e w = ap (λ (x : Terms). lasts_in x.settings.generations m) e ∙ lasts-same u.settings.generations l m w
 
 lasts_same : (k : ObjectKind) (s t : State) → t.terms ≡ s.terms → SameIn k s t → lasts_of k t ≡ lasts_of k s
 lasts_same k s t e v = lasts_in_same s.terms t.terms ((objects_of k).list s) ((objects_of k).list t) e v
 
-pub others_keep_lasts : (s : State) (who : ℕ) (o : Op) (r : Reply) (k : ObjectKind) → made_kind o ≡ None → lasts_of k (after_row s (row s who o r)) ≡ lasts_of k s
+pub others_keep_lasts : (s : State) (who : ℕ) (o : Op) (r : Reply) (k : ObjectKind) → made_kind o ≡ None
+    → lasts_of k (after_row s (row s who o r)) ≡ lasts_of k s
 others_keep_lasts s who o r k e =
-    moves_keep o (λ t. lasts_of k t ≡ lasts_of k s) (λ t m i v. lasts_same k t (apply m t) (terms_stay t m) (move_same t o m i (by_none t o m e i) k) ∙ v) (moves_of (row s who o r)) s (row_made s who o r) refl
+    moves_keep o (λ t. lasts_of k t ≡ lasts_of k s) (λ t m i v. lasts_same k t (apply m t) (terms_stay t m) (move_same t o m i (by_none t o m e i) k)
+    ∙ v) (moves_of (row s who o r)) s (row_made s who o r) refl
 
 -- an op that answers the handle of a new object
 
 module _ (s : State) (h : ℕ) where
-  last_so : (k : ObjectKind) (t : State) → t.terms ≡ s.terms → lasts_in s.terms.settings.generations ((objects_of k).list t) ≡ with_last s.terms.settings.generations h (lasts_of k s) →
+  last_so : (k : ObjectKind) (t : State) → t.terms ≡ s.terms
+      → lasts_in s.terms.settings.generations ((objects_of k).list t) ≡ with_last s.terms.settings.generations h (lasts_of k s) →
       ((i : ObjectKind) → (i ≡ k → ⊥) → (objects_of i).list t ≡ (objects_of i).list s) → MakesLast s t k h
   last_so k t i j l = grind (arith, nat_tests)
 
@@ -71,7 +77,8 @@ module _ (s : State) (h : ℕ) where
       last_so (all_of t).kind u (terms_stay s (makes t h v)) (of_sort (λ T o. lasts_in last (o.list u) ≡ with_last last h (lasts_in last (o.list s))) t
       (ap (λ (l : List (Listed (Fields t))). lasts_in last l) (sort_at t _ s) ∙ lasts-issue last h v ((all_of t).list s))) (other_sorts s h t v)
 
-pub creates_make_last : (s : State) (who h : ℕ) (o : Op) (k : ObjectKind) → made_kind o ≡ Some k → Allows (row s who o (Handle h)) (Handle h) → MakesLast s (after_row s (row s who o (Handle h))) k h
+pub creates_make_last : (s : State) (who h : ℕ) (o : Op) (k : ObjectKind) → made_kind o ≡ Some k → Allows (row s who o (Handle h)) (Handle h)
+    → MakesLast s (after_row s (row s who o (Handle h))) k h
 creates_make_last s who h o k i a = after_create {Q = λ j t. MakesLast s t j h} (record {
   action = λ b. last_so s h kind.Action _ refl (lasts-issue s.terms.settings.generations h b s.actions) (other_actions s h b);
   task = λ t. last_so s h kind.Task _ refl (lasts-issue s.terms.settings.generations h (new_task t s.starts) s.tasks) (other_tasks s h t);

@@ -6,7 +6,8 @@ module _ {T : Type 0} where
   pub lasts-same : (last : ℕ) (l m : List (Listed T)) → SameHandles l m → lasts_in last m ≡ lasts_in last l
   unfolding lasts_in
   lasts-same last [] [] v = refl
-  lasts-same last (r ∷ rs) (q ∷ qs) v = λ i. cond (generation_of (v.0.handle i) == last) (v.0.handle i ∷ lasts-same last rs qs v.1 i) (lasts-same last rs qs v.1 i)
+  lasts-same last (r ∷ rs) (q ∷ qs) v = λ i. cond (generation_of (v.0.handle i) == last) (v.0.handle i
+      ∷ lasts-same last rs qs v.1 i) (lasts-same last rs qs v.1 i)
   lasts-same last l m v = absurd v
 
   pub lasts-issue : (last h : ℕ) (v : T) (l : List (Listed T)) → lasts_in last (issue h v l) ≡ with_last last h (lasts_in last l)
@@ -53,7 +54,8 @@ module _ {T : Type 0} where
   other_named r rs h e = grind arith
 
   -- tests that agree but at a handle that isn't listed count as many
-  counted_same : (last a : ℕ) (p q : ℕ → Bool) → ((h : ℕ) → (a == h) ≡ false → p h ≡ q h) → (l : List (Listed T)) → listed a l ≡ 0 → how_many p (lasts_in last l) ≡ how_many q (lasts_in last l)
+  counted_same : (last a : ℕ) (p q : ℕ → Bool) → ((h : ℕ) → (a == h) ≡ false → p h ≡ q h) → (l : List (Listed T)) → listed a l ≡ 0
+      → how_many p (lasts_in last l) ≡ how_many q (lasts_in last l)
   unfolding listed lasts_in
   counted_same last a p q same [] none = refl
   counted_same last a p q same (r ∷ rs) none = grind (arith, nat_tests, same r.handle, counted_same last a p q same rs)
@@ -62,8 +64,16 @@ module _ {T : Type 0} where
   pub retired-gone : (last : ℕ) (l : List (Listed T)) → OnceEach l → retired last l ≡ how_many (λ h. not (is_some (live_object l h))) (lasts_in last l)
   unfolding retired lasts_in
   retired-gone last [] w = refl
-  retired-gone last (r ∷ rs) w = grind (arith, live_named r rs (none_behind r rs w), retired-gone last rs (once-rest r rs w), counted_same last r.handle (λ h. not (is_some (live_object rs h))) (λ h. not (is_some (live_object (r ∷ rs) h))) (λ h e. ap (λ (o : Option T). not (is_some o)) (sym (other_named r rs h e))) rs (none_behind r rs w))
+  retired-gone last (r ∷ rs) w = grind (
+    arith,
+    live_named r rs (none_behind r rs w),
+    retired-gone last rs (once-rest r rs w),
+    counted_same last r.handle
+        (λ h. not (is_some (live_object rs h))) (λ h. not (is_some (live_object (r ∷ rs) h)))
+        (λ h e. ap (λ (o : Option T). not (is_some o)) (sym (other_named r rs h e))) rs (none_behind r rs w),
+  )
 
-  pub full-told : (last max : ℕ) (l : List (Listed T)) → OnceEach l → is_full last max l ≡ (length (live_of l) + how_many (λ h. not (is_some (live_object l h))) (lasts_in last l) == max)
+  pub full-told : (last max : ℕ) (l : List (Listed T)) → OnceEach l
+      → is_full last max l ≡ (length (live_of l) + how_many (λ h. not (is_some (live_object l h))) (lasts_in last l) == max)
   unfolding is_full
   full-told last max l w = ap (λ (n : ℕ). length (live_of l) + n == max) (retired-gone last l w)

@@ -4,7 +4,8 @@ use Rattle.handle_pool.specs.Inside.{turned as turned_one}
 
 -- two handles are told apart by their other ones, where the first has another
 pub same_test : (g : Renaming) → IsOneToOne g → (k : ObjectKind) (a b : ℕ) → Has g k a → (g k a == g k b) ≡ (a == b)
-same_test g one k a b has = same_tests (g k a == g k b) (a == b) (λ e. eq-eqb a b (one k a b has (eqb-true (g k a) (g k b) e))) (λ e. eq-eqb (g k a) (g k b) (ap (g k) (eqb-true a b e)))
+same_test g one k a b has = same_tests (g k a == g k b) (a == b) (λ e. eq-eqb a b (one k a b has (eqb-true (g k a) (g k b) e)))
+    (λ e. eq-eqb (g k a) (g k b) (ap (g k) (eqb-true a b e)))
 
 module _ {T : Type 0} (g : Renaming) (one : IsOneToOne g) (k : ObjectKind) (f : T → T) (P : T → Type 0) where
   -- a handle of the list stands apart from any other handle
@@ -53,7 +54,11 @@ module _ {T : Type 0} (g : Renaming) (k : ObjectKind) (P : T → Type 0) where
   pub found-other : (f : T → T) (h : ℕ) (x : T) (l : List (Listed T)) → HasEach g k P l → live_object (renamed_list (g k) f l) h ≡ Some x → IsOther g k h
   unfolding live_of inside
   found-other f h x [] n e = absurd (cc)
-  found-other f h x (r ∷ rs) n e = elim (g k r.handle == h) as (λ b. (g k r.handle == h) ≡ b → IsOther g k h) [ true ↦ λ i. record { own = r.handle; has = n.0.0; is = sym (eqb-true (g k r.handle) h i) } | false ↦ λ i. found-other f h x rs n.1 (grind arith) ] refl
+  found-other f h x (r ∷ rs) n e = elim (g k r.handle == h) as (λ b. (g k r.handle == h) ≡ b → IsOther g k h) [
+    | true ↦
+        λ i. record { own = r.handle; has = n.0.0; is = sym (eqb-true (g k r.handle) h i) }
+    | false ↦ λ i. found-other f h x rs n.1 (grind arith)
+  ] refl
 
   -- the live object of a handle, and the handle
   pub found-has : (h : ℕ) (x : T) (l : List (Listed T)) → HasEach g k P l → live_object l h ≡ Some x → Has g k h × P x
@@ -69,12 +74,14 @@ module _ {T : Type 0} (g : Renaming) (k : ObjectKind) (P : T → Type 0) where
 
   -- what the changes of a list leave of the renaming
 
-  pub has-change : (h : ℕ) (F : Listed T → Listed T) → ((r : Listed T) → (F r).handle ≡ r.handle) → ((r : Listed T) → P r.fields → P (F r).fields) → (l : List (Listed T)) → HasEach g k P l → HasEach g k P (change h F l)
+  pub has-change : (h : ℕ) (F : Listed T → Listed T) → ((r : Listed T) → (F r).handle ≡ r.handle) → ((r : Listed T) → P r.fields → P (F r).fields)
+      → (l : List (Listed T)) → HasEach g k P l → HasEach g k P (change h F l)
   unfolding change
   has-change h F same keeps [] n = tt
   has-change h F same keeps (r ∷ rs) n = grind (arith, same r, keeps r n.0.1, n.0, n.1, has-change h F same keeps rs n.1)
 
-  pub has-change_all : (p : T → Bool) (F : Listed T → Listed T) → ((r : Listed T) → (F r).handle ≡ r.handle) → ((r : Listed T) → P r.fields → P (F r).fields) → (l : List (Listed T)) → HasEach g k P l → HasEach g k P (change_all p F l)
+  pub has-change_all : (p : T → Bool) (F : Listed T → Listed T) → ((r : Listed T) → (F r).handle ≡ r.handle) → ((r : Listed T) → P r.fields → P (F r).fields)
+      → (l : List (Listed T)) → HasEach g k P l → HasEach g k P (change_all p F l)
   unfolding change_all
   has-change_all p F same keeps [] n = tt
   has-change_all p F same keeps (r ∷ rs) n = grind (arith, same r, keeps r n.0.1, n.0, has-change_all p F same keeps rs n.1)

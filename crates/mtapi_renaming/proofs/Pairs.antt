@@ -6,7 +6,9 @@ use Rattle.mtapi_renaming.proofs.Moves.{renamed_new, sort-has, has-with, has-so,
 
 -- a kind is told by its number
 abbrev object_of : ℕ → ObjectKind
-object_of m = cond (m == 1) kind.Action (cond (m == 2) kind.Task (cond (m == 3) kind.Group (cond (m == 4) kind.Queue (cond (m == 5) kind.Mutex (cond (m == 6) kind.Sem (cond (m == 7) kind.Rwl kind.Shmem))))))
+object_of m = cond (m == 1) kind.Action
+    (cond (m == 2) kind.Task (cond (m == 3) kind.Group
+    (cond (m == 4) kind.Queue (cond (m == 5) kind.Mutex (cond (m == 6) kind.Sem (cond (m == 7) kind.Rwl kind.Shmem))))))
 
 object-number : (k : ObjectKind) → object_of (object_number k) ≡ k
 object-number k = grind (arith, nat_tests)
@@ -35,11 +37,13 @@ module _ {T : Type 0} (g : Renaming) (one : IsOneToOne g) (k : ObjectKind) (f : 
       agree [] n = tt
       agree (r ∷ rs) n = (same_test g one k r.handle h n.0.0, agree rs n.1)
 
-  new-pair : (h other : ℕ) (l : List (Listed T)) → HasEach g k P l → ((a : ℕ) → Has g k a → 1 ≤ listed a l) → listed h l ≡ 0 → 1 ≤ h → listed other (renamed_list (g k) f l) ≡ 0 → 1 ≤ other → IsNew g k h other
+  new-pair : (h other : ℕ) (l : List (Listed T)) → HasEach g k P l → ((a : ℕ) → Has g k a → 1 ≤ listed a l) → listed h l ≡ 0 → 1 ≤ h
+      → listed other (renamed_list (g k) f l) ≡ 0 → 1 ≤ other → IsNew g k h other
   new-pair h other l v only none some no_other others = grind (arith, nat_tests, listed-renamed)
 
 -- so of the handles that two states may issue
-pub is_new : {T : Type 0} (g : Renaming) (x : Room) (s : State) → IsOneToOne g → (o : Objects T) (f : T → T) (P : T → Type 0) → o.list (renamed g x s) ≡ renamed_list (g o.kind) f (o.list s) → HasEach g o.kind P (o.list s) → ((a : ℕ) → Has g o.kind a → 1 ≤ listed a (o.list s)) →
+pub is_new : {T : Type 0} (g : Renaming) (x : Room) (s : State) → IsOneToOne g → (o : Objects T) (f : T → T) (P : T → Type 0)
+    → o.list (renamed g x s) ≡ renamed_list (g o.kind) f (o.list s) → HasEach g o.kind P (o.list s) → ((a : ℕ) → Has g o.kind a → 1 ≤ listed a (o.list s)) →
     (h other : ℕ) → is_fresh o s h ≡ true → is_fresh o (renamed g x s) other ≡ true → IsNew g o.kind h other
 is_new g x s i o f P j l m h other n u = grind (arith, nat_tests, issued-facts, snd_true, new-pair)
 
@@ -65,14 +69,17 @@ module _ (g : Renaming) (k : ObjectKind) (h other : ℕ) where
     zero-pair j z = grind (arith, nat_tests, new.some)
 
     -- a list by the longer renaming
-    has-more : {T : Type 0} (j : ObjectKind) (P Q : T → Type 0) → ((y : T) → P y → Q y) → (l : List (Listed T)) → HasEach g j P l → HasEach (with_pair k h other g) j Q l
+    has-more : {T : Type 0} (j : ObjectKind) (P Q : T → Type 0) → ((y : T) → P y → Q y) → (l : List (Listed T)) → HasEach g j P l
+        → HasEach (with_pair k h other g) j Q l
     has-more j P Q keeps [] n = tt
     has-more j P Q keeps (r ∷ rs) n = ((has_still j r.handle n.0.0, keeps r.fields n.0.1), has-more j P Q keeps rs n.1)
 
-    list-same : {T : Type 0} (j : ObjectKind) (P : T → Type 0) (c d : T → T) → ((y : T) → P y → c y ≡ d y) → (l : List (Listed T)) → HasEach g j P l → renamed_list (with_pair k h other g j) c l ≡ renamed_list (g j) d l
+    list-same : {T : Type 0} (j : ObjectKind) (P : T → Type 0) (c d : T → T) → ((y : T) → P y → c y ≡ d y) → (l : List (Listed T)) → HasEach g j P l
+        → renamed_list (with_pair k h other g j) c l ≡ renamed_list (g j) d l
     unfolding inside
     list-same j P c d same [] n = refl
-    list-same j P c d same (r ∷ rs) n = λ i. record { handle = extends j r.handle n.0.0 i; live = r.live; fields = same r.fields n.0.1 i } ∷ list-same j P c d same rs n.1 i
+    list-same j P c d same (r ∷ rs) n = λ i. record { handle = extends j r.handle n.0.0 i; live = r.live; fields = same r.fields n.0.1 i }
+        ∷ list-same j P c d same rs n.1 i
 
     option-same : (j : ObjectKind) (o : Option ℕ) → IfSome o (Has g j) → option_map (with_pair k h other g j) o ≡ option_map (g j) o
     option-same j None n = refl
@@ -95,7 +102,11 @@ module _ (g : Renaming) (k : ObjectKind) (h other : ℕ) where
       queue = option-same kind.Queue t.queue n.queue i;
       notes = record t.notes {
         group = option-same kind.Group t.notes.group n.notes.group i;
-        tally = record t.notes.tally { mutex = none-same kind.Mutex t.notes.tally.mutex z n.notes.tally.mutex i; segment = none-same kind.Shmem t.notes.tally.segment w n.notes.tally.segment i };
+        tally = record t.notes.tally {
+          mutex = none-same kind.Mutex t.notes.tally.mutex z n.notes.tally.mutex i;
+          segment =
+              none-same kind.Shmem t.notes.tally.segment w n.notes.tally.segment i;
+        };
       };
     }
 
@@ -104,12 +115,21 @@ module _ (g : Renaming) (k : ObjectKind) (h other : ℕ) where
       queue = option-still kind.Queue t.queue n.queue;
       notes = record {
         group = option-still kind.Group t.notes.group n.notes.group;
-        tally = record { mutex = none-still kind.Mutex t.notes.tally.mutex n.notes.tally.mutex; segment = none-still kind.Shmem t.notes.tally.segment n.notes.tally.segment };
+        tally = record {
+          mutex = none-still kind.Mutex t.notes.tally.mutex n.notes.tally.mutex;
+          segment =
+              none-still kind.Shmem t.notes.tally.segment n.notes.tally.segment;
+        };
       };
     }
 
-    new-still : (t : NewTask) (start : ℕ) → IfSome t.group (Has g kind.Group) → IfSome t.queue (Has g kind.Queue) → HasTask (with_pair k h other g) (new_task t start)
-    new-still t start a b = record { queue = option-still kind.Queue t.queue b; notes = record { group = option-still kind.Group t.group a; tally = record { mutex = inl refl; segment = inl refl } } }
+    new-still : (t : NewTask) (start : ℕ) → IfSome t.group (Has g kind.Group) → IfSome t.queue (Has g kind.Queue)
+        → HasTask (with_pair k h other g) (new_task t start)
+    new-still t start a b = record {
+      queue = option-still kind.Queue t.queue b;
+      notes =
+          record { group = option-still kind.Group t.group a; tally = record { mutex = inl refl; segment = inl refl } };
+    }
 
     new-same : (t : NewTask) → IfSome t.group (Has g kind.Group) → IfSome t.queue (Has g kind.Queue) → renamed_new (with_pair k h other g) t ≡ renamed_new g t
     new-same t a b = λ i. record t { group = option-same kind.Group t.group a i; queue = option-same kind.Queue t.queue b i }
@@ -137,7 +157,8 @@ module _ (g : Renaming) (k : ObjectKind) (h other : ℕ) where
       state-same : renamed (with_pair k h other g) x s ≡ renamed g x s
       state-same = λ i. record (renamed g x s) {
         actions = list-same kind.Action NoHandle (λ y. y) (λ y. y) (λ y v. refl) s.actions n.actions i;
-        tasks = list-same kind.Task (HasTask g) (renamed_task (with_pair k h other g)) (renamed_task g) (task-same (n.zero kind.Mutex) (n.zero kind.Shmem)) s.tasks n.tasks i;
+        tasks = list-same kind.Task (HasTask g) (renamed_task (with_pair k h other g)) (renamed_task g)
+            (task-same (n.zero kind.Mutex) (n.zero kind.Shmem)) s.tasks n.tasks i;
         groups = list-same kind.Group NoHandle (λ y. y) (λ y. y) (λ y v. refl) s.groups n.groups i;
         queues = list-same kind.Queue NoHandle (λ y. y) (λ y. y) (λ y v. refl) s.queues n.queues i;
         mutexes = list-same kind.Mutex NoHandle (λ y. y) (λ y. y) (λ y v. refl) s.mutexes n.mutexes i;
@@ -163,16 +184,19 @@ HasMore b T o l m = listed b l ≤ listed b m
 
 module _ (s : State) (h : ℕ) where
   action_more : (a : Action) (j : ObjectKind) (b : ℕ) → listed_in j s b ≤ listed_in j (apply (makes_action h a) s) b
-  action_more a j b = each_so (HasMore b) (λ T o l. at_least (listed b l)) s s.phase s.released s.stopped s.starts s.ends _ s.tasks (issue_more h b a s.actions) (at_least (listed b s.tasks)) j
+  action_more a j b = each_so (HasMore b) (λ T o l. at_least (listed b l)) s s.phase s.released s.stopped s.starts s.ends _ s.tasks (issue_more h b a s.actions)
+      (at_least (listed b s.tasks)) j
 
   task_more : (t : NewTask) (j : ObjectKind) (b : ℕ) → listed_in j s b ≤ listed_in j (apply (starts_task h t) s) b
-  task_more t j b = each_so (HasMore b) (λ T o l. at_least (listed b l)) s s.phase s.released s.stopped (s.starts + 1) s.ends s.actions _ (at_least (listed b s.actions)) (issue_more h b (new_task t s.starts) s.tasks) j
+  task_more t j b = each_so (HasMore b) (λ T o l. at_least (listed b l)) s s.phase s.released s.stopped (s.starts
+      + 1) s.ends s.actions _ (at_least (listed b s.actions)) (issue_more h b (new_task t s.starts) s.tasks) j
 
   sort_more : (t : Sort) (w : Fields t) (j : ObjectKind) (b : ℕ) → listed_in j s b ≤ listed_in j (apply (makes t h w) s) b
   sort_more t w j b = each_with (HasMore b) (λ T o l. at_least (listed b l)) s t _ (issue_more h b w ((all_of t).list s)) j
 
   sort_there : (t : Sort) (w : Fields t) → 1 ≤ listed_in (all_of t).kind (apply (makes t h w) s) h
-  sort_there t w = of_sort (λ T o. 1 ≤ listed h (o.list (apply (makes t h w) s))) t (subst (λ (l : List (Listed (Fields t))). 1 ≤ listed h l) (sym (sort_at t _ s)) (issue_there h w ((all_of t).list s)))
+  sort_there t w = of_sort (λ T o. 1 ≤ listed h (o.list (apply (makes t h w) s))) t
+      (subst (λ (l : List (Listed (Fields t))). 1 ≤ listed h l) (sym (sort_at t _ s)) (issue_there h w ((all_of t).list s)))
 
 -- a new object: the state after it by the longer renaming, and what that renaming has
 pub record MakesPair (g : Renaming) (x : Room) (s : State) (k : ObjectKind) (h other : ℕ) (own others : State) : Type 0 where
@@ -180,13 +204,17 @@ pub record MakesPair (g : Renaming) (x : Room) (s : State) (k : ObjectKind) (h o
   pub follows : Follows (with_pair k h other g) own
 
 module _ (g : Renaming) (x : Room) (s : State) (n : Follows g s) (h other : ℕ) where
-  pub makes_action-pair : (a : Action) → IsNew g kind.Action h other → MakesPair g x s kind.Action h other (apply (makes_action h a) s) (apply (makes_action other a) (renamed g x s))
+  pub makes_action-pair : (a : Action) → IsNew g kind.Action h other
+      → MakesPair g x s kind.Action h other (apply (makes_action h a) s) (apply (makes_action other a) (renamed g x s))
   makes_action-pair a new =
       let more : Fits (with_pair kind.Action h other g) s = fits-more g kind.Action h other n.fits.one new s n.fits in
       record {
-        same = makes_action-renames (with_pair kind.Action h other g) x s h a ∙ (λ i. apply (makes_action (at-new g kind.Action h other i) a) (state-same g kind.Action h other n.fits.one new x s n.fits i));
+        same = makes_action-renames (with_pair kind.Action h other g) x s h a
+            ∙ (λ i. apply (makes_action (at-new g kind.Action h other i) a) (state-same g kind.Action h other n.fits.one new x s n.fits i));
         follows = record {
-          fits = has-so (with_pair kind.Action h other g) s more s.phase s.released s.stopped s.starts s.ends _ s.tasks (has-issue (with_pair kind.Action h other g) kind.Action NoHandle h a s.actions (has_new g kind.Action h other n.fits.one new) tt more.actions) more.tasks;
+          fits = has-so (with_pair kind.Action h other g) s more s.phase s.released s.stopped s.starts s.ends _ s.tasks
+              (has-issue (with_pair kind.Action h other g) kind.Action NoHandle h a s.actions
+              (has_new g kind.Action h other n.fits.one new) tt more.actions) more.tasks;
           only = only-more g kind.Action h other n.fits.one new s (apply (makes_action h a) s) n.only (action_more s h a) (issue_there h a s.actions);
         };
       }
@@ -197,21 +225,28 @@ module _ (g : Renaming) (x : Room) (s : State) (n : Follows g s) (h other : ℕ)
       let more : Fits (with_pair kind.Task h other g) s = fits-more g kind.Task h other n.fits.one new s n.fits in
       record {
         same = starts_task-renames (with_pair kind.Task h other g) x s h t (more.zero kind.Mutex) (more.zero kind.Shmem)
-            ∙ (λ i. apply (starts_task (at-new g kind.Task h other i) (new-same g kind.Task h other n.fits.one new t a b i)) (state-same g kind.Task h other n.fits.one new x s n.fits i));
+            ∙ (λ i. apply (starts_task (at-new g kind.Task h other i) (new-same g kind.Task h other n.fits.one new t a b i))
+            (state-same g kind.Task h other n.fits.one new x s n.fits i));
         follows = record {
           fits = has-so (with_pair kind.Task h other g) s more s.phase s.released s.stopped _ s.ends s.actions _ more.actions
-              (has-issue (with_pair kind.Task h other g) kind.Task (HasTask (with_pair kind.Task h other g)) h (new_task t s.starts) s.tasks (has_new g kind.Task h other n.fits.one new) (new-still g kind.Task h other n.fits.one new t s.starts a b) more.tasks);
-          only = only-more g kind.Task h other n.fits.one new s (apply (starts_task h t) s) n.only (task_more s h t) (issue_there h (new_task t s.starts) s.tasks);
+              (has-issue (with_pair kind.Task h other g) kind.Task (HasTask (with_pair kind.Task h other g)) h (new_task t s.starts) s.tasks
+              (has_new g kind.Task h other n.fits.one new) (new-still g kind.Task h other n.fits.one new t s.starts a b) more.tasks);
+          only = only-more g kind.Task h other n.fits.one new s (apply (starts_task h t) s) n.only (task_more s h t)
+              (issue_there h (new_task t s.starts) s.tasks);
         };
       }
 
-  pub makes-pair : (k : Sort) (w : Fields k) → IsNew g (all_of k).kind h other → MakesPair g x s (all_of k).kind h other (apply (makes k h w) s) (apply (makes k other w) (renamed g x s))
+  pub makes-pair : (k : Sort) (w : Fields k) → IsNew g (all_of k).kind h other
+      → MakesPair g x s (all_of k).kind h other (apply (makes k h w) s) (apply (makes k other w) (renamed g x s))
   makes-pair k w new =
       let more : Fits (with_pair (all_of k).kind h other g) s = fits-more g (all_of k).kind h other n.fits.one new s n.fits in
       record {
-        same = makes-renames (with_pair (all_of k).kind h other g) x s k h w ∙ (λ i. apply (makes k (at-new g (all_of k).kind h other i) w) (state-same g (all_of k).kind h other n.fits.one new x s n.fits i));
+        same = makes-renames (with_pair (all_of k).kind h other g) x s k h w
+            ∙ (λ i. apply (makes k (at-new g (all_of k).kind h other i) w) (state-same g (all_of k).kind h other n.fits.one new x s n.fits i));
         follows = record {
-          fits = has-with (with_pair (all_of k).kind h other g) s more k _ (has-issue (with_pair (all_of k).kind h other g) (all_of k).kind NoHandle h w ((all_of k).list s) (has_new g (all_of k).kind h other n.fits.one new) tt (sort-has (with_pair (all_of k).kind h other g) k s more));
+          fits = has-with (with_pair (all_of k).kind h other g) s more k _
+              (has-issue (with_pair (all_of k).kind h other g) (all_of k).kind NoHandle h w ((all_of k).list s)
+              (has_new g (all_of k).kind h other n.fits.one new) tt (sort-has (with_pair (all_of k).kind h other g) k s more));
           only = only-more g (all_of k).kind h other n.fits.one new s (apply (makes k h w) s) n.only (sort_more s h k w) (sort_there s h k w);
         };
       }

@@ -31,7 +31,8 @@ module _ {T : Type 0} where
   within-issue last max h v l e w = omega (arith, room_left last max l e w, length-issue h v l, retired-issue last h v l)
 
   -- so by the handles of the last generation
-  pub within-told : (last max : ℕ) (l : List (Listed T)) → OnceEach l → IsWithin last max l → length (live_of l) + how_many (λ h. not (is_some (live_object l h))) (lasts_in last l) ≤ max
+  pub within-told : (last max : ℕ) (l : List (Listed T)) → OnceEach l → IsWithin last max l
+      → length (live_of l) + how_many (λ h. not (is_some (live_object l h))) (lasts_in last l) ≤ max
   within-told last max l v w = subst (λ (n : ℕ). length (live_of l) + n ≤ max) (retired-gone last l v) w
 
 pub none_within : (T : Type 0) (last max : ℕ) → IsWithin {T = T} last max []

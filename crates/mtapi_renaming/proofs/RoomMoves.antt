@@ -18,17 +18,23 @@ abbrev KeepsRoom : Terms → (T : Type 0) → Objects T → List (Listed T) → 
 KeepsRoom terms T o l m = IsWithin terms.settings.generations (o.max terms.settings) l → IsWithin terms.settings.generations (o.max terms.settings) m
 
 within_each : (s : State) (m : Move) → OnEach (KeepsRoom s.terms) s (apply m s) → WithinAll s → WithinAll (apply m s)
-within_each s m v w k = subst (λ (x : Terms). IsWithin x.settings.generations ((objects_of k).max x.settings) ((objects_of k).list (apply m s))) (sym (terms_stay s m)) (v k (w k))
+within_each s m v w k = subst (λ (x : Terms). IsWithin x.settings.generations ((objects_of k).max x.settings) ((objects_of k).list (apply m s)))
+    (sym (terms_stay s m)) (v k (w k))
 
 -- a new object
 action_within : (s : State) (h : ℕ) (a : Action) → full actions s ≡ false → WithinAll s → WithinAll (apply (makes_action h a) s)
-action_within s h a e = within_each s (makes_action h a) (each_so (KeepsRoom s.terms) (λ T o l w. w) s s.phase s.released s.stopped s.starts s.ends _ s.tasks (within-issue s.terms.settings.generations (actions.max s.terms.settings) h a s.actions e) (λ w. w))
+action_within s h a e = within_each s (makes_action h a)
+    (each_so (KeepsRoom s.terms) (λ T o l w. w) s s.phase s.released s.stopped s.starts s.ends _ s.tasks
+    (within-issue s.terms.settings.generations (actions.max s.terms.settings) h a s.actions e) (λ w. w))
 
 task_within : (s : State) (h : ℕ) (t : NewTask) → full tasks s ≡ false → WithinAll s → WithinAll (apply (starts_task h t) s)
-task_within s h t e = within_each s (starts_task h t) (each_so (KeepsRoom s.terms) (λ T o l w. w) s s.phase s.released s.stopped (s.starts + 1) s.ends s.actions _ (λ w. w) (within-issue s.terms.settings.generations (tasks.max s.terms.settings) h (new_task t s.starts) s.tasks e))
+task_within s h t e = within_each s (starts_task h t)
+    (each_so (KeepsRoom s.terms) (λ T o l w. w) s s.phase s.released s.stopped (s.starts
+    + 1) s.ends s.actions _ (λ w. w) (within-issue s.terms.settings.generations (tasks.max s.terms.settings) h (new_task t s.starts) s.tasks e))
 
 sort_within : (s : State) (t : Sort) (h : ℕ) (v : Fields t) → full (all_of t) s ≡ false → WithinAll s → WithinAll (apply (makes t h v) s)
-sort_within s t h v e = within_each s (makes t h v) (each_with (KeepsRoom s.terms) (λ T o l w. w) s t _ (within-issue s.terms.settings.generations ((all_of t).max s.terms.settings) h v ((all_of t).list s) e))
+sort_within s t h v e = within_each s (makes t h v)
+    (each_with (KeepsRoom s.terms) (λ T o l w. w) s t _ (within-issue s.terms.settings.generations ((all_of t).max s.terms.settings) h v ((all_of t).list s) e))
 
 -- the state after the row, whatever the reply
 record KeepsWithin (s : State) (k : ObjectKind) (own : Reply → Row) : Type 0 where
@@ -38,7 +44,8 @@ module _ {s : State} where
   unless_within : {k : ObjectKind} {a : Bool} {y : Reply} {own : Reply → Row} → KeepsWithin s k own → KeepsWithin s k (λ r. unless a y (own r))
   unless_within i = grind (arith, nat_tests)
 
-  creates_within : {T : Type 0} {k : ObjectKind} (o : Objects T) (make : ℕ → Move) → ((h : ℕ) → full o s ≡ false → WithinAll s → WithinAll (apply (make h) s)) → KeepsWithin s k (λ r. creates o s r make)
+  creates_within : {T : Type 0} {k : ObjectKind} (o : Objects T) (make : ℕ → Move) → ((h : ℕ) → full o s ≡ false → WithinAll s → WithinAll (apply (make h) s))
+      → KeepsWithin s k (λ r. creates o s r make)
   creates_within o make i = grind (arith, nat_tests)
 
 create_within : (s : State) (who : ℕ) (o : Op) (k : ObjectKind) (r : Reply) → made_kind o ≡ Some k → WithinAll s → WithinAll (after_row s (row s who o r))
@@ -55,7 +62,9 @@ create_within s who o k r i = (create_row parts who k o i).within r
 
 other_within : (s : State) (who : ℕ) (o : Op) (r : Reply) → made_kind o ≡ None → WithinAll s → WithinAll (after_row s (row s who o r))
 other_within s who o r e w =
-    moves_keep o WithinAll (λ t m i v. within_each t m (λ k. within-same t.terms.settings.generations ((objects_of k).max t.terms.settings) _ _ (move_same t o m i (by_none t o m e i) k)) v) (moves_of (row s who o r)) s (row_made s who o r) w
+    moves_keep o WithinAll (λ t m i v. within_each t m
+    (λ k. within-same t.terms.settings.generations ((objects_of k).max t.terms.settings) _ _ (move_same t o m i (by_none t o m e i) k)) v)
+    (moves_of (row s who o r)) s (row_made s who o r) w
 
 row_within : (s : State) (who : ℕ) (o : Op) (r : Reply) → WithinAll s → WithinAll (after_row s (row s who o r))
 row_within s who o r w = by_kind (made_kind o) refl
@@ -69,10 +78,12 @@ unfolding after_from
 within_from s [] w = w
 within_from s (e ∷ es) w = within_from (next s e) es (row_within s e.who e.op e.reply w)
 
-pub room_kept : (terms : Terms) (L : List NodeEntry) (k : ObjectKind) → live_in k (after terms L) + gone_of k (after terms L) (lasts_of k (after terms L)) ≤ most_of k (after terms L)
+pub room_kept : (terms : Terms) (L : List NodeEntry) (k : ObjectKind)
+    → live_in k (after terms L) + gone_of k (after terms L) (lasts_of k (after terms L)) ≤ most_of k (after terms L)
 room_kept terms L k =
     let s = after terms L in
-    let within : WithinAll s = within_from (opening terms) L (λ j. at_opening (λ T l. IsWithin terms.settings.generations ((objects_of j).max terms.settings) l) (λ T. none_within _ _ _) terms j) in
+    let within : WithinAll s = within_from (opening terms) L
+    (λ j. at_opening (λ T l. IsWithin terms.settings.generations ((objects_of j).max terms.settings) l) (λ T. none_within _ _ _) terms j) in
     let told = within-told s.terms.settings.generations ((objects_of k).max s.terms.settings) ((objects_of k).list s) (once_after terms L k) (within k) in
     let live = live_is k s in
     let gone = gone_is k s (lasts_of k s) in

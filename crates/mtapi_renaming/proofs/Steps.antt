@@ -10,15 +10,26 @@ use Rattle.mtapi_renaming.proofs.Comes.{not_read, allowed_one, still, pick_not_r
 use Rattle.mtapi_renaming.proofs.CreateTable.{create_alike}
 
 pub step_renames : (g : Renaming) (x : Room) (s : State) (who : ℕ) (o : Op) (r : Reply) → Follows g s → made_kind o ≡ None → StepRenames g x s who o r
-step_renames g x s who o r n i = let a = row_alike n.fits x who o r i in record { allowed = a.allowed; leads = λ b. a.leads; follows = λ b. follows_after g s who o r i n a.fits }
+step_renames g x s who o r n i = let a = row_alike n.fits x who o r i in
+    record { allowed = a.allowed; leads = λ b. a.leads; follows = λ b. follows_after g s who o r i n a.fits }
 
-pub create_renames : (g : Renaming) (x : Room) (s : State) (who : ℕ) (o : Op) (k : ObjectKind) (h other : ℕ) → Follows g s → made_kind o ≡ Some k → CreateRenames g x s who o k h other
+pub create_renames : (g : Renaming) (x : Room) (s : State) (who : ℕ) (o : Op) (k : ObjectKind) (h other : ℕ) → Follows g s → made_kind o ≡ Some k
+    → CreateRenames g x s who o k h other
 create_renames g x s who o k h other n i =
     let a = create_alike n x h other who k o i in
-    record { refused = a.refused; refuses = a.refuses; makes = a.answers; allowed = a.made; leads = λ b c. (a.makes b c).same; follows = λ b c. (a.makes b c).follows }
+    record {
+      refused = a.refused;
+      refuses = a.refuses;
+      makes = a.answers;
+      allowed = a.made;
+      leads = λ b c. (a.makes b c).same;
+      follows =
+          λ b c. (a.makes b c).follows;
+    }
 
 -- what is decided, where the row reads nothing of the two replies
-decides : (g : Renaming) (x : Room) (s : State) (who : ℕ) (o : Op) (given r : Reply) → Follows g s → made_kind o ≡ None → row_in g x s who o (renamed_reply g o r) ≡ row_in g x s who o given →
+decides : (g : Renaming) (x : Room) (s : State) (who : ℕ) (o : Op) (given r : Reply) → Follows g s → made_kind o ≡ None
+    → row_in g x s who o (renamed_reply g o r) ≡ row_in g x s who o given →
     Allows (row_in g x s who o given) given → Allows (row s who o r) r ↔ (renamed_reply g o r ≡ given)
 decides g x s who o given r n i same a =
     let w = row_alike n.fits x who o r i in (
@@ -26,10 +37,13 @@ decides g x s who o given r n i same a =
       λ e. w.allowed.1 (subst (λ (q : Reply). Allows (row_in g x s who o q) q) (sym e) a),
     )
 
-pub answers_decide : (g : Renaming) (x : Room) (s : State) (who : ℕ) (o : Op) (given r : Reply) → Follows g s → made_kind o ≡ None → takes_task o given ≡ false → takes_task o r ≡ false →
+pub answers_decide : (g : Renaming) (x : Room) (s : State) (who : ℕ) (o : Op) (given r : Reply) → Follows g s → made_kind o ≡ None → takes_task o given ≡ false
+    → takes_task o r ≡ false →
     Allows (row_in g x s who o given) given → Allows (row s who o r) r ↔ (renamed_reply g o r ≡ given)
-answers_decide g x s who op.Pick given r n i p q a = decides g x s who op.Pick given r n i (pick_not_read (renamed g x s) who (renamed_reply g op.Pick r) given (takes_still g r q) p) a
-answers_decide g x s who o given r n i p q a = decides g x s who o given r n i (not_read (renamed g x s) who (renamed_op g o) (renamed_reply g o r) given (still g o (ap is_some i))) a
+answers_decide g x s who op.Pick given r n i p q a =
+    decides g x s who op.Pick given r n i (pick_not_read (renamed g x s) who (renamed_reply g op.Pick r) given (takes_still g r q) p) a
+answers_decide g x s who o given r n i p q a =
+    decides g x s who o given r n i (not_read (renamed g x s) who (renamed_op g o) (renamed_reply g o r) given (still g o (ap is_some i))) a
 
 -- as many objects are live
 pub same_length : {T : Type 0} (f : ℕ → ℕ) (c : T → T) (l : List (Listed T)) → length (live_of (renamed_list f c l)) ≡ length (live_of l)

@@ -28,7 +28,8 @@ module _ {g : Renaming} {s : State} (n : Fits g s) (x : Room) where
   pub served : (job cores : ℕ) → is_served (renamed g x s) job cores ≡ is_served s job cores
   served job cores = same_workers g n.one (workers s) job cores s.actions n.actions
 
-  pub group_missing : (h : Option ℕ) → holds (λ a. is_none (live_object (renamed g x s).groups a)) (option_map (g kind.Group) h) ≡ holds (λ a. is_none (live_object s.groups a)) h
+  pub group_missing : (h : Option ℕ) → holds (λ a. is_none (live_object (renamed g x s).groups a)) (option_map (g kind.Group) h)
+      ≡ holds (λ a. is_none (live_object s.groups a)) h
   group_missing None = refl
   group_missing (Some h) = ap is_none (sort-found n x Groups h) ∙ is_none-map (λ y. y) (live_object s.groups h)
 
@@ -40,22 +41,28 @@ module _ {g : Renaming} {s : State} (n : Fits g s) (x : Room) where
       by_object None = refl
       by_object (Some q) = refl
 
-      by_queue : (o : Option ℕ) → holds (λ h. holds (λ q. not q.enabled) (live_object (renamed g x s).queues h)) (option_map (g kind.Queue) o) ≡ holds (λ h. holds (λ q. not q.enabled) (live_object s.queues h)) o
+      by_queue : (o : Option ℕ) → holds (λ h. holds (λ q. not q.enabled) (live_object (renamed g x s).queues h)) (option_map (g kind.Queue) o)
+          ≡ holds (λ h. holds (λ q. not q.enabled) (live_object s.queues h)) o
       by_queue None = refl
       by_queue (Some h) = ap (holds (λ q. not q.enabled)) (sort-found n x Queues h) ∙ by_object (live_object s.queues h)
 
   pub count-in : (q : ℕ) → count_listed (is_unended_in (g kind.Queue q)) (renamed g x s).tasks ≡ count_listed (is_unended_in q) s.tasks
-  count-in q = same_count g n.one kind.Task (renamed_task g) (HasTask g) (is_unended_in (g kind.Queue q)) (is_unended_in q) (same_unended_in g n.one q) s.tasks n.tasks
+  count-in q = same_count g n.one kind.Task (renamed_task g) (HasTask g) (is_unended_in (g kind.Queue q)) (is_unended_in q)
+      (same_unended_in g n.one q) s.tasks n.tasks
 
 module _ {g : Renaming} {x : Room} {s : State} (n : Fits g s) {k : Option ObjectKind} {r : Reply} where
   -- Looking and cancelling
 
   pub looks_at_alike : (who h : ℕ) (last : Bool) (y : TaskState) → Alike g x s k r (looks_at who h last y) (looks_at who (g kind.Task h) last y)
   looks_at_alike who h last (Ended e m) = gives_alike n refl (one_move (leaves-renames g x s n h))
-  looks_at_alike who h true Scheduled = gives_alike n refl (one_move (notes-renames g x s n h _ _ (λ y. refl) (λ y v. record { group = v.group; tally = v.tally })))
-  looks_at_alike who h false Scheduled = gives_alike n refl (one_move (notes-renames g x s n h _ _ (λ y. refl) (λ y v. record { group = v.group; tally = v.tally })))
-  looks_at_alike who h true (Running w m) = gives_alike n refl (one_move (notes-renames g x s n h _ _ (λ y. refl) (λ y v. record { group = v.group; tally = v.tally })))
-  looks_at_alike who h false (Running w m) = gives_alike n refl (one_move (notes-renames g x s n h _ _ (λ y. refl) (λ y v. record { group = v.group; tally = v.tally })))
+  looks_at_alike who h true Scheduled = gives_alike n refl
+      (one_move (notes-renames g x s n h _ _ (λ y. refl) (λ y v. record { group = v.group; tally = v.tally })))
+  looks_at_alike who h false Scheduled = gives_alike n refl
+      (one_move (notes-renames g x s n h _ _ (λ y. refl) (λ y v. record { group = v.group; tally = v.tally })))
+  looks_at_alike who h true (Running w m) =
+      gives_alike n refl (one_move (notes-renames g x s n h _ _ (λ y. refl) (λ y v. record { group = v.group; tally = v.tally })))
+  looks_at_alike who h false (Running w m) =
+      gives_alike n refl (one_move (notes-renames g x s n h _ _ (λ y. refl) (λ y v. record { group = v.group; tally = v.tally })))
 
   pub cancels_alike : (h : ℕ) (y : TaskState) → Alike g x s k r (cancels h y) (cancels (g kind.Task h) y)
   cancels_alike h Scheduled = gives_alike n refl (one_move (ends_task-renames g x s n h Cancelled))
@@ -68,10 +75,13 @@ module _ {g : Renaming} {x : Room} {s : State} (n : Fits g s) {k : Option Object
   gives_end_alike h Scheduled v = never_alike n
   gives_end_alike h (Running w m) v = never_alike n
   gives_end_alike h (Ended e m) v =
-      gives_renamed n v (then_moves (notes-renames g x s n h in_no_group in_no_group (λ y. refl) (λ y w. record { group = tt; tally = w.tally })) (λ f. one_move (leaves-renames g x _ f h)))
+      gives_renamed n v (then_moves (notes-renames g x s n h in_no_group in_no_group (λ y. refl) (λ y w. record { group = tt; tally = w.tally }))
+      (λ f. one_move (leaves-renames g x _ f h)))
 
-  pub gives_first_alike : (last : Bool) (xs ys : List Ending) → ys ≡ renamed_endings g xs → Alike g x s k r (gives_first s last xs) (gives_first (renamed g x s) last ys)
-  gives_first_alike last xs ys e = subst (λ (zs : List Ending). Alike g x s k r (gives_first s last xs) (gives_first (renamed g x s) last zs)) (sym e) (by_first xs)
+  pub gives_first_alike : (last : Bool) (xs ys : List Ending) → ys ≡ renamed_endings g xs
+      → Alike g x s k r (gives_first s last xs) (gives_first (renamed g x s) last ys)
+  gives_first_alike last xs ys e = subst (λ (zs : List Ending). Alike g x s k r (gives_first s last xs) (gives_first (renamed g x s) last zs)) (sym e)
+      (by_first xs)
     where
       by_first : (zs : List Ending) → Alike g x s k r (gives_first s last zs) (gives_first (renamed g x s) last (renamed_endings g zs))
       by_first [] = not_yet_alike n last _ refl
@@ -82,6 +92,9 @@ module _ {g : Renaming} {x : Room} {s : State} (n : Fits g s) {k : Option Object
   -- Queues
 
   pub disables_alike : (q : ℕ) (retain : Bool) →
-      Alike g x s k r (gives Ok (alters Queues q (opened false) ∷ cond retain [] (ends_waiting (is_in q) Cancelled ∷ []))) (gives Ok (alters Queues (g kind.Queue q) (opened false) ∷ cond retain [] (ends_waiting (is_in (g kind.Queue q)) Cancelled ∷ [])))
+      Alike g x s k r (gives Ok (alters Queues q (opened false) ∷ cond retain [] (ends_waiting (is_in q) Cancelled ∷ [])))
+      (gives Ok (alters Queues (g kind.Queue q) (opened false) ∷ cond retain [] (ends_waiting (is_in (g kind.Queue q)) Cancelled ∷ [])))
   disables_alike q true = gives_alike n refl (one_move (alters-renames g x s n Queues q (opened false)))
-  disables_alike q false = gives_alike n refl (then_moves (alters-renames g x s n Queues q (opened false)) (λ f. one_move (ends_waiting-renames g x _ f (is_in (g kind.Queue q)) (is_in q) (same_in g n.one q) Cancelled)))
+  disables_alike q false = gives_alike n refl
+      (then_moves (alters-renames g x s n Queues q (opened false))
+      (λ f. one_move (ends_waiting-renames g x _ f (is_in (g kind.Queue q)) (is_in q) (same_in g n.one q) Cancelled)))

@@ -17,7 +17,8 @@ below_same : (n : ℕ) (p q : ℕ → Bool) → ((w : ℕ) → p w ≡ q w) → 
 below_same n p q i = grind (arith, nat_tests)
 
 -- the ends of tasks leave what the renaming has
-pub has-ends : (g : Renaming) (p : Task → Bool) (e : TaskEnd) (n : ℕ) (l : List (Listed Task)) → HasEach g kind.Task (HasTask g) l → HasEach g kind.Task (HasTask g) (end_each p e n l)
+pub has-ends : (g : Renaming) (p : Task → Bool) (e : TaskEnd) (n : ℕ) (l : List (Listed Task)) → HasEach g kind.Task (HasTask g) l
+    → HasEach g kind.Task (HasTask g) (end_each p e n l)
 unfolding end_each
 has-ends g p e n [] v = tt
 has-ends g p e n (r ∷ rs) v = grind (arith, v.0, has-ends g p e n rs v.1, has-ends g p e (n + 1) rs v.1)
@@ -38,7 +39,8 @@ insert-renamed : (g : Renaming) (x : Ending) (xs : List Ending) → renamed_endi
 insert-renamed g x [] = refl
 insert-renamed g x (y ∷ ys) = grind (arith, insert-renamed g x ys)
 
-insert_ended-renamed : (g : Renaming) (h : ℕ) (x : Option (TaskEnd × ℕ)) (xs ys : List Ending) → ys ≡ renamed_endings g xs → insert_ended (g kind.Task h) x ys ≡ renamed_endings g (insert_ended h x xs)
+insert_ended-renamed : (g : Renaming) (h : ℕ) (x : Option (TaskEnd × ℕ)) (xs ys : List Ending) → ys ≡ renamed_endings g xs
+    → insert_ended (g kind.Task h) x ys ≡ renamed_endings g (insert_ended h x xs)
 insert_ended-renamed g h x xs ys i = grind (arith, nat_tests, insert-renamed)
 
 module _ (g : Renaming) (one : IsOneToOne g) where
@@ -58,12 +60,15 @@ module _ (g : Renaming) (one : IsOneToOne g) where
   same_unended_in q t n = ap (λ (b : Bool). b && is_unended t) (same_in q t n)
 
   -- the task is the head of its queue
-  pub same_head : (q : ℕ) (t : Task) (l : List (Listed Task)) → HasEach g kind.Task (HasTask g) l → is_head (g kind.Queue q) (renamed_task g t) (live_of (renamed_tasks g l)) ≡ is_head q t (live_of l)
+  pub same_head : (q : ℕ) (t : Task) (l : List (Listed Task)) → HasEach g kind.Task (HasTask g) l
+      → is_head (g kind.Queue q) (renamed_task g t) (live_of (renamed_tasks g l)) ≡ is_head q t (live_of l)
   same_head q t l i = grind (arith, nat_tests, same_any, same_unended_in)
 
-  pub same_workers : (workers job cores : ℕ) (l : List (Listed Action)) → HasEach g kind.Action NoHandle l → has_worker workers job cores (live_of (renamed_list (g kind.Action) (λ x. x) l)) ≡ has_worker workers job cores (live_of l)
+  pub same_workers : (workers job cores : ℕ) (l : List (Listed Action)) → HasEach g kind.Action NoHandle l
+      → has_worker workers job cores (live_of (renamed_list (g kind.Action) (λ x. x) l)) ≡ has_worker workers job cores (live_of l)
   unfolding has_worker
-  same_workers workers job cores l n = below_same workers _ _ (λ w. same_any g one kind.Action (λ x. x) NoHandle (is_eligible workers w job cores) (is_eligible workers w job cores) (λ x m. refl) l n)
+  same_workers workers job cores l n = below_same workers _ _
+      (λ w. same_any g one kind.Action (λ x. x) NoHandle (is_eligible workers w job cores) (is_eligible workers w job cores) (λ x m. refl) l n)
 
   abbrev one_task : Listed Task → Listed Task
   one_task x = turned_one (g kind.Task) (λ h y. renamed_task g y) x
@@ -73,13 +78,22 @@ module _ (g : Renaming) (one : IsOneToOne g) where
   with_first b r rs q e n = cond b (ended e n (one_task r) ∷ end_each q e (n + 1) (renamed_tasks g rs)) (one_task r ∷ end_each q e n (renamed_tasks g rs))
 
   -- every live task that passes ends
-  pub end_each-renamed : (q m : Task → Bool) → SameTest g q m → (e : TaskEnd) (n : ℕ) (l : List (Listed Task)) → HasEach g kind.Task (HasTask g) l → renamed_tasks g (end_each m e n l) ≡ end_each q e n (renamed_tasks g l)
+  pub end_each-renamed : (q m : Task → Bool) → SameTest g q m → (e : TaskEnd) (n : ℕ) (l : List (Listed Task)) → HasEach g kind.Task (HasTask g) l
+      → renamed_tasks g (end_each m e n l) ≡ end_each q e n (renamed_tasks g l)
   unfolding end_each inside
   end_each-renamed q m same e n [] v = refl
-  end_each-renamed q m same e n (r ∷ rs) v = grind (arith, same r.fields v.0.1, end_each-renamed q m same e n rs v.1, end_each-renamed q m same e (n + 1) rs v.1)
+  end_each-renamed q m same e n (r ∷ rs) v =
+      grind (arith, same r.fields v.0.1, end_each-renamed q m same e n rs v.1, end_each-renamed q m same e (n + 1) rs v.1)
 
   -- the members that have ended, in the order of their ends
-  pub endings-renamed : (h : ℕ) (l : List (Listed Task)) → HasEach g kind.Task (HasTask g) l → endings (g kind.Group h) (live_of (renamed_tasks g l)) ≡ renamed_endings g (endings h (live_of l))
+  pub endings-renamed : (h : ℕ) (l : List (Listed Task)) → HasEach g kind.Task (HasTask g) l
+      → endings (g kind.Group h) (live_of (renamed_tasks g l)) ≡ renamed_endings g (endings h (live_of l))
   unfolding endings live_of inside
   endings-renamed h [] v = refl
-  endings-renamed h (r ∷ rs) v = grind (arith, same_member h r.fields v.0.1, insert_ended-renamed g r.handle (end_of r.fields.state) (endings h (live_of rs)) (endings (g kind.Group h) (live_of (renamed_tasks g rs))) (endings-renamed h rs v.1), endings-renamed h rs v.1)
+  endings-renamed h (r ∷ rs) v = grind (
+    arith,
+    same_member h r.fields v.0.1,
+    insert_ended-renamed g r.handle (end_of r.fields.state) (endings h (live_of rs))
+        (endings (g kind.Group h) (live_of (renamed_tasks g rs))) (endings-renamed h rs v.1),
+    endings-renamed h rs v.1,
+  )

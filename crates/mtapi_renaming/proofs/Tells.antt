@@ -20,21 +20,49 @@ no_handle_in y i = grind (arith, nat_tests)
 module _ {s : State} where
   says_tells : {k : ObjectKind} (y : Reply) → is_plain y ≡ true → Tells s k (λ r. says y)
   unfolding refusal_in
-  says_tells y p = record { asks = no_handle_in y p; why = Some y; is = refl; tells = λ r. (λ i. i, λ i. i); plain = λ r e. grind (arith, no_handle_in y p); stays = λ r i e. refl }
+  says_tells y p = record {
+    asks = no_handle_in y p;
+    why = Some y;
+    is = refl;
+    tells = λ r. (λ i. i, λ i. i);
+    plain =
+        λ r e. grind (arith, no_handle_in y p);
+    stays = λ r i e. refl;
+  }
 
   unless_tells : {k : ObjectKind} {a : Bool} {y : Reply} {own : Reply → Row} → is_plain y ≡ true → Tells s k own → Tells s k (λ r. unless a y (own r))
   unfolding refusal_in
-  unless_tells {a = true} {y = y} p v = record { asks = refl; why = Some y; is = ap (λ (b : Bool). cond b None (Some y)) v.asks; tells = λ r. (λ i. i, λ i. i); plain = λ r e. grind (arith, no_handle_in y p); stays = λ r i e. refl }
-  unless_tells {a = false} {own = own} p v = record { asks = refl; why = v.why; is = ap (λ (b : Bool). cond b None (refusal_in (own Ok))) v.asks ∙ v.is; tells = v.tells; plain = v.plain; stays = v.stays }
+  unless_tells {a = true} {y = y} p v = record {
+    asks = refl;
+    why = Some y;
+    is = ap (λ (b : Bool). cond b None (Some y)) v.asks;
+    tells =
+        λ r. (λ i. i, λ i. i);
+    plain = λ r e. grind (arith, no_handle_in y p);
+    stays = λ r i e. refl;
+  }
+  unless_tells {a = false} {own = own} p v =
+      record {
+        asks = refl;
+        why = v.why;
+        is = ap (λ (b : Bool). cond b None (refusal_in (own Ok))) v.asks ∙ v.is;
+        tells = v.tells;
+        plain = v.plain;
+        stays =
+            v.stays;
+      }
 
-  creates_tells : {T : Type 0} {k : ObjectKind} (o : Objects T) (make : ℕ → Move) → is_full_of k s ≡ full o s → ((h : ℕ) → is_fresh_of k s h ≡ is_fresh o s h) → limit_of k ≡ o.limit → Tells s k (λ r. creates o s r make)
+  creates_tells : {T : Type 0} {k : ObjectKind} (o : Objects T) (make : ℕ → Move) → is_full_of k s ≡ full o s → ((h : ℕ) → is_fresh_of k s h ≡ is_fresh o s h)
+      → limit_of k ≡ o.limit → Tells s k (λ r. creates o s r make)
   creates_tells {T} {k} o make e d l = record {
     asks = refl;
     why = None;
     is = creates_none o s make;
     tells = λ r.
-        let can : CanBe k s r ≡ MatchBool (full o s) (r ≡ o.limit) ((is_fresh o s (handle_of r) ≡ true) × (r ≡ Handle (handle_of r))) = λ i. MatchBool (e i) (r ≡ l i) ((d (handle_of r) i ≡ true) × (r ≡ Handle (handle_of r))) in
-        subst (λ (A : Type 0). Allows (creates o s r make) r ↔ A) (sym can) (can_be (full o s) (is_fresh o s (handle_of r)) o.limit r (make (handle_of r) ∷ []));
+        let can : CanBe k s r ≡ MatchBool (full o s) (r ≡ o.limit) ((is_fresh o s (handle_of r) ≡ true) × (r ≡ Handle (handle_of r))) =
+        λ i. MatchBool (e i) (r ≡ l i) ((d (handle_of r) i ≡ true) × (r ≡ Handle (handle_of r))) in
+        subst (λ (A : Type 0). Allows (creates o s r make) r
+        ↔ A) (sym can) (can_be (full o s) (is_fresh o s (handle_of r)) o.limit r (make (handle_of r) ∷ []));
     plain = λ r e. absurd (cc);
     stays = λ r. stays_in s (full o s) (is_fresh o s (handle_of r)) o.limit r (make (handle_of r) ∷ []);
   }
@@ -51,11 +79,14 @@ module _ {s : State} where
         sort = λ t v. creates_tells (all_of t) (λ b. makes t b v) (full_same t s) (λ h. fresh_same t s h) (limit_same t);
       }
 
-pub refusals_tell : (s : State) (who : ℕ) (o : Op) (k : ObjectKind) (r : Reply) → made_kind o ≡ Some k → Allows (row s who o r) r ↔ CanAnswer (refusal_of s who o) k s r
-refusals_tell s who o k r i = let v = create_tells {s = s} who o k i in subst (λ (x : Option Reply). Allows (row s who o r) r ↔ CanAnswer x k s r) (sym v.is) (v.tells r)
+pub refusals_tell : (s : State) (who : ℕ) (o : Op) (k : ObjectKind) (r : Reply) → made_kind o ≡ Some k
+    → Allows (row s who o r) r ↔ CanAnswer (refusal_of s who o) k s r
+refusals_tell s who o k r i = let v = create_tells {s = s} who o k i in
+    subst (λ (x : Option Reply). Allows (row s who o r) r ↔ CanAnswer x k s r) (sym v.is) (v.tells r)
 
 pub refusals_plain : (s : State) (who : ℕ) (o : Op) (k : ObjectKind) (r : Reply) → made_kind o ≡ Some k → refusal_of s who o ≡ Some r → is_handle r ≡ false
 refusals_plain s who o k r i e = let v = create_tells {s = s} who o k i in v.plain r (sym v.is ∙ e)
 
-pub refusals_stay : (s : State) (who : ℕ) (o : Op) (k : ObjectKind) (r : Reply) → made_kind o ≡ Some k → Allows (row s who o r) r → is_handle r ≡ false → after_row s (row s who o r) ≡ s
+pub refusals_stay : (s : State) (who : ℕ) (o : Op) (k : ObjectKind) (r : Reply) → made_kind o ≡ Some k → Allows (row s who o r) r → is_handle r ≡ false
+    → after_row s (row s who o r) ≡ s
 refusals_stay s who o k r i = (create_tells {s = s} who o k i).stays r

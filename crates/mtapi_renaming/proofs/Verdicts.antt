@@ -17,7 +17,8 @@ true_decides b = (λ i. i, λ i. i)
 honest_decides : (o : Op) → Decides (is_honest o) (IsHonest o)
 honest_decides (Finish t d) =
     decides_so (is_honest (Finish t d)) (λ e. record { pure = e.0.0; few = e.0.1; answer = e.1 }) (λ h. ((h.pure, h.few), h.answer))
-    (both_decide _ _ (both_decide (is_pure d.kind) (nat_le (length d.args) 16) (true_decides (is_pure d.kind)) (le_decides (length d.args) 16)) (act_decides d.end (answer_of d.kind d.args)))
+    (both_decide _ _ (both_decide (is_pure d.kind) (nat_le (length d.args) 16) (true_decides (is_pure d.kind)) (le_decides (length d.args) 16))
+    (act_decides d.end (answer_of d.kind d.args)))
 honest_decides o = (λ i. tt, λ i. refl)
 
 answer_decides : (w : Row) (r : Reply) → Decides (is_answer (answer w) r) (Allows w r)
@@ -29,7 +30,8 @@ answer_decides never r = (λ i. absurd (cc), λ i. absurd i)
 come_decides : (s : State) (e : NodeEntry) → Decides (may_come s e) (IsNext s e)
 come_decides s e =
     decides_so (may_come s e) (λ i. record { seat = i.0.0; honest = i.0.1; allowed = i.1 }) (λ n. ((n.seat, n.honest), n.allowed))
-    (both_decide _ _ (both_decide (nat_lt e.who (seats s)) (is_honest e.op) (lt_decides e.who (seats s)) (honest_decides e.op)) (answer_decides (row_of s e) e.reply))
+    (both_decide _ _ (both_decide (nat_lt e.who (seats s)) (is_honest e.op) (lt_decides e.who (seats s)) (honest_decides e.op))
+    (answer_decides (row_of s e) e.reply))
 
 legal_none : (s : State) (L : List NodeEntry) → LegalFrom s L → first_illegal s L ≡ None
 unfolding LegalFrom first_illegal
@@ -39,7 +41,11 @@ legal_none s (e ∷ es) l = λ i. cond ((come_decides s e).1 l.0 i) (option_map 
 none_legal : (s : State) (L : List NodeEntry) → first_illegal s L ≡ None → LegalFrom s L
 unfolding LegalFrom first_illegal
 none_legal s [] i = tt
-none_legal s (e ∷ es) i = elim (may_come s e) as (λ b. may_come s e ≡ b → IsNext s e × LegalFrom (next s e) es) [ true ↦ λ d. ((come_decides s e).0 d, none_legal (next s e) es (grind (arith, i, d))) | false ↦ λ d. absurd (grind (arith, i, d)) ] refl
+none_legal s (e ∷ es) i = elim (may_come s e) as (λ b. may_come s e ≡ b → IsNext s e × LegalFrom (next s e) es) [
+  | true ↦
+      λ d. ((come_decides s e).0 d, none_legal (next s e) es (grind (arith, i, d)))
+  | false ↦ λ d. absurd (grind (arith, i, d))
+] refl
 
 -- n is the least number such that the first n entries aren't legal from this state on
 record IsLeast (s : State) (L : List NodeEntry) (n : ℕ) : Type 0 where
@@ -63,11 +69,14 @@ unfolding first_illegal
 least s [] n i = absurd (cc)
 least s (e ∷ es) n i = by_test (λ m f. least (next s e) es m f) (may_come s e) refl i
   where
-    by_rest : ((m : ℕ) → first_illegal (next s e) es ≡ Some m → IsLeast (next s e) es m) → (o : Option ℕ) → first_illegal (next s e) es ≡ o → may_come s e ≡ true → option_map (λ m. m + 1) o ≡ Some n → IsLeast s (e ∷ es) n
+    by_rest : ((m : ℕ) → first_illegal (next s e) es ≡ Some m → IsLeast (next s e) es m) → (o : Option ℕ) → first_illegal (next s e) es ≡ o
+        → may_come s e ≡ true → option_map (λ m. m + 1) o ≡ Some n → IsLeast s (e ∷ es) n
     by_rest more None f d j = absurd (cc)
-    by_rest more (Some m) f d j = let k : m + 1 ≡ n = cc in let same : suc m ≡ n = omega (arith, k) in subst (λ (x : ℕ). IsLeast s (e ∷ es) x) same (later_bad s e es m d (more m f))
+    by_rest more (Some m) f d j = let k : m + 1 ≡ n = cc in let same : suc m ≡ n = omega (arith, k) in
+        subst (λ (x : ℕ). IsLeast s (e ∷ es) x) same (later_bad s e es m d (more m f))
 
-    by_test : ((m : ℕ) → first_illegal (next s e) es ≡ Some m → IsLeast (next s e) es m) → (b : Bool) → may_come s e ≡ b → cond b (option_map (λ m. m + 1) (first_illegal (next s e) es)) (Some 1) ≡ Some n → IsLeast s (e ∷ es) n
+    by_test : ((m : ℕ) → first_illegal (next s e) es ≡ Some m → IsLeast (next s e) es m) → (b : Bool) → may_come s e ≡ b
+        → cond b (option_map (λ m. m + 1) (first_illegal (next s e) es)) (Some 1) ≡ Some n → IsLeast s (e ∷ es) n
     by_test more true d j = by_rest more (first_illegal (next s e) es) refl d j
     by_test more false d j = let k : 1 ≡ n = cc in subst (λ (x : ℕ). IsLeast s (e ∷ es) x) k (first_bad s e es d)
 

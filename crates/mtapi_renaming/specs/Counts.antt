@@ -44,7 +44,8 @@ FreshIsNext = (terms : Terms) (L : List NodeEntry) (k : ObjectKind) (h : ℕ) �
 
 -- where fewer objects of a kind were made than a slot has generations, it has no room exactly where as many are live as there may be
 abbrev pub FullIsLive : Type 0
-FullIsLive = (terms : Terms) (L : List NodeEntry) (k : ObjectKind) → made_in k (after terms L) < (after terms L).terms.settings.generations → is_full_of k (after terms L) ≡ (live_in k (after terms L) == most_of k (after terms L))
+FullIsLive = (terms : Terms) (L : List NodeEntry) (k : ObjectKind) → made_in k (after terms L) < (after terms L).terms.settings.generations
+    → is_full_of k (after terms L) ≡ (live_in k (after terms L) == most_of k (after terms L))
 
 -- after any entries the terms are those of the start
 abbrev pub TermsStay : Type 0
@@ -59,7 +60,8 @@ pub record MakesOne (s t : State) (k : ObjectKind) (h : ℕ) : Type 0 where
 
 -- so an op does that makes an object and answers its handle
 abbrev pub CreatesMakeOne : Type 0
-CreatesMakeOne = (s : State) (who : ℕ) (op : Op) (k : ObjectKind) (h : ℕ) → made_kind op ≡ Some k → Allows (row s who op (Handle h)) (Handle h) → MakesOne s (after_row s (row s who op (Handle h))) k h
+CreatesMakeOne = (s : State) (who : ℕ) (op : Op) (k : ObjectKind) (h : ℕ) → made_kind op ≡ Some k → Allows (row s who op (Handle h)) (Handle h)
+    → MakesOne s (after_row s (row s who op (Handle h))) k h
 
 -- an op that makes nothing leaves the counts
 pub record MakesNone (s t : State) : Type 0 where

@@ -37,5 +37,7 @@ GoneStayGone = (terms : Terms) (L : List NodeEntry) (e : NodeEntry) (k : ObjectK
 
 -- one that was live and isn't any more is gone
 abbrev pub EndsAreGone : Type 0
-EndsAreGone = (terms : Terms) (L : List NodeEntry) (e : NodeEntry) (k : ObjectKind) (h : ℕ) → is_live_of k (after terms L) h ≡ true → is_live_of k (next (after terms L) e) h ≡ false →
-    AreGone (after terms L) (next (after terms L) e) k (if generation_of h == terms.settings.generations then 1 else 0) (if generation_of h == terms.settings.generations then 0 else 1)
+EndsAreGone = (terms : Terms) (L : List NodeEntry) (e : NodeEntry) (k : ObjectKind) (h : ℕ) → is_live_of k (after terms L) h ≡ true
+    → is_live_of k (next (after terms L) e) h ≡ false →
+    AreGone (after terms L) (next (after terms L) e) k (if generation_of h == terms.settings.generations then 1
+    else 0) (if generation_of h == terms.settings.generations then 0 else 1)

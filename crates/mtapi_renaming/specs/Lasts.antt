@@ -35,7 +35,8 @@ FullIsTold = (terms : Terms) (L : List NodeEntry) (k : ObjectKind) →
 
 -- after any entries, those that are live and those of the last generation that aren't are no more than there may be
 abbrev pub RoomIsKept : Type 0
-RoomIsKept = (terms : Terms) (L : List NodeEntry) (k : ObjectKind) → live_in k (after terms L) + gone_of k (after terms L) (lasts_of k (after terms L)) ≤ most_of k (after terms L)
+RoomIsKept = (terms : Terms) (L : List NodeEntry) (k : ObjectKind)
+    → live_in k (after terms L) + gone_of k (after terms L) (lasts_of k (after terms L)) ≤ most_of k (after terms L)
 
 -- the list with this handle behind, where it is of the last generation
 abbrev pub with_last : ℕ → ℕ → List ℕ → List ℕ
@@ -47,7 +48,8 @@ pub record MakesLast (s t : State) (k : ObjectKind) (h : ℕ) : Type 0 where
   pub others : (i : ObjectKind) → (i ≡ k → ⊥) → lasts_of i t ≡ lasts_of i s
 
 abbrev pub CreatesMakeLast : Type 0
-CreatesMakeLast = (s : State) (who : ℕ) (op : Op) (k : ObjectKind) (h : ℕ) → made_kind op ≡ Some k → Allows (row s who op (Handle h)) (Handle h) → MakesLast s (after_row s (row s who op (Handle h))) k h
+CreatesMakeLast = (s : State) (who : ℕ) (op : Op) (k : ObjectKind) (h : ℕ) → made_kind op ≡ Some k → Allows (row s who op (Handle h)) (Handle h)
+    → MakesLast s (after_row s (row s who op (Handle h))) k h
 
 -- an op that makes nothing leaves them
 abbrev pub OthersKeepLasts : Type 0

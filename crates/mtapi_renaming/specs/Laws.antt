@@ -31,7 +31,8 @@ StepsRename = (g : Renaming) (x : Room) (s : State) (who : ℕ) (op : Op) (r : R
 -- where the renamed state gives a reply to an op that makes nothing, the state allows just the reply that is renamed to it; which task a
 -- worker takes may be chosen, and this says nothing of that
 abbrev pub AnswersDecide : Type 0
-AnswersDecide = (g : Renaming) (x : Room) (s : State) (who : ℕ) (op : Op) (given r : Reply) → Follows g s → made_kind op ≡ None → takes_task op given ≡ false → takes_task op r ≡ false →
+AnswersDecide = (g : Renaming) (x : Room) (s : State) (who : ℕ) (op : Op) (given r : Reply) → Follows g s → made_kind op ≡ None → takes_task op given ≡ false
+    → takes_task op r ≡ false →
     Allows (row_in g x s who op given) given → Allows (row s who op r) r ↔ (renamed_reply g op r ≡ given)
 
 -- an op that makes an object of this kind, with this handle in the state and that other one in the renamed state
@@ -39,7 +40,8 @@ pub record CreateRenames (g : Renaming) (x : Room) (s : State) (who : ℕ) (op :
   -- what is refused before the limit is refused so on both sides
   pub refused : (r : Reply) → is_handle r ≡ false → (r ≡ limit_of k → ⊥) → Allows (row s who op r) r ↔ Allows (row_in g x s who op r) r
   -- and then the state allows nothing else
-  pub refuses : (given r : Reply) → is_handle given ≡ false → (given ≡ limit_of k → ⊥) → Allows (row_in g x s who op given) given → Allows (row s who op r) r ↔ (r ≡ given)
+  pub refuses : (given r : Reply) → is_handle given ≡ false → (given ≡ limit_of k → ⊥) → Allows (row_in g x s who op given) given
+      → Allows (row s who op r) r ↔ (r ≡ given)
   -- where the renamed state makes an object, the state answers the limit if it has no room, and else any handle that may be given
   pub makes : Allows (row_in g x s who op (Handle other)) (Handle other) → (r : Reply) → Allows (row s who op r) r ↔ CanBe k s r
   -- where both states have room, and both handles may be given, both are answered or none
@@ -49,10 +51,12 @@ pub record CreateRenames (g : Renaming) (x : Room) (s : State) (who : ℕ) (op :
   pub leads : Allows (row s who op (Handle h)) (Handle h) → Allows (row_in g x s who op (Handle other)) (Handle other) →
       renamed (with_pair k h other g) x (after_row s (row s who op (Handle h))) ≡ after_row (renamed g x s) (row_in g x s who op (Handle other))
   -- and the renaming with the new pair has just what was issued
-  pub follows : Allows (row s who op (Handle h)) (Handle h) → Allows (row_in g x s who op (Handle other)) (Handle other) → Follows (with_pair k h other g) (after_row s (row s who op (Handle h)))
+  pub follows : Allows (row s who op (Handle h)) (Handle h) → Allows (row_in g x s who op (Handle other)) (Handle other)
+      → Follows (with_pair k h other g) (after_row s (row s who op (Handle h)))
 
 abbrev pub CreatesRename : Type 0
-CreatesRename = (g : Renaming) (x : Room) (s : State) (who : ℕ) (op : Op) (k : ObjectKind) (h other : ℕ) → Follows g s → made_kind op ≡ Some k → CreateRenames g x s who op k h other
+CreatesRename = (g : Renaming) (x : Room) (s : State) (who : ℕ) (op : Op) (k : ObjectKind) (h other : ℕ) → Follows g s → made_kind op ≡ Some k
+    → CreateRenames g x s who op k h other
 
 -- of each kind the same objects are live, and so there are as many
 pub record LiveAlike (g : Renaming) (x : Room) (s : State) (k : ObjectKind) : Type 0 where

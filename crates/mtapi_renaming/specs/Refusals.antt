@@ -39,11 +39,13 @@ CanAnswer (Some x) k s r = r ≡ x
 CanAnswer None k s r = CanBe k s r
 
 abbrev pub RefusalsTell : Type 0
-RefusalsTell = (s : State) (who : ℕ) (op : Op) (k : ObjectKind) (r : Reply) → made_kind op ≡ Some k → Allows (row s who op r) r ↔ CanAnswer (refusal_of s who op) k s r
+RefusalsTell = (s : State) (who : ℕ) (op : Op) (k : ObjectKind) (r : Reply) → made_kind op ≡ Some k
+    → Allows (row s who op r) r ↔ CanAnswer (refusal_of s who op) k s r
 
 -- an op that makes an object leaves the state as it was where it answers no handle
 abbrev pub RefusalsStay : Type 0
-RefusalsStay = (s : State) (who : ℕ) (op : Op) (k : ObjectKind) (r : Reply) → made_kind op ≡ Some k → Allows (row s who op r) r → is_handle r ≡ false → after_row s (row s who op r) ≡ s
+RefusalsStay = (s : State) (who : ℕ) (op : Op) (k : ObjectKind) (r : Reply) → made_kind op ≡ Some k → Allows (row s who op r) r → is_handle r ≡ false
+    → after_row s (row s who op r) ≡ s
 
 -- no refusal is a handle
 abbrev pub RefusalsArePlain : Type 0
@@ -51,8 +53,10 @@ RefusalsArePlain = (s : State) (who : ℕ) (op : Op) (k : ObjectKind) (r : Reply
 
 -- two nodes that differ in their handles and in their limits alone refuse it alike
 abbrev pub RefusalsRename : Type 0
-RefusalsRename = (g : Renaming) (x : Room) (s : State) (who : ℕ) (op : Op) (k : ObjectKind) → Follows g s → made_kind op ≡ Some k → refusal_of (renamed g x s) who (renamed_op g op) ≡ refusal_of s who op
+RefusalsRename = (g : Renaming) (x : Room) (s : State) (who : ℕ) (op : Op) (k : ObjectKind) → Follows g s → made_kind op ≡ Some k
+    → refusal_of (renamed g x s) who (renamed_op g op) ≡ refusal_of s who op
 
 -- where a worker may take some task, it may be told nothing else
 abbrev pub PicksTake : Type 0
-PicksTake = (s : State) (who : ℕ) (t : TaskHandle) (a : ActionHandle) (kind : Kind) (args : List ℤ) (r : Reply) → Allows (row s who Pick (Picked t a kind args)) (Picked t a kind args) → Allows (row s who Pick r) r → takes_task Pick r ≡ true
+PicksTake = (s : State) (who : ℕ) (t : TaskHandle) (a : ActionHandle) (kind : Kind) (args : List ℤ) (r : Reply)
+    → Allows (row s who Pick (Picked t a kind args)) (Picked t a kind args) → Allows (row s who Pick r) r → takes_task Pick r ≡ true

@@ -12,4 +12,5 @@ pub invariant_of-self : goal.invariant_of-self
 invariant_of-self c =
     let found = sym c.remove.ensures.value ∙ c.in-Some.is in
     rw (c.push_reserved.ensures.capacity, c.in-Some.ensures.removed)
-    (kept-without c.self.inside.limit _ c.args.at.0 c.self.inside.pool c.in-Some.mailbox c.self.inside.spare.items c.push_reserved.new.self.items c.clear.new.self c.self.invariant found c.clear.ensures c.push_reserved.ensures.items)
+    (kept-without c.self.inside.limit _ c.args.at.0 c.self.inside.pool c.in-Some.mailbox c.self.inside.spare.items c.push_reserved.new.self.items
+    c.clear.new.self c.self.invariant found c.clear.ensures c.push_reserved.ensures.items)

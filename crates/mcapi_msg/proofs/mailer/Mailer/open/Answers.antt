@@ -7,7 +7,9 @@ pub named-requires : goal.named-requires
 named-requires g c = has_answer Names (op.Open c.args.port) (open_says c.args.port) c.args.self.now c.once.new.self c.once.result c.once.ensures.turned
 
 pub returns-clause-called : goal.returns-clause-called
-returns-clause-called g c = called Names (op.Open c.args.port) c.args.self.now c.once.new.self c.once.result c.named.result c.once.ensures.turned c.once.ensures.spent c.named.ensures
+returns-clause-called g c = called Names
+    (op.Open c.args.port) c.args.self.now c.once.new.self c.once.result c.named.result c.once.ensures.turned c.once.ensures.spent c.named.ensures
 
 pub returns-clause-same : goal.returns-clause-same
-returns-clause-same g c = called_same Names (op.Open c.args.port) c.args.self.now c.once.new.self c.named.result (called Names (op.Open c.args.port) c.args.self.now c.once.new.self c.once.result c.named.result c.once.ensures.turned c.once.ensures.spent c.named.ensures)
+returns-clause-same g c = called_same Names (op.Open c.args.port) c.args.self.now c.once.new.self c.named.result
+    (called Names (op.Open c.args.port) c.args.self.now c.once.new.self c.once.result c.named.result c.once.ensures.turned c.once.ensures.spent c.named.ensures)

@@ -8,7 +8,8 @@ handed-requires g c = look_answer c.args.at (looks_of c.args.timeout) c.self.ins
 
 pub returns : goal.returns
 returns g c =
-    let looked = subst (λ (s : Seat). IfOk c.look.result (λ r. Looked Legal (look_for c.args.at) Pending (looks_of c.args.timeout) s c.look.new.seat r)) c.self.view_is c.look.ensures.answered in
+    let looked = subst (λ (s : Seat). IfOk c.look.result
+    (λ r. Looked Legal (look_for c.args.at) Pending (looks_of c.args.timeout) s c.look.new.seat r)) c.self.view_is c.look.ensures.answered in
     let out = subst (λ (s : Seat). OnErr c.look.result (RanOut c.args.at (looks_of c.args.timeout) s c.look.new.seat)) c.self.view_is c.look.ensures.spent in
     let all : Received c.args.at (looks_of c.args.timeout) c.args.self.now c.look.new.seat c.handed.result =
     received c.args.at (looks_of c.args.timeout) c.args.self.now c.look.new.seat c.look.result c.handed.result looked out c.handed.ensures in

@@ -7,7 +7,9 @@ pub done-requires : goal.done-requires
 done-requires g c = has_answer Done (op.Shut c.args.at) (shut_says c.args.at) c.args.self.now c.once.new.self c.once.result c.once.ensures.turned
 
 pub returns-clause-called : goal.returns-clause-called
-returns-clause-called g c = called Done (op.Shut c.args.at) c.args.self.now c.once.new.self c.once.result c.done.result c.once.ensures.turned c.once.ensures.spent c.done.ensures
+returns-clause-called g c = called Done
+    (op.Shut c.args.at) c.args.self.now c.once.new.self c.once.result c.done.result c.once.ensures.turned c.once.ensures.spent c.done.ensures
 
 pub returns-clause-same : goal.returns-clause-same
-returns-clause-same g c = called_same Done (op.Shut c.args.at) c.args.self.now c.once.new.self c.done.result (called Done (op.Shut c.args.at) c.args.self.now c.once.new.self c.once.result c.done.result c.once.ensures.turned c.once.ensures.spent c.done.ensures)
+returns-clause-same g c = called_same Done (op.Shut c.args.at) c.args.self.now c.once.new.self c.done.result
+    (called Done (op.Shut c.args.at) c.args.self.now c.once.new.self c.once.result c.done.result c.once.ensures.turned c.once.ensures.spent c.done.ensures)

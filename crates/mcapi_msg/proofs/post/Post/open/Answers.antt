@@ -8,4 +8,5 @@ pub returns-then-is_full : goal.returns-then-is_full
 returns-then-is_full c l v = open_full c.args.self.now l c.args.who c.args.port v c.in_default.ensures.absent (c.is_full.ensures.full.0 c.if-is_full.true)
 
 pub returns : goal.returns
-returns c l v = open_made c.args.self.now c.insert.new.self l c.args.who c.args.port c.insert.result v c.in_default.ensures.absent (free_full c.args.self.now.boxes.pool c.if-is_full.ensures.room) c.insert.ensures.limit c.insert.ensures.made
+returns c l v = open_made c.args.self.now c.insert.new.self l c.args.who c.args.port c.insert.result v c.in_default.ensures.absent
+    (free_full c.args.self.now.boxes.pool c.if-is_full.ensures.room) c.insert.ensures.limit c.insert.ensures.made

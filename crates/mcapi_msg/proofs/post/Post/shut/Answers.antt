@@ -6,7 +6,8 @@ pub returns-in-Some : goal.returns-in-Some
 returns-in-Some c l v = shut_refused c.args.self.now l c.args.who c.args.at c.in-Some.status v (sym c.owner_refusal.ensures ∙ c.in-Some.is)
 
 pub remove-requires : goal.remove-requires
-remove-requires c = let m = owner_found (slot_value c.args.self.now.boxes.pool c.args.at.0) c.args.who (sym c.owner_refusal.ensures ∙ c.in_default.is) in rw m.1 refl
+remove-requires c = let m = owner_found (slot_value c.args.self.now.boxes.pool c.args.at.0) c.args.who (sym c.owner_refusal.ensures ∙ c.in_default.is) in
+    rw m.1 refl
 
 pub returns : goal.returns
 returns c l v =

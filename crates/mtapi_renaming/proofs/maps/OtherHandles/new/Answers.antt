@@ -17,7 +17,17 @@ empty m e = λ i k h. ap (λ (es : List (ℕ × ℕ)). or_zero (lookup (is_at (n
 pub returns : goal.returns
 returns c = empty _ by_kind
   where
-    by_kind : (k : ObjectKind) → (map_of (record { actions = c.new.result; tasks = c.new-2.result; groups = c.new-3.result; queues = c.new-4.result; mutexes = c.new-5.result; sems = c.new-6.result; rwls = c.new-7.result; segments = c.new-8.result }) k).entries ≡ []
+    by_kind : (k : ObjectKind) → (map_of (record {
+      actions = c.new.result;
+      tasks = c.new-2.result;
+      groups = c.new-3.result;
+      queues = c.new-4.result;
+      mutexes =
+          c.new-5.result;
+      sems = c.new-6.result;
+      rwls = c.new-7.result;
+      segments = c.new-8.result;
+    }) k).entries ≡ []
     by_kind Action = c.new.ensures.empty
     by_kind Task = c.new-2.ensures.empty
     by_kind Group = c.new-3.ensures.empty
