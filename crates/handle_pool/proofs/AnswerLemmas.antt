@@ -36,13 +36,15 @@ module _ {T : Type 0} where
       ]
 
   -- the only live handle with an object that passes is the first
-  pub first_live-only : (p : Slots T) (l : List (Listed T)) (q : T → Bool) (h : ℕ) (v : T) → Stands p l → slot_value p h ≡ Some v → q v ≡ true → ((k : ℕ) (w : T) → slot_value p k ≡ Some w → q w ≡ true → k ≡ h) → first_handle q (live_of l) ≡ Some h
+  pub first_live-only : (p : Slots T) (l : List (Listed T)) (q : T → Bool) (h : ℕ) (v : T) → Stands p l → slot_value p h ≡ Some v → q v ≡ true
+      → ((k : ℕ) (w : T) → slot_value p k ≡ Some w → q w ≡ true → k ≡ h) → first_handle q (live_of l) ≡ Some h
   first_live-only p l q h v stands found holds only =
       let first = first_live-any q (live_of l) (any-live p l q h v stands found holds) in
       let passes = first_live-passes q (live_of l) first.0 stands.distinct first.1 in
       first.1 ∙ ap Some (only first.0 passes.0 (stands.found first.0 ∙ passes.1) passes.2)
 
-  pub first_live-absent : (p : Slots T) (l : List (Listed T)) (q : T → Bool) → Stands p l → NoneLive (slot_value p) (λ v. q v ≡ true) → first_handle q (live_of l) ≡ None
+  pub first_live-absent : (p : Slots T) (l : List (Listed T)) (q : T → Bool) → Stands p l → NoneLive (slot_value p) (λ v. q v ≡ true)
+      → first_handle q (live_of l) ≡ None
   first_live-absent p l q stands none = first_live-none q (live_of l) (any-none p l q stands none)
 
   -- the objects in the slots from a place on
@@ -59,11 +61,13 @@ module _ {T : Type 0} where
   lookup-used_before [] place h below few = refl
   lookup-used_before (s ∷ slots) place h below few = grind (arith, nat_tests, lookup-used_before slots (place + 1) h (omega arith) (omega arith))
 
-  lookup-used : (slots : List (Slot T)) (place i h : ℕ) → slot_of h ≡ place + i → place + length slots ≤ 65536 → lookup (used_from place slots) h ≡ value_at (slice_get slots i) (generation_of h)
+  lookup-used : (slots : List (Slot T)) (place i h : ℕ) → slot_of h ≡ place + i → place + length slots ≤ 65536
+      → lookup (used_from place slots) h ≡ value_at (slice_get slots i) (generation_of h)
   lookup-used [] place i h is few = refl
   lookup-used (s ∷ slots) place zero h is few = pick s.value refl (lookup-used_before slots (place + 1) h (omega arith) (omega arith))
     where
-      pick : (o : Option T) → s.value ≡ o → lookup (used_from (place + 1) slots) h ≡ None → lookup (in_front (handle_at s.generation place) o (used_from (place + 1) slots)) h ≡ value_at (Some s) (generation_of h)
+      pick : (o : Option T) → s.value ≡ o → lookup (used_from (place + 1) slots) h ≡ None
+          → lookup (in_front (handle_at s.generation place) o (used_from (place + 1) slots)) h ≡ value_at (Some s) (generation_of h)
       pick None has more = more ∙ sym (value_at-none s (generation_of h) has)
       pick (Some v) has more =
           ap (λ b. cond b (Some v) (lookup (used_from (place + 1) slots) h)) (same_test s.generation place h (omega arith))
@@ -71,9 +75,11 @@ module _ {T : Type 0} where
           ∙ ap (λ o. cond (s.generation == generation_of h) o None) (sym has)
   lookup-used (s ∷ slots) place (suc i) h is few = pick s.value (lookup-used slots (place + 1) i h (omega arith) (omega arith))
     where
-      pick : (o : Option T) → lookup (used_from (place + 1) slots) h ≡ value_at (slice_get slots i) (generation_of h) → lookup (in_front (handle_at s.generation place) o (used_from (place + 1) slots)) h ≡ value_at (slice_get slots i) (generation_of h)
+      pick : (o : Option T) → lookup (used_from (place + 1) slots) h ≡ value_at (slice_get slots i) (generation_of h)
+          → lookup (in_front (handle_at s.generation place) o (used_from (place + 1) slots)) h ≡ value_at (slice_get slots i) (generation_of h)
       pick None more = more
-      pick (Some v) more = ap (λ b. cond b (Some v) (lookup (used_from (place + 1) slots) h)) (other_slot s.generation place h (omega arith) (λ at. omega arith)) ∙ more
+      pick (Some v) more = ap (λ b. cond b (Some v) (lookup (used_from (place + 1) slots) h))
+          (other_slot s.generation place h (omega arith) (λ at. omega arith)) ∙ more
 
   Distinct-used : (slots : List (Slot T)) (place : ℕ) → place + length slots ≤ 65536 → Distinct (used_from place slots)
   Distinct-used [] place few = tt
@@ -87,9 +93,12 @@ module _ {T : Type 0} where
 
   how_many-used : (q : T → Bool) (slots : List (Slot T)) (place : ℕ) → how_many (λ e. q e.1) (used_from place slots) ≡ count_by (value_passes q) slots
   how_many-used q [] place = refl
-  how_many-used q (s ∷ slots) place = pick s.value refl (how_many-used q slots (place + 1)) ∙ sym (sum_by-cons (λ (t : Slot T). cond (value_passes q t) 1 0) s slots)
+  how_many-used q (s ∷ slots) place = pick s.value refl (how_many-used q slots (place + 1))
+      ∙ sym (sum_by-cons (λ (t : Slot T). cond (value_passes q t) 1 0) s slots)
     where
-      pick : (o : Option T) → s.value ≡ o → how_many (λ e. q e.1) (used_from (place + 1) slots) ≡ count_by (value_passes q) slots → how_many (λ e. q e.1) (in_front (handle_at s.generation place) o (used_from (place + 1) slots)) ≡ cond (value_passes q s) 1 0 + count_by (value_passes q) slots
+      pick : (o : Option T) → s.value ≡ o → how_many (λ e. q e.1) (used_from (place + 1) slots) ≡ count_by (value_passes q) slots
+          → how_many (λ e. q e.1) (in_front (handle_at s.generation place) o (used_from (place + 1) slots))
+          ≡ cond (value_passes q s) 1 0 + count_by (value_passes q) slots
       pick None has more = rw has (omega arith)
       pick (Some v) has more = rw has (omega arith)
 
@@ -103,7 +112,8 @@ module _ {T : Type 0} where
   count-slots p l q stands =
       let few = stands.few in
       how_many-live q l
-      ∙ how_many-same (λ e. q e.1) (live_of l) (used_from 0 p.slots) stands.distinct (Distinct-used p.slots 0 (omega arith)) (λ h. sym (stands.found h) ∙ sym (lookup-used p.slots 0 (slot_of h) h (omega arith) (omega arith)))
+      ∙ how_many-same (λ e. q e.1) (live_of l) (used_from 0 p.slots) stands.distinct (Distinct-used p.slots 0 (omega arith)) (λ h. sym (stands.found h)
+      ∙ sym (lookup-used p.slots 0 (slot_of h) h (omega arith) (omega arith)))
       ∙ how_many-used q p.slots 0
 
   -- every object that passes, changed one after another in any order
@@ -114,7 +124,11 @@ module _ {T : Type 0} where
   change_all-none q f [] none = refl
   change_all-none q f (r ∷ rs) none = pick q f r.handle r.live r.fields (q r.fields) rs refl none (λ more. change_all-none q f rs more)
     where
-      pick : (q : T → Bool) (f : Listed T → Listed T) (n : ℕ) (live : Bool) (v : T) (b : Bool) (rs : List (Listed T)) → q v ≡ b → any_live q (cond live ((n, v) ∷ live_of rs) (live_of rs)) ≡ false → (any_live q (live_of rs) ≡ false → change_all q f rs ≡ rs) → cond (live && b) (f (record { handle = n; live = live; fields = v })) (record { handle = n; live = live; fields = v }) ∷ change_all q f rs ≡ record { handle = n; live = live; fields = v } ∷ rs
+      pick : (q : T → Bool) (f : Listed T → Listed T) (n : ℕ) (live : Bool) (v : T) (b : Bool) (rs : List (Listed T)) → q v ≡ b
+          → any_live q (cond live ((n, v) ∷ live_of rs) (live_of rs)) ≡ false → (any_live q (live_of rs) ≡ false → change_all q f rs ≡ rs)
+          → cond (live && b) (f (record { handle = n; live = live; fields = v })) (record { handle = n; live = live; fields = v }) ∷ change_all q f rs
+          ≡ record { handle = n; live = live; fields = v } ∷ rs
       pick q f n true v true rs is none more = let some = ap (λ b. cond b true (any_live q (live_of rs))) is in absurd (cc)
-      pick q f n true v false rs is none more = ap (λ l. record { handle = n; live = true; fields = v } ∷ l) (more (sym (ap (λ b. cond b true (any_live q (live_of rs))) is) ∙ none))
+      pick q f n true v false rs is none more =
+          ap (λ l. record { handle = n; live = true; fields = v } ∷ l) (more (sym (ap (λ b. cond b true (any_live q (live_of rs))) is) ∙ none))
       pick q f n false v b rs is none more = ap (λ l. record { handle = n; live = false; fields = v } ∷ l) (more none)

@@ -40,7 +40,8 @@ module _ {T : Type 0} where
         generations_are = rw took.1 refl;
       }
 
-  run : (max generations : ℕ) (old new : Slots T) (l : List (Listed T)) (calls : List (Call T)) → max_of old ≡ max → old.generations ≡ generations → Stands old l → SlotsRun old calls new → ListRun max generations l calls × Stands new (list_after_all l calls)
+  run : (max generations : ℕ) (old new : Slots T) (l : List (Listed T)) (calls : List (Call T)) → max_of old ≡ max → old.generations ≡ generations
+      → Stands old l → SlotsRun old calls new → ListRun max generations l calls × Stands new (list_after_all l calls)
   run max generations old new l [] size last stands took = (tt, rw took stands)
   run max generations old new l (call ∷ calls) size last stands took =
       let first = step old took.0 l call stands took.1 in

@@ -34,7 +34,12 @@ module _ {T : Type 0} where
       let slot = used_at_live _ (generation_of h) old found in
       let one : Bool → ℕ = λ b. cond b 1 0 in
       let before : one (is_live slot.0) ≡ 1 = rw slot.3 refl in
-      omega (arith, not_live T p.generations (generation_of h), count_by-set is_live p.slots (slot_of h) slot.0 (slot_after p.generations (generation_of h)) slot.1)
+      omega (
+        arith,
+        not_live T p.generations (generation_of h),
+        count_by-set is_live p.slots (slot_of h) slot.0
+            (slot_after p.generations (generation_of h)) slot.1,
+      )
 
   pub max_of-without : (p : Slots T) (h : ℕ) → max_of (without p h) ≡ max_of p
   max_of-without p h = length-set p.slots (slot_of h) (slot_after p.generations (generation_of h))

@@ -50,7 +50,8 @@ module _ {T : Type 0} where
   free_within (e ∷ es) (suc place) free = omega (arith, free_within es place free)
 
   -- a free place is below the number of all places
-  pub free_below : (es : List (Place T)) (from count place : ℕ) → from ≡ length es → from ≤ count → IsFree (slice_get (es ++ fresh from (count - from)) place) → place < count
+  pub free_below : (es : List (Place T)) (from count place : ℕ) → from ≡ length es → from ≤ count → IsFree (slice_get (es ++ fresh from (count - from)) place)
+      → place < count
   free_below es from count place made within free = rw (← length-made es from count made within) (free_within (es ++ fresh from (count - from)) place free)
 
   -- a place in use was made
@@ -63,7 +64,8 @@ module _ {T : Type 0} where
   value_below (e ∷ es) from n (suc place) value = omega (arith, value_below es from n place value)
 
   -- the value of a place that was made
-  pub live-made : (es more : List (Place T)) (place : ℕ) (e : Place T) (v : T) → slice_get es place ≡ Some e → value_in e ≡ Some v → (generation : ℕ) × (slice_get (es ++ more) place ≡ Some (Live generation v))
+  pub live-made : (es more : List (Place T)) (place : ℕ) (e : Place T) (v : T) → slice_get es place ≡ Some e → value_in e ≡ Some v
+      → (generation : ℕ) × (slice_get (es ++ more) place ≡ Some (Live generation v))
   live-made es more place (Free generation next) v found is = absurd (cc)
   live-made es more place (Live generation x) v found is =
       let same : x ≡ v = cc in
@@ -71,7 +73,8 @@ module _ {T : Type 0} where
   live-made es more place Retired v found is = absurd (cc)
 
   -- and with another value
-  pub write-made : (es more : List (Place T)) (place : ℕ) (e : Place T) (w : T) → slice_get es place ≡ Some e → set es place (with_value_in e w) ++ more ≡ with_value_at (es ++ more) place w
+  pub write-made : (es more : List (Place T)) (place : ℕ) (e : Place T) (w : T) → slice_get es place ≡ Some e
+      → set es place (with_value_in e w) ++ more ≡ with_value_at (es ++ more) place w
   write-made es more place e w found =
       let within = slice_get_within es place e found in
       rw (get-made es more place within, found) (sym (set-append_left es more place (with_value_in e w) within))
@@ -88,14 +91,17 @@ module _ {T : Type 0} where
   make-push es from at within =
       let last : from + (at - from) + 1 ≡ at + 1 = omega arith in
       append_assoc es (fresh from (at - from)) (Free 1 (at + 1) ∷ [])
-      ∙ ap (λ rest. es ++ rest) (sym (subst (λ k. fresh {T = T} from (at + 1 - from) ≡ fresh from (at - from) ++ Free 1 k ∷ []) last (fresh-push from (at + 1 - from) (at - from) (omega arith))))
+      ∙ ap (λ rest. es ++ rest) (sym (subst (λ k. fresh {T = T} from (at + 1 - from)
+      ≡ fresh from (at - from) ++ Free 1 k ∷ []) last (fresh-push from (at + 1 - from) (at - from) (omega arith))))
 
   -- those up to a place, the place, and those behind it
   parted : (es : List (Place T)) (from count place : ℕ) → from ≤ place → place < count
       → es ++ fresh from (count - from) ≡ (es ++ fresh from (place - from)) ++ Free 1 (place + 1) ∷ fresh (place + 1) (count - (place + 1))
   parted es from count place start within =
       let here : from + (place - from) + 1 ≡ place + 1 = omega arith in
-      ap (λ rest. es ++ rest) (subst (λ k. fresh {T = T} from (count - from) ≡ fresh from (place - from) ++ Free 1 k ∷ fresh k (count - (place + 1))) here (fresh-split from (count - from) (place - from) (count - (place + 1)) (omega arith)))
+      ap (λ rest. es ++ rest) (subst (λ k. fresh {T = T} from (count - from)
+      ≡ fresh from (place - from) ++ Free 1 k
+      ∷ fresh k (count - (place + 1))) here (fresh-split from (count - from) (place - from) (count - (place + 1)) (omega arith)))
       ∙ sym (append_assoc es (fresh from (place - from)) (Free 1 (place + 1) ∷ fresh (place + 1) (count - (place + 1))))
 
   get_seam : (es : List (Place T)) (e : Place T) (more : List (Place T)) → slice_get (es ++ e ∷ more) (length es) ≡ Some e
@@ -106,10 +112,13 @@ module _ {T : Type 0} where
   until es from place made start = length-made es from place made start
 
   -- a place that was never used names the next
-  pub get-fresh : (es : List (Place T)) (from count place : ℕ) → from ≡ length es → from ≤ place → place < count → slice_get (es ++ fresh from (count - from)) place ≡ Some (Free 1 (place + 1))
+  pub get-fresh : (es : List (Place T)) (from count place : ℕ) → from ≡ length es → from ≤ place → place < count
+      → slice_get (es ++ fresh from (count - from)) place ≡ Some (Free 1 (place + 1))
   get-fresh es from count place made start within =
       ap (λ all. slice_get all place) (parted es from count place start within)
-      ∙ subst (λ k. slice_get ((es ++ fresh from (place - from)) ++ Free 1 (place + 1) ∷ fresh (place + 1) (count - (place + 1))) k ≡ Some (Free 1 (place + 1))) (until es from place made start) (get_seam (es ++ fresh from (place - from)) (Free 1 (place + 1)) (fresh (place + 1) (count - (place + 1))))
+      ∙ subst (λ k. slice_get ((es ++ fresh from (place - from)) ++ Free 1 (place + 1) ∷ fresh (place + 1) (count - (place + 1))) k
+      ≡ Some (Free 1 (place + 1))) (until es from place made start)
+      (get_seam (es ++ fresh from (place - from)) (Free 1 (place + 1)) (fresh (place + 1) (count - (place + 1))))
 
   -- it is filled as the last of those that were used
   pub set-fresh : (es : List (Place T)) (from count place : ℕ) (new : Place T) → from ≡ length es → from ≤ place → place < count
@@ -119,4 +128,5 @@ module _ {T : Type 0} where
       let rest = fresh (place + 1) (count - (place + 1)) in
       append_assoc before (new ∷ []) rest
       ∙ sym (ap (λ all. set all place new) (parted es from count place start within)
-      ∙ subst (λ k. set (before ++ Free 1 (place + 1) ∷ rest) k new ≡ before ++ new ∷ rest) (until es from place made start) (set-append_seam before (Free 1 (place + 1)) rest new))
+      ∙ subst (λ k. set (before ++ Free 1 (place + 1) ∷ rest) k new
+      ≡ before ++ new ∷ rest) (until es from place made start) (set-append_seam before (Free 1 (place + 1)) rest new))

@@ -44,7 +44,8 @@ module _ {T : Type 0} where
   pub get-without_same : (p : Slots T) (h : ℕ) (old : T) → slot_value p h ≡ Some old → slot_value (without p h) h ≡ None
   get-without_same p h old found =
       let slot = used_at_live (slice_get p.slots (slot_of h)) (generation_of h) old found in
-      rw (slice_get-set_same p.slots (slot_of h) (slot_after p.generations (generation_of h)) _ slot.1) (empty_after p.generations (generation_of h) (generation_of h))
+      rw (slice_get-set_same p.slots (slot_of h) (slot_after p.generations (generation_of h)) _ slot.1)
+      (empty_after p.generations (generation_of h) (generation_of h))
 
   pub get-without_other : (p : Slots T) (h k : ℕ) (old : T) → slot_value p h ≡ Some old → k ≢ h → slot_value (without p h) k ≡ slot_value p k
   get-without_other p h k old found differs =

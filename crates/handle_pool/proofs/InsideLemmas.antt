@@ -10,16 +10,19 @@ module _ {M T : Type 0} (g : ℕ → ℕ) (f : ℕ → M → T) where
   at-inside h (r ∷ rs) a = grind (arith, nat_tests, at-inside h rs a.1)
 
   -- the live object of a handle changes
-  pub change-inside : (h : ℕ) (F : Listed M → Listed M) (G : Listed T → Listed T) (l : List (Listed M)) → ((r : Listed M) → r.handle ≡ h → turned g f (F r) ≡ G (turned g f r)) → Apart g f h l → inside g f (change h F l) ≡ change (g h) G (inside g f l)
+  pub change-inside : (h : ℕ) (F : Listed M → Listed M) (G : Listed T → Listed T) (l : List (Listed M))
+      → ((r : Listed M) → r.handle ≡ h → turned g f (F r) ≡ G (turned g f r)) → Apart g f h l → inside g f (change h F l) ≡ change (g h) G (inside g f l)
   unfolding change inside
   change-inside h F G [] k a = refl
   change-inside h F G (r ∷ rs) k a = grind (arith, nat_tests, change-inside h F G rs k a.1)
 
   -- its fields change
-  pub update-inside : (h : ℕ) (F : M → M) (G : T → T) (l : List (Listed M)) → ((v : M) → f h (F v) ≡ G (f h v)) → Apart g f h l → inside g f (update h F l) ≡ update (g h) G (inside g f l)
+  pub update-inside : (h : ℕ) (F : M → M) (G : T → T) (l : List (Listed M)) → ((v : M) → f h (F v) ≡ G (f h v)) → Apart g f h l
+      → inside g f (update h F l) ≡ update (g h) G (inside g f l)
   update-inside h F G l k a =
       change-inside h (with_fields F) (with_fields G) l
-      (λ r e. ap (λ (v : T). record { handle = g r.handle; live = r.live; fields = v }) (ap (λ (x : ℕ). f x (F r.fields)) e ∙ k r.fields ∙ ap (λ (x : ℕ). G (f x r.fields)) (sym e))) a
+      (λ r e. ap (λ (v : T). record { handle = g r.handle; live = r.live; fields = v }) (ap (λ (x : ℕ). f x (F r.fields)) e ∙ k r.fields
+      ∙ ap (λ (x : ℕ). G (f x r.fields)) (sym e))) a
 
   -- it stops being live
   pub retire-inside : (h : ℕ) (l : List (Listed M)) → Apart g f h l → inside g f (retire h l) ≡ retire (g h) (inside g f l)

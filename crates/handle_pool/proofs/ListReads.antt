@@ -24,7 +24,8 @@ module _ {X : Type 0} where
   slice_get-push_last (z ∷ xs) y = slice_get-push_last xs y
 
   -- what is read after a push was there, or is the new one
-  pub slice_get-push_cases : (xs : List X) (y x : X) (i : ℕ) {P : Type 0} → slice_get (xs ++ y ∷ []) i ≡ Some x → (slice_get xs i ≡ Some x → P) → (y ≡ x → P) → P
+  pub slice_get-push_cases : (xs : List X) (y x : X) (i : ℕ) {P : Type 0} → slice_get (xs ++ y ∷ []) i ≡ Some x → (slice_get xs i ≡ Some x → P) → (y ≡ x → P)
+      → P
   slice_get-push_cases [] y x zero found old new = new (cc)
   slice_get-push_cases [] y x (suc i) found old new = absurd (cc)
   slice_get-push_cases (z ∷ xs) y x zero found old new = old found

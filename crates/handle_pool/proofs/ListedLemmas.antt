@@ -24,7 +24,10 @@ module _ {T : Type 0} where
   abbrev prefix : Listed T → List (ℕ × T) → List (ℕ × T)
   prefix r xs = cond r.live ((r.handle, r.fields) ∷ xs) xs
 
-  update_one : (h : ℕ) (f : T → T) (b : Bool) (n : ℕ) (live : Bool) (v : T) (xs rs : List (Listed T)) → (n == h) ≡ b → live_of xs ≡ pairs_changed h f (live_of rs) → live_of (cond (live && b) (record { handle = n; live = live; fields = f v } ∷ rs) (record { handle = n; live = live; fields = v } ∷ xs)) ≡ pairs_changed h f (prefix (record { handle = n; live = live; fields = v }) (live_of rs))
+  update_one : (h : ℕ) (f : T → T) (b : Bool) (n : ℕ) (live : Bool) (v : T) (xs rs : List (Listed T)) → (n == h) ≡ b
+      → live_of xs ≡ pairs_changed h f (live_of rs)
+      → live_of (cond (live && b) (record { handle = n; live = live; fields = f v } ∷ rs) (record { handle = n; live = live; fields = v } ∷ xs))
+      ≡ pairs_changed h f (prefix (record { handle = n; live = live; fields = v }) (live_of rs))
   unfolding live_of
   update_one h f b n live v xs rs e1 e2 = grind (arith, nat_tests)
 
@@ -33,7 +36,9 @@ module _ {T : Type 0} where
   live_of-update h f [] = refl
   live_of-update h f (r ∷ rs) = update_one h f (r.handle == h) r.handle r.live r.fields (update h f rs) rs refl (live_of-update h f rs)
 
-  retire_one : (h : ℕ) (b : Bool) (n : ℕ) (live : Bool) (v : T) (xs rs : List (Listed T)) → (n == h) ≡ b → live_of xs ≡ pairs_without h (live_of rs) → live_of (cond (live && b) (record { handle = n; live = false; fields = v } ∷ rs) (record { handle = n; live = live; fields = v } ∷ xs)) ≡ pairs_without h (prefix (record { handle = n; live = live; fields = v }) (live_of rs))
+  retire_one : (h : ℕ) (b : Bool) (n : ℕ) (live : Bool) (v : T) (xs rs : List (Listed T)) → (n == h) ≡ b → live_of xs ≡ pairs_without h (live_of rs)
+      → live_of (cond (live && b) (record { handle = n; live = false; fields = v } ∷ rs) (record { handle = n; live = live; fields = v } ∷ xs))
+      ≡ pairs_without h (prefix (record { handle = n; live = live; fields = v }) (live_of rs))
   unfolding live_of
   retire_one h b n live v xs rs e1 e2 = grind (arith, nat_tests)
 
@@ -47,7 +52,8 @@ module _ {T : Type 0} where
   pub at-issue : (h k : ℕ) (v : T) (l : List (Listed T)) → live_object l h ≡ None → live_object (issue h v l) k ≡ cond (h == k) (Some v) (live_object l k)
   at-issue h k v l off = ap (λ es. lookup es k) (live_of-issue h v l) ∙ lookup-append h k v (live_of l) off
 
-  pub at-update : (h k : ℕ) (f : T → T) (v : T) (l : List (Listed T)) → live_object l h ≡ Some v → live_object (update h f l) k ≡ cond (h == k) (Some (f v)) (live_object l k)
+  pub at-update : (h k : ℕ) (f : T → T) (v : T) (l : List (Listed T)) → live_object l h ≡ Some v
+      → live_object (update h f l) k ≡ cond (h == k) (Some (f v)) (live_object l k)
   at-update h k f v l is = ap (λ es. lookup es k) (live_of-update h f l) ∙ lookup-changed h k f v (live_of l) is
 
   pub at-retire : (h k : ℕ) (l : List (Listed T)) → Distinct (live_of l) → live_object (retire h l) k ≡ cond (h == k) None (live_object l k)
@@ -85,16 +91,19 @@ module _ {T : Type 0} where
   -- counts after each move
 
   -- a change that keeps a test of each object keeps how many pass
-  pub how_many-change : (q : Listed T → Bool) (h : ℕ) (f : Listed T → Listed T) → ((r : Listed T) → q (f r) ≡ q r) → (l : List (Listed T)) → how_many q (change h f l) ≡ how_many q l
+  pub how_many-change : (q : Listed T → Bool) (h : ℕ) (f : Listed T → Listed T) → ((r : Listed T) → q (f r) ≡ q r) → (l : List (Listed T))
+      → how_many q (change h f l) ≡ how_many q l
   unfolding change
   how_many-change q h f keeps [] = refl
   how_many-change q h f keeps (r ∷ rs) = grind (arith, nat_tests, how_many-change q h f keeps rs)
 
-  pub listed-change : (k h : ℕ) (f : Listed T → Listed T) → ((r : Listed T) → (f r).handle ≡ r.handle) → (l : List (Listed T)) → listed k (change h f l) ≡ listed k l
+  pub listed-change : (k h : ℕ) (f : Listed T → Listed T) → ((r : Listed T) → (f r).handle ≡ r.handle) → (l : List (Listed T))
+      → listed k (change h f l) ≡ listed k l
   unfolding listed
   listed-change k h f keeps l = how_many-change (λ r. r.handle == k) h f (λ r. ap (λ n. n == k) (keeps r)) l
 
-  pub issued_at-change : (k h : ℕ) (f : Listed T → Listed T) → ((r : Listed T) → (f r).handle ≡ r.handle) → (l : List (Listed T)) → issued_at k (change h f l) ≡ issued_at k l
+  pub issued_at-change : (k h : ℕ) (f : Listed T → Listed T) → ((r : Listed T) → (f r).handle ≡ r.handle) → (l : List (Listed T))
+      → issued_at k (change h f l) ≡ issued_at k l
   unfolding issued_at
   issued_at-change k h f keeps l = how_many-change (λ r. slot_of r.handle == slot_of k) h f (λ r. ap (λ n. slot_of n == slot_of k) (keeps r)) l
 
@@ -112,20 +121,27 @@ module _ {T : Type 0} where
 
   pub retired-issue : (last h : ℕ) (v : T) (l : List (Listed T)) → retired last (issue h v l) ≡ retired last l
   unfolding retired issue
-  retired-issue last h v l = how_many-push (λ r. not r.live && (generation_of r.handle == last)) l (record { handle = h; live = true; fields = v }) ∙ omega arith
+  retired-issue last h v l = how_many-push (λ r. not r.live && (generation_of r.handle == last)) l (record { handle = h; live = true; fields = v })
+      ∙ omega arith
 
   pub issued_at-slot : (h : ℕ) (l : List (Listed T)) → issued_at (slot_of h) l ≡ issued_at h l
   unfolding issued_at
   issued_at-slot h l = ap (λ s. how_many (λ r. slot_of r.handle == s) l) (slot_of-slot h)
 
-  retired_one : (last h : ℕ) (b : Bool) (n : ℕ) (live : Bool) (v w : T) (xs rs : List (Listed T)) → (n == h) ≡ b → lookup (prefix (record { handle = n; live = live; fields = v }) (live_of rs)) h ≡ Some w → (lookup (live_of rs) h ≡ Some w → retired last xs ≡ retired last rs + cond (generation_of h == last) 1 0) → retired last (cond (live && b) (record { handle = n; live = false; fields = v } ∷ rs) (record { handle = n; live = live; fields = v } ∷ xs)) ≡ retired last (record { handle = n; live = live; fields = v } ∷ rs) + cond (generation_of h == last) 1 0
+  retired_one : (last h : ℕ) (b : Bool) (n : ℕ) (live : Bool) (v w : T) (xs rs : List (Listed T)) → (n == h) ≡ b
+      → lookup (prefix (record { handle = n; live = live; fields = v }) (live_of rs)) h ≡ Some w
+      → (lookup (live_of rs) h ≡ Some w → retired last xs ≡ retired last rs + cond (generation_of h == last) 1 0)
+      → retired last (cond (live && b) (record { handle = n; live = false; fields = v } ∷ rs) (record { handle = n; live = live; fields = v } ∷ xs))
+      ≡ retired last (record { handle = n; live = live; fields = v } ∷ rs) + cond (generation_of h == last) 1 0
   unfolding retired
   retired_one last h b n live v w xs rs e1 e2 e3 = grind (arith, nat_tests)
 
-  pub retired-retire : (last h : ℕ) (v : T) (l : List (Listed T)) → live_object l h ≡ Some v → retired last (retire h l) ≡ retired last l + cond (generation_of h == last) 1 0
+  pub retired-retire : (last h : ℕ) (v : T) (l : List (Listed T)) → live_object l h ≡ Some v
+      → retired last (retire h l) ≡ retired last l + cond (generation_of h == last) 1 0
   unfolding live_of change
   retired-retire last h v [] is = absurd (cc)
-  retired-retire last h v (r ∷ rs) is = retired_one last h (r.handle == h) r.handle r.live r.fields v (retire h rs) rs refl is (λ more. retired-retire last h v rs more)
+  retired-retire last h v (r ∷ rs) is = retired_one last h (r.handle == h) r.handle r.live r.fields v
+      (retire h rs) rs refl is (λ more. retired-retire last h v rs more)
 
   -- a change of a handle that isn't live is none
   pub change-none : (h : ℕ) (f : Listed T → Listed T) (l : List (Listed T)) → live_object l h ≡ None → change h f l ≡ l
@@ -133,8 +149,12 @@ module _ {T : Type 0} where
   change-none h f [] off = refl
   change-none h f (r ∷ rs) off = none_one h f (r.handle == h) r.handle r.live r.fields rs refl off (λ more. change-none h f rs more)
     where
-      none_one : (h : ℕ) (f : Listed T → Listed T) (b : Bool) (n : ℕ) (live : Bool) (v : T) (rs : List (Listed T)) → (n == h) ≡ b → lookup (prefix (record { handle = n; live = live; fields = v }) (live_of rs)) h ≡ None → (lookup (live_of rs) h ≡ None → change h f rs ≡ rs) → cond (live && b) (f (record { handle = n; live = live; fields = v }) ∷ rs) (record { handle = n; live = live; fields = v } ∷ change h f rs) ≡ record { handle = n; live = live; fields = v } ∷ rs
+      none_one : (h : ℕ) (f : Listed T → Listed T) (b : Bool) (n : ℕ) (live : Bool) (v : T) (rs : List (Listed T)) → (n == h) ≡ b
+          → lookup (prefix (record { handle = n; live = live; fields = v }) (live_of rs)) h ≡ None → (lookup (live_of rs) h ≡ None → change h f rs ≡ rs)
+          → cond (live && b) (f (record { handle = n; live = live; fields = v }) ∷ rs) (record { handle = n; live = live; fields = v } ∷ change h f rs)
+          ≡ record { handle = n; live = live; fields = v } ∷ rs
       none_one h f true n true v rs e off more = let found = ap (λ b. cond b (Some v) (lookup (live_of rs) h)) e in absurd (cc)
-      none_one h f false n true v rs e off more = ap (λ l. record { handle = n; live = true; fields = v } ∷ l) (more (sym (ap (λ b. cond b (Some v) (lookup (live_of rs) h)) e) ∙ off))
+      none_one h f false n true v rs e off more =
+          ap (λ l. record { handle = n; live = true; fields = v } ∷ l) (more (sym (ap (λ b. cond b (Some v) (lookup (live_of rs) h)) e) ∙ off))
       none_one h f true n false v rs e off more = ap (λ l. record { handle = n; live = false; fields = v } ∷ l) (more off)
       none_one h f false n false v rs e off more = ap (λ l. record { handle = n; live = false; fields = v } ∷ l) (more off)

@@ -12,7 +12,8 @@ module _ {T : Type 0} (key : T → ℕ) where
   }
 
   -- the new value's key is that of no live one
-  pub OneEach-insert : (p new : Slots T) (handle : ℕ) (value : T) → OneEach key p → NoneLive (slot_value p) (λ v. key v ≡ key value) → Inserts p new handle value → OneEach key new
+  pub OneEach-insert : (p new : Slots T) (handle : ℕ) (value : T) → OneEach key p → NoneLive (slot_value p) (λ v. key v ≡ key value)
+      → Inserts p new handle value → OneEach key new
   OneEach-insert p new handle value each free inserts = record {
     only = λ h k v w found other same. elim (cases_eq h handle) [
       | inl here ↦ elim (cases_eq k handle) [
@@ -27,14 +28,17 @@ module _ {T : Type 0} (key : T → ℕ) where
             let read = rw (too, get-insert_same p new handle value inserts) at other in
             let is : value ≡ w = cc in
             absurd (free h v (sym (get-insert_other p new handle h value inserts away) ∙ found) (same ∙ ap key (sym is)))
-        | inr apart ↦ each.only h k v w (sym (get-insert_other p new handle h value inserts away) ∙ found) (sym (get-insert_other p new handle k value inserts apart) ∙ other) same
+        | inr apart ↦ each.only h k v w (sym (get-insert_other p new handle h value inserts away)
+            ∙ found) (sym (get-insert_other p new handle k value inserts apart) ∙ other) same
       ]
     ];
   }
 
   -- the same after an insert that may have been refused
-  pub OneEach-insert_or_not : (p new : Slots T) (result : Result ℕ T) (value : T) (id : ℕ) → OneEach key p → key value ≡ id → NoneLive (slot_value p) (λ v. key v ≡ id) → OnErr result (new ≡ p) → IfOk result (λ handle. Inserts p new handle value) → OneEach key new
-  OneEach-insert_or_not p new (Ok handle) value id each is free unchanged inserts = OneEach-insert p new handle value each (λ h v found same. free h v found (same ∙ is)) inserts
+  pub OneEach-insert_or_not : (p new : Slots T) (result : Result ℕ T) (value : T) (id : ℕ) → OneEach key p → key value ≡ id
+      → NoneLive (slot_value p) (λ v. key v ≡ id) → OnErr result (new ≡ p) → IfOk result (λ handle. Inserts p new handle value) → OneEach key new
+  OneEach-insert_or_not p new (Ok handle) value id each is free unchanged inserts =
+      OneEach-insert p new handle value each (λ h v found same. free h v found (same ∙ is)) inserts
   OneEach-insert_or_not p new (Err back) value id each is free unchanged inserts = rw unchanged each
 
   -- what was live before, with the same key
@@ -43,7 +47,8 @@ module _ {T : Type 0} (key : T → ℕ) where
     found : slot_value p h ≡ Some value
     same : key value ≡ key v
 
-  was_with : (p : Slots T) (handle : ℕ) (old new : T) (h : ℕ) (v : T) → slot_value p handle ≡ Some old → key new ≡ key old → slot_value (with_value p handle new) h ≡ Some v → Was p h v
+  was_with : (p : Slots T) (handle : ℕ) (old new : T) (h : ℕ) (v : T) → slot_value p handle ≡ Some old → key new ≡ key old
+      → slot_value (with_value p handle new) h ≡ Some v → Was p h v
   was_with p handle old new h v live keeps found = elim (cases_eq h handle) [
     | inl here ↦
         let read = rw (here, get-with_value_same p handle old new live) at found in
@@ -53,7 +58,8 @@ module _ {T : Type 0} (key : T → ℕ) where
   ]
 
   -- the value's key stays
-  pub OneEach-with_value : (p : Slots T) (handle : ℕ) (old new : T) → OneEach key p → slot_value p handle ≡ Some old → key new ≡ key old → OneEach key (with_value p handle new)
+  pub OneEach-with_value : (p : Slots T) (handle : ℕ) (old new : T) → OneEach key p → slot_value p handle ≡ Some old → key new ≡ key old
+      → OneEach key (with_value p handle new)
   OneEach-with_value p handle old new each live keeps = record {
     only = λ h k v w found other same.
         let a = was_with p handle old new h v live keeps found in
@@ -67,7 +73,8 @@ module _ {T : Type 0} (key : T → ℕ) where
       | inl here ↦ let read = rw (here, get-without_same p handle old live) at found in absurd (cc)
       | inr away ↦ elim (cases_eq k handle) [
         | inl too ↦ let read = rw (too, get-without_same p handle old live) at other in absurd (cc)
-        | inr apart ↦ each.only h k v w (sym (get-without_other p handle h old live away) ∙ found) (sym (get-without_other p handle k old live apart) ∙ other) same
+        | inr apart ↦ each.only h k v w (sym (get-without_other p handle h old live away) ∙ found) (sym (get-without_other p handle k old live apart)
+            ∙ other) same
       ]
     ];
   }

@@ -4,25 +4,36 @@ use Rattle.handle_pool.proofs.FreshLemmas.{fresh-length, fresh-push}
 use Rattle.handle_pool.proofs.ListReads.{slice_get-set_same, slice_get-set_other, slice_get-push_old, slice_get-push_last, slice_get-push_cases, slice_get-set_cases, set-same}
 
 module _ {T : Type 0} where
-  IsFreeList-push : (es : List (Place T)) (generation count place : ℕ) → IsFreeList es count place → IsFreeList (es ++ Free generation (length es + 1) ∷ []) (suc count) place
+  IsFreeList-push : (es : List (Place T)) (generation count place : ℕ) → IsFreeList es count place
+      → IsFreeList (es ++ Free generation (length es + 1) ∷ []) (suc count) place
   IsFreeList-push es generation zero place p =
       (generation, length es + 1, rw p (slice_get-push_last es _), sym (length_push es _))
   IsFreeList-push es generation (suc count) place p =
       (p.0, p.1, slice_get-push_old es _ _ place p.2, IsFreeList-push es generation count p.1 p.3)
 
   -- one free place more, at the end
-  pub IsSound-push : (es : List (Place T)) (generations next : ℕ) → next ≡ length es + 1 → length es < 65536 → IsSound es generations 0 0 0 → IsSound (es ++ Free 1 next ∷ []) generations 0 0 0
+  pub IsSound-push : (es : List (Place T)) (generations next : ℕ) → next ≡ length es + 1 → length es < 65536 → IsSound es generations 0 0 0
+      → IsSound (es ++ Free 1 next ∷ []) generations 0 0 0
   IsSound-push es generations next at few sound =
       rw at record {
-        live_counted = rw (map_push (slot_in generations) es (Free 1 (length es + 1)), sum_by_push (λ (s : Slot T). cond (is_live s) 1 0) (map (slot_in generations) es) (slot_in generations (Free 1 (length es + 1)))) (omega (arith, sound.live_counted));
-        retired_counted = rw (map_push (slot_in generations) es (Free 1 (length es + 1)), sum_by_push (λ (s : Slot T). cond (is_retired s) 1 0) (map (slot_in generations) es) (slot_in generations (Free 1 (length es + 1)))) (omega (arith, sound.retired_counted));
+        live_counted = rw (
+          map_push (slot_in generations) es (Free 1 (length es + 1)),
+          sum_by_push (λ (s : Slot T). cond (is_live s) 1 0)
+              (map (slot_in generations) es) (slot_in generations (Free 1 (length es + 1))),
+        ) (omega (arith, sound.live_counted));
+        retired_counted = rw (
+          map_push (slot_in generations) es (Free 1 (length es + 1)),
+          sum_by_push (λ (s : Slot T). cond (is_retired s) 1 0)
+              (map (slot_in generations) es) (slot_in generations (Free 1 (length es + 1))),
+        ) (omega (arith, sound.retired_counted));
         free = suc sound.free;
         total = omega (arith, length_push es (Free 1 (length es + 1)), sound.total);
         linked = IsFreeList-push es 1 sound.free 0 sound.linked;
         some = omega (arith, length_push es (Free 1 (length es + 1)));
         few = omega (arith, length_push es (Free 1 (length es + 1)));
         top = sound.top;
-        generated = λ place e found. slice_get-push_cases es _ e place found (sound.generated place e) (λ same. subst (HasGeneration generations) same (omega arith, sound.top.0));
+        generated = λ place e found. slice_get-push_cases es _ e place found (sound.generated place e)
+            (λ same. subst (HasGeneration generations) same (omega arith, sound.top.0));
       }
 
   IsSound-one : (generations : ℕ) → (1 ≤ generations) × (generations < 2 ^ 32) → IsSound {T = T} (Free 1 1 ∷ []) generations 0 0 0
@@ -48,7 +59,10 @@ module _ {T : Type 0} where
   IsSound-fresh zero generations some few top = absurd (omega arith)
   IsSound-fresh (suc zero) generations some few top = IsSound-one generations top
   IsSound-fresh (suc (suc n)) generations some few top =
-      rw (fresh-push 0 (suc (suc n)) (suc n) (omega arith)) (IsSound-push (fresh 0 (suc n)) generations (0 + suc n + 1) (omega (arith, fresh-length T 0 (suc n))) (omega (arith, fresh-length T 0 (suc n))) (IsSound-fresh (suc n) generations (omega arith) (omega arith) top))
+      rw (fresh-push 0 (suc (suc n)) (suc n) (omega arith))
+      (IsSound-push (fresh 0 (suc n)) generations (0 + suc n
+      + 1) (omega (arith, fresh-length T 0 (suc n))) (omega (arith, fresh-length T 0 (suc n)))
+      (IsSound-fresh (suc n) generations (omega arith) (omega arith) top))
 
   -- a place starts one list of free places at most
   pub IsFreeList-count_unique : (es : List (Place T)) (m n place : ℕ) → IsFreeList es m place → IsFreeList es n place → m ≡ n
@@ -62,31 +76,38 @@ module _ {T : Type 0} where
       ap suc (IsFreeList-count_unique es m n p.1 p.3 (subst (IsFreeList es n) same q.3))
 
   -- a write at a place that is not on the list keeps the list
-  pub IsFreeList-set : (es : List (Place T)) (place : ℕ) (e : Place T) (n from : ℕ) → ((m : ℕ) → m < n → IsFreeList es (suc m) place → ⊥) → IsFreeList es n from → IsFreeList (set es place e) n from
+  pub IsFreeList-set : (es : List (Place T)) (place : ℕ) (e : Place T) (n from : ℕ) → ((m : ℕ) → m < n → IsFreeList es (suc m) place → ⊥) → IsFreeList es n from
+      → IsFreeList (set es place e) n from
   IsFreeList-set es place e zero from off p = p ∙ sym (length-set es place e)
   IsFreeList-set es place e (suc n) from off p =
       let other : from ≢ place = λ same. off n (omega arith) (subst (IsFreeList es (suc n)) same p) in
       (p.0, p.1, slice_get-set_other es place from e other ∙ p.2, IsFreeList-set es place e n p.1 (λ m below. off m (omega arith)) p.3)
 
   -- a live place is on no list of free places
-  live_is_off_list : (es : List (Place T)) (place generation : ℕ) (value : T) → slice_get es place ≡ Some (Live generation value) → (m : ℕ) → IsFreeList es (suc m) place → ⊥
+  live_is_off_list : (es : List (Place T)) (place generation : ℕ) (value : T) → slice_get es place ≡ Some (Live generation value) → (m : ℕ)
+      → IsFreeList es (suc m) place → ⊥
   live_is_off_list es place generation value found m p = let listed = p.2 in cc
 
   -- a count of the slots after a write
-  pub count-set : (p : Slot T → Bool) (generations : ℕ) (es : List (Place T)) (place : ℕ) (old new : Place T) → slice_get es place ≡ Some old → count_by p (map (slot_in generations) (set es place new)) + cond (p (slot_in generations old)) 1 0 ≡ count_by p (map (slot_in generations) es) + cond (p (slot_in generations new)) 1 0
+  pub count-set : (p : Slot T → Bool) (generations : ℕ) (es : List (Place T)) (place : ℕ) (old new : Place T) → slice_get es place ≡ Some old
+      → count_by p (map (slot_in generations) (set es place new)) + cond (p (slot_in generations old)) 1 0
+      ≡ count_by p (map (slot_in generations) es) + cond (p (slot_in generations new)) 1 0
   count-set p generations es place old new found =
       let within = slice_get_within es place old found in
       let d = slot_in generations old in
       let read : get_or (map (slot_in generations) es) place d ≡ d =
       get_or-map (slot_in generations) es place old d within ∙ ap (slot_in generations) (get_or_from_slice_get es place old old found) in
-      let counted = sum_by-set (λ s. cond (p s) 1 0) (map (slot_in generations) es) place (slot_in generations new) d (omega (arith, length-map es (slot_in generations))) in
+      let counted = sum_by-set (λ s. cond (p s) 1 0) (map (slot_in generations) es) place (slot_in generations new) d
+      (omega (arith, length-map es (slot_in generations))) in
       rw (map-set (slot_in generations) es place new) (rw read at counted)
 
   -- a value goes into the first free place: the rest of the list is shorter, so it doesn't come back to it
-  pub IsSound-fill : (es : List (Place T)) (generations live retired next generation after : ℕ) (value : T) → IsSound es generations live retired next → slice_get es next ≡ Some (Free generation after) → IsSound (set es next (Live generation value)) generations (live + 1) retired after
+  pub IsSound-fill : (es : List (Place T)) (generations live retired next generation after : ℕ) (value : T) → IsSound es generations live retired next
+      → slice_get es next ≡ Some (Free generation after) → IsSound (set es next (Live generation value)) generations (live + 1) retired after
   IsSound-fill es generations live retired next generation after value sound found = by_count sound.free sound.total sound.linked
     where
-      by_count : (n : ℕ) → live + retired + n ≡ length es → IsFreeList es n next → IsSound (set es next (Live generation value)) generations (live + 1) retired after
+      by_count : (n : ℕ) → live + retired + n ≡ length es → IsFreeList es n next
+          → IsSound (set es next (Live generation value)) generations (live + 1) retired after
       by_count zero total linked = absurd (omega (arith, slice_get_within es next _ found))
       by_count (suc n) total linked =
           let listed = linked.2 in
@@ -95,18 +116,26 @@ module _ {T : Type 0} where
           λ m below p. omega (arith, IsFreeList-count_unique es (suc m) (suc n) next p linked) in
           record {
             live_counted = omega (arith, sound.live_counted, count-set is_live generations es next (Free generation after) (Live generation value) found);
-            retired_counted = omega (arith, sound.retired_counted, count-set is_retired generations es next (Free generation after) (Live generation value) found);
+            retired_counted = omega (
+              arith,
+              sound.retired_counted,
+              count-set is_retired generations es next (Free generation after)
+                  (Live generation value) found,
+            );
             free = n;
             total = omega (arith, length-set es next (Live generation value));
             linked = IsFreeList-set es next (Live generation value) n after off (subst (IsFreeList es n) same linked.3);
             some = omega (arith, length-set es next (Live generation value), sound.some);
             few = omega (arith, length-set es next (Live generation value), sound.few);
             top = sound.top;
-            generated = λ place e read. slice_get-set_cases es next place _ e read (sound.generated place e) (λ same. subst (HasGeneration generations) same (sound.generated next _ found));
+            generated = λ place e read. slice_get-set_cases es next place _ e read (sound.generated place e)
+                (λ same. subst (HasGeneration generations) same (sound.generated next _ found));
           }
 
   -- a value is taken out before the last generation
-  pub IsSound-vacate : (es : List (Place T)) (generations live retired next place generation : ℕ) (value : T) → IsSound es generations live retired next → slice_get es place ≡ Some (Live generation value) → generation < generations → IsSound (set es place (Free (generation + 1) next)) generations (live - 1) retired place
+  pub IsSound-vacate : (es : List (Place T)) (generations live retired next place generation : ℕ) (value : T) → IsSound es generations live retired next
+      → slice_get es place ≡ Some (Live generation value) → generation < generations
+      → IsSound (set es place (Free (generation + 1) next)) generations (live - 1) retired place
   IsSound-vacate es generations live retired next place generation value sound found below =
       let more = count-set is_live generations es place (Live generation value) (Free (generation + 1) next) found in
       let same = count-set is_retired generations es place (Live generation value) (Free (generation + 1) next) found in
@@ -116,15 +145,23 @@ module _ {T : Type 0} where
         retired_counted = omega (arith, sound.retired_counted);
         free = suc sound.free;
         total = omega (arith, sound.live_counted, sound.total);
-        linked = (generation + 1, next, slice_get-set_same es place _ _ found, IsFreeList-set es place _ sound.free next (λ m _. live_is_off_list es place generation value found m) sound.linked);
+        linked = (
+          generation + 1,
+          next,
+          slice_get-set_same es place _ _ found,
+          IsFreeList-set es place _ sound.free next
+              (λ m _. live_is_off_list es place generation value found m) sound.linked,
+        );
         some = omega (arith, sound.some);
         few = omega (arith, sound.few);
         top = sound.top;
-        generated = λ at e read. slice_get-set_cases es place at _ e read (sound.generated at e) (λ is. subst (HasGeneration generations) is (omega arith, omega arith));
+        generated = λ at e read. slice_get-set_cases es place at _ e read (sound.generated at e)
+            (λ is. subst (HasGeneration generations) is (omega arith, omega arith));
       }
 
   -- a value is taken out at the last generation
-  pub IsSound-retire : (es : List (Place T)) (generations live retired next place generation : ℕ) (value : T) → IsSound es generations live retired next → slice_get es place ≡ Some (Live generation value) → IsSound (set es place Retired) generations (live - 1) (retired + 1) next
+  pub IsSound-retire : (es : List (Place T)) (generations live retired next place generation : ℕ) (value : T) → IsSound es generations live retired next
+      → slice_get es place ≡ Some (Live generation value) → IsSound (set es place Retired) generations (live - 1) (retired + 1) next
   IsSound-retire es generations live retired next place generation value sound found =
       let more = count-set is_live generations es place (Live generation value) Retired found in
       let same = count-set is_retired generations es place (Live generation value) Retired found in
@@ -142,7 +179,8 @@ module _ {T : Type 0} where
       }
 
   -- a value is written in place
-  pub IsSound-rewrite : (es : List (Place T)) (generations live retired next place generation : ℕ) (old new : T) → IsSound es generations live retired next → slice_get es place ≡ Some (Live generation old) → IsSound (set es place (Live generation new)) generations live retired next
+  pub IsSound-rewrite : (es : List (Place T)) (generations live retired next place generation : ℕ) (old new : T) → IsSound es generations live retired next
+      → slice_get es place ≡ Some (Live generation old) → IsSound (set es place (Live generation new)) generations live retired next
   IsSound-rewrite es generations live retired next place generation old new sound found =
       let more = count-set is_live generations es place (Live generation old) (Live generation new) found in
       let same = count-set is_retired generations es place (Live generation old) (Live generation new) found in
@@ -156,43 +194,54 @@ module _ {T : Type 0} where
         some = omega (arith, sound.some);
         few = omega (arith, sound.few);
         top = sound.top;
-        generated = λ at e read. slice_get-set_cases es place at _ e read (sound.generated at e) (λ is. subst (HasGeneration generations) is (sound.generated place _ found));
+        generated = λ at e read. slice_get-set_cases es place at _ e read (sound.generated at e)
+            (λ is. subst (HasGeneration generations) is (sound.generated place _ found));
       }
 
   -- the value under a place and a generation
-  pub live_at : (es : List (Place T)) (generations place generation : ℕ) → IsSome (value_at (slice_get (map (slot_in generations) es) place) generation) → (value : T) × (slice_get es place ≡ Some (Live generation value))
+  pub live_at : (es : List (Place T)) (generations place generation : ℕ) → IsSome (value_at (slice_get (map (slot_in generations) es) place) generation)
+      → (value : T) × (slice_get es place ≡ Some (Live generation value))
   live_at es generations place generation present = by_place (slice_get es place) refl (rw slice_get-map at present)
     where
-      by_place : (o : Option (Place T)) → slice_get es place ≡ o → IsSome (value_at (option_map (slot_in generations) o) generation) → (value : T) × (slice_get es place ≡ Some (Live generation value))
+      by_place : (o : Option (Place T)) → slice_get es place ≡ o → IsSome (value_at (option_map (slot_in generations) o) generation)
+          → (value : T) × (slice_get es place ≡ Some (Live generation value))
       by_place None is some = absurd (cc)
       by_place (Some (Free g next)) is some = grind (arith, nat_tests)
       by_place (Some (Live g value)) is some = grind (arith, nat_tests)
       by_place (Some Retired) is some = grind (arith, nat_tests)
 
   -- one place has one value
-  pub same_value : (es : List (Place T)) (place g k : ℕ) (v w : T) → slice_get es place ≡ Some (Live g v) → slice_get es place ≡ Some (Live k w) → Some v ≡ Some w
+  pub same_value : (es : List (Place T)) (place g k : ℕ) (v w : T) → slice_get es place ≡ Some (Live g v) → slice_get es place ≡ Some (Live k w)
+      → Some v ≡ Some w
   same_value es place g k v w e1 e2 = grind (arith, nat_tests)
 
   -- what `get` reads of a live place
-  pub get-live : (es : List (Place T)) (generations place generation : ℕ) (value : T) → slice_get es place ≡ Some (Live generation value) → value_at (slice_get (map (slot_in generations) es) place) generation ≡ Some value
+  pub get-live : (es : List (Place T)) (generations place generation : ℕ) (value : T) → slice_get es place ≡ Some (Live generation value)
+      → value_at (slice_get (map (slot_in generations) es) place) generation ≡ Some value
   get-live es generations place generation value found = rw (slice_get-map, found) (grind (arith, nat_tests))
 
   -- the same value, whichever way it was read
-  pub get-taken : (es : List (Place T)) (generations place generation other : ℕ) (value taken : T) → slice_get es place ≡ Some (Live generation value) → slice_get es place ≡ Some (Live other taken) → value_at (slice_get (map (slot_in generations) es) place) generation ≡ Some taken
+  pub get-taken : (es : List (Place T)) (generations place generation other : ℕ) (value taken : T) → slice_get es place ≡ Some (Live generation value)
+      → slice_get es place ≡ Some (Live other taken) → value_at (slice_get (map (slot_in generations) es) place) generation ≡ Some taken
   get-taken es generations place generation other value taken found was =
       let same : value ≡ taken = cc in
       get-live es generations place generation value found ∙ ap Some same
 
   -- one value at least
-  pub live-positive : (es : List (Place T)) (generations live retired next place generation : ℕ) (value : T) → IsSound es generations live retired next → slice_get es place ≡ Some (Live generation value) → 1 ≤ live
+  pub live-positive : (es : List (Place T)) (generations live retired next place generation : ℕ) (value : T) → IsSound es generations live retired next
+      → slice_get es place ≡ Some (Live generation value) → 1 ≤ live
   live-positive es generations live retired next place generation value sound found =
       omega (arith, sound.live_counted, count-set is_live generations es place (Live generation value) Retired found)
 
-  pub HasValue-live : (es : List (Place T)) (place generation : ℕ) (value : T) → slice_get es place ≡ Some (Live generation value) → HasValue (slice_get es place)
+  pub HasValue-live : (es : List (Place T)) (place generation : ℕ) (value : T) → slice_get es place ≡ Some (Live generation value)
+      → HasValue (slice_get es place)
   HasValue-live es place generation value found = rw found tt
 
   -- the slots after a value was put into a free place
-  pub Inserts-fill : (es : List (Place T)) (generations live retired next generation after : ℕ) (value : T) → IsSound es generations live retired next → slice_get es next ≡ Some (Free generation after) → Inserts (record { generations = generations; slots = map (slot_in generations) es }) (record { generations = generations; slots = map (slot_in generations) (set es next (Live generation value)) }) (generation * 4294967296 + next) value
+  pub Inserts-fill : (es : List (Place T)) (generations live retired next generation after : ℕ) (value : T) → IsSound es generations live retired next
+      → slice_get es next ≡ Some (Free generation after)
+      → Inserts (record { generations = generations; slots = map (slot_in generations) es })
+      (record { generations = generations; slots = map (slot_in generations) (set es next (Live generation value)) }) (generation * 4294967296 + next) value
   Inserts-fill es generations live retired next generation after value sound found =
       let within = slice_get_within es next _ found in
       let few = sound.few in
@@ -203,23 +252,30 @@ module _ {T : Type 0} where
         now = rw (place, turn, map-set) refl;
       }
 
-  slot_after-last : (generations generation : ℕ) → generation ≡ generations → slot_after {T = T} generations generation ≡ record { generation = generations; value = None; retired = true }
+  slot_after-last : (generations generation : ℕ) → generation ≡ generations
+      → slot_after {T = T} generations generation ≡ record { generation = generations; value = None; retired = true }
   slot_after-last generations generation same = rw same (grind (arith, nat_tests))
 
   slot_after-next : (generations generation : ℕ) → generation ≢ generations → slot_after {T = T} generations generation ≡ free_slot (generation + 1)
   slot_after-next generations generation other = grind (arith, nat_tests)
 
   -- the slots after a value was taken at the last generation
-  pub without-retire : (es : List (Place T)) (generations place generation : ℕ) → generation ≡ generations → map (slot_in generations) (set es place Retired) ≡ set (map (slot_in generations) es) place (slot_after generations generation)
+  pub without-retire : (es : List (Place T)) (generations place generation : ℕ) → generation ≡ generations
+      → map (slot_in generations) (set es place Retired) ≡ set (map (slot_in generations) es) place (slot_after generations generation)
   without-retire es generations place generation same = rw (map-set, slot_after-last generations generation same) refl
 
   -- the slots after a value was taken before it
-  pub without-vacate : (es : List (Place T)) (generations place generation next : ℕ) → generation ≢ generations → map (slot_in generations) (set es place (Free (generation + 1) next)) ≡ set (map (slot_in generations) es) place (slot_after generations generation)
+  pub without-vacate : (es : List (Place T)) (generations place generation next : ℕ) → generation ≢ generations
+      → map (slot_in generations) (set es place (Free (generation + 1) next)) ≡ set (map (slot_in generations) es) place (slot_after generations generation)
   without-vacate es generations place generation next other = rw (map-set, slot_after-next generations generation other) refl
 
   -- what was there, written back, changes nothing
-  pub with_value-same : (es : List (Place T)) (generations handle : ℕ) (value lent : T) → slice_get es (slot_of handle) ≡ Some (Live (generation_of handle) value) → Some value ≡ Some lent → with_value (record { generations = generations; slots = map (slot_in generations) es }) handle lent ≡ record { generations = generations; slots = map (slot_in generations) es }
+  pub with_value-same : (es : List (Place T)) (generations handle : ℕ) (value lent : T)
+      → slice_get es (slot_of handle) ≡ Some (Live (generation_of handle) value) → Some value ≡ Some lent
+      → with_value (record { generations = generations; slots = map (slot_in generations) es }) handle lent
+      ≡ record { generations = generations; slots = map (slot_in generations) es }
   with_value-same es generations handle value lent found is =
       let same : value ≡ lent = cc in
-      let read : slice_get (map (slot_in generations) es) (slot_of handle) ≡ Some (used_slot (generation_of handle) lent) = rw (slice_get-map, found, same) refl in
+      let read : slice_get (map (slot_in generations) es) (slot_of handle) ≡ Some (used_slot (generation_of handle) lent) =
+      rw (slice_get-map, found, same) refl in
       ap (λ slots. record { generations = generations; slots = slots }) (set-same (map (slot_in generations) es) (slot_of handle) _ read)

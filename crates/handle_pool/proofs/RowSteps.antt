@@ -47,10 +47,13 @@ module _ (X : RattleType) (L : Laws X) {M : Type 1} {𝓤 : Ura M} {𝓛 : Logic
       → Seq K 𝓛 (‵ (Items X d.items b o) ∷ ‵ (Spare X d.room (length d.items) b o) ∷ ‵ (Held X d us) ∷ Γ) G)
       → Seq K 𝓛 (‵ ((RowOf X).own_val d us) ∷ Γ) G
   row_had t d us k =
-      peeks t (RowOf X) (Is (RowOf X)) (shows 𝓛 (RowOf X)) d us (λ is. fsplit t $ move t (1 ∷ []) $ fsplit t $ fsplit t $ flt_l t (λ le. flt_l t (λ fit. fsplit t $ move t (1 ∷ []) $ fsplit t $ move t (3 ∷ 1 ∷ []) $ fjoin t $ move t (2 ∷ 1 ∷ 0 ∷ []) $
+      peeks t (RowOf X) (Is (RowOf X)) (shows 𝓛 (RowOf X)) d us
+      (λ is. fsplit t $ move t (1 ∷ []) $ fsplit t $ fsplit t $ flt_l t
+      (λ le. flt_l t (λ fit. fsplit t $ move t (1 ∷ []) $ fsplit t $ move t (3 ∷ 1 ∷ []) $ fjoin t $ move t (2 ∷ 1 ∷ 0 ∷ []) $
       in_a_block t d.at (λ p. lies_at (Array (R X) (length d.items)) full_share p d.items) (id⊢ 𝓤 _) (λ b o e.
       rewrite t 1 (λ (p : Ptr). ‵ (room_for (bare (ty_array (layout X) (d.room - length d.items))) (p +ₚ length d.items * sz X))) e refl $
-      k b o e ((lowers (R X) (param_laws 0 X L)).val_is d us is ∙ ap (λ (p : Ptr). (lowers (R X) (param_laws 0 X L)).lowered (record d { at = p }) ∷ []) e) le fit))))
+      k b o e ((lowers (R X) (param_laws 0 X L)).val_is d us is
+      ∙ ap (λ (p : Ptr). (lowers (R X) (param_laws 0 X L)).lowered (record d { at = p }) ∷ []) e) le fit))))
 
   -- and made again, with other items
   pub row_made : K → (d : Row X.Denot) (ys : List X.Denot) (us : List Val) (b o : ℕ) → d.at ≡ block_ptr b o → length ys < d.room + 1 → d.room * sz X < 2 ^ 63
@@ -58,13 +61,15 @@ module _ (X : RattleType) (L : Laws X) {M : Type 1} {𝓤 : Ura M} {𝓛 : Logic
   row_made t d ys us b o e le fit = step (λ s.
       rewrite t 0 (λ (p : Ptr). ‵ (lies_at (Array (R X) (length ys)) full_share p ys)) (sym e) refl $
       rewrite t 1 (λ (p : Ptr). ‵ (room_for (bare (ty_array (layout X) (d.room - length ys))) (p +ₚ length ys * sz X))) (sym e) refl $
-      move t (2 ∷ []) $ fsplit t $ move t (1 ∷ 3 ∷ []) $ move t (1 ∷ 0 ∷ []) $ fjoin t $ move t (2 ∷ 0 ∷ []) $ fjoin t $ flt_i t (d.room * sz X) (2 ^ 63) fit $ flt_i t (length ys) (d.room + 1) le $ fjoin t $ fjoin t $ move t (1 ∷ 0 ∷ []) $ fjoin t $ s)
+      move t (2 ∷ []) $ fsplit t $ move t (1 ∷ 3 ∷ []) $ move t (1 ∷ 0 ∷ []) $ fjoin t $ move t (2 ∷ 0
+      ∷ []) $ fjoin t $ flt_i t (d.room * sz X) (2 ^ 63) fit $ flt_i t (length ys) (d.room + 1) le $ fjoin t $ fjoin t $ move t (1 ∷ 0 ∷ []) $ fjoin t $ s)
 
 module _ (X : RattleType) (L : Laws X) {M : Type 1} {𝓤 : Ura M} {𝓛 : Logic 𝓤} {K : Type 0} {Γ : List (Item 𝓤)} {G : Goal 𝓤 𝓛.H} where
   -- [the items; the room after them; the word; the row's cell; the open borrow; what is seen of it, in two entries]
   pub row_opens : K → Soaks G → {κ : Lft} {q : Share} {γ : GName} (d : Row X.Denot) (rb ro : ℕ)
       → ((us : List Val) (b o : ℕ) → d.at ≡ block_ptr b o → us ≡ word X L d b o ∷ [] → length d.items < d.room + 1 → d.room * sz X < 2 ^ 63
-      → Seq K 𝓛 (‵ (Items X d.items b o) ∷ ‵ (Spare X d.room (length d.items) b o) ∷ ‵ (Held X d us) ∷ ‵ (cell_at full_share (RowOf X).mir (word X L d b o ∷ []) rb ro)
+      → Seq K 𝓛 (‵ (Items X d.items b o) ∷ ‵ (Spare X d.room (length d.items) b o) ∷ ‵ (Held X d us)
+      ∷ ‵ (cell_at full_share (RowOf X).mir (word X L d b o ∷ []) rb ro)
       ∷ ‵ (fobor κ q (Body (mem (RowOf X)) rb ro γ)) ∷ ‵ (fobs γ ((RowOf X).coded.code d)) ∷ ‵ (fauth γ ((RowOf X).coded.code d)) ∷ Γ) G)
       → Seq K 𝓛 (‵ (fobs γ ((RowOf X).coded.code d)) ∷ ‵ (fbor κ (Body (mem (RowOf X)) rb ro γ)) ∷ ‵ (flft κ q) ∷ Γ) G
   row_opens t z d rb ro k =

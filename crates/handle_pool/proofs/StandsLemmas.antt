@@ -15,7 +15,8 @@ may_issue_tests listed g i last new most next = grind (arith, nat_tests)
 
 module _ {T : Type 0} where
   -- a count of slots after a write
-  pub count_by-set : (p : Slot T → Bool) (slots : List (Slot T)) (place : ℕ) (old new : Slot T) → slice_get slots place ≡ Some old → count_by p (set slots place new) + cond (p old) 1 0 ≡ count_by p slots + cond (p new) 1 0
+  pub count_by-set : (p : Slot T → Bool) (slots : List (Slot T)) (place : ℕ) (old new : Slot T) → slice_get slots place ≡ Some old
+      → count_by p (set slots place new) + cond (p old) 1 0 ≡ count_by p slots + cond (p new) 1 0
   count_by-set p slots place old new found =
       let within = slice_get_within slots place old found in
       let counted = sum_by-set (λ (s : Slot T). cond (p s) 1 0) slots place new old within in
@@ -35,7 +36,8 @@ module _ {T : Type 0} where
   value_at-turned slot generation e1 = grind (arith, nat_tests)
 
   -- where a value was found, the slot is in use at this generation
-  pub used_at_live : (o : Option (Slot T)) (generation : ℕ) (value : T) → value_at o generation ≡ Some value → (slot : Slot T) × (o ≡ Some slot) × (slot.generation ≡ generation) × (slot.value ≡ Some value)
+  pub used_at_live : (o : Option (Slot T)) (generation : ℕ) (value : T) → value_at o generation ≡ Some value
+      → (slot : Slot T) × (o ≡ Some slot) × (slot.generation ≡ generation) × (slot.value ≡ Some value)
   used_at_live None generation value found = absurd (cc)
   used_at_live (Some slot) generation value found =
       elim (eqb_tells slot.generation generation) [
@@ -44,7 +46,8 @@ module _ {T : Type 0} where
       ]
 
   -- a slot that was never used stands for no turn
-  SlotStands-fresh : (max generations : ℕ) (place : ℕ) (slot : Slot T) → 1 ≤ generations → slice_get (replicate max (free_slot 1)) place ≡ Some slot → SlotStands generations 0 slot
+  SlotStands-fresh : (max generations : ℕ) (place : ℕ) (slot : Slot T) → 1 ≤ generations → slice_get (replicate max (free_slot 1)) place ≡ Some slot
+      → SlotStands generations 0 slot
   SlotStands-fresh zero generations place slot once found = absurd (cc)
   SlotStands-fresh (suc max) generations zero slot once found =
       let is : free_slot 1 ≡ slot = cc in
@@ -88,7 +91,8 @@ module _ {T : Type 0} where
   unfolding may_issue
   may_issue-insert p new l h value stands inserts =
       let slot = stands.slots (slot_of h) _ inserts.was_free in
-      may_issue_tests (listed h l) (generation_of h) (issued_at h l) p.generations (unlisted p l h value new stands inserts) slot.at_most (slot.generation ∙ ap (λ n. n + 1) (issued_at-slot h l))
+      may_issue_tests (listed h l) (generation_of h) (issued_at h l) p.generations (unlisted p l h value new stands inserts) slot.at_most (slot.generation
+      ∙ ap (λ n. n + 1) (issued_at-slot h l))
 
   -- an insert is an issue
   pub Stands-insert : (p new : Slots T) (l : List (Listed T)) (h : ℕ) (value : T) → Stands p l → Inserts p new h value → Stands new (issue h value l)
@@ -97,10 +101,12 @@ module _ {T : Type 0} where
       let used = used_slot (generation_of h) value in
       let none = off p l h value new stands inserts in
       let slot = stands.slots place _ inserts.was_free in
-      let turn : issued_at h (issue h value l) ≡ issued_at h l + 1 = issued_at-issue h h value l ∙ ap (λ b. issued_at h l + cond b 1 0) (eq-eqb place place refl) in
+      let turn : issued_at h (issue h value l) ≡ issued_at h l + 1 =
+      issued_at-issue h h value l ∙ ap (λ b. issued_at h l + cond b 1 0) (eq-eqb place place refl) in
       rw inserts.now record {
         found = λ k. elim (cases_eq k h) [
-          | inl same ↦ rw (same, slice_get-set_same p.slots place used _ inserts.was_free, at-issue h h value l none, eq-eqb h h refl) (value_at-used_same (generation_of h) value)
+          | inl same ↦ rw (same, slice_get-set_same p.slots place used _ inserts.was_free, at-issue h h value l none, eq-eqb h h refl)
+              (value_at-used_same (generation_of h) value)
           | inr differs ↦ rw (at-issue h k value l none, ne_eqb h k (λ is. differs (sym is))) (elim (cases_eq (slot_of k) place) [
             | inl beside ↦
                 let read : slot_value p k ≡ None = rw (beside, inserts.was_free) (value_at-none (free_slot (generation_of h)) (generation_of k) refl) in
@@ -115,14 +121,20 @@ module _ {T : Type 0} where
               let wrote = slice_get-set_same p.slots place used _ inserts.was_free in
               let read = rw same at found in
               let is : used ≡ it = cc in
-              rw (← is, same) record { generation = slot.generation ∙ ap (λ n. n + 1) (issued_at-slot h l) ∙ sym turn ∙ sym (issued_at-slot h (issue h value l)); at_most = slot.at_most; retired = λ gone. absurd (cc) }
+              rw (← is, same) record {
+                generation = slot.generation ∙ ap (λ n. n + 1) (issued_at-slot h l) ∙ sym turn
+                    ∙ sym (issued_at-slot h (issue h value l));
+                at_most = slot.at_most;
+                retired = λ gone. absurd (cc);
+              }
           | inr apart ↦
               let before = slice_get-set_other p.slots place other used apart in
               let few = stands.few in
               let size = length-set p.slots place used in
               let own : slot_of other ≡ other = slot_of-place other (omega (arith, slice_get_within (set p.slots place used) other it found)) in
               let away : (place == slot_of other) ≡ false = ne_eqb place (slot_of other) (λ is. apart (sym own ∙ sym is)) in
-              let same : issued_at other (issue h value l) ≡ issued_at other l = issued_at-issue other h value l ∙ ap (λ b. issued_at other l + cond b 1 0) away ∙ omega arith in
+              let same : issued_at other (issue h value l) ≡ issued_at other l =
+              issued_at-issue other h value l ∙ ap (λ b. issued_at other l + cond b 1 0) away ∙ omega arith in
               rw same (stands.slots other it (sym before ∙ found))
         ];
         turns = λ k some. elim (cases_eq k h) [
@@ -134,7 +146,8 @@ module _ {T : Type 0} where
                 at_most = omega (arith, slot.generation, issued_at-slot h l);
               }
           | inr differs ↦
-              let still : listed k (issue h value l) ≡ listed k l = listed-issue k h value l ∙ ap (λ b. listed k l + cond b 1 0) (ne_eqb h k (λ is. differs (sym is))) ∙ omega arith in
+              let still : listed k (issue h value l) ≡ listed k l =
+              listed-issue k h value l ∙ ap (λ b. listed k l + cond b 1 0) (ne_eqb h k (λ is. differs (sym is))) ∙ omega arith in
               let before = stands.turns k (omega arith) in
               record {
                 has_slot = rw length-set before.has_slot;
@@ -187,7 +200,8 @@ module _ {T : Type 0} where
     live : length (live_of new) + 1 ≡ length (live_of l) + cond (is_live slot) 1 0
     retired_now : retired last new ≡ retired last l + cond (is_retired slot) 1 0
 
-  Stands-replace : (p : Slots T) (l new : List (Listed T)) (h : ℕ) (value : T) (slot : Slot T) → Stands p l → (at : AtLive p l h value) → Replaces p.generations h l new slot → Stands (record p { slots = set p.slots (slot_of h) slot }) new
+  Stands-replace : (p : Slots T) (l new : List (Listed T)) (h : ℕ) (value : T) (slot : Slot T) → Stands p l → (at : AtLive p l h value)
+      → Replaces p.generations h l new slot → Stands (record p { slots = set p.slots (slot_of h) slot }) new
   Stands-replace p l new h value slot stands at replaces =
       let place = slot_of h in
       record {
@@ -224,14 +238,17 @@ module _ {T : Type 0} where
       }
 
   -- a change in place is an update
-  pub Stands-update : (p : Slots T) (l : List (Listed T)) (h : ℕ) (f : T → T) (value : T) → Stands p l → slot_value p h ≡ Some value → Stands (with_value p h (f value)) (update h f l)
+  pub Stands-update : (p : Slots T) (l : List (Listed T)) (h : ℕ) (f : T → T) (value : T) → Stands p l → slot_value p h ≡ Some value
+      → Stands (with_value p h (f value)) (update h f l)
   Stands-update p l h f value stands found =
       let at = at_live p l h value stands found in
       let listed_at = sym (stands.found h) ∙ found in
       Stands-replace p l (update h f l) h value (used_slot (generation_of h) (f value)) stands at record {
-        same = value_at-used_same (generation_of h) (f value) ∙ sym (at-update h h f value l listed_at ∙ ap (λ b. cond b (Some (f value)) (lookup (live_of l) h)) (eq-eqb h h refl));
+        same = value_at-used_same (generation_of h) (f value)
+            ∙ sym (at-update h h f value l listed_at ∙ ap (λ b. cond b (Some (f value)) (lookup (live_of l) h)) (eq-eqb h h refl));
         none = λ other differs. value_at-used_other (generation_of h) other (f value) differs;
-        others = λ k differs. at-update h k f value l listed_at ∙ ap (λ b. cond b (Some (f value)) (lookup (live_of l) k)) (ne_eqb h k (λ is. differs (sym is)));
+        others = λ k differs. at-update h k f value l listed_at
+            ∙ ap (λ b. cond b (Some (f value)) (lookup (live_of l) k)) (ne_eqb h k (λ is. differs (sym is)));
         distinct = Distinct-update h f l stands.distinct;
         stands = record { generation = at.count; at_most = at.at_most; retired = λ gone. absurd (cc) };
         listed_as_before = λ k. listed-change k h (with_fields f) (λ r. refl) l;
@@ -248,13 +265,16 @@ module _ {T : Type 0} where
       by_value None is = rw (is, change-none h (with_fields f) l (sym (stands.found h) ∙ is)) stands
       by_value (Some value) is = rw is (Stands-update p l h f value stands is)
 
-  Replaces-retire : (p : Slots T) (l : List (Listed T)) (h : ℕ) (value : T) (slot : Slot T) → Stands p l → slot_value p h ≡ Some value → slot.value ≡ None → SlotStands p.generations (issued_at (slot_of h) l) slot → is_retired slot ≡ (generation_of h == p.generations) → Replaces p.generations h l (retire h l) slot
+  Replaces-retire : (p : Slots T) (l : List (Listed T)) (h : ℕ) (value : T) (slot : Slot T) → Stands p l → slot_value p h ≡ Some value → slot.value ≡ None
+      → SlotStands p.generations (issued_at (slot_of h) l) slot → is_retired slot ≡ (generation_of h == p.generations)
+      → Replaces p.generations h l (retire h l) slot
   Replaces-retire p l h value slot stands found empty slot_stands last =
       let listed_at = sym (stands.found h) ∙ found in
       let one : Bool → ℕ = λ b. cond b 1 0 in
       let not_live : one (is_live slot) ≡ 0 = rw empty refl in
       record {
-        same = value_at-none slot (generation_of h) empty ∙ sym (at-retire h h l stands.distinct ∙ ap (λ b. cond b None (lookup (live_of l) h)) (eq-eqb h h refl));
+        same = value_at-none slot (generation_of h) empty
+            ∙ sym (at-retire h h l stands.distinct ∙ ap (λ b. cond b None (lookup (live_of l) h)) (eq-eqb h h refl));
         none = λ other differs. value_at-none slot other empty;
         others = λ k differs. at-retire h k l stands.distinct ∙ ap (λ b. cond b None (lookup (live_of l) k)) (ne_eqb h k (λ is. differs (sym is)));
         distinct = Distinct-retire h l stands.distinct;
@@ -270,8 +290,19 @@ module _ {T : Type 0} where
   Stands-remove p l h value stands found =
       let at = at_live p l h value stands found in
       Stands-replace p l (retire h l) h value (slot_after p.generations (generation_of h)) stands at (elim (eqb_tells (generation_of h) p.generations) [
-        | inl last ↦ rw last.0 (Replaces-retire p l h value (record { generation = generation_of h; value = None; retired = true }) stands found refl record { generation = at.count; at_most = at.at_most; retired = λ gone. (last.1, refl) } (sym last.0))
-        | inr before ↦ rw before.0 (Replaces-retire p l h value (free_slot (generation_of h + 1)) stands found refl record { generation = ap (λ n. n + 1) at.count; at_most = omega (arith, at.at_most, before.1); retired = λ gone. absurd (cc) } (sym before.0))
+        | inl last ↦ rw last.0 (Replaces-retire p l h value
+            (record { generation = generation_of h; value = None; retired = true }) stands found refl record {
+              generation = at.count;
+              at_most =
+                  at.at_most;
+              retired = λ gone. (last.1, refl);
+            } (sym last.0))
+        | inr before ↦ rw before.0 (Replaces-retire p l h value (free_slot (generation_of h + 1)) stands found refl record {
+          generation =
+              ap (λ n. n + 1) at.count;
+          at_most = omega (arith, at.at_most, before.1);
+          retired = λ gone. absurd (cc);
+        } (sym before.0))
       ])
 
   set-set : (slots : List (Slot T)) (place : ℕ) (a b : Slot T) → set (set slots place a) place b ≡ set slots place b
@@ -280,10 +311,12 @@ module _ {T : Type 0} where
   set-set (s ∷ slots) (suc place) a b = ap (λ rest. s ∷ rest) (set-set slots place a b)
 
   -- an object that changes and stops being live at once: the change leaves nothing in its slot
-  pub Stands-change_and_remove : (p : Slots T) (l : List (Listed T)) (h : ℕ) (f : T → T) (value : T) → Stands p l → slot_value p h ≡ Some value → Stands (without p h) (retire h (update h f l))
+  pub Stands-change_and_remove : (p : Slots T) (l : List (Listed T)) (h : ℕ) (f : T → T) (value : T) → Stands p l → slot_value p h ≡ Some value
+      → Stands (without p h) (retire h (update h f l))
   Stands-change_and_remove p l h f value stands found =
       let at = at_live p l h value stands found in
-      let read : slot_value (with_value p h (f value)) h ≡ Some (f value) = rw (slice_get-set_same p.slots (slot_of h) (used_slot (generation_of h) (f value)) _ at.read) (value_at-used_same (generation_of h) (f value)) in
+      let read : slot_value (with_value p h (f value)) h ≡ Some (f value) =
+      rw (slice_get-set_same p.slots (slot_of h) (used_slot (generation_of h) (f value)) _ at.read) (value_at-used_same (generation_of h) (f value)) in
       let removed = Stands-remove (with_value p h (f value)) (update h f l) h (f value) (Stands-update p l h f value stands found) read in
       rw (set-set p.slots (slot_of h) (used_slot (generation_of h) (f value)) (slot_after p.generations (generation_of h))) at removed
 

@@ -10,9 +10,11 @@ module _ {T : Type 0} where
       slice_get_within p.slots (slot_of handle) slot.0 slot.1
 
   -- what stands at a live handle's place
-  pub used_at-live : (p : Slots T) (handle : ℕ) (value : T) → slot_value p handle ≡ Some value → used_at (slot_of handle) (slice_get p.slots (slot_of handle)) ≡ Some (handle, value)
+  pub used_at-live : (p : Slots T) (handle : ℕ) (value : T) → slot_value p handle ≡ Some value
+      → used_at (slot_of handle) (slice_get p.slots (slot_of handle)) ≡ Some (handle, value)
   used_at-live p handle value e1 = grind (arith, nat_tests)
 
   -- a handle that a walk finds is live
-  pub live-used_at : (p : Slots T) (place handle : ℕ) (value : T) → place < 2 ^ 32 → used_at place (slice_get p.slots place) ≡ Some (handle, value) → slot_value p handle ≡ Some value
+  pub live-used_at : (p : Slots T) (place handle : ℕ) (value : T) → place < 2 ^ 32 → used_at place (slice_get p.slots place) ≡ Some (handle, value)
+      → slot_value p handle ≡ Some value
   live-used_at p place handle value e1 e2 = grind (arith, nat_tests)

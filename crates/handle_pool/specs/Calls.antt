@@ -89,4 +89,5 @@ module _ {T : Type 0} where
 
 -- over any calls of a new pool
 abbrev pub PoolLaw : Type 0 → Type 0
-PoolLaw T = (max generations : ℕ) (calls : List (Call T)) (last : Slots T) → max ≤ 65536 → 1 ≤ generations → SlotsRun (new_slots max generations) calls last → KeepsHandles max generations calls last
+PoolLaw T = (max generations : ℕ) (calls : List (Call T)) (last : Slots T) → max ≤ 65536 → 1 ≤ generations → SlotsRun (new_slots max generations) calls last
+    → KeepsHandles max generations calls last

@@ -29,7 +29,8 @@ module _ (X : RattleType) where
   abbrev pub row_owns : Ptr → ℕ → List X.Denot → Fml
   row_owns p n xs =
       fsep (bounds n xs)
-      (fsep (lies_at (Array X (length xs)) full_share p xs) (fsep (room_for (array_of X (n - length xs)) (p +ₚ length xs * type_size X)) (chunk (array_of X n) p)))
+      (fsep (lies_at (Array X (length xs)) full_share p xs)
+      (fsep (room_for (array_of X (n - length xs)) (p +ₚ length xs * type_size X)) (chunk (array_of X n) p)))
 
   -- what a `&` to it holds: the bounds, and the items
   abbrev pub row_lent : Ptr → ℕ → List X.Denot → Lft → Fml

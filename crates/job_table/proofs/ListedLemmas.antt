@@ -1,5 +1,5 @@
 -- The lists of actions by their jobs, and what each move keeps of them.
-use Rattle.job_table.proofs.Names.{◌≡◌, ◌≢◌, ◌≤◌, ◌<◌, ◌%◌, ℕ, zero, suc, Bool, true, false, List, [], ◌∷◌, ◌++◌, length, length-set, replicate, Option, Some, None, slice_get, refl, sym, ap, subst, ◌∙◌, inl, inr, arith, cond, ◌==◌, ◌||◌, IsSome, false≢true, cases_eq, cases_Bool, nat_tests, Slot, Slots, slot_of, generation_of, free_slot, used_slot, slot_after, value_at, slot_value, max_of, Inserts, without, changed, put, with_value, HandleLists, list_at, has_handle, without_handle, stands_at, NowhereAt, with_list, index-has, Action, with_enabled, AreListed, list_of}
+use Rattle.job_table.proofs.Names.{◌≡◌, ◌≢◌, ◌≤◌, ◌<◌, ◌%◌, ℕ, zero, suc, Bool, true, false, List, [], ◌∷◌, ◌++◌, length, length-set, replicate, Option, Some, None, slice_get, refl, sym, ap, subst, ◌∙◌, inl, inr, arith, cond, ◌==◌, ◌||◌, IsSome, false≢true, cases_eq, cases_Bool, nat_tests, Slot, Slots, slot_of, generation_of, free_slot, used_slot, slot_after, value_at, slot_value, max_of, Inserts, without, changed, put, with_value, HandleLists, list_at, has_handle, without_handle, stands_at, NowhereAt, with_list, index-has, Action, with_enabled, AreListed, list_of, eq-eqb, none-some, or_right, same_Some}
 use Rattle.std.specs.Option.{option_map}
 use Rattle.std.proofs.lemmas.List.{length-replicate}
 use Rattle.handle_pool.proofs.StandsLemmas.{get-fresh, value_at-none}
@@ -8,19 +8,14 @@ use Rattle.handle_pool.proofs.WalkLemmas.{slot_of-live}
 use Rattle.linked_places.proofs.HandleLemmas.{list_at-set_same, list_at-set_other, stands-has}
 use Rattle.linked_places.proofs.BesideLemmas.{list_at-none}
 
-pub some_same : {A : Type 0} {a b : A} → Some a ≡ Some b → a ≡ b
-some_same h = cc
-
-none-some : {A : Type 0} {P : Type 0} {x : A} → None ≡ Some x → P
-none-some e = absurd (cc)
-
 -- Handles in lists
 
 has-append : (h : ℕ) (xs ys : List ℕ) → has_handle h (xs ++ ys) ≡ (has_handle h xs || has_handle h ys)
 has-append h [] ys = refl
 has-append h (x ∷ xs) ys = by_test (x == h) (has-append h xs ys)
   where
-    by_test : (b : Bool) → has_handle h (xs ++ ys) ≡ (has_handle h xs || has_handle h ys) → (b || has_handle h (xs ++ ys)) ≡ ((b || has_handle h xs) || has_handle h ys)
+    by_test : (b : Bool) → has_handle h (xs ++ ys) ≡ (has_handle h xs || has_handle h ys)
+        → (b || has_handle h (xs ++ ys)) ≡ ((b || has_handle h xs) || has_handle h ys)
     by_test true e = refl
     by_test false e = e
 
@@ -28,16 +23,9 @@ or-left : (a b : Bool) → a ≡ true → (a || b) ≡ true
 or-left true b e = refl
 or-left false b e = absurd (false≢true e)
 
-or-right : (a b : Bool) → b ≡ true → (a || b) ≡ true
-or-right true b e = refl
-or-right false b e = e
-
 or-first : (a b : Bool) → b ≡ false → (a || b) ≡ true → a ≡ true
 or-first true b e f = refl
 or-first false b e f = absurd (false≢true (sym e ∙ f))
-
-eq-self : (h : ℕ) → (h == h) ≡ true
-eq-self h = grind (arith, nat_tests)
 
 eq-other : (h k : ℕ) → k ≢ h → (h == k) ≡ false
 eq-other h k d = grind (arith, nat_tests)
@@ -46,8 +34,10 @@ has-without : (h k : ℕ) (hs : List ℕ) → k ≢ h → has_handle k (without_
 has-without h k [] d = refl
 has-without h k (x ∷ xs) d = by_test (x == h) refl (has-without h k xs d)
   where
-    by_test : (b : Bool) → (x == h) ≡ b → has_handle k (without_handle h xs) ≡ has_handle k xs → has_handle k (cond b xs (x ∷ without_handle h xs)) ≡ ((x == k) || has_handle k xs)
-    by_test true is e = let off : (x == k) ≡ false = let same : x ≡ h = grind (arith, nat_tests) in eq-other x k (λ z. d (z ∙ same)) in ap (λ (b : Bool). b || has_handle k xs) (sym off)
+    by_test : (b : Bool) → (x == h) ≡ b → has_handle k (without_handle h xs) ≡ has_handle k xs
+        → has_handle k (cond b xs (x ∷ without_handle h xs)) ≡ ((x == k) || has_handle k xs)
+    by_test true is e = let off : (x == k) ≡ false = let same : x ≡ h = grind (arith, nat_tests) in eq-other x k (λ z. d (z ∙ same)) in
+        ap (λ (b : Bool). b || has_handle k xs) (sym off)
     by_test false is e = ap (λ (b : Bool). (x == k) || b) e
 
 stands-handle : (place : ℕ) (hs : List ℕ) → stands_at place hs ≡ true → (k : ℕ) × (has_handle k hs ≡ true) × (slot_of k ≡ place)
@@ -61,19 +51,22 @@ stands-handle place (x ∷ hs) e = by_test (slot_of x == place) refl e (stands-h
     later true k e = refl
     later false k e = e
 
-    by_test : (b : Bool) → (slot_of x == place) ≡ b → (b || stands_at place hs) ≡ true → (stands_at place hs ≡ true → (k : ℕ) × (has_handle k hs ≡ true) × (slot_of k ≡ place)) → (k : ℕ) × (has_handle k (x ∷ hs) ≡ true) × (slot_of k ≡ place)
+    by_test : (b : Bool) → (slot_of x == place) ≡ b → (b || stands_at place hs) ≡ true
+        → (stands_at place hs ≡ true → (k : ℕ) × (has_handle k hs ≡ true) × (slot_of k ≡ place))
+        → (k : ℕ) × (has_handle k (x ∷ hs) ≡ true) × (slot_of k ≡ place)
     by_test true is e rest = let same : slot_of x ≡ place = grind (arith, nat_tests) in (x, ap (λ (b : Bool). b || has_handle x hs) self, same)
     by_test false is e rest = let k = rest e in (k.0, later (x == k.0) k.0 k.1, k.2)
 
 -- Moves
 
-pub listed-new : (p : Slots Action) (jobs : HandleLists) (max : ℕ) → 1 ≤ max → max ≤ 65536 → p.slots ≡ replicate max (free_slot 1) → jobs.places ≡ max → jobs.lists ≡ replicate max [] → AreListed p jobs
+pub listed-new : (p : Slots Action) (jobs : HandleLists) (max : ℕ) → 1 ≤ max → max ≤ 65536 → p.slots ≡ replicate max (free_slot 1) → jobs.places ≡ max
+    → jobs.lists ≡ replicate max [] → AreListed p jobs
 listed-new p jobs max some few slots places lists = record {
   some = subst (λ (n : ℕ). 1 ≤ n) (sym all) some;
   few = subst (λ (n : ℕ). n ≤ 65536) (sym all) few;
   places = places ∙ sym all;
   lists = ap length lists ∙ length-replicate max [] ∙ sym all;
-  listed = λ h a e. none-some (sym (free h) ∙ e);
+  listed = λ h a e. absurd (none-some _ (sym (free h) ∙ e));
   live = λ n h e. absurd (false≢true (sym (ap (λ (l : List (List ℕ)). has_handle h (list_at l n)) lists ∙ ap (has_handle h) (list_at-none max n)) ∙ e));
 }
   where
@@ -95,8 +88,10 @@ nowhere p q jobs h a l i number = elim (cases_Bool (stands_at (slot_of h) (list_
   | inl on ↦
       let w = stands-handle (slot_of h) (list_at jobs.lists number) on in
       let b = l.live number w.0 w.1 in
-      let free : slot_value p w.0 ≡ None = ap (λ (place : ℕ). value_at (slice_get p.slots place) (generation_of w.0)) w.2 ∙ (ap (λ (o : Option (Slot Action)). value_at o (generation_of w.0)) i.was_free ∙ value_at-none (free_slot (generation_of h)) (generation_of w.0) refl) in
-      none-some (sym free ∙ b.1)
+      let free : slot_value p w.0 ≡ None = ap (λ (place : ℕ). value_at (slice_get p.slots place) (generation_of w.0)) w.2
+      ∙ (ap (λ (o : Option (Slot Action)). value_at o (generation_of w.0)) i.was_free
+      ∙ value_at-none (free_slot (generation_of h)) (generation_of w.0) refl) in
+      absurd (none-some _ (sym free ∙ b.1))
   | inr off ↦ off
 ]
 
@@ -134,33 +129,37 @@ module _ (p q : Slots Action) (old jobs : HandleLists) (h n : ℕ) (a : Action) 
 
       keeps : (m k : ℕ) → has_handle k (list_at old.lists m) ≡ true → has_handle k (list_at jobs.lists m) ≡ true
       keeps m k e = elim (cases_eq m n) [
-        | inl here ↦ ap (λ (j : ℕ). has_handle k (list_at jobs.lists j)) here ∙ in_list k ∙ or-left _ _ (ap (λ (j : ℕ). has_handle k (list_at old.lists j)) (sym here) ∙ e)
+        | inl here ↦ ap (λ (j : ℕ). has_handle k (list_at jobs.lists j)) here ∙ in_list k
+            ∙ or-left _ _ (ap (λ (j : ℕ). has_handle k (list_at old.lists j)) (sym here) ∙ e)
         | inr away ↦ ap (has_handle k) (other_list _ m is away) ∙ e
       ]
 
       was : (m k : ℕ) → k ≢ h → has_handle k (list_at jobs.lists m) ≡ true → has_handle k (list_at old.lists m) ≡ true
       was m k d e = elim (cases_eq m n) [
-        | inl here ↦ ap (λ (j : ℕ). has_handle k (list_at old.lists j)) here ∙ or-first _ (has_handle k (h ∷ [])) (ap (λ (b : Bool). b || false) (eq-other h k d)) (sym (in_list k) ∙ ap (λ (j : ℕ). has_handle k (list_at jobs.lists j)) (sym here) ∙ e)
+        | inl here ↦ ap (λ (j : ℕ). has_handle k (list_at old.lists j)) here
+            ∙ or-first _ (has_handle k (h ∷ [])) (ap (λ (b : Bool). b || false) (eq-other h k d)) (sym (in_list k)
+            ∙ ap (λ (j : ℕ). has_handle k (list_at jobs.lists j)) (sym here) ∙ e)
         | inr away ↦ sym (ap (has_handle k) (other_list _ m is away)) ∙ e
       ]
 
       listed : (k : ℕ) (b : Action) → slot_value q k ≡ Some b → has_handle k (list_at jobs.lists (list_of (max_of p) b.job)) ≡ true
       listed k b e = elim (cases_eq k h) [
         | inl here ↦
-            let same : a ≡ b = some_same (sym (get-insert_same p q h a i) ∙ ap (slot_value q) (sym here) ∙ e) in
+            let same : a ≡ b = same_Some _ _ (sym (get-insert_same p q h a i) ∙ ap (slot_value q) (sym here) ∙ e) in
             ap (λ (m : ℕ). has_handle k (list_at jobs.lists m)) (ap (λ (x : Action). list_of (max_of p) x.job) (sym same) ∙ sym at)
-            ∙ in_list k ∙ or-right (has_handle k (list_at old.lists n)) _ (or-left (h == k) false (ap (λ (z : ℕ). h == z) here ∙ eq-self h))
+            ∙ in_list k ∙ or_right (has_handle k (list_at old.lists n)) _ (or-left (h == k) false (ap (λ (z : ℕ). h == z) here ∙ eq-eqb h h refl))
         | inr away ↦ keeps _ k (l.listed k b (sym (get-insert_other p q h k a i away) ∙ e))
       ]
 
-  pub listed-without : slot_value p h ≡ Some a → n ≡ list_of (max_of p) a.job → q ≡ without p h → jobs ≡ with_list old n (without_handle h (list_at old.lists n)) → NowhereAt (slot_of h) jobs.lists → AreListed q jobs
+  pub listed-without : slot_value p h ≡ Some a → n ≡ list_of (max_of p) a.job → q ≡ without p h
+      → jobs ≡ with_list old n (without_handle h (list_at old.lists n)) → NowhereAt (slot_of h) jobs.lists → AreListed q jobs
   listed-without g at pool is gone = subst (λ (z : Slots Action). AreListed z jobs) (sym pool) (record {
     some = subst (λ (k : ℕ). 1 ≤ k) (sym max) l.some;
     few = subst (λ (k : ℕ). k ≤ 65536) (sym max) l.few;
     places = ap (λ (x : HandleLists). x.places) is ∙ l.places ∙ sym max;
     lists = ap (λ (x : HandleLists). length x.lists) is ∙ length-set old.lists n _ ∙ l.lists ∙ sym max;
     listed = λ k b e. elim (cases_eq k h) [
-      | inl here ↦ none-some (sym (get-without_same p h a g) ∙ ap (slot_value (without p h)) (sym here) ∙ e)
+      | inl here ↦ absurd (none-some _ (sym (get-without_same p h a g) ∙ ap (slot_value (without p h)) (sym here) ∙ e))
       | inr away ↦
           subst (λ (m : ℕ). has_handle k (list_at jobs.lists (list_of m b.job)) ≡ true) (sym max)
           (same k _ away ∙ l.listed k b (sym (get-without_other p h k a g away) ∙ e))
@@ -176,7 +175,8 @@ module _ (p q : Slots Action) (old jobs : HandleLists) (h n : ℕ) (a : Action) 
 
       same : (k m : ℕ) → k ≢ h → has_handle k (list_at jobs.lists m) ≡ has_handle k (list_at old.lists m)
       same k m d = elim (cases_eq m n) [
-        | inl here ↦ ap (λ (j : ℕ). has_handle k (list_at jobs.lists j)) here ∙ ap (has_handle k) (same_list _ is) ∙ has-without h k (list_at old.lists n) d ∙ ap (λ (j : ℕ). has_handle k (list_at old.lists j)) (sym here)
+        | inl here ↦ ap (λ (j : ℕ). has_handle k (list_at jobs.lists j)) here ∙ ap (has_handle k) (same_list _ is) ∙ has-without h k (list_at old.lists n) d
+            ∙ ap (λ (j : ℕ). has_handle k (list_at old.lists j)) (sym here)
         | inr away ↦ ap (has_handle k) (other_list _ m is away)
       ]
 
@@ -192,7 +192,8 @@ listed-changed p jobs h on l = by_found (slot_value p h) refl
       lists = l.lists ∙ sym max;
       listed = λ k b e. subst (λ (m : ℕ). has_handle k (list_at jobs.lists (list_of m b.job)) ≡ true) (sym max) (elim (cases_eq k h) [
         | inl here ↦
-            let same : with_enabled on a ≡ b = some_same (sym (get-with_value_same p h a (with_enabled on a) g) ∙ ap (slot_value (with_value p h (with_enabled on a))) (sym here) ∙ e) in
+            let same : with_enabled on a ≡ b = same_Some _ _ (sym (get-with_value_same p h a (with_enabled on a) g)
+            ∙ ap (slot_value (with_value p h (with_enabled on a))) (sym here) ∙ e) in
             ap (λ (x : Action). has_handle k (list_at jobs.lists (list_of (max_of p) x.job))) (sym same) ∙ l.listed k a (ap (slot_value p) here ∙ g)
         | inr away ↦ l.listed k b (sym (get-with_value_other p h k a (with_enabled on a) g away) ∙ e)
       ]);
@@ -208,12 +209,13 @@ listed-changed p jobs h on l = by_found (slot_value p h) refl
 -- the list has something at each index below its length
 pub past-none : (hs : List ℕ) (i : ℕ) → i < length hs → slice_get hs i ≡ None → ⊥
 past-none [] i less none = omega arith
-past-none (x ∷ hs) zero less none = none-some (sym none)
+past-none (x ∷ hs) zero less none = absurd (none-some _ (sym none))
 past-none (x ∷ hs) (suc i) less none = past-none hs i (omega arith) none
 
-pub live-at : (p : Slots Action) (jobs : HandleLists) (n i h : ℕ) → AreListed p jobs → slice_get (list_at jobs.lists n) i ≡ Some h → (a : Action) × (slot_value p h ≡ Some a)
+pub live-at : (p : Slots Action) (jobs : HandleLists) (n i h : ℕ) → AreListed p jobs → slice_get (list_at jobs.lists n) i ≡ Some h
+    → (a : Action) × (slot_value p h ≡ Some a)
 live-at p jobs n i h l e = l.live n h (index-has h i (list_at jobs.lists n) e)
 
 pub some-is : (o : Option Action) → ((a : Action) × (o ≡ Some a)) → IsSome o
-some-is None e = none-some e.1
+some-is None e = absurd (none-some _ e.1)
 some-is (Some a) e = refl

@@ -17,7 +17,8 @@ module _ {A C : Type 0} (f : A → List ℕ → C) where
   length-beside (s ∷ ss) [] = ap suc (length-beside ss [])
   length-beside (s ∷ ss) (l ∷ ls) = ap suc (length-beside ss ls)
 
-  pub slice_get-beside : (slots : List (Slot A)) (lists : List (List ℕ)) (place : ℕ) → slice_get (beside f slots lists) place ≡ option_map (λ s. slot_beside f s (list_at lists place)) (slice_get slots place)
+  pub slice_get-beside : (slots : List (Slot A)) (lists : List (List ℕ)) (place : ℕ)
+      → slice_get (beside f slots lists) place ≡ option_map (λ s. slot_beside f s (list_at lists place)) (slice_get slots place)
   slice_get-beside [] lists place = refl
   slice_get-beside (s ∷ ss) [] zero = refl
   slice_get-beside (s ∷ ss) [] (suc place) = slice_get-beside ss [] place
@@ -25,7 +26,8 @@ module _ {A C : Type 0} (f : A → List ℕ → C) where
   slice_get-beside (s ∷ ss) (l ∷ ls) (suc place) = slice_get-beside ss ls place
 
   -- another slot beside the same list
-  pub beside-slot : (slots : List (Slot A)) (lists : List (List ℕ)) (place : ℕ) (s : Slot A) → beside f (set slots place s) lists ≡ set (beside f slots lists) place (slot_beside f s (list_at lists place))
+  pub beside-slot : (slots : List (Slot A)) (lists : List (List ℕ)) (place : ℕ) (s : Slot A)
+      → beside f (set slots place s) lists ≡ set (beside f slots lists) place (slot_beside f s (list_at lists place))
   beside-slot [] lists place s = refl
   beside-slot (t ∷ ss) [] zero s = refl
   beside-slot (t ∷ ss) [] (suc place) s = ap (λ (xs : List (Slot C)). slot_beside f t [] ∷ xs) (beside-slot ss [] place s)
@@ -33,17 +35,23 @@ module _ {A C : Type 0} (f : A → List ℕ → C) where
   beside-slot (t ∷ ss) (l ∷ ls) (suc place) s = ap (λ (xs : List (Slot C)). slot_beside f t l ∷ xs) (beside-slot ss ls place s)
 
   -- another list beside the same slot
-  pub beside-list_at : (slots : List (Slot A)) (lists : List (List ℕ)) (place : ℕ) (s : Slot A) (list : List ℕ) → slice_get slots place ≡ Some s → place < length lists → beside f slots (set lists place list) ≡ set (beside f slots lists) place (slot_beside f s list)
+  pub beside-list_at : (slots : List (Slot A)) (lists : List (List ℕ)) (place : ℕ) (s : Slot A) (list : List ℕ) → slice_get slots place ≡ Some s
+      → place < length lists → beside f slots (set lists place list) ≡ set (beside f slots lists) place (slot_beside f s list)
   beside-list_at [] lists place s list found within = absurd (cc)
   beside-list_at (t ∷ ss) [] place s list found within = absurd (omega arith)
   beside-list_at (t ∷ ss) (l ∷ ls) zero s list found within = grind (arith, nat_tests)
-  beside-list_at (t ∷ ss) (l ∷ ls) (suc place) s list found within = ap (λ (xs : List (Slot C)). slot_beside f t l ∷ xs) (beside-list_at ss ls place s list found (omega arith))
+  beside-list_at (t ∷ ss) (l ∷ ls) (suc place) s list found within =
+      ap (λ (xs : List (Slot C)). slot_beside f t l ∷ xs) (beside-list_at ss ls place s list found (omega arith))
 
   -- a count of slots, and the same of those with lists beside them
-  fold-beside : (t : Slot C → Bool) (u : Slot A → Bool) → ((s : Slot A) (list : List ℕ) → t (slot_beside f s list) ≡ u s) → (slots : List (Slot A)) (lists : List (List ℕ)) (n : ℕ) → fold (λ a x. a + cond (t x) 1 0) n (beside f slots lists) ≡ fold (λ a x. a + cond (u x) 1 0) n slots
+  fold-beside : (t : Slot C → Bool) (u : Slot A → Bool) → ((s : Slot A) (list : List ℕ) → t (slot_beside f s list) ≡ u s)
+      → (slots : List (Slot A)) (lists : List (List ℕ)) (n : ℕ)
+      → fold (λ a x. a + cond (t x) 1 0) n (beside f slots lists) ≡ fold (λ a x. a + cond (u x) 1 0) n slots
   fold-beside t u same [] lists n = refl
-  fold-beside t u same (s ∷ ss) [] n = ap (λ (b : Bool). fold (λ a x. a + cond (t x) 1 0) (n + cond b 1 0) (beside f ss [])) (same s []) ∙ fold-beside t u same ss [] (n + cond (u s) 1 0)
-  fold-beside t u same (s ∷ ss) (l ∷ ls) n = ap (λ (b : Bool). fold (λ a x. a + cond (t x) 1 0) (n + cond b 1 0) (beside f ss ls)) (same s l) ∙ fold-beside t u same ss ls (n + cond (u s) 1 0)
+  fold-beside t u same (s ∷ ss) [] n = ap (λ (b : Bool). fold (λ a x. a + cond (t x) 1 0) (n + cond b 1 0) (beside f ss [])) (same s [])
+      ∙ fold-beside t u same ss [] (n + cond (u s) 1 0)
+  fold-beside t u same (s ∷ ss) (l ∷ ls) n =
+      ap (λ (b : Bool). fold (λ a x. a + cond (t x) 1 0) (n + cond b 1 0) (beside f ss ls)) (same s l) ∙ fold-beside t u same ss ls (n + cond (u s) 1 0)
 
   is_live-beside : (s : Slot A) (list : List ℕ) → is_live (slot_beside f s list) ≡ is_live s
   is_live-beside s list = grind (arith, nat_tests)
@@ -67,7 +75,8 @@ module _ {A C : Type 0} (f : A → List ℕ → C) where
       ((λ full. omega (arith, full, live, retired, size)), (λ full. omega (arith, full, live, retired, size)))
 
   -- the value of a live handle, with its list
-  pub get-beside : (p : Slots A) (lists : List (List ℕ)) (h : ℕ) → slot_value (pool_beside f p lists) h ≡ option_map (λ v. f v (list_at lists (slot_of h))) (slot_value p h)
+  pub get-beside : (p : Slots A) (lists : List (List ℕ)) (h : ℕ)
+      → slot_value (pool_beside f p lists) h ≡ option_map (λ v. f v (list_at lists (slot_of h))) (slot_value p h)
   get-beside p lists h = rw (slice_get-beside p.slots lists (slot_of h)) (by_slot (slice_get p.slots (slot_of h)))
     where
       list : List ℕ
@@ -77,53 +86,65 @@ module _ {A C : Type 0} (f : A → List ℕ → C) where
       by_turn s true = refl
       by_turn s false = refl
 
-      by_slot : (o : Option (Slot A)) → value_at (option_map (λ s. slot_beside f s list) o) (generation_of h) ≡ option_map (λ v. f v list) (value_at o (generation_of h))
+      by_slot : (o : Option (Slot A)) → value_at (option_map (λ s. slot_beside f s list) o) (generation_of h)
+          ≡ option_map (λ v. f v list) (value_at o (generation_of h))
       by_slot None = refl
       by_slot (Some s) = by_turn s (s.generation == generation_of h)
 
   -- a new value in a slot that was free
-  pub Inserts-beside : (p new : Slots A) (lists : List (List ℕ)) (h : ℕ) (v : A) → AreBeside p.slots lists → Inserts p new h v → Inserts (pool_beside f p lists) (pool_beside f new lists) h (f v [])
+  pub Inserts-beside : (p new : Slots A) (lists : List (List ℕ)) (h : ℕ) (v : A) → AreBeside p.slots lists → Inserts p new h v
+      → Inserts (pool_beside f p lists) (pool_beside f new lists) h (f v [])
   Inserts-beside p new lists h v are inserts =
       let none : list_at lists (slot_of h) ≡ [] = are.empty (slot_of h) (free_slot (generation_of h)) inserts.was_free refl in
       let P : Slots A → Type 0 = λ q. pool_beside f q lists ≡ with_value (pool_beside f p lists) h (f v []) in
       record {
         was_free = slice_get-beside p.slots lists (slot_of h) ∙ (rw inserts.was_free refl);
-        now = subst P (sym inserts.now) (ap (λ (slots : List (Slot C)). record { generations = p.generations; slots = slots }) (beside-slot p.slots lists (slot_of h) (used_slot (generation_of h) v) ∙ (rw none refl)));
+        now = subst P (sym inserts.now) (ap (λ (slots : List (Slot C)). record { generations = p.generations; slots = slots })
+            (beside-slot p.slots lists (slot_of h) (used_slot (generation_of h) v) ∙ (rw none refl)));
       }
 
   -- another value in a slot in use
-  pub with_value-beside : (p : Slots A) (lists : List (List ℕ)) (h : ℕ) (v : A) → pool_beside f (with_value p h v) lists ≡ with_value (pool_beside f p lists) h (f v (list_at lists (slot_of h)))
-  with_value-beside p lists h v = ap (λ (slots : List (Slot C)). record { generations = p.generations; slots = slots }) (beside-slot p.slots lists (slot_of h) (used_slot (generation_of h) v))
+  pub with_value-beside : (p : Slots A) (lists : List (List ℕ)) (h : ℕ) (v : A)
+      → pool_beside f (with_value p h v) lists ≡ with_value (pool_beside f p lists) h (f v (list_at lists (slot_of h)))
+  with_value-beside p lists h v = ap (λ (slots : List (Slot C)). record { generations = p.generations; slots = slots })
+      (beside-slot p.slots lists (slot_of h) (used_slot (generation_of h) v))
 
   -- another list beside a slot in use
-  pub list-beside : (p : Slots A) (lists : List (List ℕ)) (h : ℕ) (v : A) (list : List ℕ) → AreBeside p.slots lists → slot_value p h ≡ Some v → pool_beside f p (set lists (slot_of h) list) ≡ with_value (pool_beside f p lists) h (f v list)
+  pub list-beside : (p : Slots A) (lists : List (List ℕ)) (h : ℕ) (v : A) (list : List ℕ) → AreBeside p.slots lists → slot_value p h ≡ Some v
+      → pool_beside f p (set lists (slot_of h) list) ≡ with_value (pool_beside f p lists) h (f v list)
   list-beside p lists h v list are live =
       let at = used_at_live (slice_get p.slots (slot_of h)) (generation_of h) v live in
       let within : slot_of h < length lists = rw are.size (slot_of-live p h v live) in
       let used : slot_beside f at.0 list ≡ used_slot (generation_of h) (f v list) = used_beside at.0 at.2 at.3 (are.retired (slot_of h) at.0 at.1) in
-      ap (λ (slots : List (Slot C)). record { generations = p.generations; slots = slots }) (beside-list_at p.slots lists (slot_of h) at.0 list at.1 within ∙ rw used refl)
+      ap (λ (slots : List (Slot C)). record { generations = p.generations; slots = slots }) (beside-list_at p.slots lists (slot_of h) at.0 list at.1 within
+      ∙ rw used refl)
     where
-      by_retired : (b : Bool) (s : Slot A) → s.retired ≡ b → s.generation ≡ generation_of h → s.value ≡ Some v → (s.retired ≡ true → s.value ≡ None) → slot_beside f s list ≡ used_slot (generation_of h) (f v list)
+      by_retired : (b : Bool) (s : Slot A) → s.retired ≡ b → s.generation ≡ generation_of h → s.value ≡ Some v → (s.retired ≡ true → s.value ≡ None)
+          → slot_beside f s list ≡ used_slot (generation_of h) (f v list)
       by_retired true s is turn value empty = let none = empty is in absurd (cc)
       by_retired false s is turn value empty = rw (is, turn, value) refl
 
-      used_beside : (s : Slot A) → s.generation ≡ generation_of h → s.value ≡ Some v → (s.retired ≡ true → s.value ≡ None) → slot_beside f s list ≡ used_slot (generation_of h) (f v list)
+      used_beside : (s : Slot A) → s.generation ≡ generation_of h → s.value ≡ Some v → (s.retired ≡ true → s.value ≡ None)
+          → slot_beside f s list ≡ used_slot (generation_of h) (f v list)
       used_beside s turn value empty = by_retired s.retired s refl turn value empty
 
   -- a slot that is given up, with its list
-  pub without-beside : (p : Slots A) (lists : List (List ℕ)) (h : ℕ) (v : A) → AreBeside p.slots lists → slot_value p h ≡ Some v → pool_beside f (without p h) (set lists (slot_of h) []) ≡ without (pool_beside f p lists) h
+  pub without-beside : (p : Slots A) (lists : List (List ℕ)) (h : ℕ) (v : A) → AreBeside p.slots lists → slot_value p h ≡ Some v
+      → pool_beside f (without p h) (set lists (slot_of h) []) ≡ without (pool_beside f p lists) h
   without-beside p lists h v are live =
       let within : slot_of h < length lists = rw are.size (slot_of-live p h v live) in
       let at = used_at_live (slice_get p.slots (slot_of h)) (generation_of h) v live in
       let after = slot_after p.generations (generation_of h) in
       ap (λ (slots : List (Slot C)). record { generations = p.generations; slots = slots })
       (beside-slot p.slots (set lists (slot_of h) []) (slot_of h) after
-      ∙ (rw (list_at-set_same lists (slot_of h) [] within, beside-list_at p.slots lists (slot_of h) at.0 [] at.1 within, gone (p.generations) (generation_of h)) (set-set (beside f p.slots lists) (slot_of h) (slot_beside f at.0 []) (slot_after p.generations (generation_of h)))))
+      ∙ (rw (list_at-set_same lists (slot_of h) [] within, beside-list_at p.slots lists (slot_of h) at.0 [] at.1 within, gone (p.generations) (generation_of h))
+      (set-set (beside f p.slots lists) (slot_of h) (slot_beside f at.0 []) (slot_after p.generations (generation_of h)))))
     where
       gone : (generations generation : ℕ) → slot_beside f (slot_after generations generation) [] ≡ slot_after generations generation
       gone generations generation = by_last (generation == generations)
         where
-          by_last : (b : Bool) → slot_beside f (if b then record { generation = generation; value = None; retired = true } else free_slot (generation + 1)) [] ≡ (if b then record { generation = generation; value = None; retired = true } else free_slot (generation + 1))
+          by_last : (b : Bool) → slot_beside f (if b then record { generation = generation; value = None; retired = true } else free_slot (generation + 1)) []
+              ≡ (if b then record { generation = generation; value = None; retired = true } else free_slot (generation + 1))
           by_last true = refl
           by_last false = refl
 
@@ -143,7 +164,8 @@ module _ {A : Type 0} where
   free-read (suc count) zero slot found = cc
   free-read (suc count) (suc place) slot found = free-read count place slot found
 
-  pub AreBeside-new : (slots : List (Slot A)) (lists : List (List ℕ)) (count : ℕ) → count ≤ 65536 → slots ≡ replicate count (free_slot 1) → lists ≡ replicate count [] → AreBeside slots lists
+  pub AreBeside-new : (slots : List (Slot A)) (lists : List (List ℕ)) (count : ℕ) → count ≤ 65536 → slots ≡ replicate count (free_slot 1)
+      → lists ≡ replicate count [] → AreBeside slots lists
   AreBeside-new slots lists count few slots_are lists_are = rw (slots_are, lists_are) record {
     size = length-replicate count [] ∙ sym (length-replicate count (free_slot {T = A} 1));
     few = omega (arith, few, length-replicate count (free_slot {T = A} 1));
@@ -155,19 +177,24 @@ module _ {A : Type 0} where
   AreBeside-insert p new lists h v inserts are = rw inserts.now record {
     size = are.size ∙ sym (length-set p.slots (slot_of h) (used_slot (generation_of h) v));
     few = rw (length-set p.slots (slot_of h) (used_slot (generation_of h) v)) are.few;
-    empty = λ place slot found none. slice_get-set_cases p.slots (slot_of h) place (used_slot (generation_of h) v) slot found (λ old. are.empty place slot old none) (λ is. absurd (cc));
-    retired = λ place slot found gone. slice_get-set_cases p.slots (slot_of h) place (used_slot (generation_of h) v) slot found (λ old. are.retired place slot old gone) (λ is. absurd (cc));
+    empty = λ place slot found none. slice_get-set_cases p.slots (slot_of h) place (used_slot (generation_of h) v) slot found
+        (λ old. are.empty place slot old none) (λ is. absurd (cc));
+    retired = λ place slot found gone. slice_get-set_cases p.slots (slot_of h) place (used_slot (generation_of h) v) slot found
+        (λ old. are.retired place slot old gone) (λ is. absurd (cc));
   }
 
   pub AreBeside-value : (p : Slots A) (lists : List (List ℕ)) (h : ℕ) (v : A) → AreBeside p.slots lists → AreBeside (with_value p h v).slots lists
   AreBeside-value p lists h v are = record {
     size = are.size ∙ sym (length-set p.slots (slot_of h) (used_slot (generation_of h) v));
     few = rw (length-set p.slots (slot_of h) (used_slot (generation_of h) v)) are.few;
-    empty = λ place slot found none. slice_get-set_cases p.slots (slot_of h) place (used_slot (generation_of h) v) slot found (λ old. are.empty place slot old none) (λ is. absurd (cc));
-    retired = λ place slot found gone. slice_get-set_cases p.slots (slot_of h) place (used_slot (generation_of h) v) slot found (λ old. are.retired place slot old gone) (λ is. absurd (cc));
+    empty = λ place slot found none. slice_get-set_cases p.slots (slot_of h) place (used_slot (generation_of h) v) slot found
+        (λ old. are.empty place slot old none) (λ is. absurd (cc));
+    retired = λ place slot found gone. slice_get-set_cases p.slots (slot_of h) place (used_slot (generation_of h) v) slot found
+        (λ old. are.retired place slot old gone) (λ is. absurd (cc));
   }
 
-  pub AreBeside-list : (p : Slots A) (lists : List (List ℕ)) (h : ℕ) (v : A) (list : List ℕ) → slot_value p h ≡ Some v → AreBeside p.slots lists → AreBeside p.slots (set lists (slot_of h) list)
+  pub AreBeside-list : (p : Slots A) (lists : List (List ℕ)) (h : ℕ) (v : A) (list : List ℕ) → slot_value p h ≡ Some v → AreBeside p.slots lists
+      → AreBeside p.slots (set lists (slot_of h) list)
   AreBeside-list p lists h v list live are =
       let at = used_at_live (slice_get p.slots (slot_of h)) (generation_of h) v live in
       record {
@@ -181,7 +208,8 @@ module _ {A : Type 0} where
         retired = are.retired;
       }
 
-  pub AreBeside-remove : (p : Slots A) (lists : List (List ℕ)) (h : ℕ) (v : A) → slot_value p h ≡ Some v → AreBeside p.slots lists → AreBeside (without p h).slots (set lists (slot_of h) [])
+  pub AreBeside-remove : (p : Slots A) (lists : List (List ℕ)) (h : ℕ) (v : A) → slot_value p h ≡ Some v → AreBeside p.slots lists
+      → AreBeside (without p h).slots (set lists (slot_of h) [])
   AreBeside-remove p lists h v live are =
       let within : slot_of h < length lists = rw are.size (slot_of-live p h v live) in
       record {
@@ -190,9 +218,12 @@ module _ {A : Type 0} where
         empty = λ place slot found none.
             elim (cases_eq place (slot_of h)) [
               | inl same ↦ rw same (list_at-set_same lists (slot_of h) [] within)
-              | inr differs ↦ list_at-set_other lists (slot_of h) place [] differs ∙ are.empty place slot (sym (slice_get-set_other p.slots (slot_of h) place (slot_after p.generations (generation_of h)) differs) ∙ found) none
+              | inr differs ↦ list_at-set_other lists (slot_of h) place [] differs
+                  ∙ are.empty place slot (sym (slice_get-set_other p.slots (slot_of h) place (slot_after p.generations (generation_of h)) differs) ∙ found) none
             ];
-        retired = λ place slot found gone. slice_get-set_cases p.slots (slot_of h) place (slot_after p.generations (generation_of h)) slot found (λ old. are.retired place slot old gone) (λ is. let P : Slot A → Type 0 = λ s. s.value ≡ None in subst P is (empty_after p.generations (generation_of h)));
+        retired = λ place slot found gone. slice_get-set_cases p.slots (slot_of h) place (slot_after p.generations (generation_of h)) slot found
+            (λ old. are.retired place slot old gone) (λ is. let P : Slot A → Type 0 = λ s. s.value ≡ None in
+            subst P is (empty_after p.generations (generation_of h)));
       }
     where
       none : Option A
@@ -206,7 +237,8 @@ module _ {A : Type 0} where
           by_last false = refl
 
   -- a place that stands in the list of no live handle stands in no list
-  pub NowhereAt-beside : (p : Slots A) (lists : List (List ℕ)) (q : ℕ) → AreBeside p.slots lists → ((h : ℕ) (v : A) → slot_value p h ≡ Some v → stands_at q (list_at lists (slot_of h)) ≡ false) → NowhereAt q lists
+  pub NowhereAt-beside : (p : Slots A) (lists : List (List ℕ)) (q : ℕ) → AreBeside p.slots lists
+      → ((h : ℕ) (v : A) → slot_value p h ≡ Some v → stands_at q (list_at lists (slot_of h)) ≡ false) → NowhereAt q lists
   NowhereAt-beside p lists q are none place = by_slot (slice_get p.slots place) refl
     where
       by_value : (slot : Slot A) (o : Option A) → slice_get p.slots place ≡ Some slot → slot.value ≡ o → stands_at q (list_at lists place) ≡ false

@@ -1,18 +1,13 @@
 -- Lists of handles, and which places stand in them.
-use Rattle.linked_places.proofs.Names.{nat_tests, arith, ◌≡◌, ◌≢◌, ◌⊎◌, ℕ, ◌<◌, ◌≤◌, Bool, true, false, List, [], ◌∷◌, ◌++◌, length, map, Some, set, slice_get, refl, sym, ap, subst, ◌∙◌, inl, inr, eqb, ◌||◌, ◌==◌, false≢true, eqb_tells, get_or-set_same, get_or-set_other, length-map, slot_of, list_at, stands_at, has_handle, without_handle, AreApart}
+use Rattle.linked_places.proofs.Names.{nat_tests, arith, ◌≡◌, ◌≢◌, ◌⊎◌, ℕ, ◌<◌, ◌≤◌, Bool, true, false, List, [], ◌∷◌, ◌++◌, length, map, Some, set, slice_get, refl, sym, ap, subst, ◌∙◌, inl, inr, eqb, ◌||◌, ◌==◌, false≢true, eqb_tells, get_or-set_same, get_or-set_other, length-map, slot_of, list_at, stands_at, has_handle, without_handle, AreApart, or_parts}
 use Rattle.std.specs.List.{IsDistinct, AllByRecursion, list_any}
 use Rattle.std.proofs.lemmas.Map.Steps.{length-le_from_distinct_below}
-
-or_false_left : (a b : Bool) → (a || b) ≡ false → a ≡ false
-or_false_left a b e1 = grind (arith, nat_tests)
-
-or_false_right : (a b : Bool) → (a || b) ≡ false → b ≡ false
-or_false_right a b e1 = grind (arith, nat_tests)
 
 pub list_at-set_same : (lists : List (List ℕ)) (number : ℕ) (list : List ℕ) → number < length lists → list_at (set lists number list) number ≡ list
 list_at-set_same lists number list within = get_or-set_same lists number list [] within
 
-pub list_at-set_other : (lists : List (List ℕ)) (number other : ℕ) (list : List ℕ) → other ≢ number → list_at (set lists number list) other ≡ list_at lists other
+pub list_at-set_other : (lists : List (List ℕ)) (number other : ℕ) (list : List ℕ) → other ≢ number
+    → list_at (set lists number list) other ≡ list_at lists other
 list_at-set_other lists number other list differs = get_or-set_other lists number other list [] differs
 
 pub stands_at-append : (place : ℕ) (xs ys : List ℕ) → stands_at place (xs ++ ys) ≡ (stands_at place xs || stands_at place ys)
@@ -23,18 +18,18 @@ stands_at-append place (x ∷ xs) ys = grind (arith, nat_tests, stands_at-append
 pub absent-head : (place x : ℕ) (xs : List ℕ) → stands_at place (x ∷ xs) ≡ false → slot_of x ≢ place
 absent-head place x xs absent same =
     elim (eqb_tells (slot_of x) place) [
-      | inl is ↦ false≢true (sym (or_false_left (slot_of x == place) (stands_at place xs) absent) ∙ is.0)
+      | inl is ↦ false≢true (sym (or_parts (slot_of x == place) (stands_at place xs) absent).0 ∙ is.0)
       | inr apart ↦ apart.1 same
     ]
 
 pub absent-tail : (place x : ℕ) (xs : List ℕ) → stands_at place (x ∷ xs) ≡ false → stands_at place xs ≡ false
-absent-tail place x xs absent = or_false_right (slot_of x == place) (stands_at place xs) absent
+absent-tail place x xs absent = (or_parts (slot_of x == place) (stands_at place xs) absent).1
 
 pub absent-left : (place : ℕ) (xs ys : List ℕ) → stands_at place (xs ++ ys) ≡ false → stands_at place xs ≡ false
-absent-left place xs ys absent = or_false_left (stands_at place xs) (stands_at place ys) (sym (stands_at-append place xs ys) ∙ absent)
+absent-left place xs ys absent = (or_parts (stands_at place xs) (stands_at place ys) (sym (stands_at-append place xs ys) ∙ absent)).0
 
 pub absent-right : (place : ℕ) (xs ys : List ℕ) → stands_at place (xs ++ ys) ≡ false → stands_at place ys ≡ false
-absent-right place xs ys absent = or_false_right (stands_at place xs) (stands_at place ys) (sym (stands_at-append place xs ys) ∙ absent)
+absent-right place xs ys absent = (or_parts (stands_at place xs) (stands_at place ys) (sym (stands_at-append place xs ys) ∙ absent)).1
 
 pub absent-append : (place : ℕ) (xs ys : List ℕ) → stands_at place xs ≡ false → stands_at place ys ≡ false → stands_at place (xs ++ ys) ≡ false
 absent-append place xs ys left right = stands_at-append place xs ys ∙ rw (left, right) refl
@@ -85,7 +80,13 @@ split handle (x ∷ hs) has =
       | inl is ↦ record { before = []; after = hs; whole = ap (λ (y : ℕ). y ∷ hs) is.1; rest = rw is.0 refl }
       | inr apart ↦
           let tail = split handle hs (rw apart.0 at has) in
-          record { before = x ∷ tail.before; after = tail.after; whole = ap (λ (ys : List ℕ). x ∷ ys) tail.whole; rest = rw apart.0 (ap (λ (ys : List ℕ). x ∷ ys) tail.rest) }
+          record {
+            before = x ∷ tail.before;
+            after = tail.after;
+            whole = ap (λ (ys : List ℕ). x ∷ ys) tail.whole;
+            rest =
+                rw apart.0 (ap (λ (ys : List ℕ). x ∷ ys) tail.rest);
+          }
     ]
 
 pub AreApart-left : (xs ys : List ℕ) → AreApart (xs ++ ys) → AreApart xs
@@ -107,16 +108,22 @@ AreApart-across place (x ∷ xs) ys apart stands =
 
 pub AreApart-push : (xs : List ℕ) (h : ℕ) → AreApart xs → stands_at (slot_of h) xs ≡ false → AreApart (xs ++ h ∷ [])
 AreApart-push [] h apart absent = (refl, tt)
-AreApart-push (x ∷ xs) h apart absent =
-    (absent-append (slot_of x) xs (h ∷ []) apart.0 (other_head (absent-head (slot_of h) x xs absent)), AreApart-push xs h apart.1 (absent-tail (slot_of h) x xs absent))
+AreApart-push (x ∷ xs) h apart absent = (
+  absent-append (slot_of x) xs (h ∷ []) apart.0 (other_head (absent-head (slot_of h) x xs absent)),
+  AreApart-push xs h apart.1
+      (absent-tail (slot_of h) x xs absent),
+)
   where
     other_head : slot_of x ≢ slot_of h → stands_at (slot_of x) (h ∷ []) ≡ false
     other_head differs = elim (eqb_tells (slot_of h) (slot_of x)) [ inl is ↦ absurd (differs (sym is.1)) | inr apart ↦ rw apart.0 refl ]
 
 pub AreApart-without : (xs : List ℕ) (h : ℕ) (ys : List ℕ) → AreApart (xs ++ h ∷ ys) → AreApart (xs ++ ys)
 AreApart-without [] h ys apart = apart.1
-AreApart-without (x ∷ xs) h ys apart =
-    (absent-append (slot_of x) xs ys (absent-left (slot_of x) xs (h ∷ ys) apart.0) (absent-tail (slot_of x) h ys (absent-right (slot_of x) xs (h ∷ ys) apart.0)), AreApart-without xs h ys apart.1)
+AreApart-without (x ∷ xs) h ys apart = (
+  absent-append (slot_of x) xs ys (absent-left (slot_of x) xs (h ∷ ys) apart.0)
+      (absent-tail (slot_of x) h ys (absent-right (slot_of x) xs (h ∷ ys) apart.0)),
+  AreApart-without xs h ys apart.1,
+)
 
 -- a place that doesn't stand in a list is none of its places
 others_of : (place : ℕ) (hs : List ℕ) → stands_at place hs ≡ false → AllByRecursion (λ other. eqb place other ≡ false) (map slot_of hs)

@@ -1,5 +1,5 @@
 -- Links and ends that stand for lists, and what each move leaves of that.
-use Rattle.linked_places.proofs.Names.{nat_tests, ◌≡◌, ◌≢◌, ◌⊎◌, ℕ, zero, suc, ◌<◌, ◌≤◌, true, false, List, [], ◌∷◌, ◌++◌, length, map, replicate, Option, Some, None, is_none, set, slice_get, get_or, refl, sym, ap, subst, ◌∙◌, inl, inr, arith, length-set, length-append, if◌then◌else◌, option_or, false≢true, cases_eq, length-replicate, length-map, slice_get_within, slice_get_read, slot_of, slice_get-set_other, HandleLists, list_at, stands_at, has_handle, without_handle, NowhereAt, with_list, link_of, handles_of, first_of, last_of, IsRun, AreApart, IsList, IsLinked, links_followed, links_with, ends_with, links_without, ends_without, IsBelow, Link, Ends}
+use Rattle.linked_places.proofs.Names.{nat_tests, ◌≡◌, ◌≢◌, ◌⊎◌, ℕ, zero, suc, ◌<◌, ◌≤◌, true, false, List, [], ◌∷◌, ◌++◌, length, map, replicate, Option, Some, None, is_none, set, slice_get, get_or, refl, sym, ap, subst, ◌∙◌, inl, inr, arith, length-set, length-append, if◌then◌else◌, option_or, false≢true, cases_eq, length-replicate, length-map, slice_get_within, slice_get_read, slot_of, slice_get-set_other, HandleLists, list_at, stands_at, has_handle, without_handle, NowhereAt, with_list, link_of, handles_of, first_of, last_of, IsRun, AreApart, IsList, IsLinked, links_followed, links_with, ends_with, links_without, ends_without, IsBelow, Link, Ends, append-nil}
 use Rattle.linked_places.proofs.HandleLemmas.{list_at-set_same, list_at-set_other, absent-append, stands_cases, stands-left, stands-right, stands-head, stands-tail, stands-either, Split, split, AreApart-right, AreApart-across, AreApart-push, AreApart-without, length-apart}
 use Rattle.linked_places.proofs.RunLemmas.{slice_get-set_in, last, Avoids, StandsIn, last_of-append, first_of-stands, last_of-stands, IsRun-within, IsRun-set, IsRun-followed, IsRun-following, length-followed, length-following, IsRun-push, IsRun-remove, IsRun-link, walk-run}
 
@@ -14,7 +14,8 @@ IsList-empty links = record { first = refl; last = refl; count = refl; run = tt;
 pub handles_of-list : (links : List Link) (e : Ends) (hs : List ℕ) → IsList links e hs → handles_of links e ≡ hs
 handles_of-list links e hs list = rw (list.count, list.first) (walk-run links None hs None list.run)
 
-same_lists : (links : List Link) (ends : List Ends) (lists : List (List ℕ)) → length lists ≡ length ends → ((number : ℕ) (e : Ends) → slice_get ends number ≡ Some e → IsList links e (list_at lists number)) → map (handles_of links) ends ≡ lists
+same_lists : (links : List Link) (ends : List Ends) (lists : List (List ℕ)) → length lists ≡ length ends
+    → ((number : ℕ) (e : Ends) → slice_get ends number ≡ Some e → IsList links e (list_at lists number)) → map (handles_of links) ends ≡ lists
 same_lists links [] [] size each = refl
 same_lists links [] (l ∷ ls) size each = absurd (omega (arith, size))
 same_lists links (e ∷ es) [] size each = absurd (omega (arith, size))
@@ -27,13 +28,18 @@ same_lists links (e ∷ es) (l ∷ ls) size each =
 pub lists-view : (links : List Link) (ends : List Ends) (lists : List (List ℕ)) → IsLinked links ends lists → map (handles_of links) ends ≡ lists
 lists-view links ends lists linked = same_lists links ends lists linked.size linked.each
 
-pub IsLinked-view : (links : List Link) (ends : List Ends) (lists : List (List ℕ)) → IsLinked links ends lists → IsLinked links ends (map (handles_of links) ends)
+pub IsLinked-view : (links : List Link) (ends : List Ends) (lists : List (List ℕ)) → IsLinked links ends lists
+    → IsLinked links ends (map (handles_of links) ends)
 IsLinked-view links ends lists linked =
     let P : List (List ℕ) → Type 0 = λ ls. IsLinked links ends ls in
     subst P (sym (lists-view links ends lists linked)) linked
 
 -- one list becomes another, whose places stood in it before or stood in none
-pub IsLinked-set : (links after : List Link) (ends : List Ends) (lists : List (List ℕ)) (number : ℕ) (e : Ends) (list : List ℕ) → IsLinked links ends lists → number < length lists → length after ≡ length links → IsList after e list → ((other : ℕ) (f : Ends) → other ≢ number → IsList links f (list_at lists other) → IsList after f (list_at lists other)) → ((place : ℕ) → stands_at place list ≡ true → (stands_at place (list_at lists number) ≡ true) ⊎ NowhereAt place lists) → IsLinked after (set ends number e) (set lists number list)
+pub IsLinked-set : (links after : List Link) (ends : List Ends) (lists : List (List ℕ)) (number : ℕ) (e : Ends) (list : List ℕ) → IsLinked links ends lists
+    → number < length lists → length after ≡ length links → IsList after e list
+    → ((other : ℕ) (f : Ends) → other ≢ number → IsList links f (list_at lists other) → IsList after f (list_at lists other))
+    → ((place : ℕ) → stands_at place list ≡ true → (stands_at place (list_at lists number) ≡ true) ⊎ NowhereAt place lists)
+    → IsLinked after (set ends number e) (set lists number list)
 IsLinked-set links after ends lists number e list linked within size new kept grown = record {
   size = length-set lists number list ∙ (linked.size ∙ sym (length-set ends number e));
   each = each;
@@ -55,7 +61,8 @@ IsLinked-set links after ends lists number e list linked within size new kept gr
               let Q : Ends → Type 0 = λ g. IsList after g list in
               rw same (rw (list_at-set_same lists number list within) (subst Q is new))
           | inr differs ↦
-              rw (list_at-set_other lists number other list differs) (kept other f differs (linked.each other f (sym (slice_get-set_other ends number other e differs) ∙ at)))
+              rw (list_at-set_other lists number other list differs)
+              (kept other f differs (linked.each other f (sym (slice_get-set_other ends number other e differs) ∙ at)))
         ]
 
     -- a place of the new list that stands in another one
@@ -90,12 +97,16 @@ IsLinked-set links after ends lists number e list linked within size new kept gr
               ]
         ]
 
-pub IsLinked-clear : (links : List Link) (ends : List Ends) (lists : List (List ℕ)) (number : ℕ) → IsLinked links ends lists → number < length lists → IsLinked links (set ends number no_ends) (set lists number [])
+pub IsLinked-clear : (links : List Link) (ends : List Ends) (lists : List (List ℕ)) (number : ℕ) → IsLinked links ends lists → number < length lists
+    → IsLinked links (set ends number no_ends) (set lists number [])
 IsLinked-clear links ends lists number linked within =
-    IsLinked-set links links ends lists number no_ends [] linked within refl (IsList-empty links) (λ other f differs list. list) (λ place stands. absurd (false≢true stands))
+    IsLinked-set links links ends lists number no_ends [] linked within refl (IsList-empty links) (λ other f differs list. list)
+    (λ place stands. absurd (false≢true stands))
 
 -- a place of one list stands in no other
-avoids_other : (lists : List (List ℕ)) (number other : ℕ) (place : Option ℕ) → ((i j q : ℕ) → stands_at q (list_at lists i) ≡ true → stands_at q (list_at lists j) ≡ true → i ≡ j) → other ≢ number → StandsIn place (list_at lists number) → Avoids place (list_at lists other)
+avoids_other : (lists : List (List ℕ)) (number other : ℕ) (place : Option ℕ)
+    → ((i j q : ℕ) → stands_at q (list_at lists i) ≡ true → stands_at q (list_at lists j) ≡ true → i ≡ j) → other ≢ number
+    → StandsIn place (list_at lists number) → Avoids place (list_at lists other)
 avoids_other lists number other None apart differs stands = tt
 avoids_other lists number other (Some q) apart differs stands =
     elim (stands_cases q (list_at lists other)) [
@@ -118,7 +129,8 @@ count-within links e hs list = rw list.count (length-apart hs (length links) lis
 first_of-push : (hs : List ℕ) (h : ℕ) → option_or (first_of hs None) (Some (slot_of h)) ≡ first_of (hs ++ h ∷ []) None
 first_of-push hs h = grind (arith, nat_tests)
 
-pub IsList-push : (links : List Link) (e : Ends) (hs : List ℕ) (h : ℕ) → IsList links e hs → stands_at (slot_of h) hs ≡ false → slot_of h < length links → IsList (links_with links e.last h) (ends_with e (slot_of h)) (hs ++ h ∷ [])
+pub IsList-push : (links : List Link) (e : Ends) (hs : List ℕ) (h : ℕ) → IsList links e hs → stands_at (slot_of h) hs ≡ false → slot_of h < length links
+    → IsList (links_with links e.last h) (ends_with e (slot_of h)) (hs ++ h ∷ [])
 IsList-push links e hs h list absent within =
     let P : Option ℕ → Type 0 = λ place. IsRun (links_with links place h) None (hs ++ h ∷ []) None in
     record {
@@ -133,9 +145,12 @@ IsList-push links e hs h list absent within =
 pub alone : (place h : ℕ) → stands_at place (h ∷ []) ≡ true → place ≡ slot_of h
 alone place h e1 = grind (arith, nat_tests)
 
-pub IsLinked-push : (links : List Link) (ends : List Ends) (lists : List (List ℕ)) (number : ℕ) (e : Ends) (h : ℕ) → IsLinked links ends lists → slice_get ends number ≡ Some e → slot_of h < length links → NowhereAt (slot_of h) lists → IsLinked (links_with links e.last h) (set ends number (ends_with e (slot_of h))) (set lists number (list_at lists number ++ h ∷ []))
+pub IsLinked-push : (links : List Link) (ends : List Ends) (lists : List (List ℕ)) (number : ℕ) (e : Ends) (h : ℕ) → IsLinked links ends lists
+    → slice_get ends number ≡ Some e → slot_of h < length links → NowhereAt (slot_of h) lists
+    → IsLinked (links_with links e.last h) (set ends number (ends_with e (slot_of h))) (set lists number (list_at lists number ++ h ∷ []))
 IsLinked-push links ends lists number e h linked at within nowhere =
-    IsLinked-set links (links_with links e.last h) ends lists number (ends_with e (slot_of h)) (hs ++ h ∷ []) linked there size (IsList-push links e hs h list (nowhere number) within) kept grown
+    IsLinked-set links (links_with links e.last h) ends lists number (ends_with e (slot_of h)) (hs ++ h
+    ∷ []) linked there size (IsList-push links e hs h list (nowhere number) within) kept grown
   where
     hs : List ℕ
     hs = list_at lists number
@@ -161,7 +176,8 @@ IsLinked-push links ends lists number e h linked at within nowhere =
       last = old.last;
       count = old.count;
       run = IsRun-set followed (slot_of h) (link_of h e.last None) None (list_at lists other) None (nowhere other)
-          (IsRun-followed links e.last (Some (slot_of h)) None (list_at lists other) None (avoids_other lists number other e.last linked.apart differs stands) old.run);
+          (IsRun-followed links e.last (Some (slot_of h)) None (list_at lists other) None
+          (avoids_other lists number other e.last linked.apart differs stands) old.run);
       apart = old.apart;
     }
 
@@ -172,17 +188,15 @@ IsLinked-push links ends lists number e h linked at within nowhere =
           | inr new ↦ let P : ℕ → Type 0 = λ q. NowhereAt q lists in inr (subst P (sym (alone place h new)) nowhere)
         ]
 
-append-nil : (xs : List ℕ) → xs ++ [] ≡ xs
-append-nil [] = refl
-append-nil (x ∷ xs) = ap (λ (ys : List ℕ). x ∷ ys) (append-nil xs)
-
 -- the first place of a list once a handle has left it
-first_of-without : (xs : List ℕ) (h : ℕ) (ys : List ℕ) (first : Option ℕ) → first ≡ first_of (xs ++ h ∷ ys) None → (if is_none (last_of None xs) then first_of ys None else first) ≡ first_of (xs ++ ys) None
+first_of-without : (xs : List ℕ) (h : ℕ) (ys : List ℕ) (first : Option ℕ) → first ≡ first_of (xs ++ h ∷ ys) None
+    → (if is_none (last_of None xs) then first_of ys None else first) ≡ first_of (xs ++ ys) None
 first_of-without [] h ys first is = refl
 first_of-without (x ∷ xs) h ys first is = let end = last None x xs in rw end.is is
 
 -- the last place of a list once a handle has left it
-last_of-without : (xs : List ℕ) (h : ℕ) (ys : List ℕ) (end : Option ℕ) → end ≡ last_of None (xs ++ h ∷ ys) → (if is_none (first_of ys None) then last_of None xs else end) ≡ last_of None (xs ++ ys)
+last_of-without : (xs : List ℕ) (h : ℕ) (ys : List ℕ) (end : Option ℕ) → end ≡ last_of None (xs ++ h ∷ ys)
+    → (if is_none (first_of ys None) then last_of None xs else end) ≡ last_of None (xs ++ ys)
 last_of-without xs h [] end is = ap (λ (zs : List ℕ). last_of None zs) (sym (append-nil xs))
 last_of-without xs h (y ∷ ys) end is = is ∙ (last_of-append None xs (h ∷ y ∷ ys) ∙ sym (last_of-append None xs (y ∷ ys)))
 
@@ -190,7 +204,8 @@ last_of-without xs h (y ∷ ys) end is = is ∙ (last_of-append None xs (h ∷ y
 abbrev pub link_in : List ℕ → ℕ → List ℕ → Link
 link_in xs h ys = link_of h (last_of None xs) (first_of ys None)
 
-pub IsList-remove : (links : List Link) (e : Ends) (xs : List ℕ) (h : ℕ) (ys : List ℕ) → IsList links e (xs ++ h ∷ ys) → IsList (links_without links (last_of None xs) (first_of ys None)) (ends_without e (link_in xs h ys)) (xs ++ ys)
+pub IsList-remove : (links : List Link) (e : Ends) (xs : List ℕ) (h : ℕ) (ys : List ℕ) → IsList links e (xs ++ h ∷ ys)
+    → IsList (links_without links (last_of None xs) (first_of ys None)) (ends_without e (link_in xs h ys)) (xs ++ ys)
 IsList-remove links e xs h ys list =
     let rest = AreApart-without xs h ys list.apart in
     record {
@@ -210,7 +225,9 @@ stands_after None xs h ys stands = tt
 stands_after (Some q) xs h ys stands = stands-right q xs (h ∷ ys) (stands-tail q h ys stands)
 
 -- the removal of a handle between what comes before it and what comes after
-pub IsLinked-without : (links : List Link) (ends : List Ends) (lists : List (List ℕ)) (number : ℕ) (e : Ends) (xs : List ℕ) (h : ℕ) (ys : List ℕ) → IsLinked links ends lists → slice_get ends number ≡ Some e → list_at lists number ≡ xs ++ h ∷ ys → IsLinked (links_without links (last_of None xs) (first_of ys None)) (set ends number (ends_without e (link_in xs h ys))) (set lists number (xs ++ ys))
+pub IsLinked-without : (links : List Link) (ends : List Ends) (lists : List (List ℕ)) (number : ℕ) (e : Ends) (xs : List ℕ) (h : ℕ) (ys : List ℕ)
+    → IsLinked links ends lists → slice_get ends number ≡ Some e → list_at lists number ≡ xs ++ h ∷ ys
+    → IsLinked (links_without links (last_of None xs) (first_of ys None)) (set ends number (ends_without e (link_in xs h ys))) (set lists number (xs ++ ys))
 IsLinked-without links ends lists number e xs h ys linked at whole =
     IsLinked-set links after ends lists number (ends_without e (link_in xs h ys)) (xs ++ ys) linked there size (IsList-remove links e xs h ys list) kept grown
   where
@@ -240,8 +257,10 @@ IsLinked-without links ends lists number e xs h ys linked at whole =
       first = old.first;
       last = old.last;
       count = old.count;
-      run = IsRun-following followed (first_of ys None) (last_of None xs) None (list_at lists other) None (avoids_other lists number other (first_of ys None) linked.apart differs after_stands)
-          (IsRun-followed links (last_of None xs) (first_of ys None) None (list_at lists other) None (avoids_other lists number other (last_of None xs) linked.apart differs before_stands) old.run);
+      run = IsRun-following followed (first_of ys None) (last_of None xs) None (list_at lists other) None
+          (avoids_other lists number other (first_of ys None) linked.apart differs after_stands)
+          (IsRun-followed links (last_of None xs) (first_of ys None) None (list_at lists other) None
+          (avoids_other lists number other (last_of None xs) linked.apart differs before_stands) old.run);
       apart = old.apart;
     }
 
@@ -260,15 +279,20 @@ pub record Removal (links : List Link) (ends : List Ends) (lists : List (List �
   pub previous : IsBelow (length links) link.previous
   pub next : IsBelow (length links) link.next
   pub some : 0 < e.count
-  pub linked : IsLinked (links_without links link.previous link.next) (set ends number (ends_without e link)) (set lists number (without_handle h (list_at lists number)))
+  pub linked : IsLinked (links_without links link.previous link.next) (set ends number (ends_without e link))
+      (set lists number (without_handle h (list_at lists number)))
 
-pub removal : (links : List Link) (ends : List Ends) (lists : List (List ℕ)) (number : ℕ) (e : Ends) (h : ℕ) → IsLinked links ends lists → slice_get ends number ≡ Some e → has_handle h (list_at lists number) ≡ true → Removal links ends lists number e h
+pub removal : (links : List Link) (ends : List Ends) (lists : List (List ℕ)) (number : ℕ) (e : Ends) (h : ℕ) → IsLinked links ends lists
+    → slice_get ends number ≡ Some e → has_handle h (list_at lists number) ≡ true → Removal links ends lists number e h
 removal links ends lists number e h linked at has = record {
   link = link_in parts.before h parts.after;
   read = read;
   within = slice_get_within links (slot_of h) (link_in parts.before h parts.after) read;
-  previous = place_within links (parts.before ++ h ∷ parts.after) (last_of None parts.before) list.run (stands_before (last_of None parts.before) parts.before (h ∷ parts.after) (last_of-stands parts.before));
-  next = place_within links (parts.before ++ h ∷ parts.after) (first_of parts.after None) list.run (stands_after (first_of parts.after None) parts.before h parts.after (first_of-stands parts.after));
+  previous = place_within links (parts.before ++ h
+      ∷ parts.after) (last_of None parts.before) list.run
+      (stands_before (last_of None parts.before) parts.before (h ∷ parts.after) (last_of-stands parts.before));
+  next = place_within links (parts.before ++ h
+      ∷ parts.after) (first_of parts.after None) list.run (stands_after (first_of parts.after None) parts.before h parts.after (first_of-stands parts.after));
   some = omega (arith, list.count, length-append parts.before (h ∷ parts.after));
   linked = rw parts.rest (IsLinked-without links ends lists number e parts.before h parts.after linked at parts.whole);
 }
@@ -301,7 +325,8 @@ list_at-past links (e ∷ es) (suc number) past = list_at-past links es number p
 pub IsLinked-new : (links : List Link) (count : ℕ) → length links ≤ 65536 → IsLinked links (replicate count no_ends) (replicate count [])
 IsLinked-new links count few = record {
   size = length-replicate count [] ∙ sym (length-replicate count no_ends);
-  each = λ number e at. let P : Ends → Type 0 = λ f. IsList links f [] in rw (list_at-replicate count number) (subst P (replicate-read count number no_ends e at) (IsList-empty links));
+  each = λ number e at. let P : Ends → Type 0 = λ f. IsList links f [] in
+      rw (list_at-replicate count number) (subst P (replicate-read count number no_ends e at) (IsList-empty links));
   apart = λ i j place one two. absurd (false≢true (rw (list_at-replicate count i) at one));
   few = few;
 }
@@ -311,39 +336,50 @@ abbrev pub view_of : List Link → List Ends → HandleLists
 view_of links ends = record { places = length links; lists = map (handles_of links) ends }
 
 -- the same once one list has become another
-pub view-with_list : (links after : List Link) (ends es : List Ends) (old : HandleLists) (number : ℕ) (f : HandleLists → List ℕ) → view_of links ends ≡ old → length after ≡ length links → IsLinked after es (set (map (handles_of links) ends) number (f (view_of links ends))) → view_of after es ≡ with_list old number (f old)
+pub view-with_list : (links after : List Link) (ends es : List Ends) (old : HandleLists) (number : ℕ) (f : HandleLists → List ℕ) → view_of links ends ≡ old
+    → length after ≡ length links → IsLinked after es (set (map (handles_of links) ends) number (f (view_of links ends)))
+    → view_of after es ≡ with_list old number (f old)
 view-with_list links after ends es old number f is size linked =
     let P : HandleLists → Type 0 = λ o. view_of after es ≡ with_list o number (f o) in
     subst P is (rw (size, lists-view after es (set (map (handles_of links) ends) number (f (view_of links ends))) linked) refl)
 
 -- the ends that were read
-pub read_ends : (links : List Link) (ends : List Ends) (old : HandleLists) (number : ℕ) (e : Ends) → view_of links ends ≡ old → number < length old.lists → e ≡ get_or ends number e → slice_get ends number ≡ Some e
+pub read_ends : (links : List Link) (ends : List Ends) (old : HandleLists) (number : ℕ) (e : Ends) → view_of links ends ≡ old → number < length old.lists
+    → e ≡ get_or ends number e → slice_get ends number ≡ Some e
 read_ends links ends old number e is within read =
     let P : HandleLists → Type 0 = λ o. number < length o.lists in
     slice_get_read ends (length ends) number e refl (rw (← (length-map ends (handles_of links))) (subst P (sym is) within)) read
 
 -- a push, by what was required of it
-pub pushed : (links : List Link) (ends : List Ends) (old : HandleLists) (number : ℕ) (e : Ends) (h : ℕ) → view_of links ends ≡ old → IsLinked links ends (map (handles_of links) ends) → slice_get ends number ≡ Some e → slot_of h < old.places → NowhereAt (slot_of h) old.lists → IsLinked (links_with links e.last h) (set ends number (ends_with e (slot_of h))) (set (map (handles_of links) ends) number (list_at (map (handles_of links) ends) number ++ h ∷ []))
+pub pushed : (links : List Link) (ends : List Ends) (old : HandleLists) (number : ℕ) (e : Ends) (h : ℕ) → view_of links ends ≡ old
+    → IsLinked links ends (map (handles_of links) ends) → slice_get ends number ≡ Some e → slot_of h < old.places → NowhereAt (slot_of h) old.lists
+    → IsLinked (links_with links e.last h) (set ends number (ends_with e (slot_of h)))
+    (set (map (handles_of links) ends) number (list_at (map (handles_of links) ends) number ++ h ∷ []))
 pushed links ends old number e h is linked at within nowhere =
     let P : HandleLists → Type 0 = λ o. slot_of h < o.places in
     let Q : HandleLists → Type 0 = λ o. NowhereAt (slot_of h) o.lists in
     IsLinked-push links ends (map (handles_of links) ends) number e h linked at (subst P (sym is) within) (subst Q (sym is) nowhere)
 
 -- a removal, by what was required of it
-pub removed : (links : List Link) (ends : List Ends) (old : HandleLists) (number : ℕ) (h : ℕ) → view_of links ends ≡ old → IsLinked links ends (map (handles_of links) ends) → has_handle h (list_at old.lists number) ≡ true → (e : Ends) × (slice_get ends number ≡ Some e) × Removal links ends (map (handles_of links) ends) number e h
+pub removed : (links : List Link) (ends : List Ends) (old : HandleLists) (number : ℕ) (h : ℕ) → view_of links ends ≡ old
+    → IsLinked links ends (map (handles_of links) ends) → has_handle h (list_at old.lists number) ≡ true
+    → (e : Ends) × (slice_get ends number ≡ Some e) × Removal links ends (map (handles_of links) ends) number e h
 removed links ends old number h is linked has = by_ends (slice_get ends number) refl
   where
     there : has_handle h (list_at (map (handles_of links) ends) number) ≡ true
     there = let P : HandleLists → Type 0 = λ o. has_handle h (list_at o.lists number) ≡ true in subst P (sym is) has
 
-    by_ends : (o : Option Ends) → slice_get ends number ≡ o → (e : Ends) × (slice_get ends number ≡ Some e) × Removal links ends (map (handles_of links) ends) number e h
+    by_ends : (o : Option Ends) → slice_get ends number ≡ o
+        → (e : Ends) × (slice_get ends number ≡ Some e) × Removal links ends (map (handles_of links) ends) number e h
     by_ends (Some e) at = (e, at, removal links ends (map (handles_of links) ends) number e h linked at there)
     by_ends None past =
         let none : list_at (map (handles_of links) ends) number ≡ [] = list_at-past links ends number past in
         absurd (false≢true (rw none at there))
 
 -- a handle that has left its list stands in no list
-pub removed_gone : (links : List Link) (ends : List Ends) (old : HandleLists) (number : ℕ) (h : ℕ) → view_of links ends ≡ old → IsLinked links ends (map (handles_of links) ends) → has_handle h (list_at old.lists number) ≡ true → NowhereAt (slot_of h) (with_list old number (without_handle h (list_at old.lists number))).lists
+pub removed_gone : (links : List Link) (ends : List Ends) (old : HandleLists) (number : ℕ) (h : ℕ) → view_of links ends ≡ old
+    → IsLinked links ends (map (handles_of links) ends) → has_handle h (list_at old.lists number) ≡ true
+    → NowhereAt (slot_of h) (with_list old number (without_handle h (list_at old.lists number))).lists
 removed_gone links ends old number h is linked has =
     let found = removed links ends old number h is linked has in
     let P : HandleLists → Type 0 = λ o. NowhereAt (slot_of h) (with_list o number (without_handle h (list_at o.lists number))).lists in
@@ -360,19 +396,22 @@ removed_gone links ends old number h is linked has =
           | inr absent ↦ absent
         ]
 
-    gone : (e : Ends) → slice_get ends number ≡ Some e → Split h (list_at lists number) → NowhereAt (slot_of h) (set lists number (without_handle h (list_at lists number)))
+    gone : (e : Ends) → slice_get ends number ≡ Some e → Split h (list_at lists number)
+        → NowhereAt (slot_of h) (set lists number (without_handle h (list_at lists number)))
     gone e at parts other =
         elim (cases_eq other number) [
           | inl same ↦
               let within : number < length lists = rw linked.size (slice_get_within ends number e at) in
               let L : List ℕ → Type 0 = λ zs. IsList links e zs in
               let list = subst L parts.whole (linked.each number e at) in
-              let absent = absent-append (slot_of h) parts.before parts.after (absent_before parts.before parts.after list.apart) (AreApart-right parts.before (h ∷ parts.after) list.apart).0 in
+              let absent = absent-append (slot_of h) parts.before parts.after (absent_before parts.before parts.after list.apart)
+              (AreApart-right parts.before (h ∷ parts.after) list.apart).0 in
               rw (same, list_at-set_same lists number (without_handle h (list_at lists number)) within, parts.rest) absent
           | inr differs ↦
               elim (stands_cases (slot_of h) (list_at lists other)) [
                 | inl there ↦
-                    let here : stands_at (slot_of h) (list_at lists number) ≡ true = rw parts.whole (stands-right (slot_of h) parts.before (h ∷ parts.after) (stands-head h parts.after)) in
+                    let here : stands_at (slot_of h) (list_at lists number) ≡ true =
+                    rw parts.whole (stands-right (slot_of h) parts.before (h ∷ parts.after) (stands-head h parts.after)) in
                     absurd (differs (sym (linked.apart number other (slot_of h) here there)))
                 | inr absent ↦ rw (list_at-set_other lists number other (without_handle h (list_at lists number)) differs) absent
               ]

@@ -1,5 +1,5 @@
 -- What follows a handle in its list.
-use Rattle.linked_places.proofs.Names.{◌≡◌, ℕ, zero, suc, ◌+◌, ◌<◌, Bool, true, false, List, [], ◌∷◌, map, Option, Some, None, slice_get, length, refl, sym, ap, subst, arith, add-one, ◌==◌, ◌||◌, false≢true, nat_tests, slice_get_within, slot_of, Link, Ends, HandleLists, list_at, has_handle, handles_of, first_of, IsRun, IsLinked}
+use Rattle.linked_places.proofs.Names.{◌≡◌, ℕ, zero, suc, ◌+◌, ◌<◌, Bool, true, false, List, [], ◌∷◌, map, Option, Some, None, slice_get, length, refl, sym, ap, subst, arith, add-one, ◌==◌, ◌||◌, false≢true, nat_tests, slice_get_within, slot_of, Link, Ends, HandleLists, list_at, has_handle, handles_of, first_of, IsRun, IsLinked, same_Some}
 use Rattle.linked_places.proofs.LinkedLemmas.{list_at-past}
 
 -- the place after a link, if there is one, has the handle that comes next
@@ -12,12 +12,11 @@ pub record Follows (links : List Link) (h : ℕ) (o : Option ℕ) : Type 0 where
   pub read : slice_get links (slot_of h) ≡ Some link
   pub next : NextIs links link.next o
 
-some_same : {A : Type 0} {a b : A} → Some a ≡ Some b → a ≡ b
-some_same h = cc
-
-run-next : (links : List Link) (previous : Option ℕ) (hs : List ℕ) (i h : ℕ) → IsRun links previous hs None → slice_get hs i ≡ Some h → Follows links h (slice_get hs (suc i))
+run-next : (links : List Link) (previous : Option ℕ) (hs : List ℕ) (i h : ℕ) → IsRun links previous hs None → slice_get hs i ≡ Some h
+    → Follows links h (slice_get hs (suc i))
 run-next links previous [] i h run at = absurd (cc)
-run-next links previous (x ∷ hs) zero h run at = subst (λ (k : ℕ). Follows links k (slice_get hs 0)) (some_same at) (record { link = _; read = run.0; next = first hs run.1 })
+run-next links previous (x ∷ hs) zero h run at =
+    subst (λ (k : ℕ). Follows links k (slice_get hs 0)) (same_Some _ _ at) (record { link = _; read = run.0; next = first hs run.1 })
   where
     first : (ys : List ℕ) → IsRun links (Some (slot_of x)) ys None → NextIs links (first_of ys None) (slice_get ys 0)
     first [] r = refl
@@ -29,17 +28,20 @@ pub has-index : (h : ℕ) (hs : List ℕ) → has_handle h hs ≡ true → (i : 
 has-index h [] has = absurd (false≢true has)
 has-index h (x ∷ hs) has = by_test (x == h) refl has (has-index h hs)
   where
-    by_test : (b : Bool) → (x == h) ≡ b → (b || has_handle h hs) ≡ true → (has_handle h hs ≡ true → (i : ℕ) × (slice_get hs i ≡ Some h)) → (i : ℕ) × (slice_get (x ∷ hs) i ≡ Some h)
+    by_test : (b : Bool) → (x == h) ≡ b → (b || has_handle h hs) ≡ true → (has_handle h hs ≡ true → (i : ℕ) × (slice_get hs i ≡ Some h))
+        → (i : ℕ) × (slice_get (x ∷ hs) i ≡ Some h)
     by_test true is has rest = let same : x ≡ h = grind (arith, nat_tests) in (0, ap Some same)
     by_test false is has rest = let more = rest has in (suc more.0, more.1)
 
 pub index-has : (h i : ℕ) (hs : List ℕ) → slice_get hs i ≡ Some h → has_handle h hs ≡ true
 index-has h i [] at = absurd (cc)
-index-has h zero (x ∷ hs) at = let same : (x == h) ≡ true = let is : x ≡ h = some_same at in grind (arith, nat_tests) in rw same refl
+index-has h zero (x ∷ hs) at = let same : (x == h) ≡ true = let is : x ≡ h = same_Some _ _ at in grind (arith, nat_tests) in rw same refl
 index-has h (suc i) (x ∷ hs) at = grind (arith, nat_tests, index-has h i hs at)
 
 -- what the links say of a handle of a list
-pub followed : (links : List Link) (ends : List Ends) (old : HandleLists) (h list i : ℕ) → record { places = length links; lists = map (handles_of links) ends } ≡ old → IsLinked links ends (map (handles_of links) ends) → slice_get (list_at old.lists list) i ≡ Some h → Follows links h (slice_get (list_at old.lists list) (i + 1))
+pub followed : (links : List Link) (ends : List Ends) (old : HandleLists) (h list i : ℕ)
+    → record { places = length links; lists = map (handles_of links) ends } ≡ old → IsLinked links ends (map (handles_of links) ends)
+    → slice_get (list_at old.lists list) i ≡ Some h → Follows links h (slice_get (list_at old.lists list) (i + 1))
 followed links ends old h list i is linked at =
     let P : HandleLists → Type 0 = λ o. slice_get (list_at o.lists list) i ≡ Some h in
     let Q : HandleLists → Type 0 = λ o. Follows links h (slice_get (list_at o.lists list) (i + 1)) in
@@ -58,7 +60,9 @@ followed links ends old h list i is linked at =
         empty e = cc
 
 -- the same, where the handle is in some list
-pub followed-in : (links : List Link) (ends : List Ends) (old : HandleLists) (h : ℕ) → record { places = length links; lists = map (handles_of links) ends } ≡ old → IsLinked links ends (map (handles_of links) ends) → ((list : ℕ) × (has_handle h (list_at old.lists list) ≡ true)) → (o : Option ℕ) × Follows links h o
+pub followed-in : (links : List Link) (ends : List Ends) (old : HandleLists) (h : ℕ)
+    → record { places = length links; lists = map (handles_of links) ends } ≡ old → IsLinked links ends (map (handles_of links) ends)
+    → ((list : ℕ) × (has_handle h (list_at old.lists list) ≡ true)) → (o : Option ℕ) × Follows links h o
 followed-in links ends old h is linked in_list =
     let at = has-index h (list_at old.lists in_list.0) in_list.1 in
     (_, followed links ends old h in_list.0 at.0 is linked at.1)
@@ -72,10 +76,11 @@ within-next links h o place f e = by_next f.link.next f.next e
   where
     by_next : (n : Option ℕ) → NextIs links n o → n ≡ Some place → place < length links
     by_next None k e = absurd (cc)
-    by_next (Some p) k e = subst (λ (q : ℕ). q < length links) (some_same e) (slice_get_within links p k.0 k.1)
+    by_next (Some p) k e = subst (λ (q : ℕ). q < length links) (same_Some _ _ e) (slice_get_within links p k.0 k.1)
 
 pub next-none : (links : List Link) (h : ℕ) (o : Option ℕ) (f : Follows links h o) → f.link.next ≡ None → None ≡ o
 next-none links h o f e1 = grind (arith, nat_tests)
 
-pub next-some : (links : List Link) (h : ℕ) (o : Option ℕ) (place : ℕ) (l : Link) (f : Follows links h o) → f.link.next ≡ Some place → slice_get links place ≡ Some l → Some l.handle ≡ o
+pub next-some : (links : List Link) (h : ℕ) (o : Option ℕ) (place : ℕ) (l : Link) (f : Follows links h o) → f.link.next ≡ Some place
+    → slice_get links place ≡ Some l → Some l.handle ≡ o
 next-some links h o place l f e1 e2 = grind (arith, nat_tests)

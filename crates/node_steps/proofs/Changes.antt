@@ -1,22 +1,23 @@
 -- Changes of a list of issued objects that come to the same.
-use Rattle.node_steps.proofs.Names.{arith, nat_tests, ◌≡◌, ℕ, Bool, true, false, not, cond, List, [], ◌∷◌, Some, refl, sym, ◌∙◌, ap, ◌==◌, ◌&&◌, TaskEnd, Slots, slot_value, with_value, without, Listed, live_of, lookup, live_object, change, with_fields, gone, update, retire, Task, Ended, with_state, ended, ended_in, Holds}
+use Rattle.node_steps.proofs.Names.{arith, nat_tests, ◌≡◌, ℕ, Bool, true, false, not, cond, List, [], ◌∷◌, Some, refl, sym, ◌∙◌, ap, ◌==◌, ◌&&◌, TaskEnd, Slots, slot_value, with_value, without, Listed, live_of, lookup, live_object, change, with_fields, gone, update, retire, Task, Ended, with_state, ended, ended_in, Holds, same_Some}
 use Rattle.node_steps.proofs.Moves.{found, holds_update, holds_change_and_remove}
-
-some_same : {A : Type 0} {a b : A} → Some a ≡ Some b → a ≡ b
-some_same h = cc
 
 module _ {T : Type 0} where
   -- two changes that agree on the object found
-  pub change-as : (h : ℕ) (f g : Listed T → Listed T) (v : T) (l : List (Listed T)) → live_object l h ≡ Some v → ((r : Listed T) → r.live ≡ true → r.fields ≡ v → f r ≡ g r) → change h f l ≡ change h g l
+  pub change-as : (h : ℕ) (f g : Listed T → Listed T) (v : T) (l : List (Listed T)) → live_object l h ≡ Some v
+      → ((r : Listed T) → r.live ≡ true → r.fields ≡ v → f r ≡ g r) → change h f l ≡ change h g l
   unfolding live_of change
   change-as h f g v [] a k = refl
   change-as h f g v (r ∷ rs) a k = by_live (λ m. change-as h f g v rs m k) r.live refl a
     where
-      by_handle : (live_object rs h ≡ Some v → change h f rs ≡ change h g rs) → r.live ≡ true → (b : Bool) → cond b (Some r.fields) (live_object rs h) ≡ Some v → cond b (f r ∷ rs) (r ∷ change h f rs) ≡ cond b (g r ∷ rs) (r ∷ change h g rs)
-      by_handle rest d true m = ap (λ (x : Listed T). x ∷ rs) (k r d (some_same m))
+      by_handle : (live_object rs h ≡ Some v → change h f rs ≡ change h g rs) → r.live ≡ true → (b : Bool) → cond b (Some r.fields) (live_object rs h) ≡ Some v
+          → cond b (f r ∷ rs) (r ∷ change h f rs) ≡ cond b (g r ∷ rs) (r ∷ change h g rs)
+      by_handle rest d true m = ap (λ (x : Listed T). x ∷ rs) (k r d (same_Some _ _ m))
       by_handle rest d false m = ap (λ (x : List (Listed T)). r ∷ x) (rest m)
 
-      by_live : (live_object rs h ≡ Some v → change h f rs ≡ change h g rs) → (a : Bool) → r.live ≡ a → lookup (cond a ((r.handle, r.fields) ∷ live_of rs) (live_of rs)) h ≡ Some v → cond (r.live && (r.handle == h)) (f r ∷ rs) (r ∷ change h f rs) ≡ cond (r.live && (r.handle == h)) (g r ∷ rs) (r ∷ change h g rs)
+      by_live : (live_object rs h ≡ Some v → change h f rs ≡ change h g rs) → (a : Bool) → r.live ≡ a
+          → lookup (cond a ((r.handle, r.fields) ∷ live_of rs) (live_of rs)) h ≡ Some v
+          → cond (r.live && (r.handle == h)) (f r ∷ rs) (r ∷ change h f rs) ≡ cond (r.live && (r.handle == h)) (g r ∷ rs) (r ∷ change h g rs)
       by_live rest true d m =
           (λ i. cond (d i && (r.handle == h)) (f r ∷ rs) (r ∷ change h f rs))
           ∙ (by_handle rest d (r.handle == h) m ∙ (λ i. cond (sym d i && (r.handle == h)) (g r ∷ rs) (r ∷ change h g rs)))
@@ -30,7 +31,8 @@ module _ {T : Type 0} where
   retire-update h f [] = refl
   retire-update h f (r ∷ rs) = by_test (retire-update h f rs) (r.live && (r.handle == h)) refl
     where
-      by_test : retire h (update h f rs) ≡ change h (λ r. gone (with_fields f r)) rs → (b : Bool) → (r.live && (r.handle == h)) ≡ b → retire h (cond b (with_fields f r ∷ rs) (r ∷ update h f rs)) ≡ cond b (gone (with_fields f r) ∷ rs) (r ∷ change h (λ r. gone (with_fields f r)) rs)
+      by_test : retire h (update h f rs) ≡ change h (λ r. gone (with_fields f r)) rs → (b : Bool) → (r.live && (r.handle == h)) ≡ b
+          → retire h (cond b (with_fields f r ∷ rs) (r ∷ update h f rs)) ≡ cond b (gone (with_fields f r) ∷ rs) (r ∷ change h (λ r. gone (with_fields f r)) rs)
       by_test rest true d = λ i. cond (d i) (gone (with_fields f r) ∷ rs) (with_fields f r ∷ retire h rs)
       by_test rest false d = (λ i. cond (d i) (gone r ∷ update h f rs) (r ∷ retire h (update h f rs))) ∙ ap (λ (x : List (Listed T)). r ∷ x) rest
 
@@ -41,16 +43,27 @@ not_live : (a d : Bool) → d ≡ true → (a && not d) ≡ false
 not_live a d e1 = grind (arith, nat_tests)
 
 -- the end of a task that isn't detached, and of one that is
-ended-kept : (h : ℕ) (e : TaskEnd) (n : ℕ) (t : Task) (l : List (Listed Task)) → live_object l h ≡ Some t → t.notes.detached ≡ false → change h (ended e n) l ≡ update h (with_state (Ended e n)) l
-ended-kept h e n t l a d = change-as h (ended e n) (with_fields (with_state (Ended e n))) t l a (λ r live is i. record { handle = r.handle; live = stays_live r.live r.fields.notes.detached (ap (λ (u : Task). u.notes.detached) is ∙ d) i; fields = with_state (Ended e n) r.fields })
+ended-kept : (h : ℕ) (e : TaskEnd) (n : ℕ) (t : Task) (l : List (Listed Task)) → live_object l h ≡ Some t → t.notes.detached ≡ false
+    → change h (ended e n) l ≡ update h (with_state (Ended e n)) l
+ended-kept h e n t l a d = change-as h (ended e n) (with_fields (with_state (Ended e n))) t l a
+    (λ r live is i. record {
+      handle = r.handle;
+      live = stays_live r.live r.fields.notes.detached (ap (λ (u : Task). u.notes.detached) is ∙ d) i;
+      fields =
+          with_state (Ended e n) r.fields;
+    })
 
-ended-gone : (h : ℕ) (e : TaskEnd) (n : ℕ) (t : Task) (l : List (Listed Task)) → live_object l h ≡ Some t → t.notes.detached ≡ true → change h (ended e n) l ≡ retire h (update h (with_state (Ended e n)) l)
+ended-gone : (h : ℕ) (e : TaskEnd) (n : ℕ) (t : Task) (l : List (Listed Task)) → live_object l h ≡ Some t → t.notes.detached ≡ true
+    → change h (ended e n) l ≡ retire h (update h (with_state (Ended e n)) l)
 ended-gone h e n t l e1 e2 = grind (arith, nat_tests, change-as, with_fields, with_state, not_live, retire-update)
 
 -- a task that ends in the pool ends in the list
-pub holds_ended : (size turns : ℕ) (p : Slots Task) (l : List (Listed Task)) (h : ℕ) (e : TaskEnd) (n : ℕ) (t : Task) → Holds size turns p l → slot_value p h ≡ Some t → Holds size turns (ended_in p h e n (Some t)) (change h (ended e n) l)
+pub holds_ended : (size turns : ℕ) (p : Slots Task) (l : List (Listed Task)) (h : ℕ) (e : TaskEnd) (n : ℕ) (t : Task) → Holds size turns p l
+    → slot_value p h ≡ Some t → Holds size turns (ended_in p h e n (Some t)) (change h (ended e n) l)
 holds_ended size turns p l h e n t s g = by_detached t.notes.detached refl
   where
-    by_detached : (b : Bool) → t.notes.detached ≡ b → Holds size turns (cond b (without p h) (with_value p h (with_state (Ended e n) t))) (change h (ended e n) l)
-    by_detached true d = rw (ended-gone h e n t l (found size turns p l h (Some t) s g) d) (holds_change_and_remove size turns p l h (with_state (Ended e n)) t s g)
+    by_detached : (b : Bool) → t.notes.detached ≡ b
+        → Holds size turns (cond b (without p h) (with_value p h (with_state (Ended e n) t))) (change h (ended e n) l)
+    by_detached true d = rw (ended-gone h e n t l (found size turns p l h (Some t) s g) d)
+        (holds_change_and_remove size turns p l h (with_state (Ended e n)) t s g)
     by_detached false d = rw (ended-kept h e n t l (found size turns p l h (Some t) s g) d) (holds_update size turns p l h (with_state (Ended e n)) t s g)

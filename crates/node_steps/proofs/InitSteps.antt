@@ -20,7 +20,10 @@ made callers b r = record { core = record { callers = callers; phase = New; rele
 abbrev none : Lists
 none = record { actions = []; tasks = []; groups = []; queues = []; resources = record { mutexes = []; sems = []; rwls = []; segments = [] } }
 
-pub new_node : (attr : NodeSettings) (callers : ℕ) (b : SchedulerTable) (r : ResourceTable) → AreNodeSettings attr → 1 ≤ callers → callers ≤ 9 → b.settings ≡ attr → Holds attr.actions attr.generations b.actions [] → Holds attr.tasks attr.generations b.tasks.pool [] → Holds attr.groups attr.generations (group_slots b) [] → Holds attr.queues attr.generations (records_of b.queues.pool) [] → HoldsAll attr r none.resources → b.tasks.starts ≡ 0 → b.tasks.ends ≡ 0 → IsScheduler b → Stands (made callers b r) []
+pub new_node : (attr : NodeSettings) (callers : ℕ) (b : SchedulerTable) (r : ResourceTable) → AreNodeSettings attr → 1 ≤ callers → callers ≤ 9
+    → b.settings ≡ attr → Holds attr.actions attr.generations b.actions [] → Holds attr.tasks attr.generations b.tasks.pool []
+    → Holds attr.groups attr.generations (group_slots b) [] → Holds attr.queues attr.generations (records_of b.queues.pool) [] → HoldsAll attr r none.resources
+    → b.tasks.starts ≡ 0 → b.tasks.ends ≡ 0 → IsScheduler b → Stands (made callers b r) []
 unfolding LegalFrom after_from
 new_node attr callers b r s some few is x y g z u starts ends kept = record {
   legal = record { fits = record { settings = subst (λ (t : NodeSettings). AreNodeSettings t) (sym is) s; some_caller = some; callers = few }; from = tt };
@@ -32,7 +35,8 @@ new_node attr callers b r s some few is x y g z u starts ends kept = record {
 }
   where
     live : Live (made callers b r) none
-    live = subst (λ (t : NodeSettings). Pools t b.actions b.tasks.pool (group_slots b) (records_of b.queues.pool) r none) (sym is) (record { actions = x; tasks = y; groups = g; queues = z; resources = u })
+    live = subst (λ (t : NodeSettings). Pools t b.actions b.tasks.pool (group_slots b) (records_of b.queues.pool) r none) (sym is)
+        (record { actions = x; tasks = y; groups = g; queues = z; resources = u })
 
     same : after (terms_of (made callers b r)) [] ≡ state_of (made callers b r) none
     same i = record (state_of (made callers b r) none) { starts = sym starts i; ends = sym ends i }
@@ -41,10 +45,19 @@ one_more : (L : List NodeEntry) (e : NodeEntry) → length (L ++ e ∷ []) ≡ l
 one_more L e = simp length-append refl
 
 -- one more entry
-pub goes_on : (n m : PoolNode) (L : List NodeEntry) (who : ℕ) (op : Op) (r : Reply) (st : Stands n L) → who < seat_count (terms_of n) → Steps n st.lists who op r m → IsScheduler m.scheduler → Stands m (L ++ entry who op r ∷ [])
+pub goes_on : (n m : PoolNode) (L : List NodeEntry) (who : ℕ) (op : Op) (r : Reply) (st : Stands n L) → who < seat_count (terms_of n)
+    → Steps n st.lists who op r m → IsScheduler m.scheduler → Stands m (L ++ entry who op r ∷ [])
 goes_on n m L who op r st seat s kept =
     subst (λ (t : Terms). Legal t (L ++ e ∷ []) → after t (L ++ e ∷ []) ≡ state_of m s.0 → Stands m (L ++ e ∷ [])) s.1.terms
-    (λ legal leads. record { legal = legal; lists = s.0; state = leads; live = live; starts = starts; keeps = subst (λ (x : State). Keeps x m.scheduler) (sym leads) (keeps-scheduler m s.0 live kept) })
+    (λ legal leads. record {
+      legal = legal;
+      lists = s.0;
+      state = leads;
+      live = live;
+      starts = starts;
+      keeps =
+          subst (λ (x : State). Keeps x m.scheduler) (sym leads) (keeps-scheduler m s.0 live kept);
+    })
     (record { fits = st.legal.fits; from = Legal-append _ L (e ∷ []) st.legal.from (Legal-one (after (terms_of n) L) e may) })
     (after-one _ L e ∙ (ap (λ (x : State). next x e) st.state ∙ s.1.leads))
   where
@@ -55,7 +68,8 @@ goes_on n m L who op r st seat s kept =
     may = subst (λ (x : State). IsNext x (entry who op r)) (sym st.state) (record { seat = seat; honest = s.1.honest; allowed = s.1.allowed })
 
     live : Live m s.0
-    live = subst (λ (t : Terms). Pools t.settings m.scheduler.actions m.scheduler.tasks.pool (group_slots m.scheduler) (records_of m.scheduler.queues.pool) m.resources s.0) (sym s.1.terms) s.1.live
+    live = subst (λ (t : Terms). Pools t.settings m.scheduler.actions m.scheduler.tasks.pool (group_slots m.scheduler)
+        (records_of m.scheduler.queues.pool) m.resources s.0) (sym s.1.terms) s.1.live
 
     starts : m.scheduler.tasks.starts ≤ length (L ++ entry who op r ∷ [])
     starts = omega (arith, one_more L (entry who op r), st.starts, s.1.starts)
@@ -80,9 +94,11 @@ sound n L st = subst Sound st.state (record {
     s = after (terms_of n) L
 
 -- a step keeps the terms
-pub same_terms : (n m : PoolNode) (who : ℕ) (op : Op) (r : Reply) (L : List NodeEntry) (st : Stands n L) → ((l : Lists) → Live n l → Sound (state_of n l) → Steps n l who op r m) → terms_of m ≡ terms_of n
+pub same_terms : (n m : PoolNode) (who : ℕ) (op : Op) (r : Reply) (L : List NodeEntry) (st : Stands n L)
+    → ((l : Lists) → Live n l → Sound (state_of n l) → Steps n l who op r m) → terms_of m ≡ terms_of n
 same_terms n m who op r L st s = (s st.lists st.live (sound n L st)).1.terms
 
 -- a step from a node whose pools stand for some lists leads to such a node, and starts one task at most
-pub stepped : (n m : PoolNode) (c who : ℕ) (op : Op) (r : Reply) → ((l : Lists) × Live n l × (n.scheduler.tasks.starts ≤ c)) → ((l : Lists) → Live n l → Steps n l who op r m) → (l : Lists) × Live m l × (m.scheduler.tasks.starts ≤ c + 1)
+pub stepped : (n m : PoolNode) (c who : ℕ) (op : Op) (r : Reply) → ((l : Lists) × Live n l × (n.scheduler.tasks.starts ≤ c))
+    → ((l : Lists) → Live n l → Steps n l who op r m) → (l : Lists) × Live m l × (m.scheduler.tasks.starts ≤ c + 1)
 stepped n m c who op r e1 e2 = grind (arith, nat_tests)

@@ -24,10 +24,12 @@ unmarked : (left : ℕ) (b : Bool) (bs : List Bool) → (left ≡ 0 → ⊥) →
 unmarked left b bs e1 e2 = grind (arith, nat_tests)
 
 module _ (n left i : ℕ) (marks : List Bool) where
-  pub marks_false : i < length marks → (left ≡ 0 → ⊥) → slice_index_or marks i false ≡ false → all_marked n marks ≡ all_marked left (drop i marks) → all_marked n marks ≡ false
+  pub marks_false : i < length marks → (left ≡ 0 → ⊥) → slice_index_or marks i false ≡ false → all_marked n marks ≡ all_marked left (drop i marks)
+      → all_marked n marks ≡ false
   marks_false l z e h = h ∙ (ap (all_marked left) (opened marks i l) ∙ unmarked left _ (drop (suc i) marks) z e)
 
-  pub marks_true : i < length marks → (left ≡ 0 → ⊥) → slice_index_or marks i false ≡ true → all_marked n marks ≡ all_marked left (drop i marks) → all_marked n marks ≡ all_marked (left - 1) (drop (i + 1) marks)
+  pub marks_true : i < length marks → (left ≡ 0 → ⊥) → slice_index_or marks i false ≡ true → all_marked n marks ≡ all_marked left (drop i marks)
+      → all_marked n marks ≡ all_marked (left - 1) (drop (i + 1) marks)
   marks_true e1 e2 e3 e4 = grind (arith, nat_tests, all_marked, opened, one_less)
 
   pub marks_end : length marks ≤ i → all_marked n marks ≡ all_marked left (drop i marks) → all_marked n marks ≡ (left == 0)

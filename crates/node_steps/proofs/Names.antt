@@ -1,6 +1,6 @@
 -- The names that the proofs of this crate cite of lower crates and of its own specs/, passed on from one place. Declares nothing.
-pub use Rattle.std.proofs.Common.{Bool, Err, FitsSigned, List, None, Ok, Option, Result, Some, [], ap, arith, cond, drop, false, inl, inr, length, length-append, map, not, refl, replicate, rules, slice_get, subst, suc, sym, true, w64, zero, ℕ, ◌++◌, ◌+◌, ◌-◌, ◌<◌, ◌^◌, ◌↔◌, ◌∙◌, ◌∷◌, ◌≡◌, ◌≢◌, ◌≤◌, ◌⊎◌}
-pub use Rattle.std.proofs.lemmas.Bool.{eq-eqb, ne_eqb}
+pub use Rattle.std.proofs.Common.{Bool, Err, FitsSigned, List, None, Ok, Option, Result, Some, [], ap, arith, cond, drop, eqb-true, false, inl, inr, length, length-append, lt-ltb, map, not, refl, replicate, rules, slice_get, subst, suc, sym, true, w64, zero, ℕ, ◌++◌, ◌+◌, ◌-◌, ◌<◌, ◌^◌, ◌↔◌, ◌∙◌, ◌∷◌, ◌≡◌, ◌≢◌, ◌≤◌, ◌⊎◌}
+pub use Rattle.std.proofs.lemmas.Bool.{and_from, and_parts, and_right, eq-eqb, ne_eqb, not-false, or_right}
 pub use Rattle.std.proofs.lemmas.Bool.Decides.{Decides-int_eq, eqb_tells, nat_tests}
 pub use Rattle.std.proofs.lemmas.Int.{to_z-of_z}
 pub use Rattle.std.specs.Option.{IfSome, option_map}
@@ -9,7 +9,7 @@ pub use Rattle.std.specs.Prelude.{IsNone, if◌then◌else◌, is_none, is_some,
 pub use Rattle.action_fn.proofs.Numbers.{fits_from, fitting_from}
 pub use Rattle.action_fn.specs.Answers.{Answered, IsAnswered, fits, fitting}
 pub use Rattle.group_core.specs.Members.{GroupTable, Members, counts_of, no_members}
-pub use Rattle.handle_pool.proofs.AnswerLemmas.{any-live, any-none, any-some, count-slots, first_live-absent, first_live-only}
+pub use Rattle.handle_pool.proofs.AnswerLemmas.{any-live, any-none, any-some, change_all-none, count-slots, first_live-absent, first_live-only}
 pub use Rattle.handle_pool.proofs.LiveLemmas.{Distinct-without, how_many-without, lookup-without, pairs_without, passing, same_tests}
 pub use Rattle.handle_pool.specs.Issued.{Listed, any_listed, any_live, count_listed, first_handle, gone, handles_of, how_many, issue, listed, live_object, lookup, retire, update, with_fields}
 pub use Rattle.handle_pool.specs.Slots.{Inserts, IsFull, Slot, Slots, changed, free_slot, put, slot_of, slot_value, used_at, with_value, without}
@@ -94,3 +94,4 @@ unfoldable pub use Rattle.mtapi_objects.specs.Actions.{has_worker}
 unfoldable pub use Rattle.mtapi_objects.specs.Groups.{endings}
 unfoldable pub use Rattle.mtapi_objects.specs.Tasks.{end_each}
 unfoldable pub use Rattle.mtapi_renaming.specs.Refusals.{refusal_in}
+pub use Rattle.std.proofs.lemmas.Option.{none-some, same_Some}

@@ -22,7 +22,8 @@ of_allowed P s (unless false x w) r g a = of_allowed P s w r g.1 a
 of_allowed P s (gives x ms) r g a = subst (λ (y : Reply). OfHandle P y (after_moves ms s)) (sym a) g
 of_allowed P s never r g a = absurd a
 
-of_live : (P : ℕ → State → Type 0) (s : State) {T : Type 0} (o : Option T) (v : Row) (w : T → Row) → AllOfHandle P s v → ((x : T) → AllOfHandle P s (w x)) → AllOfHandle P s (live o v w)
+of_live : (P : ℕ → State → Type 0) (s : State) {T : Type 0} (o : Option T) (v : Row) (w : T → Row) → AllOfHandle P s v → ((x : T) → AllOfHandle P s (w x))
+    → AllOfHandle P s (live o v w)
 of_live P s o v w e1 e2 = grind (arith, nat_tests)
 
 -- the object of this handle is among those that were made
@@ -33,7 +34,8 @@ issued : {T : Type 0} (h : ℕ) (x : T) (l : List (Listed T)) → 1 ≤ listed h
 issued h x l = grind (arith, nat_tests, listed-issue, eq-eqb)
 
 -- the end of a row that makes an object
-new_made : {T : Type 0} (k : Objects T) (s : State) (r : Reply) (make : ℕ → Move) → Made k (handle_of r) (apply (make (handle_of r)) s) → AllOfHandle (Made k) s (only (is_fresh k s (handle_of r)) (gives (Handle (handle_of r)) (make (handle_of r) ∷ [])))
+new_made : {T : Type 0} (k : Objects T) (s : State) (r : Reply) (make : ℕ → Move) → Made k (handle_of r) (apply (make (handle_of r)) s)
+    → AllOfHandle (Made k) s (only (is_fresh k s (handle_of r)) (gives (Handle (handle_of r)) (make (handle_of r) ∷ [])))
 new_made k s r make e1 = grind (arith, nat_tests)
 
 -- each handle that is listed names a slot of the pool
@@ -42,7 +44,8 @@ has_room h holds made = let slot = (holds.stands.turns h made).has_slot in let f
 
 -- the handle of a new object is small, once the list that it was added to has room
 module _ (n m : PoolNode) (l : Lists) (who : ℕ) (o : Op) (r : Reply) (s : Steps n l who o r m) where
-  small : {T : Type 0} (k : Objects T) → AllOfHandle (Made k) (state_of n l) (row (state_of n l) who o r) → ((h : ℕ) → 1 ≤ listed h (k.list (state_of m s.0)) → HasRoom h) → HandleIsSmall r
+  small : {T : Type 0} (k : Objects T) → AllOfHandle (Made k) (state_of n l) (row (state_of n l) who o r)
+      → ((h : ℕ) → 1 ≤ listed h (k.list (state_of m s.0)) → HasRoom h) → HandleIsSmall r
   small k all room = by_reply r (of_allowed (Made k) (state_of n l) (row (state_of n l) who o r) r all s.1.allowed)
     where
       by_reply : (q : Reply) → OfHandle (Made k) q (after_row (state_of n l) (row (state_of n l) who o r)) → HandleIsSmall q
@@ -51,39 +54,169 @@ module _ (n m : PoolNode) (l : Lists) (who : ℕ) (o : Op) (r : Reply) (s : Step
 
 pub issues_small : (n m : PoolNode) (l : Lists) (who : ℕ) (o : Op) (r : Reply) → Steps n l who o r m → IssuesSmall o r
 issues_small n m l who (op.ActionCreate job x cores) r s =
-    small n m l who (op.ActionCreate job x cores) r s actions
-    (tt, (tt, (tt, new_made actions (state_of n l) r (λ h. makes_action h (new_action job x cores.0)) (issued (handle_of r) (new_action job x cores.0) l.actions))))
+    small n m l who (op.ActionCreate job x cores) r s actions (
+      tt,
+      (
+        tt,
+        (
+          tt,
+          new_made actions (state_of n l) r (λ h. makes_action h (new_action job x cores.0))
+              (issued (handle_of r) (new_action job x cores.0) l.actions),
+        ),
+      ),
+    )
     (λ h. has_room h s.1.live.actions)
 issues_small n m l who (op.TaskStart job args priority cores detached group) r s =
-    small n m l who (op.TaskStart job args priority cores detached group) r s tasks
-    (tt, (tt, (tt, (tt, (tt, (tt, (tt, new_made tasks (state_of n l) r (λ h. starts_task h (asked_for job args priority cores detached group)) (issued (handle_of r) (new_task (asked_for job args priority cores detached group) n.scheduler.tasks.starts) l.tasks))))))))
+    small n m l who (op.TaskStart job args priority cores detached group) r s tasks (
+      tt,
+      (
+        tt,
+        (
+          tt,
+          (
+            tt,
+            (
+              tt,
+              (
+                tt,
+                (
+                  tt,
+                  new_made tasks (state_of n l) r (λ h. starts_task h (asked_for job args priority cores detached group))
+                      (issued (handle_of r) (new_task (asked_for job args priority cores detached group) n.scheduler.tasks.starts) l.tasks),
+                ),
+              ),
+            ),
+          ),
+        ),
+      ),
+    )
     (λ h. has_room h s.1.live.tasks)
 issues_small n m l who (op.TaskEnqueue q args cores detached group) r s =
-    small n m l who (op.TaskEnqueue q args cores detached group) r s tasks
-    (tt, (tt, of_live (Made tasks) (state_of n l) (live_object l.queues q.0) _ _ tt (λ x. (tt, (tt, (tt, (tt, (tt, (tt, (tt, new_made tasks (state_of n l) r (λ h. starts_task h (asked_of q.0 x args cores detached group)) (issued (handle_of r) (new_task (asked_of q.0 x args cores detached group) n.scheduler.tasks.starts) l.tasks)))))))))))
+    small n m l who (op.TaskEnqueue q args cores detached group) r s tasks (
+      tt,
+      (
+        tt,
+        of_live (Made tasks) (state_of n l) (live_object l.queues q.0) _ _ tt
+            (λ x. (
+              tt,
+              (
+                tt,
+                (
+                  tt,
+                  (
+                    tt,
+                    (
+                      tt,
+                      (
+                        tt,
+                        (
+                          tt,
+                          new_made tasks (state_of n l) r (λ h. starts_task h (asked_of q.0 x args cores detached group))
+                              (issued (handle_of r) (new_task (asked_of q.0 x args cores detached group) n.scheduler.tasks.starts) l.tasks),
+                        ),
+                      ),
+                    ),
+                  ),
+                ),
+              ),
+            )),
+      ),
+    )
     (λ h. has_room h s.1.live.tasks)
 issues_small n m l who op.GroupCreate r s =
     small n m l who op.GroupCreate r s groups
     (tt, (tt, new_made groups (state_of n l) r (λ h. makes Groups h new_group) (issued (handle_of r) new_group l.groups)))
     (λ h. has_room h s.1.live.groups)
 issues_small n m l who (op.QueueCreate id job priority limit ordered retain) r s =
-    small n m l who (op.QueueCreate id job priority limit ordered retain) r s queues
-    (tt, (tt, (tt, (tt, (tt, new_made queues (state_of n l) r (λ h. makes Queues h (new_queue id job priority limit ordered retain)) (issued (handle_of r) (new_queue id job priority limit ordered retain) l.queues))))))
+    small n m l who (op.QueueCreate id job priority limit ordered retain) r s queues (
+      tt,
+      (
+        tt,
+        (
+          tt,
+          (
+            tt,
+            (
+              tt,
+              new_made queues (state_of n l) r (λ h. makes Queues h (new_queue id job priority limit ordered retain))
+                  (issued (handle_of r) (new_queue id job priority limit ordered retain) l.queues),
+            ),
+          ),
+        ),
+      ),
+    )
     (λ h. has_room h s.1.live.queues)
 issues_small n m l who (op.MutexCreate id recursive) r s =
-    small n m l who (op.MutexCreate id recursive) r s mutexes
-    (tt, (tt, (tt, (tt, new_made mutexes (state_of n l) r (λ h. makes Mutexes h (new_mutex id recursive)) (issued (handle_of r) (new_mutex id recursive) l.resources.mutexes)))))
+    small n m l who (op.MutexCreate id recursive) r s mutexes (
+      tt,
+      (
+        tt,
+        (
+          tt,
+          (
+            tt,
+            new_made mutexes (state_of n l) r (λ h. makes Mutexes h (new_mutex id recursive))
+                (issued (handle_of r) (new_mutex id recursive) l.resources.mutexes),
+          ),
+        ),
+      ),
+    )
     (λ h. has_room h s.1.live.resources.mutexes)
 issues_small n m l who (op.SemCreate id limit) r s =
-    small n m l who (op.SemCreate id limit) r s sems
-    (tt, (tt, (tt, (tt, (tt, new_made sems (state_of n l) r (λ h. makes Sems h (new_sem id limit)) (issued (handle_of r) (new_sem id limit) l.resources.sems))))))
+    small n m l who (op.SemCreate id limit) r s sems (
+      tt,
+      (
+        tt,
+        (
+          tt,
+          (
+            tt,
+            (
+              tt,
+              new_made sems (state_of n l) r (λ h. makes Sems h (new_sem id limit))
+                  (issued (handle_of r) (new_sem id limit) l.resources.sems),
+            ),
+          ),
+        ),
+      ),
+    )
     (λ h. has_room h s.1.live.resources.sems)
 issues_small n m l who (op.RwlCreate id limit) r s =
-    small n m l who (op.RwlCreate id limit) r s rwls
-    (tt, (tt, (tt, (tt, (tt, new_made rwls (state_of n l) r (λ h. makes Rwls h (new_rwl id limit)) (issued (handle_of r) (new_rwl id limit) l.resources.rwls))))))
+    small n m l who (op.RwlCreate id limit) r s rwls (
+      tt,
+      (
+        tt,
+        (
+          tt,
+          (
+            tt,
+            (
+              tt,
+              new_made rwls (state_of n l) r (λ h. makes Rwls h (new_rwl id limit))
+                  (issued (handle_of r) (new_rwl id limit) l.resources.rwls),
+            ),
+          ),
+        ),
+      ),
+    )
     (λ h. has_room h s.1.live.resources.rwls)
 issues_small n m l who (op.ShmemCreate id cells) r s =
-    small n m l who (op.ShmemCreate id cells) r s segments
-    (tt, (tt, (tt, (tt, (tt, new_made segments (state_of n l) r (λ h. makes Segments h (new_segment id cells)) (issued (handle_of r) (new_segment id cells) l.resources.segments))))))
+    small n m l who (op.ShmemCreate id cells) r s segments (
+      tt,
+      (
+        tt,
+        (
+          tt,
+          (
+            tt,
+            (
+              tt,
+              new_made segments (state_of n l) r (λ h. makes Segments h (new_segment id cells))
+                  (issued (handle_of r) (new_segment id cells) l.resources.segments),
+            ),
+          ),
+        ),
+      ),
+    )
     (λ h. has_room h s.1.live.resources.segments)
 issues_small n m l who o r s = tt

@@ -9,13 +9,15 @@ use Rattle.node_steps.proofs.WaitingEnds.{AtOnce, ends-at-once}
 abbrev pub closing : PoolNode → PoolNode
 closing n = record n { core = record n.core { phase = Closing } }
 
-module _ (n : PoolNode) (l : Lists) (who : ℕ) (v : Live n l) (k : Sound (state_of n l)) (late : is_past_open n.core.phase ≡ false) (t : TaskTable) (ends : EndsWaiting (λ x. is_shut (records_of n.scheduler.queues.pool) x.queue) Cancelled n.scheduler.tasks t) where
+module _ (n : PoolNode) (l : Lists) (who : ℕ) (v : Live n l) (k : Sound (state_of n l)) (late : is_past_open n.core.phase
+    ≡ false) (t : TaskTable) (ends : EndsWaiting (λ x. is_shut (records_of n.scheduler.queues.pool) x.queue) Cancelled n.scheduler.tasks t) where
   -- the scheduler's queues and the machine's say the same
   shut : ◌≡◌ {A = Task → Bool} (λ x. is_shut (records_of n.scheduler.queues.pool) x.queue) (is_shut_in l.queues)
   shut i x = holds (λ h. holds (λ q. not q.enabled) (v.queues.stands.found h i)) x.queue
 
   once : AtOnce n.scheduler.settings.tasks n.scheduler.settings.generations (is_shut_in l.queues) Cancelled n.scheduler.tasks t l.tasks
-  once = ends-at-once n.scheduler.settings.tasks n.scheduler.settings.generations (is_shut_in l.queues) Cancelled n.scheduler.tasks t l.tasks v.tasks k.ordered (subst (λ (p : Task → Bool). EndsWaiting p Cancelled n.scheduler.tasks t) shut ends)
+  once = ends-at-once n.scheduler.settings.tasks n.scheduler.settings.generations (is_shut_in l.queues) Cancelled n.scheduler.tasks t l.tasks v.tasks k.ordered
+      (subst (λ (p : Task → Bool). EndsWaiting p Cancelled n.scheduler.tasks t) shut ends)
 
   closed : PoolNode
   closed = record (closing n) { scheduler = record n.scheduler { tasks = t } }

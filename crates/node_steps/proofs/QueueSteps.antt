@@ -1,5 +1,5 @@
 -- The ops on queues are steps of the machine.
-use Rattle.node_steps.proofs.Names.{◌≡◌, ℕ, ◌+◌, ◌<◌, ◌≤◌, Bool, true, false, not, cond, List, [], ◌∷◌, ◌++◌, Option, Some, None, Result, Ok, Err, refl, sym, ◌∙◌, ap, subst, arith, ◌&&◌, ◌||◌, ◌==◌, nat_lt, nat_le, ℤ, option_map, nat_tests, TaskEnd, Cancelled, Mask, GroupHandle, QueueHandle, TaskHandle, MtapiStatus, first, Slots, slot_value, IsFull, Inserts, without, changed, SomeLive, NoneLive, Listed, live_of, any_listed, count_listed, first_handle, issue, update, retire, any-none, any-live, first_live-only, first_live-absent, has_job, Task, NewTask, new_task, is_unstarted, end_each, Queue, opened, is_in, is_unended_in, put_refusals, TaskTable, HeldQueue, QueueTable, held, HasId, Finds, live_reply, facts_of, with_opened, QueueFacts, SchedulerTable, IsScheduler, Becomes, BecomesWith, records_of, GroupTable, without_members, EndsWaiting, mapped-insert, mapped-without, mapped-changed, IsFull-mapped, Op, Reply, State, is_open, is_up, end_tasks, Move, Queues, alters, ends_waiting, gives, row, new_queue, start_refusals, is_detached_member, IsHonest, PoolNode, Lists, Holds, Live, Steps, state_of, Sound}
+use Rattle.node_steps.proofs.Names.{◌≡◌, ℕ, ◌+◌, ◌<◌, ◌≤◌, Bool, true, false, not, cond, List, [], ◌∷◌, ◌++◌, Option, Some, None, Result, Ok, Err, refl, sym, ◌∙◌, ap, subst, arith, ◌&&◌, ◌||◌, ◌==◌, nat_lt, nat_le, ℤ, option_map, nat_tests, TaskEnd, Cancelled, Mask, GroupHandle, QueueHandle, TaskHandle, MtapiStatus, first, Slots, slot_value, IsFull, Inserts, without, changed, SomeLive, NoneLive, Listed, live_of, any_listed, count_listed, first_handle, issue, update, retire, any-none, any-live, first_live-only, first_live-absent, has_job, Task, NewTask, new_task, is_unstarted, end_each, Queue, opened, is_in, is_unended_in, put_refusals, TaskTable, HeldQueue, QueueTable, held, HasId, Finds, live_reply, facts_of, with_opened, QueueFacts, SchedulerTable, IsScheduler, Becomes, BecomesWith, records_of, GroupTable, without_members, EndsWaiting, mapped-insert, mapped-without, mapped-changed, IsFull-mapped, Op, Reply, State, is_open, is_up, end_tasks, Move, Queues, alters, ends_waiting, gives, row, new_queue, start_refusals, is_detached_member, IsHonest, PoolNode, Lists, Holds, Live, Steps, state_of, Sound, none-some}
 use Rattle.mtapi_values.specs.declared.ends.TaskEnd.TheVariants.{Failed}
 use Rattle.mtapi_values.specs.declared.statuses.MtapiStatus.TheVariants as m
 use Rattle.task_core.specs.Table.{Adds}
@@ -16,28 +16,28 @@ use Rattle.node_steps.proofs.TaskSteps.{task_steps, reported, add_reply}
 use Rattle.node_steps.proofs.WaitingEnds.{ends-at-once}
 use Rattle.node_steps.proofs.QueueLemmas.{record-value, record-none, record-found, count-queued}
 
-none_some : {A : Type 0} {P : Type 0} {a : A} → None ≡ Some a → P
-none_some e = absurd (cc)
-
-some_same : {A : Type 0} {a b : A} → Some a ≡ Some b → a ≡ b
-some_same h = cc
-
 -- the node with these queues
 abbrev pub with_queues : PoolNode → Slots HeldQueue → PoolNode
 with_queues n q = record n { scheduler = record n.scheduler { queues = record n.scheduler.queues { pool = q } } }
 
 -- a step that changes the queues alone
-queue_steps : (n : PoolNode) (l : Lists) (q : Slots HeldQueue) (k : List (Listed Queue)) (who : ℕ) (o : Op) (r : Reply) → Live n l → Gives (state_of n l) (row (state_of n l) who o r) r (record (state_of n l) { queues = k }) → Holds n.scheduler.settings.queues n.scheduler.settings.generations (records_of q) k → IsHonest o → Steps n l who o r (with_queues n q)
-queue_steps n l q k who o r v g h i = steps n (with_queues n q) l (record l { queues = k }) who o r g (record { actions = v.actions; tasks = v.tasks; groups = v.groups; queues = h; resources = v.resources }) refl (omega arith) i
+queue_steps : (n : PoolNode) (l : Lists) (q : Slots HeldQueue) (k : List (Listed Queue)) (who : ℕ) (o : Op) (r : Reply) → Live n l
+    → Gives (state_of n l) (row (state_of n l) who o r) r (record (state_of n l) { queues = k })
+    → Holds n.scheduler.settings.queues n.scheduler.settings.generations (records_of q) k → IsHonest o → Steps n l who o r (with_queues n q)
+queue_steps n l q k who o r v g h i = steps n (with_queues n q) l (record l { queues = k }) who o r g
+    (record { actions = v.actions; tasks = v.tasks; groups = v.groups; queues = h; resources = v.resources }) refl (omega arith) i
 
-holds_opened : (n : PoolNode) (l : Lists) (q : ℕ) (on : Bool) → Live n l → Holds n.scheduler.settings.queues n.scheduler.settings.generations (records_of (changed n.scheduler.queues.pool q (with_opened on))) (update q (opened on) l.queues)
+holds_opened : (n : PoolNode) (l : Lists) (q : ℕ) (on : Bool) → Live n l
+    → Holds n.scheduler.settings.queues n.scheduler.settings.generations (records_of (changed n.scheduler.queues.pool q (with_opened on)))
+    (update q (opened on) l.queues)
 holds_opened n l q on v =
     subst (λ (p : Slots Queue). Holds n.scheduler.settings.queues n.scheduler.settings.generations p (update q (opened on) l.queues))
     (sym (mapped-changed (λ (x : HeldQueue). x.queue) n.scheduler.queues.pool q (with_opened on) (opened on) (λ x. refl)))
     (holds_changed _ _ (records_of n.scheduler.queues.pool) l.queues q (opened on) v.queues)
 
 -- numbers in their ranges
-pub right_numbers : (priority priorities limit : ℕ) → priority < priorities → 1 ≤ limit → limit ≤ 65536 → (not (nat_lt priority priorities) || not (nat_le 1 limit && nat_le limit 65536)) ≡ false
+pub right_numbers : (priority priorities limit : ℕ) → priority < priorities → 1 ≤ limit → limit ≤ 65536
+    → (not (nat_lt priority priorities) || not (nat_le 1 limit && nat_le limit 65536)) ≡ false
 right_numbers priority priorities limit p a b = grind (arith, nat_tests)
 
 -- Creating
@@ -64,50 +64,59 @@ module _ (n : PoolNode) (l : Lists) (who id job priority limit : ℕ) (ordered r
   create_wrong w = stays n l who create (reply.Mtapi m.ErrParameter) v tt (past _ _ _ _ _ _ (not_true _ up) (met _ _ _ _ w))
 
   pub create_jobless : wrong ≡ false → any_listed (has_job job) l.actions ≡ false → Steps n l who create (reply.Mtapi m.ErrJobInvalid) n
-  create_jobless w none = stays n l who create (reply.Mtapi m.ErrJobInvalid) v tt (past _ _ _ _ _ _ (not_true _ up) (past _ _ _ _ _ _ w (met _ _ _ _ (ap not none))))
+  create_jobless w none = stays n l who create (reply.Mtapi m.ErrJobInvalid) v tt
+      (past _ _ _ _ _ _ (not_true _ up) (past _ _ _ _ _ _ w (met _ _ _ _ (ap not none))))
 
   module _ (right : wrong ≡ false) (jobs : any_listed (has_job job) l.actions ≡ true) where
     create_exists : SomeLive (slot_value n.scheduler.queues.pool) (HasId id) → Steps n l who create (reply.Mtapi m.ErrQueueExists) n
     create_exists s =
         stays n l who create (reply.Mtapi m.ErrQueueExists) v tt
         (past _ _ _ _ _ _ (not_true _ up) (past _ _ _ _ _ _ right (past _ _ _ _ _ _ (not_true _ jobs)
-        (met _ _ _ _ (any-live (records_of n.scheduler.queues.pool) l.queues same_id s.0 s.1.queue v.queues.stands (record-value n.scheduler.queues.pool s.0 s.1 s.2) s.3)))))
+        (met _ _ _ _ (any-live (records_of n.scheduler.queues.pool) l.queues same_id s.0 s.1.queue v.queues.stands
+        (record-value n.scheduler.queues.pool s.0 s.1 s.2) s.3)))))
 
     none_same : NoneLive (slot_value n.scheduler.queues.pool) (HasId id) → any_listed same_id l.queues ≡ false
     none_same none =
         any-none (records_of n.scheduler.queues.pool) l.queues same_id v.queues.stands
         (λ h y g e. let x = record-found n.scheduler.queues.pool h y g in none h x.0 x.1 (ap same_id x.2 ∙ e))
 
-    create_full : NoneLive (slot_value n.scheduler.queues.pool) (HasId id) → IsFull n.scheduler.queues.pool → Steps n l who create (reply.Mtapi m.ErrQueueLimit) n
+    create_full : NoneLive (slot_value n.scheduler.queues.pool) (HasId id) → IsFull n.scheduler.queues.pool
+        → Steps n l who create (reply.Mtapi m.ErrQueueLimit) n
     create_full none full =
         stays n l who create (reply.Mtapi m.ErrQueueLimit) v tt
         (past _ _ _ _ _ _ (not_true _ up) (past _ _ _ _ _ _ right (past _ _ _ _ _ _ (not_true _ jobs) (past _ _ _ _ _ _ (none_same none)
-        (met _ _ _ _ (full_list _ _ (records_of n.scheduler.queues.pool) l.queues v.queues ((IsFull-mapped (λ (x : HeldQueue). x.queue) n.scheduler.queues.pool).1 full)))))))
+        (met _ _ _ _ (full_list _ _ (records_of n.scheduler.queues.pool) l.queues v.queues
+        ((IsFull-mapped (λ (x : HeldQueue). x.queue) n.scheduler.queues.pool).1 full)))))))
 
-    create_made : (p : Slots HeldQueue) (h : ℕ) → NoneLive (slot_value n.scheduler.queues.pool) (HasId id) → (IsFull n.scheduler.queues.pool → ⊥) → Inserts n.scheduler.queues.pool p h (held queue []) → Steps n l who create (reply.Handle h) (with_queues n p)
+    create_made : (p : Slots HeldQueue) (h : ℕ) → NoneLive (slot_value n.scheduler.queues.pool) (HasId id) → (IsFull n.scheduler.queues.pool → ⊥)
+        → Inserts n.scheduler.queues.pool p h (held queue []) → Steps n l who create (reply.Handle h) (with_queues n p)
     create_made p h none room i =
         let j = mapped-insert (λ (x : HeldQueue). x.queue) n.scheduler.queues.pool p h (held queue []) i in
         queue_steps n l p (issue h queue l.queues) who create (reply.Handle h) v
         (past _ _ _ _ _ _ (not_true _ up) (past _ _ _ _ _ _ right (past _ _ _ _ _ _ (not_true _ jobs) (past _ _ _ _ _ _ (none_same none)
-        (past _ _ _ _ _ _ (room_in _ _ (records_of n.scheduler.queues.pool) l.queues v.queues (λ full. room ((IsFull-mapped (λ (x : HeldQueue). x.queue) n.scheduler.queues.pool).0 full)))
+        (past _ _ _ _ _ _ (room_in _ _ (records_of n.scheduler.queues.pool) l.queues v.queues
+        (λ full. room ((IsFull-mapped (λ (x : HeldQueue). x.queue) n.scheduler.queues.pool).0 full)))
         (allows _ _ _ _ _ (may_be _ _ (records_of n.scheduler.queues.pool) (records_of p) l.queues h queue v.queues j) (gives_this _ _ _)))))))
         (holds_insert _ _ (records_of n.scheduler.queues.pool) (records_of p) l.queues h queue v.queues j) tt
 
     as_was : (z : QueueTable) (r : Reply) → z ≡ n.scheduler.queues → Steps n l who create r n → Steps n l who create r (with_queues n z.pool)
     as_was z r e s = subst (λ (p : Slots HeldQueue). Steps n l who create r (with_queues n p)) (sym (ap (λ (y : QueueTable). y.pool) e)) s
 
-    create_failed : (z : QueueTable) (c : MtapiStatus) → CreatesQueue n.scheduler.queues queue (Err c) z → Steps n l who create (reply.Mtapi c) (with_queues n z.pool)
+    create_failed : (z : QueueTable) (c : MtapiStatus) → CreatesQueue n.scheduler.queues queue (Err c) z
+        → Steps n l who create (reply.Mtapi c) (with_queues n z.pool)
     create_failed z m.ErrQueueExists c = as_was z _ c.1 (create_exists c.0)
     create_failed z m.ErrQueueLimit c = as_was z _ c.2 (create_full c.0 c.1)
     create_failed z x c = absurd c
 
-    pub create_steps : (z : QueueTable) (x : Queue) (r : Result QueueHandle MtapiStatus) → x ≡ queue → CreatesQueue n.scheduler.queues x r z → Steps n l who create (handle_reply r) (with_queues n z.pool)
+    pub create_steps : (z : QueueTable) (x : Queue) (r : Result QueueHandle MtapiStatus) → x ≡ queue → CreatesQueue n.scheduler.queues x r z
+        → Steps n l who create (handle_reply r) (with_queues n z.pool)
     create_steps z x (Ok q) e c = let d = subst (λ (y : Queue). CreatesQueue n.scheduler.queues y (Ok q) z) e c in create_made z.pool q.0 d.0 d.1 d.2
     create_steps z x (Err s) e c = create_failed z s (subst (λ (y : Queue). CreatesQueue n.scheduler.queues y (Err s) z) e c)
 
 -- Finding
 
-pub get_steps : (n : PoolNode) (l : Lists) (who id : ℕ) (r : Result QueueHandle MtapiStatus) → Live n l → is_up n.core.phase ≡ true → Finds n.scheduler.queues.pool id r → Steps n l who (op.QueueGet id) (handle_reply r) n
+pub get_steps : (n : PoolNode) (l : Lists) (who id : ℕ) (r : Result QueueHandle MtapiStatus) → Live n l → is_up n.core.phase ≡ true
+    → Finds n.scheduler.queues.pool id r → Steps n l who (op.QueueGet id) (handle_reply r) n
 get_steps n l who id (Ok q) v up f =
     stays n l who (op.QueueGet id) (reply.Handle q.0) v tt
     (past _ _ _ _ _ _ (not_true _ up)
@@ -115,12 +124,14 @@ get_steps n l who id (Ok q) v up f =
   where
     one : first_handle (λ y. y.id == id) (live_of l.queues) ≡ Some q.0
     one =
-        first_live-only (records_of n.scheduler.queues.pool) l.queues (λ y. y.id == id) q.0 f.0.0.queue v.queues.stands (record-value n.scheduler.queues.pool q.0 f.0.0 f.0.1) f.0.2
+        first_live-only (records_of n.scheduler.queues.pool) l.queues (λ y. y.id == id) q.0 f.0.0.queue v.queues.stands
+        (record-value n.scheduler.queues.pool q.0 f.0.0 f.0.1) f.0.2
         (λ h y g e. let x = record-found n.scheduler.queues.pool h y g in f.1 h x.0 x.1 (ap (λ (z : Queue). z.id == id) x.2 ∙ e))
 get_steps n l who id (Err m.ErrQueueInvalid) v up f =
     stays n l who (op.QueueGet id) (reply.Mtapi m.ErrQueueInvalid) v tt
     (past _ _ _ _ _ _ (not_true _ up)
-    (subst (λ (o : Option ℕ). Gives (state_of n l) (found_row o (reply.Mtapi m.ErrQueueInvalid)) (reply.Mtapi m.ErrQueueInvalid) (state_of n l)) (sym none) (says_this _ _)))
+    (subst (λ (o : Option ℕ). Gives (state_of n l) (found_row o (reply.Mtapi m.ErrQueueInvalid)) (reply.Mtapi m.ErrQueueInvalid) (state_of n l)) (sym none)
+    (says_this _ _)))
   where
     none : first_handle (λ y. y.id == id) (live_of l.queues) ≡ None
     none =
@@ -135,91 +146,135 @@ done_reply (Ok u) = reply.Ok
 done_reply (Err c) = reply.Mtapi c
 
 module _ (n : PoolNode) (l : Lists) (who : ℕ) (q : QueueHandle) (v : Live n l) (up : is_open n.core.phase ≡ true) where
-  pub enable_told : (r : Result Unit MtapiStatus) → r ≡ live_reply (slot_value n.scheduler.queues.pool q.0) → Steps n l who (op.QueueEnable q) (done_reply r) (with_queues n (changed n.scheduler.queues.pool q.0 (with_opened true)))
+  pub enable_told : (r : Result Unit MtapiStatus) → r ≡ live_reply (slot_value n.scheduler.queues.pool q.0)
+      → Steps n l who (op.QueueEnable q) (done_reply r) (with_queues n (changed n.scheduler.queues.pool q.0 (with_opened true)))
   enable_told r e = by_found (slot_value n.scheduler.queues.pool q.0) refl
     where
-      by_found : (o : Option HeldQueue) → slot_value n.scheduler.queues.pool q.0 ≡ o → Steps n l who (op.QueueEnable q) (done_reply r) (with_queues n (changed n.scheduler.queues.pool q.0 (with_opened true)))
+      by_found : (o : Option HeldQueue) → slot_value n.scheduler.queues.pool q.0 ≡ o
+          → Steps n l who (op.QueueEnable q) (done_reply r) (with_queues n (changed n.scheduler.queues.pool q.0 (with_opened true)))
       by_found None dead =
-          subst (λ (x : Result Unit MtapiStatus). Steps n l who (op.QueueEnable q) (done_reply x) (with_queues n (changed n.scheduler.queues.pool q.0 (with_opened true)))) (sym (e ∙ ap live_reply dead))
-          (subst (λ (p : Slots HeldQueue). Steps n l who (op.QueueEnable q) (reply.Mtapi m.ErrQueueInvalid) (with_queues n p)) (sym (dead-queue n.scheduler.queues.pool q.0 (with_opened true) dead))
+          subst (λ (x : Result Unit MtapiStatus). Steps n l who (op.QueueEnable q) (done_reply x)
+          (with_queues n (changed n.scheduler.queues.pool q.0 (with_opened true)))) (sym (e ∙ ap live_reply dead))
+          (subst (λ (p : Slots HeldQueue). Steps n l who (op.QueueEnable q) (reply.Mtapi m.ErrQueueInvalid) (with_queues n p))
+          (sym (dead-queue n.scheduler.queues.pool q.0 (with_opened true) dead))
           (stays n l who (op.QueueEnable q) (reply.Mtapi m.ErrQueueInvalid) v tt
-          (past _ _ _ _ _ _ (not_true _ up) (at_none _ _ _ _ (found _ _ (records_of n.scheduler.queues.pool) l.queues q.0 None v.queues (record-none n.scheduler.queues.pool q.0 dead))))))
+          (past _ _ _ _ _ _ (not_true _ up) (at_none _ _ _ _
+          (found _ _ (records_of n.scheduler.queues.pool) l.queues q.0 None v.queues (record-none n.scheduler.queues.pool q.0 dead))))))
       by_found (Some x) live =
-          subst (λ (x : Result Unit MtapiStatus). Steps n l who (op.QueueEnable q) (done_reply x) (with_queues n (changed n.scheduler.queues.pool q.0 (with_opened true)))) (sym (e ∙ ap live_reply live))
+          subst (λ (x : Result Unit MtapiStatus). Steps n l who (op.QueueEnable q) (done_reply x)
+          (with_queues n (changed n.scheduler.queues.pool q.0 (with_opened true)))) (sym (e ∙ ap live_reply live))
           (queue_steps n l (changed n.scheduler.queues.pool q.0 (with_opened true)) (update q.0 (opened true) l.queues) who (op.QueueEnable q) reply.Ok v
-          (past _ _ _ _ _ _ (not_true _ up) (at_some _ _ _ x.queue _ _ _ (found _ _ (records_of n.scheduler.queues.pool) l.queues q.0 (Some x.queue) v.queues (record-value n.scheduler.queues.pool q.0 x live)) (gives_this _ _ _)))
+          (past _ _ _ _ _ _ (not_true _ up) (at_some _ _ _ x.queue _ _ _
+          (found _ _ (records_of n.scheduler.queues.pool) l.queues q.0 (Some x.queue) v.queues (record-value n.scheduler.queues.pool q.0 x live))
+          (gives_this _ _ _)))
           (holds_opened n l q.0 true v) tt)
 
   -- no live queue
   pub disable_absent : slot_value n.scheduler.queues.pool q.0 ≡ None → Steps n l who (op.QueueDisable q) (reply.Mtapi m.ErrQueueInvalid) n
-  disable_absent dead = stays n l who (op.QueueDisable q) (reply.Mtapi m.ErrQueueInvalid) v tt (past _ _ _ _ _ _ (not_true _ up) (at_none _ _ _ _ (found _ _ (records_of n.scheduler.queues.pool) l.queues q.0 None v.queues (record-none n.scheduler.queues.pool q.0 dead))))
+  disable_absent dead = stays n l who (op.QueueDisable q) (reply.Mtapi m.ErrQueueInvalid) v tt
+      (past _ _ _ _ _ _ (not_true _ up) (at_none _ _ _ _
+      (found _ _ (records_of n.scheduler.queues.pool) l.queues q.0 None v.queues (record-none n.scheduler.queues.pool q.0 dead))))
 
   pub delete_absent : slot_value n.scheduler.queues.pool q.0 ≡ None → Steps n l who (op.QueueDelete q) (reply.Mtapi m.ErrQueueInvalid) n
-  delete_absent dead = stays n l who (op.QueueDelete q) (reply.Mtapi m.ErrQueueInvalid) v tt (past _ _ _ _ _ _ (not_true _ up) (at_none _ _ _ _ (found _ _ (records_of n.scheduler.queues.pool) l.queues q.0 None v.queues (record-none n.scheduler.queues.pool q.0 dead))))
+  delete_absent dead = stays n l who (op.QueueDelete q) (reply.Mtapi m.ErrQueueInvalid) v tt
+      (past _ _ _ _ _ _ (not_true _ up) (at_none _ _ _ _
+      (found _ _ (records_of n.scheduler.queues.pool) l.queues q.0 None v.queues (record-none n.scheduler.queues.pool q.0 dead))))
 
   -- Disabling, and deleting
 
-  retained : (b : Bool) (ms : List Move) → b ≡ true → Gives (state_of n l) (gives reply.Ok (alters Queues q.0 (opened false) ∷ cond b [] ms)) reply.Ok (record (state_of n l) { queues = update q.0 (opened false) l.queues })
+  retained : (b : Bool) (ms : List Move) → b ≡ true
+      → Gives (state_of n l) (gives reply.Ok (alters Queues q.0 (opened false) ∷ cond b [] ms)) reply.Ok
+      (record (state_of n l) { queues = update q.0 (opened false) l.queues })
   retained b ms e1 = grind (arith, nat_tests)
 
-  pub disable_retained : (x : HeldQueue) → slot_value n.scheduler.queues.pool q.0 ≡ Some x → x.queue.retain ≡ true → Steps n l who (op.QueueDisable q) reply.Ok (with_queues n (changed n.scheduler.queues.pool q.0 (with_opened false)))
+  pub disable_retained : (x : HeldQueue) → slot_value n.scheduler.queues.pool q.0 ≡ Some x → x.queue.retain ≡ true
+      → Steps n l who (op.QueueDisable q) reply.Ok (with_queues n (changed n.scheduler.queues.pool q.0 (with_opened false)))
   disable_retained x live keeps =
       queue_steps n l (changed n.scheduler.queues.pool q.0 (with_opened false)) (update q.0 (opened false) l.queues) who (op.QueueDisable q) reply.Ok v
-      (past _ _ _ _ _ _ (not_true _ up) (at_some _ _ _ x.queue _ _ _ (found _ _ (records_of n.scheduler.queues.pool) l.queues q.0 (Some x.queue) v.queues (record-value n.scheduler.queues.pool q.0 x live)) (retained x.queue.retain _ keeps)))
+      (past _ _ _ _ _ _ (not_true _ up) (at_some _ _ _ x.queue _ _ _
+      (found _ _ (records_of n.scheduler.queues.pool) l.queues q.0 (Some x.queue) v.queues (record-value n.scheduler.queues.pool q.0 x live))
+      (retained x.queue.retain _ keeps)))
       (holds_opened n l q.0 false v) tt
 
   -- the queues change, and the tasks of this one that haven't begun end
   abbrev ended_with : Slots HeldQueue → TaskTable → PoolNode
   ended_with p t = record n { scheduler = record n.scheduler { tasks = t; queues = record n.scheduler.queues { pool = p } } }
 
-  ended_steps : (o : Op) (p : Slots HeldQueue) (k : List (Listed Queue)) (e : TaskEnd) (t : TaskTable) → Sound (state_of n l) → EndsWaiting (is_in q.0) e n.scheduler.tasks t → Holds n.scheduler.settings.queues n.scheduler.settings.generations (records_of p) k → IsHonest o → Gives (state_of n l) (row (state_of n l) who o reply.Ok) reply.Ok (record (end_tasks (λ x. is_unstarted x && is_in q.0 x) e (state_of n l)) { queues = k }) → Steps n l who o reply.Ok (ended_with p t)
+  ended_steps : (o : Op) (p : Slots HeldQueue) (k : List (Listed Queue)) (e : TaskEnd) (t : TaskTable) → Sound (state_of n l)
+      → EndsWaiting (is_in q.0) e n.scheduler.tasks t → Holds n.scheduler.settings.queues n.scheduler.settings.generations (records_of p) k → IsHonest o
+      → Gives (state_of n l) (row (state_of n l) who o reply.Ok) reply.Ok
+      (record (end_tasks (λ x. is_unstarted x && is_in q.0 x) e (state_of n l)) { queues = k }) → Steps n l who o reply.Ok (ended_with p t)
   ended_steps o p k e t sound ends holds honest g =
-      let once = ends-at-once n.scheduler.settings.tasks n.scheduler.settings.generations (is_in q.0) e n.scheduler.tasks t l.tasks v.tasks sound.ordered ends in
+      let once = ends-at-once n.scheduler.settings.tasks n.scheduler.settings.generations
+      (is_in q.0) e n.scheduler.tasks t l.tasks v.tasks sound.ordered ends in
       let tasks : List (Listed Task) = end_each (λ x. is_unstarted x && is_in q.0 x) e n.scheduler.tasks.ends l.tasks in
-      let path : record (end_tasks (λ x. is_unstarted x && is_in q.0 x) e (state_of n l)) { queues = k } ≡ state_of (ended_with p t) (record l { tasks = tasks; queues = k }) =
+      let path : record (end_tasks (λ x. is_unstarted x && is_in q.0 x) e (state_of n l)) { queues = k }
+      ≡ state_of (ended_with p t) (record l { tasks = tasks; queues = k }) =
       (λ i. record (state_of (ended_with p t) (record l { tasks = tasks; queues = k })) { starts = sym once.starts i; ends = sym once.ends i }) in
       steps n (ended_with p t) l (record l { tasks = tasks; queues = k }) who o reply.Ok
       (subst (λ (s : State). Gives (state_of n l) (row (state_of n l) who o reply.Ok) reply.Ok s) path g)
       (record { actions = v.actions; tasks = once.holds; groups = v.groups; queues = holds; resources = v.resources }) refl (omega (arith, once.starts)) honest
 
-  cancelled : (b : Bool) → b ≡ false → Gives (state_of n l) (gives reply.Ok (alters Queues q.0 (opened false) ∷ cond b [] (ends_waiting (is_in q.0) Cancelled ∷ []))) reply.Ok (record (end_tasks (λ x. is_unstarted x && is_in q.0 x) Cancelled (state_of n l)) { queues = update q.0 (opened false) l.queues })
+  cancelled : (b : Bool) → b ≡ false → Gives (state_of n l)
+      (gives reply.Ok (alters Queues q.0 (opened false) ∷ cond b [] (ends_waiting (is_in q.0) Cancelled ∷ []))) reply.Ok
+      (record (end_tasks (λ x. is_unstarted x && is_in q.0 x) Cancelled (state_of n l)) { queues = update q.0 (opened false) l.queues })
   cancelled b e1 = grind (arith, nat_tests)
 
-  pub disable_ended : (x : HeldQueue) (t : TaskTable) → slot_value n.scheduler.queues.pool q.0 ≡ Some x → x.queue.retain ≡ false → Sound (state_of n l) → EndsWaiting (is_in q.0) Cancelled n.scheduler.tasks t → Steps n l who (op.QueueDisable q) reply.Ok (ended_with (changed n.scheduler.queues.pool q.0 (with_opened false)) t)
+  pub disable_ended : (x : HeldQueue) (t : TaskTable) → slot_value n.scheduler.queues.pool q.0 ≡ Some x → x.queue.retain ≡ false → Sound (state_of n l)
+      → EndsWaiting (is_in q.0) Cancelled n.scheduler.tasks t
+      → Steps n l who (op.QueueDisable q) reply.Ok (ended_with (changed n.scheduler.queues.pool q.0 (with_opened false)) t)
   disable_ended x t live keeps sound ends =
-      ended_steps (op.QueueDisable q) (changed n.scheduler.queues.pool q.0 (with_opened false)) (update q.0 (opened false) l.queues) Cancelled t sound ends (holds_opened n l q.0 false v) tt
-      (past _ _ _ _ _ _ (not_true _ up) (at_some _ _ _ x.queue _ _ _ (found _ _ (records_of n.scheduler.queues.pool) l.queues q.0 (Some x.queue) v.queues (record-value n.scheduler.queues.pool q.0 x live)) (cancelled x.queue.retain keeps)))
+      ended_steps (op.QueueDisable q) (changed n.scheduler.queues.pool q.0 (with_opened false)) (update q.0 (opened false) l.queues) Cancelled t sound ends
+      (holds_opened n l q.0 false v) tt
+      (past _ _ _ _ _ _ (not_true _ up) (at_some _ _ _ x.queue _ _ _
+      (found _ _ (records_of n.scheduler.queues.pool) l.queues q.0 (Some x.queue) v.queues (record-value n.scheduler.queues.pool q.0 x live))
+      (cancelled x.queue.retain keeps)))
 
-  pub delete_ended : (x : HeldQueue) (t : TaskTable) → slot_value n.scheduler.queues.pool q.0 ≡ Some x → Sound (state_of n l) → EndsWaiting (is_in q.0) (Failed m.ErrQueueDeleted) n.scheduler.tasks t → Steps n l who (op.QueueDelete q) reply.Ok (ended_with (without n.scheduler.queues.pool q.0) t)
+  pub delete_ended : (x : HeldQueue) (t : TaskTable) → slot_value n.scheduler.queues.pool q.0 ≡ Some x → Sound (state_of n l)
+      → EndsWaiting (is_in q.0) (Failed m.ErrQueueDeleted) n.scheduler.tasks t
+      → Steps n l who (op.QueueDelete q) reply.Ok (ended_with (without n.scheduler.queues.pool q.0) t)
   delete_ended x t live sound ends =
       let record_live = record-value n.scheduler.queues.pool q.0 x live in
       ended_steps (op.QueueDelete q) (without n.scheduler.queues.pool q.0) (retire q.0 l.queues) (Failed m.ErrQueueDeleted) t sound ends
-      (subst (λ (p : Slots Queue). Holds n.scheduler.settings.queues n.scheduler.settings.generations p (retire q.0 l.queues)) (sym (mapped-without (λ (y : HeldQueue). y.queue) n.scheduler.queues.pool q.0))
+      (subst (λ (p : Slots Queue). Holds n.scheduler.settings.queues n.scheduler.settings.generations p (retire q.0 l.queues))
+      (sym (mapped-without (λ (y : HeldQueue). y.queue) n.scheduler.queues.pool q.0))
       (holds_remove _ _ (records_of n.scheduler.queues.pool) l.queues q.0 x.queue v.queues record_live)) tt
-      (past _ _ _ _ _ _ (not_true _ up) (at_some _ _ _ x.queue _ _ _ (found _ _ (records_of n.scheduler.queues.pool) l.queues q.0 (Some x.queue) v.queues record_live) (gives_this _ _ _)))
+      (past _ _ _ _ _ _ (not_true _ up) (at_some _ _ _ x.queue _ _ _
+      (found _ _ (records_of n.scheduler.queues.pool) l.queues q.0 (Some x.queue) v.queues record_live) (gives_this _ _ _)))
 
 -- the two calls of a scheduler by which a queue is disabled, and those by which it is deleted
-pub disable_lands : (n : PoolNode) (l : Lists) (who : ℕ) (q : QueueHandle) (b c : SchedulerTable) (p : Slots HeldQueue) → BecomesWith n.scheduler b p → Becomes b c b.actions c.tasks → Steps n l who (op.QueueDisable q) reply.Ok (record n { scheduler = record n.scheduler { tasks = c.tasks; queues = record n.scheduler.queues { pool = p } } }) → Steps n l who (op.QueueDisable q) reply.Ok (record n { scheduler = c })
+pub disable_lands : (n : PoolNode) (l : Lists) (who : ℕ) (q : QueueHandle) (b c : SchedulerTable) (p : Slots HeldQueue) → BecomesWith n.scheduler b p
+    → Becomes b c b.actions c.tasks → Steps n l who (op.QueueDisable q) reply.Ok
+    (record n { scheduler = record n.scheduler { tasks = c.tasks; queues = record n.scheduler.queues { pool = p } } })
+    → Steps n l who (op.QueueDisable q) reply.Ok (record n { scheduler = c })
 disable_lands n l who q b c p e1 e2 e3 = grind (arith, nat_tests)
 
-pub ends_before : (n : PoolNode) (b : SchedulerTable) (p : Slots HeldQueue) (f : Task → Bool) (e : TaskEnd) (t : TaskTable) → BecomesWith n.scheduler b p → EndsWaiting f e b.tasks t → EndsWaiting f e n.scheduler.tasks t
+pub ends_before : (n : PoolNode) (b : SchedulerTable) (p : Slots HeldQueue) (f : Task → Bool) (e : TaskEnd) (t : TaskTable) → BecomesWith n.scheduler b p
+    → EndsWaiting f e b.tasks t → EndsWaiting f e n.scheduler.tasks t
 ends_before n b p f e t x ends = subst (λ (z : TaskTable). EndsWaiting f e z t) x.tasks_are ends
 
 -- a queue that is live goes on to be
-pub live_after : (n : PoolNode) (b : SchedulerTable) (q : ℕ) (x : HeldQueue) → records_of b.queues.pool ≡ records_of n.scheduler.queues.pool → slot_value n.scheduler.queues.pool q ≡ Some x → (y : HeldQueue) × (slot_value b.queues.pool q ≡ Some y)
+pub live_after : (n : PoolNode) (b : SchedulerTable) (q : ℕ) (x : HeldQueue) → records_of b.queues.pool ≡ records_of n.scheduler.queues.pool
+    → slot_value n.scheduler.queues.pool q ≡ Some x → (y : HeldQueue) × (slot_value b.queues.pool q ≡ Some y)
 live_after n b q x e1 e2 = grind (arith, nat_tests, record-found, slot_value, record-value)
 
-pub delete_lands : (n : PoolNode) (l : Lists) (who : ℕ) (q : QueueHandle) (b c : SchedulerTable) (t : TaskTable) → Becomes n.scheduler b n.scheduler.actions t → BecomesWith b c (without b.queues.pool q.0) → Steps n l who (op.QueueDelete q) reply.Ok (record n { scheduler = record n.scheduler { tasks = t; queues = record n.scheduler.queues { pool = without n.scheduler.queues.pool q.0 } } }) → Steps n l who (op.QueueDelete q) reply.Ok (record n { scheduler = c })
+pub delete_lands : (n : PoolNode) (l : Lists) (who : ℕ) (q : QueueHandle) (b c : SchedulerTable) (t : TaskTable) → Becomes n.scheduler b n.scheduler.actions t
+    → BecomesWith b c (without b.queues.pool q.0)
+    → Steps n l who (op.QueueDelete q) reply.Ok
+    (record n { scheduler = record n.scheduler { tasks = t; queues = record n.scheduler.queues { pool = without n.scheduler.queues.pool q.0 } } })
+    → Steps n l who (op.QueueDelete q) reply.Ok (record n { scheduler = c })
 delete_lands n l who q b c t x y s =
-    lands_to n n l who (op.QueueDelete q) reply.Ok c n.scheduler.actions t (without n.scheduler.queues.pool q.0) n.scheduler.groups refl (y.settings ∙ x.settings) (y.actions_are ∙ x.actions_are) (y.tasks_are ∙ x.tasks_are)
-    (ap records_of y.queues_are ∙ mapped-without (λ (z : HeldQueue). z.queue) b.queues.pool q.0 ∙ ap (λ (p : Slots Queue). without p q.0) x.queues_are ∙ sym (mapped-without (λ (z : HeldQueue). z.queue) n.scheduler.queues.pool q.0))
+    lands_to n n l who (op.QueueDelete q) reply.Ok c n.scheduler.actions t (without n.scheduler.queues.pool q.0) n.scheduler.groups refl (y.settings
+    ∙ x.settings) (y.actions_are ∙ x.actions_are) (y.tasks_are ∙ x.tasks_are)
+    (ap records_of y.queues_are ∙ mapped-without (λ (z : HeldQueue). z.queue) b.queues.pool q.0 ∙ ap (λ (p : Slots Queue). without p q.0) x.queues_are
+    ∙ sym (mapped-without (λ (z : HeldQueue). z.queue) n.scheduler.queues.pool q.0))
     (ap (λ (g : GroupTable). without_members g.pool) y.groups_are ∙ x.groups_are) s
 
 -- Putting
 
 -- the first that is met of two lists of conditions
 pub first_some : (xs ys : List (Bool × MtapiStatus)) (c : MtapiStatus) → first xs ≡ Some c → first (xs ++ ys) ≡ Some c
-first_some [] ys c e = none_some e
+first_some [] ys c e = absurd (none-some _ e)
 first_some ((true, x) ∷ xs) ys c e = e
 first_some ((false, x) ∷ xs) ys c e = first_some xs ys c e
 
@@ -231,17 +286,20 @@ first_none ((false, x) ∷ xs) ys e = first_none xs ys e
 pub facts_found : (o : Option HeldQueue) (f : QueueFacts) → Some f ≡ option_map facts_of o → (x : HeldQueue) × (o ≡ Some x) × (f ≡ facts_of x)
 facts_found o f e1 = grind (arith, nat_tests)
 
-module _ (n : PoolNode) (l : Lists) (who : ℕ) (q : QueueHandle) (args : List ℤ) (cores : Mask) (detached : Bool) (group : Option GroupHandle) (v : Live n l) (up : is_open n.core.phase ≡ true) where
+module _ (n : PoolNode) (l : Lists) (who : ℕ) (q : QueueHandle) (args : List ℤ) (cores : Mask) (detached : Bool) (group : Option GroupHandle) (v : Live n l)
+    (up : is_open n.core.phase ≡ true) where
   abbrev enqueue : Op
   enqueue = op.TaskEnqueue q args cores detached group
 
   pub enqueue_wrong : is_detached_member detached group ≡ true → Steps n l who enqueue (reply.Mtapi m.ErrParameter) n
   enqueue_wrong w = stays n l who enqueue (reply.Mtapi m.ErrParameter) v tt (past _ _ _ _ _ _ (not_true _ up) (met _ _ _ _ w))
 
-  pub enqueue_absent : is_detached_member detached group ≡ false → slot_value n.scheduler.queues.pool q.0 ≡ None → Steps n l who enqueue (reply.Mtapi m.ErrQueueInvalid) n
+  pub enqueue_absent : is_detached_member detached group ≡ false → slot_value n.scheduler.queues.pool q.0 ≡ None
+      → Steps n l who enqueue (reply.Mtapi m.ErrQueueInvalid) n
   enqueue_absent e1 e2 = grind (arith, nat_tests, not_true, at_none, records_of, record-none)
 
-  module _ (kept : IsScheduler n.scheduler) (w : is_detached_member detached group ≡ false) (x : HeldQueue) (live : slot_value n.scheduler.queues.pool q.0 ≡ Some x) where
+  module _ (kept : IsScheduler n.scheduler) (w : is_detached_member detached group ≡ false) (x : HeldQueue) (live : slot_value n.scheduler.queues.pool q.0
+      ≡ Some x) where
     abbrev asks : NewTask
     asks = asked_of q.0 x.queue args cores detached group
 
@@ -249,10 +307,14 @@ module _ (n : PoolNode) (l : Lists) (who : ℕ) (q : QueueHandle) (args : List �
     causes = put_refusals x.queue ++ start_refusals (state_of n l) asks ++ (count_listed (is_unended_in q.0) l.tasks == x.queue.limit, m.ErrQueueLimit) ∷ []
 
     -- the causes as the node asks for them
-    pub causes_are : (f : QueueFacts) (o : Option MtapiStatus) → f ≡ facts_of x → first ((not f.enabled && not f.retain, m.ErrQueueDisabled) ∷ start_refusals (state_of n l) (record asks { job = f.job; priority = f.priority }) ++ (f.unended == f.limit, m.ErrQueueLimit) ∷ []) ≡ o → first causes ≡ o
+    pub causes_are : (f : QueueFacts) (o : Option MtapiStatus) → f ≡ facts_of x
+        → first ((not f.enabled && not f.retain, m.ErrQueueDisabled) ∷ start_refusals (state_of n l) (record asks { job = f.job; priority = f.priority })
+        ++ (f.unended == f.limit, m.ErrQueueLimit) ∷ []) ≡ o → first causes ≡ o
     causes_are f o is e =
-        ap (λ (k : ℕ). first (put_refusals x.queue ++ start_refusals (state_of n l) asks ++ (k == x.queue.limit, m.ErrQueueLimit) ∷ [])) (count-queued n l v kept q.0 x live)
-        ∙ ap (λ (g : QueueFacts). first ((not g.enabled && not g.retain, m.ErrQueueDisabled) ∷ start_refusals (state_of n l) (record asks { job = g.job; priority = g.priority }) ++ (g.unended == g.limit, m.ErrQueueLimit) ∷ [])) (sym is)
+        ap (λ (k : ℕ). first (put_refusals x.queue ++ start_refusals (state_of n l) asks ++ (k == x.queue.limit, m.ErrQueueLimit) ∷ []))
+        (count-queued n l v kept q.0 x live)
+        ∙ ap (λ (g : QueueFacts). first ((not g.enabled && not g.retain, m.ErrQueueDisabled)
+        ∷ start_refusals (state_of n l) (record asks { job = g.job; priority = g.priority }) ++ (g.unended == g.limit, m.ErrQueueLimit) ∷ [])) (sym is)
         ∙ e
 
     record_live : slot_value (records_of n.scheduler.queues.pool) q.0 ≡ Some x.queue
@@ -261,30 +323,40 @@ module _ (n : PoolNode) (l : Lists) (who : ℕ) (q : QueueHandle) (args : List �
     pub enqueue_refused : (c : MtapiStatus) → first causes ≡ Some c → Steps n l who enqueue (reply.Mtapi c) n
     enqueue_refused c e =
         stays n l who enqueue (reply.Mtapi c) v tt
-        (past _ _ _ _ _ _ (not_true _ up) (past _ _ _ _ _ _ w (at_some _ _ _ x.queue _ _ _ (found _ _ (records_of n.scheduler.queues.pool) l.queues q.0 (Some x.queue) v.queues record_live) (met_in _ causes c _ e))))
+        (past _ _ _ _ _ _ (not_true _ up) (past _ _ _ _ _ _ w
+        (at_some _ _ _ x.queue _ _ _ (found _ _ (records_of n.scheduler.queues.pool) l.queues q.0 (Some x.queue) v.queues record_live)
+        (met_in _ causes c _ e))))
 
     module _ (none : first causes ≡ None) where
       enqueue_full : IsFull n.scheduler.tasks.pool → Steps n l who enqueue (reply.Mtapi m.ErrTaskLimit) n
       enqueue_full full =
           stays n l who enqueue (reply.Mtapi m.ErrTaskLimit) v tt
-          (past _ _ _ _ _ _ (not_true _ up) (past _ _ _ _ _ _ w (at_some _ _ _ x.queue _ _ _ (found _ _ (records_of n.scheduler.queues.pool) l.queues q.0 (Some x.queue) v.queues record_live)
+          (past _ _ _ _ _ _ (not_true _ up) (past _ _ _ _ _ _ w
+          (at_some _ _ _ x.queue _ _ _ (found _ _ (records_of n.scheduler.queues.pool) l.queues q.0 (Some x.queue) v.queues record_live)
           (past_all _ _ causes _ _ none (met _ _ _ _ (full_list _ _ n.scheduler.tasks.pool l.tasks v.tasks full))))))
 
-      enqueue_made : (t : TaskTable) (h : ℕ) → (IsFull n.scheduler.tasks.pool → ⊥) → Inserts n.scheduler.tasks.pool t.pool h (new_task asks n.scheduler.tasks.starts) → t.starts ≡ n.scheduler.tasks.starts + 1 → t.ends ≡ n.scheduler.tasks.ends → Steps n l who enqueue (reply.Handle h) (record n { scheduler = record n.scheduler { tasks = t } })
+      enqueue_made : (t : TaskTable) (h : ℕ) → (IsFull n.scheduler.tasks.pool → ⊥)
+          → Inserts n.scheduler.tasks.pool t.pool h (new_task asks n.scheduler.tasks.starts) → t.starts ≡ n.scheduler.tasks.starts + 1
+          → t.ends ≡ n.scheduler.tasks.ends → Steps n l who enqueue (reply.Handle h) (record n { scheduler = record n.scheduler { tasks = t } })
       enqueue_made t h room i s e =
           let tasks : List (Listed Task) = issue h (new_task asks n.scheduler.tasks.starts) l.tasks in
-          let counts : record (state_of n l) { tasks = tasks; starts = n.scheduler.tasks.starts + 1 } ≡ state_of (record n { scheduler = record n.scheduler { tasks = t } }) (record l { tasks = tasks }) = (λ j. record (state_of n l) { tasks = tasks; starts = sym s j; ends = sym e j }) in
+          let counts : record (state_of n l) { tasks = tasks; starts = n.scheduler.tasks.starts + 1 }
+          ≡ state_of (record n { scheduler = record n.scheduler { tasks = t } }) (record l { tasks = tasks }) =
+          (λ j. record (state_of n l) { tasks = tasks; starts = sym s j; ends = sym e j }) in
           task_steps n l t tasks who enqueue (reply.Handle h) v
           (subst (λ (z : State). Gives (state_of n l) (row (state_of n l) who enqueue (reply.Handle h)) (reply.Handle h) z) counts
-          (past _ _ _ _ _ _ (not_true _ up) (past _ _ _ _ _ _ w (at_some _ _ _ x.queue _ _ _ (found _ _ (records_of n.scheduler.queues.pool) l.queues q.0 (Some x.queue) v.queues record_live)
+          (past _ _ _ _ _ _ (not_true _ up) (past _ _ _ _ _ _ w
+          (at_some _ _ _ x.queue _ _ _ (found _ _ (records_of n.scheduler.queues.pool) l.queues q.0 (Some x.queue) v.queues record_live)
           (past_all _ _ causes _ _ none (past _ _ _ _ _ _ (room_in _ _ n.scheduler.tasks.pool l.tasks v.tasks room)
           (allows _ _ _ _ _ (may_be _ _ n.scheduler.tasks.pool t.pool l.tasks h _ v.tasks i) (gives_this _ _ _))))))))
           (holds_insert _ _ n.scheduler.tasks.pool t.pool l.tasks h (new_task asks n.scheduler.tasks.starts) v.tasks i) (omega (arith, s)) tt
 
-      enqueue_failed : (t : TaskTable) (c : MtapiStatus) → Adds n.scheduler.tasks asks (Err c) t → Steps n l who enqueue (reply.Mtapi c) (record n { scheduler = record n.scheduler { tasks = t } })
+      enqueue_failed : (t : TaskTable) (c : MtapiStatus) → Adds n.scheduler.tasks asks (Err c) t
+          → Steps n l who enqueue (reply.Mtapi c) (record n { scheduler = record n.scheduler { tasks = t } })
       enqueue_failed t m.ErrTaskLimit a = reported n l t n.scheduler.tasks who enqueue _ a.1 (enqueue_full a.0)
       enqueue_failed t c a = absurd a
 
-      pub enqueue_steps : (t : TaskTable) (r : Result TaskHandle MtapiStatus) (y : NewTask) → y ≡ asks → Adds n.scheduler.tasks y r t → Steps n l who enqueue (add_reply r) (record n { scheduler = record n.scheduler { tasks = t } })
+      pub enqueue_steps : (t : TaskTable) (r : Result TaskHandle MtapiStatus) (y : NewTask) → y ≡ asks → Adds n.scheduler.tasks y r t
+          → Steps n l who enqueue (add_reply r) (record n { scheduler = record n.scheduler { tasks = t } })
       enqueue_steps t (Ok h) y is a = let b = subst (λ (z : NewTask). Adds n.scheduler.tasks z (Ok h) t) is a in enqueue_made t h.0 b.0 b.1 b.2 b.3
       enqueue_steps t (Err c) y is a = enqueue_failed t c (subst (λ (z : NewTask). Adds n.scheduler.tasks z (Err c) t) is a)

@@ -18,7 +18,8 @@ pub is_at : (n : PoolNode) (l : Lists) (g : Gate) → g.phase ≡ n.core.phase �
 is_at n l g phase workers = record { layout = refl; phase = sym phase; workers = sym workers }
 
 -- a step of the resources is one of the node
-pub carries : (n : PoolNode) (l : Lists) (who : ℕ) (o : Op) (r : Reply) (g : Gate) (new : ResourceTable) → Live n l → is_mrapi o ≡ true → g.phase ≡ n.core.phase → g.workers ≡ n.scheduler.settings.workers → ResourceSteps n.resources g who o r new → Steps n l who o r (record n { resources = new })
+pub carries : (n : PoolNode) (l : Lists) (who : ℕ) (o : Op) (r : Reply) (g : Gate) (new : ResourceTable) → Live n l → is_mrapi o ≡ true → g.phase ≡ n.core.phase
+    → g.workers ≡ n.scheduler.settings.workers → ResourceSteps n.resources g who o r new → Steps n l who o r (record n { resources = new })
 carries n l who o r g new v is phase workers s = (
   record l { resources = resource_lists (after_row (state_of n l) (row (state_of n l) who o r)) },
   record {
@@ -29,7 +30,8 @@ carries n l who o r g new v is phase workers s = (
       tasks = v.tasks;
       groups = v.groups;
       queues = v.queues;
-      resources = subst (λ (a : NodeSettings). HoldsAll a new (resource_lists (after_row (state_of n l) (row (state_of n l) who o r)))) (ap (λ (x : State). x.terms.settings) d.others) d.stands;
+      resources = subst (λ (a : NodeSettings). HoldsAll a new (resource_lists (after_row (state_of n l) (row (state_of n l) who o r))))
+          (ap (λ (x : State). x.terms.settings) d.others) d.stands;
     };
     terms = refl;
     starts = omega arith;

@@ -6,5 +6,7 @@ same : (o : Op) → renamed_op (λ kind handle. handle) o ≡ o
 same o = grind (arith, nat_tests)
 
 -- what a node does with it is what it does with the op
-pub does : (n m : PoolNode) (who : ℕ) (o : Op) (r : Reply) → ((l : Lists) → Live n l → Sound (state_of n l) → Steps n l who (renamed_op (λ kind handle. handle) o) r m) → (l : Lists) → Live n l → Sound (state_of n l) → Steps n l who o r m
+pub does : (n m : PoolNode) (who : ℕ) (o : Op) (r : Reply)
+    → ((l : Lists) → Live n l → Sound (state_of n l) → Steps n l who (renamed_op (λ kind handle. handle) o) r m) → (l : Lists) → Live n l → Sound (state_of n l)
+    → Steps n l who o r m
 does n m who o r f l v k = subst (λ (p : Op). Steps n l who p r m) (same o) (f l v k)

@@ -17,9 +17,11 @@ any-count q (r ∷ rs) = by_live r.live (any-count q rs)
     by_test true e = sym (more (count_listed q rs))
     by_test false e = e ∙ sym (less (count_listed q rs))
 
-    by_live : (a : Bool) → any_listed q rs ≡ not (count_listed q rs == 0) → any_live q (cond a ((r.handle, r.fields) ∷ live_of rs) (live_of rs)) ≡ not (cond (a && q r.fields) 1 0 + count_listed q rs == 0)
+    by_live : (a : Bool) → any_listed q rs ≡ not (count_listed q rs == 0)
+        → any_live q (cond a ((r.handle, r.fields) ∷ live_of rs) (live_of rs)) ≡ not (cond (a && q r.fields) 1 0 + count_listed q rs == 0)
     by_live true e = by_test (q r.fields) e
     by_live false e = e ∙ sym (less (count_listed q rs))
 
-pub stop_told : (n : PoolNode) (l : Lists) (k : ℕ) → Live n l → k ≡ unended_count n.scheduler.tasks.pool → is_stop (state_of n l) ≡ (is_past_open n.core.phase && (k == 0))
+pub stop_told : (n : PoolNode) (l : Lists) (k : ℕ) → Live n l → k ≡ unended_count n.scheduler.tasks.pool
+    → is_stop (state_of n l) ≡ (is_past_open n.core.phase && (k == 0))
 stop_told n l k e1 e2 = grind (arith, nat_tests, any-count, is_unended, count-slots, is_past_open)

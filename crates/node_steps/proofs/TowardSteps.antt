@@ -1,11 +1,10 @@
 -- A worker that wants one task and one action takes these wherever it may.
-use Rattle.node_steps.proofs.Names.{nat_tests, ◌≡◌, ℕ, ◌<◌, Bool, true, false, not, List, [], ◌∷◌, Option, Some, None, refl, sym, ◌∙◌, ap, arith, ◌&&◌, nat_lt, ℤ, ActionHandle, TaskHandle, Kind, slot_value, live_object, any_listed, Action, is_eligible, Task, runs_on, Reply, State, workers, is_new, is_stop, actions, Row, unless, gives, never, only, live, chosen, Allows, is_ready, has_better, IsScheduler, Choice, NoneBetter, IsChoice, IsBest, PoolNode, MayPick, IsToward, Lists, Live, state_of}
+use Rattle.node_steps.proofs.Names.{nat_tests, ◌≡◌, ℕ, ◌<◌, Bool, true, false, not, List, [], ◌∷◌, Option, Some, None, refl, sym, ◌∙◌, ap, arith, ◌&&◌, nat_lt, ℤ, ActionHandle, TaskHandle, Kind, slot_value, live_object, any_listed, Action, is_eligible, Task, runs_on, Reply, State, workers, is_new, is_stop, actions, Row, unless, gives, never, only, live, chosen, Allows, is_ready, has_better, IsScheduler, Choice, NoneBetter, IsChoice, IsBest, PoolNode, MayPick, IsToward, Lists, Live, state_of, and_parts}
 use Rattle.mtapi_values.specs.declared.statuses.MtapiStatus.TheVariants as m
 use Rattle.mtapi_machine.specs.declared.replies.Reply.TheVariants as reply
 use Rattle.mtapi_machine.specs.Moves.{runs_task as begins_task}
 use Rattle.node_steps.specs.Picks.{Takes}
 use Rattle.node_steps.proofs.PickSteps.{better_if, choice_if}
-use Rattle.node_steps.proofs.StartSteps.{and_left, and_right}
 
 -- What a worker that may take this task by this action is told of it
 
@@ -39,19 +38,36 @@ module _ (s : State) (w : ℕ) (t : TaskHandle) (a : ActionHandle) (k : Kind) (a
   abbrev takes : Task → Action → Row
   takes x y = gives (reply.Picked t a y.kind x.args) (begins_task t.0 w y.kind ∷ [])
 
-  module _ (worker : not (nat_lt w (workers s)) ≡ false) (free : any_listed (runs_on w) s.tasks ≡ false) (started : is_new s.phase ≡ false) (goes_on : is_stop s ≡ false) where
-    by_test : (x : Task) (y : Action) → live_object s.tasks t.0 ≡ Some x → live_object s.actions a.0 ≡ Some y → (b : Bool) → tests x y ≡ b → Allows (only b (takes x y)) told → CanPick s w t a k args
+  module _ (worker : not (nat_lt w (workers s)) ≡ false) (free : any_listed (runs_on w) s.tasks ≡ false) (started : is_new s.phase ≡ false) (goes_on : is_stop s
+      ≡ false) where
+    by_test : (x : Task) (y : Action) → live_object s.tasks t.0 ≡ Some x → live_object s.actions a.0 ≡ Some y → (b : Bool) → tests x y ≡ b
+        → Allows (only b (takes x y)) told → CanPick s w t a k args
     by_test x y found_x found_y false e allowed = absurd allowed
     by_test x y found_x found_y true e allowed =
         let kind : k ≡ y.kind = cc in
         let args_are : args ≡ x.args = cc in
-        record { worker = worker; free = free; started = started; goes_on = goes_on; x = x; y = y; task = found_x; action = found_y; may = e; kind = kind; args_are = args_are }
+        record {
+          worker = worker;
+          free = free;
+          started = started;
+          goes_on = goes_on;
+          x = x;
+          y = y;
+          task = found_x;
+          action = found_y;
+          may = e;
+          kind =
+              kind;
+          args_are = args_are;
+        }
 
-    by_action : (x : Task) → live_object s.tasks t.0 ≡ Some x → (o : Option Action) → live_object s.actions a.0 ≡ o → Allows (live o never (λ y. only (tests x y) (takes x y))) told → CanPick s w t a k args
+    by_action : (x : Task) → live_object s.tasks t.0 ≡ Some x → (o : Option Action) → live_object s.actions a.0 ≡ o
+        → Allows (live o never (λ y. only (tests x y) (takes x y))) told → CanPick s w t a k args
     by_action x found_x None e allowed = absurd allowed
     by_action x found_x (Some y) e allowed = by_test x y found_x e (tests x y) refl allowed
 
-    by_task : (o : Option Task) → live_object s.tasks t.0 ≡ o → Allows (live o never (λ x. chosen actions s a.0 (λ y. only (tests x y) (takes x y)))) told → CanPick s w t a k args
+    by_task : (o : Option Task) → live_object s.tasks t.0 ≡ o → Allows (live o never (λ x. chosen actions s a.0 (λ y. only (tests x y) (takes x y)))) told
+        → CanPick s w t a k args
     by_task None e allowed = absurd allowed
     by_task (Some x) e allowed = by_action x e (live_object s.actions a.0) refl allowed
 
@@ -60,7 +76,8 @@ module _ (s : State) (w : ℕ) (t : TaskHandle) (a : ActionHandle) (k : Kind) (a
 
 -- The choice of this task and this action
 
-module _ (n : PoolNode) (l : Lists) (w : ℕ) (v : Live n l) (k : IsScheduler n.scheduler) (less : w < n.scheduler.settings.workers) (t : TaskHandle) (a : ActionHandle) (kind : Kind) (args : List ℤ) (p : CanPick (state_of n l) w t a kind args) where
+module _ (n : PoolNode) (l : Lists) (w : ℕ) (v : Live n l) (k : IsScheduler n.scheduler) (less : w
+    < n.scheduler.settings.workers) (t : TaskHandle) (a : ActionHandle) (kind : Kind) (args : List ℤ) (p : CanPick (state_of n l) w t a kind args) where
   abbrev choice : Choice
   choice = record { task = t; action = a; kind = kind; priority = p.x.priority }
 
@@ -68,12 +85,12 @@ module _ (n : PoolNode) (l : Lists) (w : ℕ) (v : Live n l) (k : IsScheduler n.
   found_task = v.tasks.stands.found t.0 ∙ p.task
 
   tested : (is_ready (state_of n l) p.x && is_eligible (workers (state_of n l)) w p.x.job p.x.cores p.y) ≡ true
-  tested = and_left _ (not (has_better (state_of n l) w p.x.priority)) p.may
+  tested = (and_parts _ (not (has_better (state_of n l) w p.x.priority)) p.may).0
 
   it_may : IsChoice n.scheduler.actions n.scheduler.tasks.pool n.scheduler.queues.pool w choice
   it_may =
       choice_if n l w v k less choice p.x p.y found_task (v.actions.stands.found a.0 ∙ p.action) (sym p.kind) refl
-      (and_left (is_ready (state_of n l) p.x) _ tested) (and_right (is_ready (state_of n l) p.x) _ tested)
+      (and_parts (is_ready (state_of n l) p.x) _ tested).0 (and_parts (is_ready (state_of n l) p.x) _ tested).1
 
   not_not : (b : Bool) → not b ≡ true → b ≡ false
   not_not b e1 = grind (arith, nat_tests)
@@ -81,7 +98,7 @@ module _ (n : PoolNode) (l : Lists) (w : ℕ) (v : Live n l) (k : IsScheduler n.
   none_better : NoneBetter n.scheduler.actions n.scheduler.tasks.pool n.scheduler.queues.pool w p.x.priority
   none_better =
       better_if n l w v k less p.x.priority
-      (not_not _ (and_right (is_ready (state_of n l) p.x && is_eligible (workers (state_of n l)) w p.x.job p.x.cores p.y) _ p.may))
+      (not_not _ (and_parts (is_ready (state_of n l) p.x && is_eligible (workers (state_of n l)) w p.x.job p.x.cores p.y) _ p.may).1)
 
   -- so it is what was found
   pub is_found : (o : Option Choice) → IsToward n w t a o → o ≡ Some choice
@@ -110,9 +127,12 @@ wanted_action {a = a} e = ap (action_or a) e
 
 module _ (n : PoolNode) (w : ℕ) where
   -- the choices of one task have one priority
-  pub same_priority : (b c : Choice) → b.task ≡ c.task → IsChoice n.scheduler.actions n.scheduler.tasks.pool n.scheduler.queues.pool w b → IsChoice n.scheduler.actions n.scheduler.tasks.pool n.scheduler.queues.pool w c → b.priority ≡ c.priority
+  pub same_priority : (b c : Choice) → b.task ≡ c.task → IsChoice n.scheduler.actions n.scheduler.tasks.pool n.scheduler.queues.pool w b
+      → IsChoice n.scheduler.actions n.scheduler.tasks.pool n.scheduler.queues.pool w c → b.priority ≡ c.priority
   same_priority b c e1 e2 e3 = grind (arith, nat_tests)
 
   -- the best one has the priority of the wanted one, where that is best too
-  pub one_priority : (b c : Choice) → IsBest n.scheduler.actions n.scheduler.tasks.pool n.scheduler.queues.pool w (Some b) → IsChoice n.scheduler.actions n.scheduler.tasks.pool n.scheduler.queues.pool w c → NoneBetter n.scheduler.actions n.scheduler.tasks.pool n.scheduler.queues.pool w c.priority → c.priority ≡ b.priority
+  pub one_priority : (b c : Choice) → IsBest n.scheduler.actions n.scheduler.tasks.pool n.scheduler.queues.pool w (Some b)
+      → IsChoice n.scheduler.actions n.scheduler.tasks.pool n.scheduler.queues.pool w c
+      → NoneBetter n.scheduler.actions n.scheduler.tasks.pool n.scheduler.queues.pool w c.priority → c.priority ≡ b.priority
   one_priority b c e1 e2 e3 = grind (arith, nat_tests)

@@ -18,11 +18,13 @@ use Rattle.mtapi_machine.specs.WorkRows.{can_take}
 -- the list has exactly the live tasks that pass, in the order of their starts
 pub record ListsByStart (s : State) (p : Task → Bool) (hs : List ℕ) : Type 0 where
   pub has : (h : ℕ) → (has_handle h hs ≡ true) ↔ ((x : Task) × (live_object s.tasks h ≡ Some x) × (p x ≡ true))
-  pub in_order : (i j h k : ℕ) (x y : Task) → i < j → slice_get hs i ≡ Some h → slice_get hs j ≡ Some k → live_object s.tasks h ≡ Some x → live_object s.tasks k ≡ Some y → x.start < y.start
+  pub in_order : (i j h k : ℕ) (x y : Task) → i < j → slice_get hs i ≡ Some h → slice_get hs j ≡ Some k → live_object s.tasks h ≡ Some x
+      → live_object s.tasks k ≡ Some y → x.start < y.start
 
 pub record Keeps (s : State) (b : SchedulerTable) : Type 0 where
   -- a slot is marked for a worker, with a priority, exactly where its task is ready, has this priority, and has an eligible action on this worker
-  pub marks : (w p place : ℕ) → w < workers s → is_for_at w p (mark_at b.ready.marks place) ≡ holds (λ e. can_take s w e.1 && (p == e.1.priority)) (used_at place (slice_get b.tasks.pool.slots place))
+  pub marks : (w p place : ℕ) → w < workers s
+      → is_for_at w p (mark_at b.ready.marks place) ≡ holds (λ e. can_take s w e.1 && (p == e.1.priority)) (used_at place (slice_get b.tasks.pool.slots place))
   -- the task that stands beside a worker is the one that runs there
   pub running : (w : ℕ) (t : TaskHandle) → (running_on b.running w ≡ Some t) ↔ ((x : Task) × (live_object s.tasks t.0 ≡ Some x) × (runs_on w x ≡ true))
   -- the waiting tasks are those that are scheduled

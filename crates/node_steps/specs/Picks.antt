@@ -23,7 +23,8 @@ pub record Takes (n : PoolNode) (w : ℕ) (c : Choice) (r : Reply) (m : PoolNode
   pub reply : r ≡ Picked c.task c.action c.kind t.args
   pub core : m.core ≡ n.core
   pub resources : m.resources ≡ n.resources
-  pub scheduler : Becomes n.scheduler m.scheduler n.scheduler.actions (record n.scheduler.tasks { pool = changed n.scheduler.tasks.pool c.task.0 (with_state (Running w c.kind)) })
+  pub scheduler : Becomes n.scheduler m.scheduler n.scheduler.actions
+      (record n.scheduler.tasks { pool = changed n.scheduler.tasks.pool c.task.0 (with_state (Running w c.kind)) })
 
 -- the seat may take this task by this action, of this kind and with these arguments
 abbrev pub MayPick : State → ℕ → TaskHandle → ActionHandle → Kind → List ℤ → Type 0
@@ -32,4 +33,5 @@ MayPick s who task action kind args = Allows (row s who Pick (Picked task action
 -- the choice of this task and this action was found, where these may be taken and no task of a smaller priority may be
 abbrev pub IsToward : PoolNode → ℕ → TaskHandle → ActionHandle → Option Choice → Type 0
 IsToward n w task action found =
-    (c : Choice) → c.task ≡ task → c.action ≡ action → IsChoice n.scheduler.actions n.scheduler.tasks.pool n.scheduler.queues.pool w c → NoneBetter n.scheduler.actions n.scheduler.tasks.pool n.scheduler.queues.pool w c.priority → found ≡ Some c
+    (c : Choice) → c.task ≡ task → c.action ≡ action → IsChoice n.scheduler.actions n.scheduler.tasks.pool n.scheduler.queues.pool w c
+    → NoneBetter n.scheduler.actions n.scheduler.tasks.pool n.scheduler.queues.pool w c.priority → found ≡ Some c

@@ -26,13 +26,15 @@ open_refusals phase causes = (not (is_open phase), ErrNodeNotinit) ∷ causes
 abbrev pub task_refusals : State → ℕ → List ℤ → ℕ → Mask → Bool → Option GroupHandle → List (Bool × MtapiStatus)
 task_refusals s job args priority cores detached group =
     open_refusals s.phase
-    ((not (nat_lt priority s.terms.settings.priorities) || is_detached_member detached group, ErrParameter) ∷ start_refusals s (asked_for job args priority cores detached group))
+    ((not (nat_lt priority s.terms.settings.priorities) || is_detached_member detached group, ErrParameter)
+    ∷ start_refusals s (asked_for job args priority cores detached group))
 
 -- a create of a queue, but for its id
 abbrev pub queue_causes : State → ℕ → ℕ → ℕ → List (Bool × MtapiStatus)
 queue_causes s job priority limit =
     open_refusals s.phase
-    ((not (nat_lt priority s.terms.settings.priorities) || not (nat_le 1 limit && nat_le limit 65536), ErrParameter) ∷ (not (any_listed (has_job job) s.actions), ErrJobInvalid) ∷ [])
+    ((not (nat_lt priority s.terms.settings.priorities) || not (nat_le 1 limit && nat_le limit 65536), ErrParameter)
+    ∷ (not (any_listed (has_job job) s.actions), ErrJobInvalid) ∷ [])
 
 abbrev pub queue_refusals : State → ℕ → ℕ → ℕ → ℕ → List (Bool × MtapiStatus)
 queue_refusals s id job priority limit = queue_causes s job priority limit ++ (any_listed (λ x. x.id == id) s.queues, ErrQueueExists) ∷ []
@@ -45,4 +47,6 @@ pub record MayPut (n : PoolNode) (q : ℕ) (cores : Mask) (detached : Bool) (gro
   pub takes : (not f.enabled && not f.retain) ≡ false
   pub room : (f.unended == f.limit) ≡ false
   pub member : names_dead n.scheduler.groups.pool (number_of group) ≡ false
-  pub none : (l : Lists) (args : List ℤ) (priority : ℕ) → Live n l → first ((not f.enabled && not f.retain, ErrQueueDisabled) ∷ start_refusals (state_of n l) (asked_for f.job args priority cores detached group) ++ (f.unended == f.limit, ErrQueueLimit) ∷ []) ≡ None
+  pub none : (l : Lists) (args : List ℤ) (priority : ℕ) → Live n l
+      → first ((not f.enabled && not f.retain, ErrQueueDisabled) ∷ start_refusals (state_of n l) (asked_for f.job args priority cores detached group)
+      ++ (f.unended == f.limit, ErrQueueLimit) ∷ []) ≡ None

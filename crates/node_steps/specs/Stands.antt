@@ -53,7 +53,8 @@ state_of n l = record {
 }
 
 -- the node's pools stand for these lists
-pub record Pools (settings : NodeSettings) (a : Slots Action) (t : Slots Task) (g : Slots Group) (q : Slots Queue) (r : ResourceTable) (l : Lists) : Type 0 where
+pub record Pools (settings : NodeSettings) (a : Slots Action) (t : Slots Task) (g : Slots Group) (q : Slots Queue) (r : ResourceTable)
+    (l : Lists) : Type 0 where
   pub actions : Holds settings.actions settings.generations a l.actions
   pub tasks : Holds settings.tasks settings.generations t l.tasks
   pub groups : Holds settings.groups settings.generations g l.groups

@@ -49,6 +49,11 @@ NoTally n who t c =
 pub record GivesBack (n : PoolNode) (who t mutex segment : ℕ) (e : TaskEnd) (r : Reply) (m : PoolNode) : Type 0 where
   pub reply : r ≡ Ended e
   pub core : m.core ≡ n.core
-  pub scheduler : Becomes n.scheduler m.scheduler n.scheduler.actions (record n.scheduler.tasks { pool = ended_in n.scheduler.tasks.pool t e n.scheduler.tasks.ends (slot_value n.scheduler.tasks.pool t); ends = n.scheduler.tasks.ends + 1 })
+  pub scheduler : Becomes n.scheduler m.scheduler n.scheduler.actions
+      (record n.scheduler.tasks {
+        pool = ended_in n.scheduler.tasks.pool t e n.scheduler.tasks.ends (slot_value n.scheduler.tasks.pool t);
+        ends =
+            n.scheduler.tasks.ends + 1;
+      })
   pub resources : (s : State) (x : Mutex) → Stands s n.resources → live_object s.mutexes mutex ≡ Some x → x.owner ≡ Some who → x.depth ≡ 1
       → Stands (after_moves (alters Segments segment (with_attached who false) ∷ alters Mutexes mutex unlocked ∷ []) s) m.resources

@@ -24,7 +24,16 @@ pub record QueueTable : Type 0 where
 
 -- a new queue is enabled, and has the id, the job and what its attributes say
 abbrev pub new_queue : ℕ → ℕ → QueueAttributes → Queue
-new_queue id job attr = record { id = id; job = job; priority = attr.priority; limit = attr.limit; ordered = attr.ordered; retain = attr.retain; enabled = true }
+new_queue id job attr = record {
+  id = id;
+  job = job;
+  priority = attr.priority;
+  limit = attr.limit;
+  ordered = attr.ordered;
+  retain = attr.retain;
+  enabled =
+      true;
+}
 
 -- a queue with these tasks
 abbrev pub held : Queue → List ℕ → HeldQueue
@@ -39,14 +48,16 @@ HasId id h = has_id id h.queue ≡ true
 
 -- a create: an id that is live first, then no room; else a new queue with no tasks under a handle
 abbrev pub Creates : QueueTable → Queue → Result QueueHandle MtapiStatus → QueueTable → Type 0
-Creates old queue (Ok q) new = NoneLive (slot_value old.pool) (HasId queue.id) × (IsFull old.pool → ⊥) × Inserts old.pool new.pool q.0 (held queue []) × (new.tasks ≡ old.tasks)
+Creates old queue (Ok q) new = NoneLive (slot_value old.pool) (HasId queue.id) × (IsFull old.pool → ⊥) × Inserts old.pool new.pool q.0 (held queue [])
+    × (new.tasks ≡ old.tasks)
 Creates old queue (Err ErrQueueExists) new = SomeLive (slot_value old.pool) (HasId queue.id) × (new ≡ old)
 Creates old queue (Err ErrQueueLimit) new = NoneLive (slot_value old.pool) (HasId queue.id) × IsFull old.pool × (new ≡ old)
 Creates old queue (Err _) new = ⊥
 
 -- the one live queue of this id, or none has it
 abbrev pub Finds : Slots HeldQueue → ℕ → Result QueueHandle MtapiStatus → Type 0
-Finds pool id (Ok q) = ((h : HeldQueue) × (slot_value pool q.0 ≡ Some h) × HasId id h) × ((k : ℕ) (h : HeldQueue) → slot_value pool k ≡ Some h → HasId id h → k ≡ q.0)
+Finds pool id (Ok q) = ((h : HeldQueue) × (slot_value pool q.0 ≡ Some h) × HasId id h)
+    × ((k : ℕ) (h : HeldQueue) → slot_value pool k ≡ Some h → HasId id h → k ≡ q.0)
 Finds pool id (Err ErrQueueInvalid) = NoneLive (slot_value pool) (HasId id)
 Finds pool id (Err _) = ⊥
 
@@ -98,7 +109,16 @@ tasks_of (Some h) = h.tasks
 
 -- a queue at a glance, with so many unended tasks
 abbrev pub facts_with : Queue → ℕ → QueueFacts
-facts_with q unended = record { job = q.job; priority = q.priority; enabled = q.enabled; ordered = q.ordered; retain = q.retain; limit = q.limit; unended = unended }
+facts_with q unended = record {
+  job = q.job;
+  priority = q.priority;
+  enabled = q.enabled;
+  ordered = q.ordered;
+  retain = q.retain;
+  limit = q.limit;
+  unended =
+      unended;
+}
 
 abbrev pub facts_of : HeldQueue → QueueFacts
 facts_of h = facts_with h.queue (length h.tasks)

@@ -1,5 +1,7 @@
 -- The first unended task of a queue is the one that was started first.
-use Rattle.std.proofs.Common.{◌≡◌, ℕ, ◌<◌, Bool, true, false, not, cond, List, [], ◌∷◌, Some, refl, sym, ◌∙◌, ap, arith}
+use Rattle.std.proofs.Common.{◌≡◌, ℕ, ◌<◌, Bool, true, false, not, cond, List, [], ◌∷◌, Some, refl, sym, ◌∙◌, ap, arith, lt-ltb}
+use Rattle.std.proofs.lemmas.Option.{same_Some}
+use Rattle.std.proofs.lemmas.Bool.{and_right}
 use Rattle.std.specs.Prelude.{◌&&◌, ◌||◌, ◌==◌, nat_lt}
 use Rattle.std.proofs.lemmas.Bool.Decides.{nat_tests}
 use Rattle.handle_pool.specs.Issued.{lookup, any_live}
@@ -8,29 +10,21 @@ use Rattle.mtapi_objects.specs.Queues.{is_unended_in, is_head}
 use Rattle.handle_pool.specs.Issued.{handles_of}
 use Rattle.queue_ready.specs.Ready.{InOrder, is_first, QueueReady}
 
-some_same : {A : Type 0} {a b : A} → Some a ≡ Some b → a ≡ b
-some_same h = cc
-
 not-less : (n : ℕ) → nat_lt n n ≡ false
 not-less n = grind (arith, nat_tests)
-
-less-so : (m n : ℕ) → m < n → nat_lt m n ≡ true
-less-so m n l = grind (arith, nat_tests)
 
 not-after : (m n : ℕ) → n < m → nat_lt m n ≡ false
 not-after m n l = grind (arith, nat_tests)
 
-and-off : (a b : Bool) → b ≡ false → (a && b) ≡ false
-and-off true b e = e
-and-off false b e = refl
-
 -- no task behind was started earlier
-none-before : (q : ℕ) (start : ℕ) (es : List (ℕ × Task)) → ((h : ℕ) (t : Task) → lookup es h ≡ Some t → start < t.start) → InOrder es → any_live (λ u. is_unended_in q u && nat_lt u.start start) es ≡ false
+none-before : (q : ℕ) (start : ℕ) (es : List (ℕ × Task)) → ((h : ℕ) (t : Task) → lookup es h ≡ Some t → start < t.start) → InOrder es
+    → any_live (λ u. is_unended_in q u && nat_lt u.start start) es ≡ false
 unfolding InOrder
 none-before q start [] after order = refl
 none-before q start (e ∷ es) after order =
     let here : start < e.1.start = after e.0 e.1 (ap (λ (b : Bool). cond b (Some e.1) (lookup es e.0)) (self e.0)) in
-    ap (λ (b : Bool). cond b true (any_live (λ u. is_unended_in q u && nat_lt u.start start) es)) (and-off (is_unended_in q e.1) _ (not-after e.1.start start here))
+    ap (λ (b : Bool). cond b true (any_live (λ u. is_unended_in q u && nat_lt u.start start) es))
+    (and_right (is_unended_in q e.1) _ (not-after e.1.start start here))
     ∙ none-before q start es (λ h t found. later h t found here (e.0 == h) refl) order.1
   where
     self : (n : ℕ) → (n == n) ≡ true
@@ -40,23 +34,29 @@ none-before q start (e ∷ es) after order =
     later h t found here b is = let x = order.0 h t found in omega (arith, here, x)
 
 -- the two tests of the head agree
-head-first : (q h : ℕ) (t : Task) (es : List (ℕ × Task)) → InOrder es → lookup es h ≡ Some t → is_unended_in q t ≡ true → is_head q t es ≡ is_first h (handles_of (is_unended_in q) es)
+head-first : (q h : ℕ) (t : Task) (es : List (ℕ × Task)) → InOrder es → lookup es h ≡ Some t → is_unended_in q t ≡ true
+    → is_head q t es ≡ is_first h (handles_of (is_unended_in q) es)
 unfolding InOrder
 head-first q h t [] order found in_queue = absurd (cc)
-head-first q h t (e ∷ es) order found in_queue = by_handle (e.0 == h) refl found (none-before q e.1.start es order.0 order.1) (λ f. head-first q h t es order.1 f in_queue)
+head-first q h t (e ∷ es) order found in_queue =
+    by_handle (e.0 == h) refl found (none-before q e.1.start es order.0 order.1) (λ f. head-first q h t es order.1 f in_queue)
   where
-    by_handle : (b : Bool) → (e.0 == h) ≡ b → cond b (Some e.1) (lookup es h) ≡ Some t → any_live (λ u. is_unended_in q u && nat_lt u.start e.1.start) es ≡ false → (lookup es h ≡ Some t → is_head q t es ≡ is_first h (handles_of (is_unended_in q) es)) → is_head q t (e ∷ es) ≡ is_first h (handles_of (is_unended_in q) (e ∷ es))
+    by_handle : (b : Bool) → (e.0 == h) ≡ b → cond b (Some e.1) (lookup es h) ≡ Some t
+        → any_live (λ u. is_unended_in q u && nat_lt u.start e.1.start) es ≡ false
+        → (lookup es h ≡ Some t → is_head q t es ≡ is_first h (handles_of (is_unended_in q) es))
+        → is_head q t (e ∷ es) ≡ is_first h (handles_of (is_unended_in q) (e ∷ es))
     by_handle true is f none rest =
-        let same : e.1 ≡ t = some_same f in
+        let same : e.1 ≡ t = same_Some _ _ f in
         let passes : is_unended_in q e.1 ≡ true = ap (is_unended_in q) same ∙ in_queue in
         let head : is_head q t (e ∷ es) ≡ true =
         ap (λ (u : Task). is_head q u (e ∷ es)) (sym same)
-        ∙ (ap (λ (b : Bool). not (cond b true (any_live (λ u. is_unended_in q u && nat_lt u.start e.1.start) es))) (and-off (is_unended_in q e.1) _ (not-less e.1.start)) ∙ ap not none) in
+        ∙ (ap (λ (b : Bool). not (cond b true (any_live (λ u. is_unended_in q u && nat_lt u.start e.1.start) es)))
+        (and_right (is_unended_in q e.1) _ (not-less e.1.start)) ∙ ap not none) in
         head ∙ sym (ap (λ (b : Bool). is_first h (cond b (e.0 ∷ handles_of (is_unended_in q) es) (handles_of (is_unended_in q) es))) passes ∙ is)
     by_handle false is f none rest = by_queue (is_unended_in q e.1) refl
       where
         less : nat_lt e.1.start t.start ≡ true
-        less = less-so e.1.start t.start (order.0 h t f)
+        less = lt-ltb e.1.start t.start (order.0 h t f)
 
         by_queue : (b : Bool) → is_unended_in q e.1 ≡ b → is_head q t (e ∷ es) ≡ is_first h (handles_of (is_unended_in q) (e ∷ es))
         by_queue true p =

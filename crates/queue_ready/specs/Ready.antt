@@ -21,4 +21,5 @@ may_begin h q hs = q.enabled && (not q.ordered || is_first h hs)
 
 -- of tasks in the order of their starts, each under a handle of its own
 abbrev pub QueueReady : Type 0
-QueueReady = (q : ℕ) (record_of : Queue) (h : ℕ) (t : Task) (tasks : List (ℕ × Task)) → InOrder tasks → lookup tasks h ≡ Some t → is_unended_in q t ≡ true → lets q t tasks record_of ≡ may_begin h record_of (handles_of (is_unended_in q) tasks)
+QueueReady = (q : ℕ) (record_of : Queue) (h : ℕ) (t : Task) (tasks : List (ℕ × Task)) → InOrder tasks → lookup tasks h ≡ Some t → is_unended_in q t ≡ true
+    → lets q t tasks record_of ≡ may_begin h record_of (handles_of (is_unended_in q) tasks)

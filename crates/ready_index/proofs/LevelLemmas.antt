@@ -1,6 +1,6 @@
 -- The levels of a bitmap after a change.
 use Rattle.std.proofs.Common.{◌≡◌, ◌≢◌, ℕ, ◌/◌, ◌%◌, ◌<◌, ◌≤◌, Bool, true, false, not, nat_eq, List, length, get_or, refl, sym, ap, ◌∙◌, arith, if◌then◌else◌}
-use Rattle.std.proofs.lemmas.Bool.{eqb-true, eqb-false}
+use Rattle.std.proofs.lemmas.Bool.{eqb-true, eqb-false, not-false, not-true}
 use Rattle.std.proofs.lemmas.List.{get_or_past}
 use Rattle.std.specs.Int.{bit_at}
 use Rattle.std.proofs.lemmas.Nat.Bits.{bit_at-zero}
@@ -17,11 +17,14 @@ taken_both true a b e = refl
 taken_both false a b e = e
 
 -- a bit set above, and the word below it no longer empty
-pub Summarizes-put : (upper lower upper' lower' : List ℕ) (i : ℕ) → Summarizes upper lower → ((o : ℕ) → has_bit upper' o ≡ (if nat_eq o i then true else has_bit upper o)) → ((w : ℕ) → is_empty_word lower' w ≡ (if nat_eq w i then false else is_empty_word lower w)) → Summarizes upper' lower'
+pub Summarizes-put : (upper lower upper' lower' : List ℕ) (i : ℕ) → Summarizes upper lower
+    → ((o : ℕ) → has_bit upper' o ≡ (if nat_eq o i then true else has_bit upper o))
+    → ((w : ℕ) → is_empty_word lower' w ≡ (if nat_eq w i then false else is_empty_word lower w)) → Summarizes upper' lower'
 Summarizes-put upper lower upper' lower' i h above below word =
     above word ∙ put_both (nat_eq word i) (has_bit upper word) (is_empty_word lower word) (h word) ∙ ap not (sym (below word))
 
-empty_at : (lower lower' : List ℕ) (i : ℕ) → ((w : ℕ) → w ≢ i → is_empty_word lower' w ≡ is_empty_word lower w) → is_empty_word lower' i ≡ true → (word : ℕ) → is_empty_word lower' word ≡ (if nat_eq word i then true else is_empty_word lower word)
+empty_at : (lower lower' : List ℕ) (i : ℕ) → ((w : ℕ) → w ≢ i → is_empty_word lower' w ≡ is_empty_word lower w) → is_empty_word lower' i ≡ true → (word : ℕ)
+    → is_empty_word lower' word ≡ (if nat_eq word i then true else is_empty_word lower word)
 empty_at lower lower' i below emptied word =
     elim (nat_eq word i) as (λ t. nat_eq word i ≡ t → is_empty_word lower' word ≡ (if t then true else is_empty_word lower word)) [
       | true ↦ λ e. ap (is_empty_word lower') (eqb-true word i e) ∙ emptied
@@ -29,7 +32,9 @@ empty_at lower lower' i below emptied word =
     ] refl
 
 -- a bit cleared above, and the word below it empty now
-pub Summarizes-taken : (upper lower upper' lower' : List ℕ) (i : ℕ) → Summarizes upper lower → ((o : ℕ) → has_bit upper' o ≡ (if nat_eq o i then false else has_bit upper o)) → ((w : ℕ) → w ≢ i → is_empty_word lower' w ≡ is_empty_word lower w) → is_empty_word lower' i ≡ true → Summarizes upper' lower'
+pub Summarizes-taken : (upper lower upper' lower' : List ℕ) (i : ℕ) → Summarizes upper lower
+    → ((o : ℕ) → has_bit upper' o ≡ (if nat_eq o i then false else has_bit upper o)) → ((w : ℕ) → w ≢ i → is_empty_word lower' w ≡ is_empty_word lower w)
+    → is_empty_word lower' i ≡ true → Summarizes upper' lower'
 Summarizes-taken upper lower upper' lower' i h above below emptied word =
     above word ∙ taken_both (nat_eq word i) (has_bit upper word) (is_empty_word lower word) (h word) ∙ ap not (sym (empty_at lower lower' i below emptied word))
 
@@ -38,31 +43,25 @@ full_before true b e f = sym (f refl) ∙ e
 full_before false b e f = refl
 
 -- a word that isn't empty after a bit was cleared wasn't before
-pub Summarizes-kept : (upper lower lower' : List ℕ) (i : ℕ) → Summarizes upper lower → ((w : ℕ) → w ≢ i → is_empty_word lower' w ≡ is_empty_word lower w) → is_empty_word lower' i ≡ false → (is_empty_word lower i ≡ true → is_empty_word lower' i ≡ true) → Summarizes upper lower'
+pub Summarizes-kept : (upper lower lower' : List ℕ) (i : ℕ) → Summarizes upper lower → ((w : ℕ) → w ≢ i → is_empty_word lower' w ≡ is_empty_word lower w)
+    → is_empty_word lower' i ≡ false → (is_empty_word lower i ≡ true → is_empty_word lower' i ≡ true) → Summarizes upper lower'
 Summarizes-kept upper lower lower' i h below full shrinks word =
     h word ∙ ap not (sym (elim (nat_eq word i) as (λ t. nat_eq word i ≡ t → is_empty_word lower' word ≡ is_empty_word lower word) [
-      | true ↦ λ e. ap (is_empty_word lower') (eqb-true word i e) ∙ full ∙ sym (full_before (is_empty_word lower i) (is_empty_word lower' i) full shrinks) ∙ ap (is_empty_word lower) (sym (eqb-true word i e))
+      | true ↦ λ e. ap (is_empty_word lower') (eqb-true word i e) ∙ full ∙ sym (full_before (is_empty_word lower i) (is_empty_word lower' i) full shrinks)
+          ∙ ap (is_empty_word lower) (sym (eqb-true word i e))
       | false ↦ λ e. below word (eqb-false word i e)
     ] refl))
 
 by_cases_length : (lower : List ℕ) (word : ℕ) → is_empty_word lower word ≡ false → word < length lower
 by_cases_length lower word e = grind (arith, common_steps)
 
-not_true : (b : Bool) → not b ≡ true → b ≡ false
-not_true true e = cc
-not_true false e = refl
-
 -- a bit of the upper level leads to a word of the lower
 pub below_length : (upper lower : List ℕ) → Summarizes upper lower → (word : ℕ) → has_bit upper word ≡ true → word < length lower
-below_length upper lower h word e = by_cases_length lower word (not_true (is_empty_word lower word) (sym (h word) ∙ e))
-
-not_false : (b : Bool) → not b ≡ false → b ≡ true
-not_false true e = refl
-not_false false e = cc
+below_length upper lower h word e = by_cases_length lower word (not-true (is_empty_word lower word) (sym (h word) ∙ e))
 
 -- no bit above, none below
 pub none_below : (upper lower : List ℕ) → Summarizes upper lower → ((o : ℕ) → has_bit upper o ≡ false) → (w : ℕ) → is_empty_word lower w ≡ true
-none_below upper lower h none w = not_false (is_empty_word lower w) (sym (h w) ∙ none w)
+none_below upper lower h none w = not-false (is_empty_word lower w) (sym (h w) ∙ none w)
 
 -- empty words have no bit
 pub no_bits : (ws : List ℕ) → ((w : ℕ) → is_empty_word ws w ≡ true) → (o : ℕ) → has_bit ws o ≡ false
@@ -86,7 +85,7 @@ none_from_top bits summary top h e =
     no_bits bits (none_below summary bits h.words (no_bits summary (none_below top summary h.summaries (no_bits top (one_word top h.one_top e)))))
 
 pub full_word : (upper lower : List ℕ) → Summarizes upper lower → (word : ℕ) → has_bit upper word ≡ true → is_empty_word lower word ≡ false
-full_word upper lower h word e = not_true (is_empty_word lower word) (sym (h word) ∙ e)
+full_word upper lower h word e = not-true (is_empty_word lower word) (sym (h word) ∙ e)
 
 pub AreLevels-put : (bits summary top bits' summary' top' : List ℕ) (n : ℕ) → AreLevels bits summary top
     → ((w : ℕ) → is_empty_word bits' w ≡ (if nat_eq w (n / 64) then false else is_empty_word bits w)) → length bits' ≡ length bits
@@ -121,7 +120,8 @@ AreLevels-taken bits summary top bits' summary' n h b empty bl s e full shrinks 
 pub AreLevels-emptied : (bits summary top bits' summary' top' : List ℕ) (n : ℕ) → AreLevels bits summary top
     → ((w : ℕ) → w ≢ n / 64 → is_empty_word bits' w ≡ is_empty_word bits w) → is_empty_word bits' (n / 64) ≡ true → length bits' ≡ length bits
     → ((o : ℕ) → has_bit summary' o ≡ (if nat_eq o (n / 64) then false else has_bit summary o))
-    → ((w : ℕ) → w ≢ n / 64 / 64 → is_empty_word summary' w ≡ is_empty_word summary w) → is_empty_word summary' (n / 64 / 64) ≡ true → length summary' ≡ length summary
+    → ((w : ℕ) → w ≢ n / 64 / 64 → is_empty_word summary' w ≡ is_empty_word summary w) → is_empty_word summary' (n / 64 / 64) ≡ true
+    → length summary' ≡ length summary
     → ((o : ℕ) → has_bit top' o ≡ (if nat_eq o (n / 64 / 64) then false else has_bit top o)) → length top' ≡ length top
     → AreLevels bits' summary' top'
 AreLevels-emptied bits summary top bits' summary' top' n h b empty bl s e gone sl t tl = record {

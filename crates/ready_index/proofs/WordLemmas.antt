@@ -27,7 +27,8 @@ pub ChangesBit-clear : (n k : ℕ) → k < 64 → ChangesBit n (bit_and n (bit_n
 ChangesBit-clear n k lt = record { same = ap (λ b. nat_eq b 1) (bit_at_clear_same w64 n k lt); others = λ i below ne. bit_at_clear_other w64 n k lt i below ne }
 
 -- another number in the changed word
-beside : (ws : List ℕ) (b v : ℕ) (on : Bool) → b / 64 < length ws → ChangesBit (get_or ws (b / 64) 0) v (b % 64) on → (other : ℕ) → other / 64 ≡ b / 64 → other % 64 ≢ b % 64 → has_bit (set ws (b / 64) v) other ≡ has_bit ws other
+beside : (ws : List ℕ) (b v : ℕ) (on : Bool) → b / 64 < length ws → ChangesBit (get_or ws (b / 64) 0) v (b % 64) on → (other : ℕ) → other / 64 ≡ b / 64
+    → other % 64 ≢ b % 64 → has_bit (set ws (b / 64) v) other ≡ has_bit ws other
 beside ws b v on lt h other q ne =
     let read : get_or (set ws (b / 64) v) (other / 64) 0 ≡ v = read_same ws (b / 64) (other / 64) v lt q in
     let below : other % 64 < 64 = omega arith in
@@ -36,12 +37,14 @@ beside ws b v on lt h other q ne =
     ∙ ap (λ i. nat_eq (bit_at (get_or ws i 0) (other % 64)) 1) (sym q)
 
 -- the number itself
-has_bit_same : (ws : List ℕ) (b v : ℕ) (on : Bool) → b / 64 < length ws → ChangesBit (get_or ws (b / 64) 0) v (b % 64) on → (other : ℕ) → other ≡ b → has_bit (set ws (b / 64) v) other ≡ on
+has_bit_same : (ws : List ℕ) (b v : ℕ) (on : Bool) → b / 64 < length ws → ChangesBit (get_or ws (b / 64) 0) v (b % 64) on → (other : ℕ) → other ≡ b
+    → has_bit (set ws (b / 64) v) other ≡ on
 has_bit_same ws b v on lt h other e =
     ap (has_bit (set ws (b / 64) v)) e ∙ ap (λ w. nat_eq (bit_at w (b % 64)) 1) (read_same ws (b / 64) (b / 64) v lt refl) ∙ h.same
 
 -- another number
-has_bit_other : (ws : List ℕ) (b v : ℕ) (on : Bool) → b / 64 < length ws → ChangesBit (get_or ws (b / 64) 0) v (b % 64) on → (other : ℕ) → other ≢ b → has_bit (set ws (b / 64) v) other ≡ has_bit ws other
+has_bit_other : (ws : List ℕ) (b v : ℕ) (on : Bool) → b / 64 < length ws → ChangesBit (get_or ws (b / 64) 0) v (b % 64) on → (other : ℕ) → other ≢ b
+    → has_bit (set ws (b / 64) v) other ≡ has_bit ws other
 has_bit_other ws b v on lt h other ne =
     elim (nat_eq (other / 64) (b / 64)) as (λ t. nat_eq (other / 64) (b / 64) ≡ t → has_bit (set ws (b / 64) v) other ≡ has_bit ws other) [
       | true ↦ λ e. beside ws b v on lt h other (eqb-true _ _ e) (λ r. ne (same_place other b (eqb-true _ _ e) r))
@@ -49,7 +52,8 @@ has_bit_other ws b v on lt h other ne =
     ] refl
 
 -- a set with one number put in or taken out
-pub has_bit_after : (ws : List ℕ) (b v : ℕ) (on : Bool) → b / 64 < length ws → ChangesBit (get_or ws (b / 64) 0) v (b % 64) on → (other : ℕ) → has_bit (set ws (b / 64) v) other ≡ (if nat_eq other b then on else has_bit ws other)
+pub has_bit_after : (ws : List ℕ) (b v : ℕ) (on : Bool) → b / 64 < length ws → ChangesBit (get_or ws (b / 64) 0) v (b % 64) on → (other : ℕ)
+    → has_bit (set ws (b / 64) v) other ≡ (if nat_eq other b then on else has_bit ws other)
 has_bit_after ws b v on lt h other =
     elim (nat_eq other b) as (λ t. nat_eq other b ≡ t → has_bit (set ws (b / 64) v) other ≡ (if t then on else has_bit ws other)) [
       | true ↦ λ e. has_bit_same ws b v on lt h other (eqb-true other b e)
@@ -65,7 +69,8 @@ not_empty n k h =
     omega arith)
 
 -- where a word with a bit stands in the place of another
-pub is_empty_word_after : (ws : List ℕ) (i v : ℕ) → i < length ws → nat_eq v 0 ≡ false → (word : ℕ) → is_empty_word (set ws i v) word ≡ (if nat_eq word i then false else is_empty_word ws word)
+pub is_empty_word_after : (ws : List ℕ) (i v : ℕ) → i < length ws → nat_eq v 0 ≡ false → (word : ℕ)
+    → is_empty_word (set ws i v) word ≡ (if nat_eq word i then false else is_empty_word ws word)
 is_empty_word_after ws i v lt h word =
     elim (nat_eq word i) as (λ t. nat_eq word i ≡ t → is_empty_word (set ws i v) word ≡ (if t then false else is_empty_word ws word)) [
       | true ↦ λ e. ap (λ w. nat_eq w 0) (read_same ws i word v lt (eqb-true word i e)) ∙ h
@@ -76,7 +81,8 @@ read_value : (ws : List ℕ) (i v : ℕ) → i < length ws → v ≡ get_or ws i
 read_value ws i v lt e = grind (arith, common_steps)
 
 -- the words as the code changes them, beside the set as it was
-pub set_word : (items view : List ℕ) (b v : ℕ) → items ≡ view → b / 64 < length view → v ≡ get_or items (b / 64) v → (other : ℕ) → has_bit (set items (b / 64) (bit_or v (1 * 2 ^ (b % 64) % 2 ^ 64))) other ≡ (if nat_eq other b then true else has_bit view other)
+pub set_word : (items view : List ℕ) (b v : ℕ) → items ≡ view → b / 64 < length view → v ≡ get_or items (b / 64) v → (other : ℕ)
+    → has_bit (set items (b / 64) (bit_or v (1 * 2 ^ (b % 64) % 2 ^ 64))) other ≡ (if nat_eq other b then true else has_bit view other)
 set_word items view b v e lt r other =
     let lt' : b / 64 < length items = rw e lt in
     let read : v ≡ get_or items (b / 64) 0 = read_value items (b / 64) v lt' r in
@@ -84,16 +90,22 @@ set_word items view b v e lt r other =
     let change : ChangesBit (get_or items (b / 64) 0) (bit_or v (1 * 2 ^ (b % 64) % 2 ^ 64)) (b % 64) true = rw (← read) (ChangesBit-set v (b % 64) below) in
     has_bit_after items b (bit_or v (1 * 2 ^ (b % 64) % 2 ^ 64)) true lt' change other ∙ ap (λ l. if nat_eq other b then true else has_bit l other) e
 
-pub clear_word : (items view : List ℕ) (b v : ℕ) → items ≡ view → b / 64 < length view → v ≡ get_or items (b / 64) v → (other : ℕ) → has_bit (set items (b / 64) (bit_and v (bit_not w64 (1 * 2 ^ (b % 64) % 2 ^ 64)))) other ≡ (if nat_eq other b then false else has_bit view other)
+pub clear_word : (items view : List ℕ) (b v : ℕ) → items ≡ view → b / 64 < length view → v ≡ get_or items (b / 64) v → (other : ℕ)
+    → has_bit (set items (b / 64) (bit_and v (bit_not w64 (1 * 2 ^ (b % 64) % 2 ^ 64)))) other ≡ (if nat_eq other b then false else has_bit view other)
 clear_word items view b v e lt r other =
     let lt' : b / 64 < length items = rw e lt in
     let read : v ≡ get_or items (b / 64) 0 = read_value items (b / 64) v lt' r in
     let below : b % 64 < 64 = omega arith in
-    let change : ChangesBit (get_or items (b / 64) 0) (bit_and v (bit_not w64 (1 * 2 ^ (b % 64) % 2 ^ 64))) (b % 64) false = rw (← read) (ChangesBit-clear v (b % 64) below) in
-    has_bit_after items b (bit_and v (bit_not w64 (1 * 2 ^ (b % 64) % 2 ^ 64))) false lt' change other ∙ ap (λ l. if nat_eq other b then false else has_bit l other) e
+    let change : ChangesBit (get_or items (b / 64) 0) (bit_and v (bit_not w64 (1 * 2 ^ (b % 64) % 2 ^ 64))) (b % 64) false =
+    rw (← read) (ChangesBit-clear v (b % 64) below) in
+    has_bit_after items b (bit_and v (bit_not w64 (1 * 2 ^ (b % 64) % 2 ^ 64))) false lt' change other
+    ∙ ap (λ l. if nat_eq other b then false else has_bit l other) e
 
-pub set_empty : (items view : List ℕ) (b v : ℕ) → items ≡ view → b / 64 < length view → (word : ℕ) → is_empty_word (set items (b / 64) (bit_or v (1 * 2 ^ (b % 64) % 2 ^ 64))) word ≡ (if nat_eq word (b / 64) then false else is_empty_word view word)
+pub set_empty : (items view : List ℕ) (b v : ℕ) → items ≡ view → b / 64 < length view → (word : ℕ)
+    → is_empty_word (set items (b / 64) (bit_or v (1 * 2 ^ (b % 64) % 2 ^ 64))) word ≡ (if nat_eq word (b / 64) then false else is_empty_word view word)
 set_empty items view b v e lt word =
     let lt' : b / 64 < length items = rw e lt in
     let below : b % 64 < 64 = omega arith in
-    is_empty_word_after items (b / 64) _ lt' (not_empty _ (b % 64) (let change : ChangesBit v (bit_or v (1 * 2 ^ (b % 64) % 2 ^ 64)) (b % 64) true = ChangesBit-set v (b % 64) below in change.same)) word ∙ ap (λ l. if nat_eq word (b / 64) then false else is_empty_word l word) e
+    is_empty_word_after items (b / 64) _ lt'
+    (not_empty _ (b % 64) (let change : ChangesBit v (bit_or v (1 * 2 ^ (b % 64) % 2 ^ 64)) (b % 64) true = ChangesBit-set v (b % 64) below in
+    change.same)) word ∙ ap (λ l. if nat_eq word (b / 64) then false else is_empty_word l word) e

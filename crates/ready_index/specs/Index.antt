@@ -21,7 +21,8 @@ pub record AreMarks (marks : List (Option Mark)) (workers : List (List (List ℕ
   pub few_slots : length marks ≤ 65536
   pub room : HaveRoom (length marks) workers priorities
   pub known : (slot : ℕ) (m : Mark) → mark_at marks slot ≡ Some m → m.priority < priorities
-  pub slots : (worker priority slot : ℕ) → worker < length workers → has_slot (sets_of workers worker) priority slot ≡ is_for_at worker priority (mark_at marks slot)
+  pub slots : (worker priority slot : ℕ) → worker < length workers
+      → has_slot (sets_of workers worker) priority slot ≡ is_for_at worker priority (mark_at marks slot)
 
 -- the new sets have the slot of a mark for this worker as given, and each other slot as the old sets have it
 abbrev pub PutsSlot : Mark → ℕ → ℕ → Bool → List (List ℕ) → List (List ℕ) → Type 0

@@ -1,22 +1,21 @@
 -- What the walks over the members of a group keep.
-use Rattle.task_board.proofs.Names.{nat_tests, ◌≡◌, ℕ, ◌+◌, Bool, true, false, not, cond, List, [], ◌∷◌, ◌++◌, length, Option, Some, None, refl, sym, ◌∙◌, ap, subst, inl, inr, arith, is_none, option_or, false≢true, cases_eq, TaskEnd, MtapiStatus, Slots, slot_value, with_value, without, NoneLive, has_handle, Task, TaskState, Scheduled, Running, Ended, end_of, is_unended, is_member, is_unended_member, fault_of, first_fault, without_group, number_in, TaskTable, Members, no_members, ended_of, start_in, end_in, member_as, membership, members_in, SchedulerTable, IsScheduler, Becomes, is_ended_member, end_at, ending_of, endings_of, Each, frees, lets_go, Leaves, FreesAll, LetsUnendedGo, LetsAllGo, Freed, Left}
+use Rattle.task_board.proofs.Names.{nat_tests, ◌≡◌, ℕ, ◌+◌, Bool, true, false, not, cond, List, [], ◌∷◌, ◌++◌, length, Option, Some, None, refl, sym, ◌∙◌, ap, subst, inl, inr, arith, is_none, option_or, false≢true, cases_eq, TaskEnd, MtapiStatus, Slots, slot_value, with_value, without, NoneLive, has_handle, Task, TaskState, Scheduled, Running, Ended, end_of, is_unended, is_member, is_unended_member, fault_of, first_fault, without_group, number_in, TaskTable, Members, no_members, ended_of, start_in, end_in, member_as, membership, members_in, SchedulerTable, IsScheduler, Becomes, is_ended_member, end_at, ending_of, endings_of, Each, frees, lets_go, Leaves, FreesAll, LetsUnendedGo, LetsAllGo, Freed, Left, and_from, and_parts, append-nil, none-some, not-true}
 use Rattle.task_board.specs.GroupMoves.{Takes}
-use Rattle.task_board.proofs.SeenLemmas.{none-some, some_same}
+use Rattle.task_board.proofs.SeenLemmas.{some_same}
 use Rattle.task_board.proofs.MoveLemmas.{slot-without}
-use Rattle.task_board.proofs.MarkLemmas.{named-is, and_left, and_right, and_both}
+use Rattle.task_board.proofs.MarkLemmas.{named-is}
 use Rattle.task_board.proofs.MemberLemmas.{start-here, end-here, unnamed}
 
 -- one more task
-each-next : (p : Task → Bool) (move : Slots Task → ℕ → Task → Slots Task) (hs : List ℕ) (old now : Slots Task) (h : ℕ) (t : Task) → Each p move hs old now → slot_value now h ≡ Some t → p t ≡ true → Each p move (hs ++ h ∷ []) old (move now h t)
+each-next : (p : Task → Bool) (move : Slots Task → ℕ → Task → Slots Task) (hs : List ℕ) (old now : Slots Task) (h : ℕ) (t : Task) → Each p move hs old now
+    → slot_value now h ≡ Some t → p t ≡ true → Each p move (hs ++ h ∷ []) old (move now h t)
 each-next p move [] old now h t e g passes = (t, ap (λ (q : Slots Task). slot_value q h) (sym e) ∙ g, passes, ap (λ (q : Slots Task). move q h t) e)
 each-next p move (x ∷ xs) old now h t e g passes = (e.0, e.1, e.2, each-next p move xs (move old x e.0) now h t e.3 g passes)
 
-each-more : (p : Task → Bool) (move : Slots Task → ℕ → Task → Slots Task) (xs ys : List ℕ) (old now new : Slots Task) → Each p move xs old now → Each p move ys now new → Each p move (xs ++ ys) old new
+each-more : (p : Task → Bool) (move : Slots Task → ℕ → Task → Slots Task) (xs ys : List ℕ) (old now new : Slots Task) → Each p move xs old now
+    → Each p move ys now new → Each p move (xs ++ ys) old new
 each-more p move [] ys old now new a b = subst (λ (q : Slots Task). Each p move ys q new) a b
 each-more p move (x ∷ xs) ys old now new a b = (a.0, a.1, a.2, each-more p move xs ys (move old x a.0) now new a.3 b)
-
-not-false : (b : Bool) → not b ≡ true → b ≡ false
-not-false b e1 = grind (arith, nat_tests)
 
 -- a member that has ended is let go where it is freed
 each-ended : (g : ℕ) (hs : List ℕ) (old new : Slots Task) → Each (is_ended_member g) frees hs old new → Each (is_member g) lets_go hs old new
@@ -24,8 +23,10 @@ each-ended g [] old new e = e
 each-ended g (h ∷ hs) old new e = (
   e.0,
   e.1,
-  and_left (is_member g e.0) (not (is_unended e.0)) e.2,
-  subst (λ (q : Slots Task). Each (is_member g) lets_go hs q new) (sym (gone (is_unended e.0) (not-false (is_unended e.0) (and_right (is_member g e.0) (not (is_unended e.0)) e.2)))) (each-ended g hs (without old h) new e.3),
+  (and_parts (is_member g e.0) (not (is_unended e.0)) e.2).0,
+  subst (λ (q : Slots Task). Each (is_member g) lets_go hs q new)
+      (sym (gone (is_unended e.0) (not-true (is_unended e.0) (and_parts (is_member g e.0) (not (is_unended e.0)) e.2).1)))
+      (each-ended g hs (without old h) new e.3),
 )
   where
     gone : (b : Bool) → b ≡ false → cond b (with_value old h (without_group e.0)) (without old h) ≡ without old h
@@ -42,10 +43,6 @@ length-more : (xs : List ℕ) (h : ℕ) → length (xs ++ h ∷ []) ≡ length x
 length-more [] h = refl
 length-more (x ∷ xs) h = let e = length-more xs h in omega (arith, e)
 
-append-none : (xs : List ℕ) → xs ++ [] ≡ xs
-append-none [] = refl
-append-none (x ∷ xs) = ap (λ (l : List ℕ). x ∷ l) (append-none xs)
-
 none-left : (xs ys : List ℕ) → length xs ≡ length (xs ++ ys) → ys ≡ []
 none-left [] [] e = refl
 none-left [] (y ∷ ys) e = absurd (omega (arith, e))
@@ -54,19 +51,22 @@ none-left (x ∷ xs) ys e = none-left xs ys (omega (arith, e))
 or-none : {A : Type 0} (a : Option A) → option_or a None ≡ a
 or-none a = grind (arith, nat_tests)
 
-fault-next : (at : ℕ → Option Task) (hs : List ℕ) (h n : ℕ) (e : TaskEnd) → end_at (at h) ≡ Some (e, n) → first_fault (endings_of at (hs ++ h ∷ [])) ≡ option_or (first_fault (endings_of at hs)) (fault_of e)
+fault-next : (at : ℕ → Option Task) (hs : List ℕ) (h n : ℕ) (e : TaskEnd) → end_at (at h) ≡ Some (e, n)
+    → first_fault (endings_of at (hs ++ h ∷ [])) ≡ option_or (first_fault (endings_of at hs)) (fault_of e)
 fault-next at [] h n e is = ap (λ (o : Option _). first_fault (ending_of h o [])) is ∙ or-none (fault_of e)
 fault-next at (x ∷ xs) h n e is = grind (arith, nat_tests, fault-next at xs h n e is)
 
 -- Freeing
 
-becomes-next : (old now new : SchedulerTable) (pool : Slots Task) → Becomes old now old.actions (record old.tasks { pool = now.tasks.pool }) → Becomes now new now.actions (record now.tasks { pool = pool }) → Becomes old new old.actions (record old.tasks { pool = new.tasks.pool })
+becomes-next : (old now new : SchedulerTable) (pool : Slots Task) → Becomes old now old.actions (record old.tasks { pool = now.tasks.pool })
+    → Becomes now new now.actions (record now.tasks { pool = pool }) → Becomes old new old.actions (record old.tasks { pool = new.tasks.pool })
 becomes-next old now new pool e1 e2 = grind (arith, nat_tests)
 
 ended-passes : (g : ℕ) (t : Task) (e : TaskEnd) (n : ℕ) → is_member g t ≡ true → t.state ≡ Ended e n → is_ended_member g t ≡ true
-ended-passes g t e n member is = and_both (is_member g t) (not (is_unended t)) member (ap (λ (x : TaskState). not (is_none (end_of x))) is)
+ended-passes g t e n member is = and_from (is_member g t) (not (is_unended t)) member (ap (λ (x : TaskState). not (is_none (end_of x))) is)
 
-pub freed-next : (old now new : SchedulerTable) (g index h : ℕ) (fault : Option MtapiStatus) (e : TaskEnd) → Freed old now g index fault → Takes now new g h e → Freed old new g (index + 1) (option_or fault (fault_of e))
+pub freed-next : (old now new : SchedulerTable) (g index h : ℕ) (fault : Option MtapiStatus) (e : TaskEnd) → Freed old now g index fault → Takes now new g h e
+    → Freed old new g (index + 1) (option_or fault (fault_of e))
 freed-next old now new g index h fault e f x = record {
   members = f.members;
   done = f.done ++ h ∷ [];
@@ -75,9 +75,12 @@ freed-next old now new g index h fault e f x = record {
   count = let n = length-more f.done h in let m = f.count in omega (arith, n, m);
   group = f.group;
   group_now = x.parts.group_now ∙ ap (λ (m : Members). Some (record m { ended = x.rest })) same;
-  each = subst (λ (q : Slots Task). Each (is_ended_member g) frees (f.done ++ h ∷ []) old.tasks.pool q) (sym pool) (each-next (is_ended_member g) frees f.done old.tasks.pool now.tasks.pool h x.t f.each x.parts.task (ended-passes g x.t e x.number x.parts.member x.state));
+  each = subst (λ (q : Slots Task). Each (is_ended_member g) frees (f.done ++ h ∷ []) old.tasks.pool q) (sym pool)
+      (each-next (is_ended_member g) frees f.done old.tasks.pool now.tasks.pool h x.t f.each x.parts.task
+      (ended-passes g x.t e x.number x.parts.member x.state));
   kept = λ k t is. f.kept k t (older k t (ap (λ (q : Slots Task). slot_value q k) (sym pool) ∙ is));
-  fault_is = ap (λ (o : Option MtapiStatus). option_or o (fault_of e)) f.fault_is ∙ sym (fault-next (slot_value old.tasks.pool) f.done h x.number e (ap end_at (f.kept h x.t x.parts.task) ∙ ap end_of x.state));
+  fault_is = ap (λ (o : Option MtapiStatus). option_or o (fault_of e)) f.fault_is
+      ∙ sym (fault-next (slot_value old.tasks.pool) f.done h x.number e (ap end_at (f.kept h x.t x.parts.task) ∙ ap end_of x.state));
   becomes = becomes-next old now new (without now.tasks.pool h) f.becomes x.parts.becomes;
 }
   where
@@ -93,9 +96,14 @@ freed-next old now new g index h fault e f x = record {
     older : (k : ℕ) (t : Task) → slot_value (without now.tasks.pool h) k ≡ Some t → slot_value now.tasks.pool k ≡ Some t
     older k t is =
         let m = slot-without now.tasks.pool h x.t x.parts.task in
-        elim (cases_eq k h) [ inl here ↦ none-some (sym m.here ∙ ap (slot_value (without now.tasks.pool h)) (sym here) ∙ is) | inr away ↦ sym (m.others k away) ∙ is ]
+        elim (cases_eq k h) [
+          | inl here ↦ absurd (none-some _ (sym m.here ∙ ap (slot_value (without now.tasks.pool h)) (sym here) ∙ is))
+          | inr away ↦
+              sym (m.others k away) ∙ is
+        ]
 
-pub freed-all : (old now : SchedulerTable) (g index : ℕ) (fault : Option MtapiStatus) → Freed old now g index fault → index ≡ length (ended_of (slot_value old.groups.pool g)) → FreesAll old now g fault
+pub freed-all : (old now : SchedulerTable) (g index : ℕ) (fault : Option MtapiStatus) → Freed old now g index fault
+    → index ≡ length (ended_of (slot_value old.groups.pool g)) → FreesAll old now g fault
 freed-all old now g index fault f all = record {
   members = f.members;
   group = f.group;
@@ -109,7 +117,7 @@ freed-all old now g index fault f all = record {
     none = none-left f.done f.rest (f.count ∙ all ∙ ap (λ (o : Option Members). length (ended_of o)) f.group ∙ ap length f.list)
 
     whole : f.members.ended ≡ f.done
-    whole = f.list ∙ ap (λ (l : List ℕ). f.done ++ l) none ∙ append-none f.done
+    whole = f.list ∙ ap (λ (l : List ℕ). f.done ++ l) none ∙ append-nil f.done
 
 -- Letting go
 
@@ -122,7 +130,9 @@ left-next old now new g index h f x = record {
   count = let n = length-more f.done h in let m = f.count in omega (arith, n, m);
   group = f.group;
   group_now = x.parts.group_now ∙ ap (λ (m : Members). Some (record m { unended = x.rest })) same;
-  each = subst (λ (q : Slots Task). Each (is_member g) lets_go (f.done ++ h ∷ []) old.tasks.pool q) (sym (ap (λ (q : TaskTable). q.pool) x.parts.becomes.tasks_are)) (each-next (is_member g) lets_go f.done old.tasks.pool now.tasks.pool h x.t f.each x.parts.task x.parts.member);
+  each = subst (λ (q : Slots Task). Each (is_member g) lets_go (f.done ++ h ∷ []) old.tasks.pool q)
+      (sym (ap (λ (q : TaskTable). q.pool) x.parts.becomes.tasks_are))
+      (each-next (is_member g) lets_go f.done old.tasks.pool now.tasks.pool h x.t f.each x.parts.task x.parts.member);
   becomes = becomes-next old now new (lets_go now.tasks.pool h x.t) f.becomes x.parts.becomes;
 }
   where
@@ -143,26 +153,38 @@ number-of Scheduled e = absurd (false≢true (sym e))
 number-of (Running w k) e = absurd (false≢true (sym e))
 number-of (Ended y n) e = (n, refl)
 
-pub none-ended-left : (b : SchedulerTable) (g : ℕ) (m : Members) → IsScheduler b → slot_value b.groups.pool g ≡ Some m → m.ended ≡ [] → NoneLive (slot_value b.tasks.pool) (λ t. is_ended_member g t ≡ true)
+pub none-ended-left : (b : SchedulerTable) (g : ℕ) (m : Members) → IsScheduler b → slot_value b.groups.pool g ≡ Some m → m.ended ≡ []
+    → NoneLive (slot_value b.tasks.pool) (λ t. is_ended_member g t ≡ true)
 none-ended-left b g m k live none h t is passes =
-    let group = named-is g t.notes.group (and_left (is_member g t) (not (is_unended t)) passes) in
-    let n = number-of t.state (not-false (is_unended t) (and_right (is_member g t) (not (is_unended t)) passes)) in
-    let here : members_in b.tasks.pool h ≡ Some (record { group = g; detached = t.notes.detached; start = t.start; end = number_in (end_of t.state) }) = ap membership is ∙ ap (member_as t) group in
-    false≢true (sym (ap (has_handle h) none) ∙ (k.members.ended g m live).listed h n.0 (ap (end_in g) here ∙ end-here g n.0 (record { group = g; detached = t.notes.detached; start = t.start; end = number_in (end_of t.state) }) refl n.1))
+    let group = named-is g t.notes.group (and_parts (is_member g t) (not (is_unended t)) passes).0 in
+    let n = number-of t.state (not-true (is_unended t) (and_parts (is_member g t) (not (is_unended t)) passes).1) in
+    let here : members_in b.tasks.pool h ≡ Some (record { group = g; detached = t.notes.detached; start = t.start; end = number_in (end_of t.state) }) =
+    ap membership is ∙ ap (member_as t) group in
+    false≢true (sym (ap (has_handle h) none)
+    ∙ (k.members.ended g m live).listed h n.0 (ap (end_in g) here
+    ∙ end-here g n.0 (record { group = g; detached = t.notes.detached; start = t.start; end = number_in (end_of t.state) }) refl n.1))
 
 unended-number : (x : TaskState) → is_none (end_of x) ≡ true → number_in (end_of x) ≡ None
 unended-number x e1 = grind (arith, nat_tests)
 
-pub none-unended-left : (b : SchedulerTable) (g : ℕ) (m : Members) → IsScheduler b → slot_value b.groups.pool g ≡ Some m → m.unended ≡ [] → NoneLive (slot_value b.tasks.pool) (λ t. is_unended_member g t ≡ true)
+pub none-unended-left : (b : SchedulerTable) (g : ℕ) (m : Members) → IsScheduler b → slot_value b.groups.pool g ≡ Some m → m.unended ≡ []
+    → NoneLive (slot_value b.tasks.pool) (λ t. is_unended_member g t ≡ true)
 none-unended-left b g m k live none h t is passes =
-    let group = named-is g t.notes.group (and_left (is_member g t) (is_unended t) passes) in
-    let here : members_in b.tasks.pool h ≡ Some (record { group = g; detached = t.notes.detached; start = t.start; end = number_in (end_of t.state) }) = ap membership is ∙ ap (member_as t) group in
-    false≢true (sym (ap (has_handle h) none) ∙ (k.members.unended g m live).listed h t.start (ap (start_in g) here ∙ start-here g (record { group = g; detached = t.notes.detached; start = t.start; end = number_in (end_of t.state) }) refl (unended-number t.state (and_right (is_member g t) (is_unended t) passes))))
+    let group = named-is g t.notes.group (and_parts (is_member g t) (is_unended t) passes).0 in
+    let here : members_in b.tasks.pool h ≡ Some (record { group = g; detached = t.notes.detached; start = t.start; end = number_in (end_of t.state) }) =
+    ap membership is ∙ ap (member_as t) group in
+    false≢true (sym (ap (has_handle h) none)
+    ∙ (k.members.unended g m live).listed h t.start (ap (start_in g) here
+    ∙ start-here g (record { group = g; detached = t.notes.detached; start = t.start; end = number_in (end_of t.state) }) refl
+    (unended-number t.state (and_parts (is_member g t) (is_unended t) passes).1)))
 
-pub none-left-in : (b : SchedulerTable) (g : ℕ) → IsScheduler b → slot_value b.groups.pool g ≡ Some no_members → NoneLive (slot_value b.tasks.pool) (λ t. is_member g t ≡ true)
+pub none-left-in : (b : SchedulerTable) (g : ℕ) → IsScheduler b → slot_value b.groups.pool g ≡ Some no_members
+    → NoneLive (slot_value b.tasks.pool) (λ t. is_member g t ≡ true)
 none-left-in b g k live h t is passes =
-    unnamed (members_in b.tasks.pool) (slot_value b.groups.pool) h g b.tasks.starts b.tasks.ends (record { group = g; detached = t.notes.detached; start = t.start; end = number_in (end_of t.state) }) k.members live
+    unnamed (members_in b.tasks.pool) (slot_value b.groups.pool) h g b.tasks.starts b.tasks.ends
+    (record { group = g; detached = t.notes.detached; start = t.start; end = number_in (end_of t.state) }) k.members live
     (ap membership is ∙ ap (member_as t) (named-is g t.notes.group passes)) refl
 
-pub freed-group : (old now : SchedulerTable) (g : ℕ) (fault : Option MtapiStatus) → FreesAll old now g fault → IsScheduler now → NoneLive (slot_value now.tasks.pool) (λ t. is_ended_member g t ≡ true)
+pub freed-group : (old now : SchedulerTable) (g : ℕ) (fault : Option MtapiStatus) → FreesAll old now g fault → IsScheduler now
+    → NoneLive (slot_value now.tasks.pool) (λ t. is_ended_member g t ≡ true)
 freed-group old now g fault f k = none-ended-left now g (record f.members { ended = [] }) k f.group_now refl

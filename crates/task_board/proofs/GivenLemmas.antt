@@ -1,15 +1,13 @@
 -- Handles that were given to queues, and one queue that changes.
-use Rattle.task_board.proofs.Names.{nat_tests, ◌≡◌, ◌≢◌, ℕ, Option, Some, None, set, slice_get, ap, arith, option_map, cases_eq, Slot, Slots, slot_of, generation_of, free_slot, used_slot, slot_after, slot_value, Inserts, without, put, changed, slice_get-set_same, slice_get-set_other, used_at_live, get-with_value_same, get-with_value_other, get-insert_same, get-insert_other, get-without_same, get-without_other, HeldQueue, HasHad, WasGiven}
-
-some_same : {A : Type 0} {a b : A} → Some a ≡ Some b → a ≡ b
-some_same h = cc
+use Rattle.task_board.proofs.Names.{nat_tests, ◌≡◌, ◌≢◌, ℕ, Option, Some, None, set, slice_get, ap, arith, option_map, cases_eq, Slot, Slots, slot_of, generation_of, free_slot, used_slot, slot_after, slot_value, Inserts, without, put, changed, slice_get-set_same, slice_get-set_other, used_at_live, get-with_value_same, get-with_value_other, get-insert_same, get-insert_other, get-without_same, get-without_other, HeldQueue, HasHad, WasGiven, same_Some}
 
 -- the queue of one handle has become this, and all others are as they were
 pub record PutQueue (old : Slots HeldQueue) (q : ℕ) (y : Option HeldQueue) (new : Slots HeldQueue) : Type 0 where
   pub here : slot_value new q ≡ y
   pub others : (k : ℕ) → k ≢ q → slot_value new k ≡ slot_value old k
 
-pub put-queue_changed : (p : Slots HeldQueue) (q : ℕ) (f : HeldQueue → HeldQueue) (x : HeldQueue) → slot_value p q ≡ Some x → PutQueue p q (Some (f x)) (changed p q f)
+pub put-queue_changed : (p : Slots HeldQueue) (q : ℕ) (f : HeldQueue → HeldQueue) (x : HeldQueue) → slot_value p q ≡ Some x
+    → PutQueue p q (Some (f x)) (changed p q f)
 put-queue_changed p q f x e1 = grind (arith, nat_tests, option_map, get-with_value_same, get-with_value_other)
 
 pub put-queue_insert : (p new : Slots HeldQueue) (q : ℕ) (x : HeldQueue) → Inserts p new q x → PutQueue p q (Some x) new
@@ -25,21 +23,24 @@ dead-queue p q f g = ap (λ (o : Option HeldQueue). put p q (option_map f o)) g
 -- Handles that were given
 
 -- the live handle's slot before
-was-live : (p : Slots HeldQueue) (h : ℕ) (x : HeldQueue) → slot_value p h ≡ Some x → (s : Slot HeldQueue) × (slice_get p.slots (slot_of h) ≡ Some s) × (s.generation ≡ generation_of h)
+was-live : (p : Slots HeldQueue) (h : ℕ) (x : HeldQueue) → slot_value p h ≡ Some x
+    → (s : Slot HeldQueue) × (slice_get p.slots (slot_of h) ≡ Some s) × (s.generation ≡ generation_of h)
 was-live p h x g = let s = used_at_live (slice_get p.slots (slot_of h)) (generation_of h) x g in (s.0, s.1, s.2)
 
 pub given-live : (p : Slots HeldQueue) (q : ℕ) (x : HeldQueue) → slot_value p q ≡ Some x → WasGiven p q
 given-live p q x e1 = grind (arith, nat_tests)
 
 -- another slot at the place of a handle
-given-set : (p : Slots HeldQueue) (h q : ℕ) (was new : Slot HeldQueue) → slice_get p.slots (slot_of h) ≡ Some was → (HasHad (generation_of q) was → HasHad (generation_of q) new) → WasGiven p q → WasGiven (record p { slots = set p.slots (slot_of h) new }) q
-given-set p h q was new e1 e2 e3 = grind (arith, nat_tests, cases_eq, slot_of, some_same, slice_get-set_same, generation_of, slice_get-set_other)
+given-set : (p : Slots HeldQueue) (h q : ℕ) (was new : Slot HeldQueue) → slice_get p.slots (slot_of h) ≡ Some was
+    → (HasHad (generation_of q) was → HasHad (generation_of q) new) → WasGiven p q → WasGiven (record p { slots = set p.slots (slot_of h) new }) q
+given-set p h q was new e1 e2 e3 = grind (arith, nat_tests, cases_eq, slot_of, same_Some, slice_get-set_same, generation_of, slice_get-set_other)
 
 -- a later use of a slot of this generation
 had-used : (g generation : ℕ) (was : Slot HeldQueue) (x : HeldQueue) → was.generation ≡ generation → HasHad g was → HasHad g (used_slot generation x)
 had-used g generation was x e1 e2 = grind (arith, nat_tests)
 
-pub given-changed : (p : Slots HeldQueue) (h q : ℕ) (f : HeldQueue → HeldQueue) (x : HeldQueue) → slot_value p h ≡ Some x → WasGiven p q → WasGiven (changed p h f) q
+pub given-changed : (p : Slots HeldQueue) (h q : ℕ) (f : HeldQueue → HeldQueue) (x : HeldQueue) → slot_value p h ≡ Some x → WasGiven p q
+    → WasGiven (changed p h f) q
 given-changed p h q f x e1 e2 = grind (arith, nat_tests, was-live, option_map, given-set, used_slot, generation_of, had-used)
 
 pub given-insert : (p new : Slots HeldQueue) (h q : ℕ) (x : HeldQueue) → Inserts p new h x → WasGiven p q → WasGiven new q

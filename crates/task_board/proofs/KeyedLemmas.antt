@@ -53,14 +53,17 @@ has-itself h xs ys = grind (arith, nat_tests, has-append h xs (h ∷ ys))
 
 module _ {A : Type 0} (number : A → ℕ) where
   -- what is kept has the numbers that it had
-  pub rises-as : (at after : ℕ → Option A) (hs : List ℕ) → ((k : ℕ) (s : A) → has_handle k hs ≡ true → after k ≡ Some s → (u : A) × (at k ≡ Some u) × (number u ≡ number s)) → Rises number at hs → Rises number after hs
+  pub rises-as : (at after : ℕ → Option A) (hs : List ℕ)
+      → ((k : ℕ) (s : A) → has_handle k hs ≡ true → after k ≡ Some s → (u : A) × (at k ≡ Some u) × (number u ≡ number s)) → Rises number at hs
+      → Rises number after hs
   rises-as at after [] agree o = tt
   rises-as at after (x ∷ xs) agree o = grind (arith, nat_tests, rises-as at after xs, has-self, has-later)
 
   pub rises-same : (at after : ℕ → Option A) (hs : List ℕ) → ((k : ℕ) → has_handle k hs ≡ true → after k ≡ at k) → Rises number at hs → Rises number after hs
   rises-same at after hs agree = rises-as at after hs (λ k s e f. (s, sym (agree k e) ∙ f, refl))
 
-  pub rises-push : (at after : ℕ → Option A) (h : ℕ) (s : A) (hs : List ℕ) → ((k : ℕ) → has_handle k hs ≡ true → after k ≡ at k) → after h ≡ Some s → ((k : ℕ) (u : A) → at k ≡ Some u → number u < number s) → Rises number at hs → Rises number after (hs ++ h ∷ [])
+  pub rises-push : (at after : ℕ → Option A) (h : ℕ) (s : A) (hs : List ℕ) → ((k : ℕ) → has_handle k hs ≡ true → after k ≡ at k) → after h ≡ Some s
+      → ((k : ℕ) (u : A) → at k ≡ Some u → number u < number s) → Rises number at hs → Rises number after (hs ++ h ∷ [])
   rises-push at after h s [] agree here below o = (λ k a u e f g. absurd (cc), tt)
   rises-push at after h s (x ∷ xs) agree here below o = grind (arith, nat_tests, rises-push at after h s xs, has-self, has_handle, has-later, has-append)
 
@@ -87,11 +90,13 @@ module _ {A : Type 0} (number : A → ℕ) where
   pub not-before : (at : ℕ → Option A) (h : ℕ) (s : A) (xs ys : List ℕ) → at h ≡ Some s → Rises number at (xs ++ h ∷ ys) → has_handle h xs ≡ false
   not-before at h s [] ys e o = refl
   not-before at h s (x ∷ xs) ys e o =
-      let apart : x ≡ h → ⊥ = λ is. not-twice at h s (xs ++ h ∷ ys) e (subst (λ (z : ℕ). Rises number at (z ∷ xs ++ h ∷ ys)) is o) (has-append h xs (h ∷ ys) ∙ grind (arith, nat_tests)) in
+      let apart : x ≡ h → ⊥ = λ is. not-twice at h s (xs ++ h ∷ ys) e (subst (λ (z : ℕ). Rises number at (z ∷ xs ++ h ∷ ys)) is o) (has-append h xs (h ∷ ys)
+      ∙ grind (arith, nat_tests)) in
       grind (arith, nat_tests, apart, not-before at h s xs ys e o.1)
 
   -- two lists that rise and have the same handles are the same
-  pub same-order : (at : ℕ → Option A) (xs ys : List ℕ) → ((h : ℕ) → has_handle h xs ≡ true → (s : A) × (at h ≡ Some s)) → Rises number at xs → Rises number at ys → ((h : ℕ) → has_handle h xs ≡ true → has_handle h ys ≡ true) → ((h : ℕ) → has_handle h ys ≡ true → has_handle h xs ≡ true) → xs ≡ ys
+  pub same-order : (at : ℕ → Option A) (xs ys : List ℕ) → ((h : ℕ) → has_handle h xs ≡ true → (s : A) × (at h ≡ Some s)) → Rises number at xs
+      → Rises number at ys → ((h : ℕ) → has_handle h xs ≡ true → has_handle h ys ≡ true) → ((h : ℕ) → has_handle h ys ≡ true → has_handle h xs ≡ true) → xs ≡ ys
   same-order at [] [] live a b there back = refl
   same-order at [] (y ∷ ys) live a b there back = absurd (cc (back y (has-self y ys)))
   same-order at (x ∷ xs) [] live a b there back = absurd (cc (there x (has-self x xs)))
@@ -128,7 +133,8 @@ module _ {A : Type 0} (number : A → ℕ) where
 
   module _ (Passes : A → Type 0) where
     -- what is kept of a handle of the list is now kept of another one too, or of none
-    pub lists-push : (at after : ℕ → Option A) (h : ℕ) (s : A) (hs : List ℕ) → Put at h (Some s) after → at h ≡ None → Passes s → ((k : ℕ) (u : A) → at k ≡ Some u → number u < number s) → ListsBy number Passes at hs → ListsBy number Passes after (hs ++ h ∷ [])
+    pub lists-push : (at after : ℕ → Option A) (h : ℕ) (s : A) (hs : List ℕ) → Put at h (Some s) after → at h ≡ None → Passes s
+        → ((k : ℕ) (u : A) → at k ≡ Some u → number u < number s) → ListsBy number Passes at hs → ListsBy number Passes after (hs ++ h ∷ [])
     lists-push at after h s hs move none is less old = record {
       ordered = rises-push at after h s hs (λ k e. move.others k (apart k e)) move.here less old.ordered;
       listed = λ k u e n. elim (cases_eq k h) [
@@ -144,7 +150,8 @@ module _ {A : Type 0} (number : A → ℕ) where
         apart : (k : ℕ) → has_handle k hs ≡ true → k ≢ h
         apart k e z = let u = old.is_seen k e in absurd (cc (sym none ∙ ap at (sym z) ∙ u.1))
 
-    pub lists-leave : (at after : ℕ → Option A) (h : ℕ) (x : Option A) (hs : List ℕ) → Put at h x after → ((s : A) → x ≡ Some s → Passes s → ⊥) → ListsBy number Passes at hs → ListsBy number Passes after (without_handle h hs)
+    pub lists-leave : (at after : ℕ → Option A) (h : ℕ) (x : Option A) (hs : List ℕ) → Put at h x after → ((s : A) → x ≡ Some s → Passes s → ⊥)
+        → ListsBy number Passes at hs → ListsBy number Passes after (without_handle h hs)
     lists-leave at after h x hs move left old = record {
       ordered = rises-same at after (without_handle h hs) (λ k e. move.others k (apart k e)) (rises-without at h hs old.ordered);
       listed = λ k u e n. elim (cases_eq k h) [
@@ -164,8 +171,10 @@ module _ {A : Type 0} (number : A → ℕ) where
             once at h was.0 hs was.1 old.ordered on
 
     -- what was kept of the handle didn't pass, nor does what is kept now
-    pub lists-aside : (at after : ℕ → Option A) (h : ℕ) (x : Option A) (hs : List ℕ) → Put at h x after → ((s : A) → at h ≡ Some s → Passes s → ⊥) → ((s : A) → x ≡ Some s → Passes s → ⊥) → ListsBy number Passes at hs → ListsBy number Passes after hs
-    lists-aside at after h x hs move was is old = subst (λ (l : List ℕ). ListsBy number Passes after l) (without-absent h hs off) (lists-leave at after h x hs move is old)
+    pub lists-aside : (at after : ℕ → Option A) (h : ℕ) (x : Option A) (hs : List ℕ) → Put at h x after → ((s : A) → at h ≡ Some s → Passes s → ⊥)
+        → ((s : A) → x ≡ Some s → Passes s → ⊥) → ListsBy number Passes at hs → ListsBy number Passes after hs
+    lists-aside at after h x hs move was is old =
+        subst (λ (l : List ℕ). ListsBy number Passes after l) (without-absent h hs off) (lists-leave at after h x hs move is old)
       where
         off : has_handle h hs ≡ false
         off = by_test (has_handle h hs) refl
@@ -175,10 +184,12 @@ module _ {A : Type 0} (number : A → ℕ) where
             by_test true e = let s = old.is_seen h e in absurd (was s.0 s.1 s.2)
 
     -- the one in the middle leaves
-    pub lists-middle : (at after : ℕ → Option A) (h : ℕ) (xs ys : List ℕ) → Put at h None after → ListsBy number Passes at (xs ++ h ∷ ys) → ListsBy number Passes after (xs ++ ys)
+    pub lists-middle : (at after : ℕ → Option A) (h : ℕ) (xs ys : List ℕ) → Put at h None after → ListsBy number Passes at (xs ++ h ∷ ys)
+        → ListsBy number Passes after (xs ++ ys)
     lists-middle at after h xs ys move old =
         let s = old.is_seen h (has-itself h xs ys) in
-        subst (λ (l : List ℕ). ListsBy number Passes after l) (without-middle h xs ys (not-before at h s.0 xs ys s.1 old.ordered)) (lists-leave at after h None (xs ++ h ∷ ys) move (λ u e n. absurd (cc)) old)
+        subst (λ (l : List ℕ). ListsBy number Passes after l) (without-middle h xs ys (not-before at h s.0 xs ys s.1 old.ordered))
+        (lists-leave at after h None (xs ++ h ∷ ys) move (λ u e n. absurd (cc)) old)
 
     pub lists-once : (at : ℕ → Option A) (xs ys : List ℕ) → ListsBy number Passes at xs → ListsBy number Passes at ys → xs ≡ ys
     lists-once at xs ys a b =
@@ -198,12 +209,15 @@ pub keyed-same : (key after : ℕ → Option ℕ) (hs : List ℕ) → ((h : ℕ)
 keyed-same key after hs same old = subst (λ (f : ℕ → Option ℕ). AreKeyed f hs) (sym (λ i h. same h i)) old
 
 -- a handle gets a number that is greater than all others
-pub keyed-push : (key after : ℕ → Option ℕ) (h n : ℕ) (hs : List ℕ) → Put key h (Some n) after → key h ≡ None → ((k b : ℕ) → key k ≡ Some b → b < n) → AreKeyed key hs → AreKeyed after (hs ++ h ∷ [])
-keyed-push key after h n hs move new below old = are-keyed after _ (lists-push (λ n. n) (λ n. Unit {0}) key after h n hs move new tt below (numbered key hs old))
+pub keyed-push : (key after : ℕ → Option ℕ) (h n : ℕ) (hs : List ℕ) → Put key h (Some n) after → key h ≡ None → ((k b : ℕ) → key k ≡ Some b → b < n)
+    → AreKeyed key hs → AreKeyed after (hs ++ h ∷ [])
+keyed-push key after h n hs move new below old =
+    are-keyed after _ (lists-push (λ n. n) (λ n. Unit {0}) key after h n hs move new tt below (numbered key hs old))
 
 -- a handle has no number any more
 pub keyed-leave : (key after : ℕ → Option ℕ) (h : ℕ) (hs : List ℕ) → Put key h None after → AreKeyed key hs → AreKeyed after (without_handle h hs)
-keyed-leave key after h hs move old = are-keyed after _ (lists-leave (λ n. n) (λ n. Unit {0}) key after h None hs move (λ n e u. absurd (cc)) (numbered key hs old))
+keyed-leave key after h hs move old = are-keyed after _
+    (lists-leave (λ n. n) (λ n. Unit {0}) key after h None hs move (λ n e u. absurd (cc)) (numbered key hs old))
 
 -- the first has no number any more
 pub keyed-first : (key after : ℕ → Option ℕ) (h : ℕ) (hs : List ℕ) → Put key h None after → AreKeyed key (h ∷ hs) → AreKeyed after hs

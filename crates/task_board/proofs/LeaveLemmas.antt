@@ -1,7 +1,7 @@
 -- What an end is of a scheduler.
-use Rattle.task_board.proofs.Names.{nat_tests, ◌≡◌, ◌≢◌, ◌+◌, ℕ, ◌<◌, true, List, length, length-set, Option, Some, None, set, slice_get, refl, sym, ◌∙◌, ap, subst, arith, is_none, false≢true, Kind, TaskEnd, Slots, slot_of, slot_value, max_of, changed, slot_of-live, list_at, has_handle, without_handle, has-first, ReadyMarks, Task, TaskState, Scheduled, Running, Ended, end_of, is_unended, shown_state, TaskTable, ended_in, IsLiveAnd, HeldQueue, QueueTable, without_task, Seen, seen_as, seen, seen_in, GroupTable, members_in, AreMembers, ended_member, begins_in, AreQueued, left_queue, head_of, SchedulerTable, IsScheduler, Marked, AreWaiting, AreRanked, IsFreshAt, WaitingTable, without_waiting}
+use Rattle.task_board.proofs.Names.{nat_tests, ◌≡◌, ◌≢◌, ◌+◌, ℕ, ◌<◌, true, List, length, length-set, Option, Some, None, set, slice_get, refl, sym, ◌∙◌, ap, subst, arith, is_none, false≢true, Kind, TaskEnd, Slots, slot_of, slot_value, max_of, changed, slot_of-live, list_at, has_handle, without_handle, has-first, ReadyMarks, Task, TaskState, Scheduled, Running, Ended, end_of, is_unended, shown_state, TaskTable, ended_in, IsLiveAnd, HeldQueue, QueueTable, without_task, Seen, seen_as, seen, seen_in, GroupTable, members_in, AreMembers, ended_member, begins_in, AreQueued, left_queue, head_of, SchedulerTable, IsScheduler, Marked, AreWaiting, AreRanked, IsFreshAt, WaitingTable, without_waiting, none-some}
 use Rattle.task_core.specs.declared.states.TaskState.TheVariants as shown
-use Rattle.task_board.proofs.SeenLemmas.{none-some, some_same}
+use Rattle.task_board.proofs.SeenLemmas.{some_same}
 use Rattle.task_board.proofs.ByJobLemmas.{by-job-same}
 use Rattle.task_board.proofs.KeyedLemmas.{Put, has-sub}
 use Rattle.task_board.proofs.MoveLemmas.{ranked-put, Alone, Steady, alone, alone-old, put-ended, max-ended, marked-steady, marked-again, waiting-leave, waiting-same, running-end, running-same}
@@ -23,8 +23,11 @@ pub record Leaves (b : SchedulerTable) (q : TaskTable) (queues : QueueTable) (cl
   cleared_is : cleared ≡ record b.ready { marks = set b.ready.marks (slot_of h) None }
   fresh : IsFreshAt b.actions (begins_in queues.pool) (seen_in q.pool) (head_of queues.pool o) cleared ready
 
-pub leaves : (b : SchedulerTable) (q : TaskTable) (queues : QueueTable) (cleared ready : ReadyMarks) (h : ℕ) (o named : Option ℕ) → o ≡ named → queues ≡ record b.queues { pool = left_queue b.queues.pool o h } → cleared ≡ record b.ready { marks = set b.ready.marks (slot_of h) None } → IsFreshAt b.actions (begins_in queues.pool) (seen_in q.pool) (head_of queues.pool o) cleared ready → Leaves b q queues cleared ready h named
-leaves b q queues cleared ready h o named is left cleared_is fresh = subst (λ (z : Option ℕ). Leaves b q queues cleared ready h z) is (record { left = left; cleared_is = cleared_is; fresh = fresh })
+pub leaves : (b : SchedulerTable) (q : TaskTable) (queues : QueueTable) (cleared ready : ReadyMarks) (h : ℕ) (o named : Option ℕ) → o ≡ named
+    → queues ≡ record b.queues { pool = left_queue b.queues.pool o h } → cleared ≡ record b.ready { marks = set b.ready.marks (slot_of h) None }
+    → IsFreshAt b.actions (begins_in queues.pool) (seen_in q.pool) (head_of queues.pool o) cleared ready → Leaves b q queues cleared ready h named
+leaves b q queues cleared ready h o named is left cleared_is fresh =
+    subst (λ (z : Option ℕ). Leaves b q queues cleared ready h z) is (record { left = left; cleared_is = cleared_is; fresh = fresh })
 
 -- The state of the task
 
@@ -41,32 +44,40 @@ unended-seen t (Running w k) e = (_, refl, refl)
 unended-seen t (Ended y n) e = absurd (false≢true e)
 
 -- its queue, if that is live, has it
-pub member-of : (b : SchedulerTable) (h : ℕ) (t : Task) (o : Option ℕ) → IsScheduler b → slot_value b.tasks.pool h ≡ Some t → IsLiveAnd is_unended (slot_value b.tasks.pool h) → o ≡ t.queue → (q : ℕ) (x : HeldQueue) → o ≡ Some q → slot_value b.queues.pool q ≡ Some x → has_handle h x.tasks ≡ true
+pub member-of : (b : SchedulerTable) (h : ℕ) (t : Task) (o : Option ℕ) → IsScheduler b → slot_value b.tasks.pool h ≡ Some t
+    → IsLiveAnd is_unended (slot_value b.tasks.pool h) → o ≡ t.queue → (q : ℕ) (x : HeldQueue) → o ≡ Some q → slot_value b.queues.pool q ≡ Some x
+    → has_handle h x.tasks ≡ true
 member-of b h t o k g unended same q x names live =
     let s = unended-seen t t.state (subst (λ (z : Option Task). IsLiveAnd is_unended z) g unended) in
     k.queued.listed h q s.0 x (ap seen g ∙ s.1) (s.2 ∙ sym same ∙ names) live
 
 -- the slot of the first task of the queue, once the task has left it
-pub first-slot_of : (b : SchedulerTable) (h : ℕ) (o : Option ℕ) → IsScheduler b → (j : ℕ) → head_of (left_queue b.queues.pool o h) o ≡ Some j → slot_of j < max_of b.tasks.pool
-first-slot_of b h None k j e = none-some e
+pub first-slot_of : (b : SchedulerTable) (h : ℕ) (o : Option ℕ) → IsScheduler b → (j : ℕ) → head_of (left_queue b.queues.pool o h) o ≡ Some j
+    → slot_of j < max_of b.tasks.pool
+first-slot_of b h None k j e = absurd (none-some _ e)
 first-slot_of b h (Some q) k j e = by_live (slot_value b.queues.pool q) refl
   where
     by_live : (o : Option HeldQueue) → slot_value b.queues.pool q ≡ o → slot_of j < max_of b.tasks.pool
-    by_live None dead = none-some (sym (no-first (changed b.queues.pool q (without_task h)) q (ap (λ (z : Slots HeldQueue). slot_value z q) (dead-queue b.queues.pool q (without_task h) dead) ∙ dead)) ∙ e)
+    by_live None dead = absurd (none-some _
+        (sym (no-first (changed b.queues.pool q (without_task h)) q
+        (ap (λ (z : Slots HeldQueue). slot_value z q) (dead-queue b.queues.pool q (without_task h) dead) ∙ dead)) ∙ e))
     by_live (Some x) live =
         let now = (put-queue_changed b.queues.pool q (without_task h) x live).here in
         let has = has-first j (without_handle h x.tasks) (sym (first-of (changed b.queues.pool q (without_task h)) q (without_task h x) now) ∙ e) in
         let s = k.queued.names j q x live (has-sub j h x.tasks has) in
         seen-slot b.tasks.pool j s.0 s.1
 
-pub ended-ranked : (b : SchedulerTable) (q : Slots Task) (h n : ℕ) (e : TaskEnd) (t : Task) → IsScheduler b → slot_value b.tasks.pool h ≡ Some t → q ≡ ended_in b.tasks.pool h e n (Some t) → AreRanked (seen_in q) b.settings.priorities
+pub ended-ranked : (b : SchedulerTable) (q : Slots Task) (h n : ℕ) (e : TaskEnd) (t : Task) → IsScheduler b → slot_value b.tasks.pool h ≡ Some t
+    → q ≡ ended_in b.tasks.pool h e n (Some t) → AreRanked (seen_in q) b.settings.priorities
 ended-ranked b q h n e t k g is =
     subst (λ (p : Slots Task). AreRanked (seen_in p) b.settings.priorities) (sym is)
-    (ranked-put (seen_in b.tasks.pool) _ h None b.settings.priorities (put-ended b.tasks.pool h e n t g) (λ s f. none-some f) k.ranked)
+    (ranked-put (seen_in b.tasks.pool) _ h None b.settings.priorities (put-ended b.tasks.pool h e n t g) (λ s f. absurd (none-some _ f)) k.ranked)
 
 -- The queue, the marks and the lists
 
-module _ (b : SchedulerTable) (q : TaskTable) (queues : QueueTable) (cleared ready : ReadyMarks) (h : ℕ) (s : Seen) (t : Task) (k : IsScheduler b) (move : Put (seen_in b.tasks.pool) h None (seen_in q.pool)) (max : max_of q.pool ≡ max_of b.tasks.pool) (g : slot_value b.tasks.pool h ≡ Some t) (seen_was : seen_in b.tasks.pool h ≡ Some s) (l : Leaves b q queues cleared ready h s.queue) where
+module _ (b : SchedulerTable) (q : TaskTable) (queues : QueueTable) (cleared ready : ReadyMarks) (h : ℕ) (s : Seen) (t : Task) (k : IsScheduler b)
+    (move : Put (seen_in b.tasks.pool) h None (seen_in q.pool)) (max : max_of q.pool ≡ max_of b.tasks.pool) (g : slot_value b.tasks.pool h
+    ≡ Some t) (seen_was : seen_in b.tasks.pool h ≡ Some s) (l : Leaves b q queues cleared ready h s.queue) where
   sizes-cleared : SameSizes b.ready cleared
   sizes-cleared = sizes-set b.ready cleared (slot_of h) None l.cleared_is
 
@@ -76,7 +87,9 @@ module _ (b : SchedulerTable) (q : TaskTable) (queues : QueueTable) (cleared rea
   -- without the task, and with the queues as they were
   marked-cleared : Marked b.actions (begins_in b.queues.pool) (seen_in q.pool) cleared.marks
   marked-cleared =
-      put-marked b q b.queues.pool cleared h None None k move (steady-same b.queues.pool (seen_in b.tasks.pool) h) (alone-old b.tasks.pool h t None (seen_in q.pool) g move) (slot_of-live b.tasks.pool h t g) (unmarked-none b.actions (begins_in b.queues.pool h)) l.cleared_is
+      put-marked b q b.queues.pool cleared h None None k move (steady-same b.queues.pool (seen_in b.tasks.pool) h)
+      (alone-old b.tasks.pool h t None (seen_in q.pool) g move) (slot_of-live b.tasks.pool h t g)
+      (unmarked-none b.actions (begins_in b.queues.pool h)) l.cleared_is
 
   -- the list of the queue has changed
   module _ (p : ℕ) (v : HeldQueue) (names : s.queue ≡ Some p) (live : slot_value b.queues.pool p ≡ Some v) where
@@ -91,12 +104,13 @@ module _ (b : SchedulerTable) (q : TaskTable) (queues : QueueTable) (cleared rea
         subst (λ (z : Slots HeldQueue). AreQueued (seen_in q.pool) z b.settings.priorities) (sym pool-is)
         (queued-leave (seen_in b.tasks.pool) (seen_in q.pool) h p s b.queues.pool b.settings.priorities v move seen_was live names k.queued)
 
-    lets-same : (j : ℕ) (o : Option ℕ) → j ≢ h → ((i : ℕ) → slice_get (without_handle h v.tasks) 0 ≡ Some i → j ≢ i) → begins_in queues.pool j o ≡ begins_in b.queues.pool j o
+    lets-same : (j : ℕ) (o : Option ℕ) → j ≢ h → ((i : ℕ) → slice_get (without_handle h v.tasks) 0 ≡ Some i → j ≢ i)
+        → begins_in queues.pool j o ≡ begins_in b.queues.pool j o
     lets-same j None d e = refl
     lets-same j (Some z) d e = ap (λ (x : Slots HeldQueue). begins_in x j (Some z)) pool-is ∙ begins-leave b.queues.pool h p j z v live d e
 
     unseen-now : (j : ℕ) (u : Seen) → seen_in q.pool j ≡ Some u → j ≢ h
-    unseen-now j u e here = none-some (sym move.here ∙ ap (seen_in q.pool) (sym here) ∙ e)
+    unseen-now j u e here = absurd (none-some _ (sym move.here ∙ ap (seen_in q.pool) (sym here) ∙ e))
 
     first-seen : (i : ℕ) → slice_get (without_handle h v.tasks) 0 ≡ Some i → (u : Seen) × (seen_in q.pool i ≡ Some u)
     first-seen i some = let u = queued-live.names i p (without_task h v) queue-is (has-first i (without_handle h v.tasks) some) in (u.0, u.1)
@@ -115,11 +129,12 @@ module _ (b : SchedulerTable) (q : TaskTable) (queues : QueueTable) (cleared rea
         let less = seen-slot q.pool i u.0 u.1 in
         omega (arith, less, max, sizes-cleared.slots, k.slots)
 
-    marked-first : (o : Option ℕ) → slice_get (without_handle h v.tasks) 0 ≡ o → IsFreshAt b.actions (begins_in queues.pool) (seen_in q.pool) o cleared ready → Marked b.actions (begins_in queues.pool) (seen_in q.pool) ready.marks
+    marked-first : (o : Option ℕ) → slice_get (without_handle h v.tasks) 0 ≡ o → IsFreshAt b.actions (begins_in queues.pool) (seen_in q.pool) o cleared ready
+        → Marked b.actions (begins_in queues.pool) (seen_in q.pool) ready.marks
     marked-first None none is =
         subst (λ (r : ReadyMarks). Marked b.actions (begins_in queues.pool) (seen_in q.pool) r.marks) (sym is)
         (marked-steady b.actions (begins_in b.queues.pool) (begins_in queues.pool) (seen_in q.pool) cleared.marks
-        (λ j u e n. lets-same j u.queue (unseen-now j u e) (λ i first. none-some (sym none ∙ first))) marked-cleared)
+        (λ j u e n. lets-same j u.queue (unseen-now j u e) (λ i first. absurd (none-some _ (sym none ∙ first)))) marked-cleared)
     marked-first (Some i) some f =
         subst (λ (r : ReadyMarks). Marked b.actions (begins_in queues.pool) (seen_in q.pool) r.marks) (sym f.now)
         (marked-again b.actions (begins_in b.queues.pool) (begins_in queues.pool) (seen_in q.pool) i cleared.marks f.mark
@@ -129,10 +144,12 @@ module _ (b : SchedulerTable) (q : TaskTable) (queues : QueueTable) (cleared rea
     head-is = ap (head_of queues.pool) names ∙ first-of queues.pool p (without_task h v) queue-is
 
     marked-live : Marked b.actions (begins_in queues.pool) (seen_in q.pool) ready.marks
-    marked-live = marked-first (slice_get (without_handle h v.tasks) 0) refl (subst (λ (o : Option ℕ). IsFreshAt b.actions (begins_in queues.pool) (seen_in q.pool) o cleared ready) head-is l.fresh)
+    marked-live = marked-first (slice_get (without_handle h v.tasks) 0) refl
+        (subst (λ (o : Option ℕ). IsFreshAt b.actions (begins_in queues.pool) (seen_in q.pool) o cleared ready) head-is l.fresh)
 
   -- what has left no live queue
-  module _ (out : (p : ℕ) (y : HeldQueue) → s.queue ≡ Some p → slot_value b.queues.pool p ≡ Some y → ⊥) (same : left_queue b.queues.pool s.queue h ≡ b.queues.pool) (none : head_of queues.pool s.queue ≡ None) where
+  module _ (out : (p : ℕ) (y : HeldQueue) → s.queue ≡ Some p → slot_value b.queues.pool p ≡ Some y
+      → ⊥) (same : left_queue b.queues.pool s.queue h ≡ b.queues.pool) (none : head_of queues.pool s.queue ≡ None) where
     pool-was : queues.pool ≡ b.queues.pool
     pool-was = ap (λ (z : QueueTable). z.pool) l.left ∙ same
 
@@ -151,34 +168,46 @@ module _ (b : SchedulerTable) (q : TaskTable) (queues : QueueTable) (cleared rea
   pub left-both : AreQueued (seen_in q.pool) queues.pool b.settings.priorities × Marked b.actions (begins_in queues.pool) (seen_in q.pool) ready.marks
   left-both = by_queue s.queue refl
     where
-      by_live : (p : ℕ) → s.queue ≡ Some p → (o : Option HeldQueue) → slot_value b.queues.pool p ≡ o → AreQueued (seen_in q.pool) queues.pool b.settings.priorities × Marked b.actions (begins_in queues.pool) (seen_in q.pool) ready.marks
+      by_live : (p : ℕ) → s.queue ≡ Some p → (o : Option HeldQueue) → slot_value b.queues.pool p ≡ o
+          → AreQueued (seen_in q.pool) queues.pool b.settings.priorities × Marked b.actions (begins_in queues.pool) (seen_in q.pool) ready.marks
       by_live p names (Some v) live = (queued-live p v names live, marked-live p v names live)
       by_live p names None dead =
-          let out = λ (i : ℕ) (y : HeldQueue) (e : s.queue ≡ Some i) (f : slot_value b.queues.pool i ≡ Some y). none-some (sym dead ∙ ap (slot_value b.queues.pool) (some_same (sym names ∙ e)) ∙ f) in
+          let out = λ (i : ℕ) (y : HeldQueue) (e : s.queue ≡ Some i) (f : slot_value b.queues.pool i ≡ Some y). absurd
+          (none-some _ (sym dead ∙ ap (slot_value b.queues.pool) (some_same (sym names ∙ e)) ∙ f)) in
           let same = ap (λ (o : Option ℕ). left_queue b.queues.pool o h) names ∙ dead-queue b.queues.pool p (without_task h) dead in
-          let none = ap (head_of queues.pool) names ∙ no-first queues.pool p (ap (λ (z : Slots HeldQueue). slot_value z p) (ap (λ (z : QueueTable). z.pool) l.left ∙ same) ∙ dead) in
+          let none = ap (head_of queues.pool) names
+          ∙ no-first queues.pool p (ap (λ (z : Slots HeldQueue). slot_value z p) (ap (λ (z : QueueTable). z.pool) l.left ∙ same) ∙ dead) in
           (queued-was out same none, marked-was out same none)
 
-      by_queue : (o : Option ℕ) → s.queue ≡ o → AreQueued (seen_in q.pool) queues.pool b.settings.priorities × Marked b.actions (begins_in queues.pool) (seen_in q.pool) ready.marks
+      by_queue : (o : Option ℕ) → s.queue ≡ o
+          → AreQueued (seen_in q.pool) queues.pool b.settings.priorities × Marked b.actions (begins_in queues.pool) (seen_in q.pool) ready.marks
       by_queue (Some p) names = by_live p names (slot_value b.queues.pool p) refl
       by_queue None apart =
-          let out = λ (i : ℕ) (y : HeldQueue) (e : s.queue ≡ Some i) (f : slot_value b.queues.pool i ≡ Some y). none-some (sym apart ∙ e) in
+          let out = λ (i : ℕ) (y : HeldQueue) (e : s.queue ≡ Some i) (f : slot_value b.queues.pool i ≡ Some y). absurd (none-some _ (sym apart ∙ e)) in
           let same = ap (λ (o : Option ℕ). left_queue b.queues.pool o h) apart in
           let none = ap (head_of queues.pool) apart in
           (queued-was out same none, marked-was out same none)
 
-pub end-waiting : (b : SchedulerTable) (q : TaskTable) (queues : QueueTable) (cleared ready : ReadyMarks) (waiting : WaitingTable) (groups : GroupTable) (h : ℕ) (e : TaskEnd) (t : Task) → IsScheduler b → slot_value b.tasks.pool h ≡ Some t → t.state ≡ Scheduled → q.pool ≡ ended_in b.tasks.pool h e b.tasks.ends (Some t) → q.starts ≡ b.tasks.starts → waiting ≡ without_waiting b.waiting t.job h → Leaves b q queues cleared ready h t.queue → q.ends ≡ b.tasks.ends + 1 → groups ≡ ended_member b.groups t.notes.group h → IsScheduler (record b { tasks = q; queues = queues; ready = ready; waiting = waiting; groups = groups })
+pub end-waiting : (b : SchedulerTable) (q : TaskTable) (queues : QueueTable) (cleared ready : ReadyMarks) (waiting : WaitingTable) (groups : GroupTable) (h : ℕ)
+    (e : TaskEnd) (t : Task) → IsScheduler b → slot_value b.tasks.pool h ≡ Some t → t.state ≡ Scheduled
+    → q.pool ≡ ended_in b.tasks.pool h e b.tasks.ends (Some t) → q.starts ≡ b.tasks.starts → waiting ≡ without_waiting b.waiting t.job h
+    → Leaves b q queues cleared ready h t.queue → q.ends ≡ b.tasks.ends + 1 → groups ≡ ended_member b.groups t.notes.group h
+    → IsScheduler (record b { tasks = q; queues = queues; ready = ready; waiting = waiting; groups = groups })
 end-waiting b q queues cleared ready waiting groups h e t k g x pool count is l ends notes =
     put-scheduler b q queues ready waiting b.running groups h None k move (ap max_of pool ∙ max-ended b.tasks.pool h e b.tasks.ends (Some t))
-    (sizes-left b q queues cleared ready h seen_as_was t k move (ap max_of pool ∙ max-ended b.tasks.pool h e b.tasks.ends (Some t)) g was l) both.1 both.0 (ap (λ (z : QueueTable). z.tasks) l.left)
+    (sizes-left b q queues cleared ready h seen_as_was t k move (ap max_of pool ∙ max-ended b.tasks.pool h e b.tasks.ends (Some t)) g was l) both.1 both.0
+    (ap (λ (z : QueueTable). z.tasks) l.left)
     (ap (λ (z : WaitingTable). z.places) is) (ap (λ (z : WaitingTable). length z.lists) is ∙ one-length b.waiting _ k.lists) k.seats
     (subst (λ (hs : List ℕ). AreWaiting (seen_in q.pool) hs) (sym list)
-    (waiting-leave (seen_in b.tasks.pool) (seen_in q.pool) h _ (list_at b.waiting.lists 0) move (λ s f o. none-some f) k.waiting_are))
-    (left-jobs b waiting (seen_in q.pool) h t.job seen_as_was None move was refl (λ s f o. none-some f) is k)
-    (running-same (seen_in b.tasks.pool) (seen_in q.pool) h _ b.running move (λ s w f on. none-some (ap (λ (z : Seen). z.on) (some_same (sym was ∙ f)) ∙ on)) (λ s w f on. none-some f) k.running_are)
-    (λ s f. none-some f) (λ s f. none-some f) (omega (arith, count))
+    (waiting-leave (seen_in b.tasks.pool) (seen_in q.pool) h _ (list_at b.waiting.lists 0) move (λ s f o. absurd (none-some _ f)) k.waiting_are))
+    (left-jobs b waiting (seen_in q.pool) h t.job seen_as_was None move was refl (λ s f o. absurd (none-some _ f)) is k)
+    (running-same (seen_in b.tasks.pool) (seen_in q.pool) h _ b.running move
+    (λ s w f on. absurd (none-some _ (ap (λ (z : Seen). z.on) (some_same (sym was ∙ f)) ∙ on))) (λ s w f on. absurd (none-some _ f)) k.running_are)
+    (λ s f. absurd (none-some _ f)) (λ s f. absurd (none-some _ f)) (omega (arith, count))
     (ap (λ (z : GroupTable). z.tasks) notes ∙ over-tasks b.groups t.notes.group h)
-    (subst (λ (z : GroupTable). AreMembers (members_in q.pool) (slot_value z.pool) q.starts q.ends) (sym notes) (members-over b.tasks.pool q.pool h e t b.groups b.tasks.starts b.tasks.ends q.starts q.ends k.members g (ap (λ (y : TaskState). is_none (end_of y)) x) pool count ends))
+    (subst (λ (z : GroupTable). AreMembers (members_in q.pool) (slot_value z.pool) q.starts q.ends) (sym notes)
+    (members-over b.tasks.pool q.pool h e t b.groups b.tasks.starts b.tasks.ends q.starts q.ends k.members g
+    (ap (λ (y : TaskState). is_none (end_of y)) x) pool count ends))
   where
     move : Put (seen_in b.tasks.pool) h None (seen_in q.pool)
     move = subst (λ (p : Slots Task). Put (seen_in b.tasks.pool) h None (seen_in p)) (sym pool) (put-ended b.tasks.pool h e b.tasks.ends t g)
@@ -195,17 +224,26 @@ end-waiting b q queues cleared ready waiting groups h e t k g x pool count is l 
     both : AreQueued (seen_in q.pool) queues.pool b.settings.priorities × Marked b.actions (begins_in queues.pool) (seen_in q.pool) ready.marks
     both = left-both b q queues cleared ready h seen_as_was t k move (ap max_of pool ∙ max-ended b.tasks.pool h e b.tasks.ends (Some t)) g was l
 
-pub end-running : (b : SchedulerTable) (q : TaskTable) (queues : QueueTable) (cleared ready : ReadyMarks) (groups : GroupTable) (h w : ℕ) (kind : Kind) (e : TaskEnd) (t : Task) → IsScheduler b → slot_value b.tasks.pool h ≡ Some t → t.state ≡ Running w kind → q.pool ≡ ended_in b.tasks.pool h e b.tasks.ends (Some t) → q.starts ≡ b.tasks.starts → Leaves b q queues cleared ready h t.queue → q.ends ≡ b.tasks.ends + 1 → groups ≡ ended_member b.groups t.notes.group h → IsScheduler (record b { tasks = q; queues = queues; ready = ready; running = set b.running w None; groups = groups })
+pub end-running : (b : SchedulerTable) (q : TaskTable) (queues : QueueTable) (cleared ready : ReadyMarks) (groups : GroupTable) (h w : ℕ) (kind : Kind)
+    (e : TaskEnd) (t : Task) → IsScheduler b → slot_value b.tasks.pool h ≡ Some t → t.state ≡ Running w kind
+    → q.pool ≡ ended_in b.tasks.pool h e b.tasks.ends (Some t) → q.starts ≡ b.tasks.starts → Leaves b q queues cleared ready h t.queue
+    → q.ends ≡ b.tasks.ends + 1 → groups ≡ ended_member b.groups t.notes.group h
+    → IsScheduler (record b { tasks = q; queues = queues; ready = ready; running = set b.running w None; groups = groups })
 end-running b q queues cleared ready groups h w kind e t k g x pool count l ends notes =
     put-scheduler b q queues ready b.waiting (set b.running w None) groups h None k move (ap max_of pool ∙ max-ended b.tasks.pool h e b.tasks.ends (Some t))
-    (sizes-left b q queues cleared ready h seen_as_was t k move (ap max_of pool ∙ max-ended b.tasks.pool h e b.tasks.ends (Some t)) g was l) both.1 both.0 (ap (λ (z : QueueTable). z.tasks) l.left)
+    (sizes-left b q queues cleared ready h seen_as_was t k move (ap max_of pool ∙ max-ended b.tasks.pool h e b.tasks.ends (Some t)) g was l) both.1 both.0
+    (ap (λ (z : QueueTable). z.tasks) l.left)
     refl k.lists (length-set b.running w None ∙ k.seats)
-    (waiting-same (seen_in b.tasks.pool) (seen_in q.pool) h _ (list_at b.waiting.lists 0) move (λ s f o. none-some (sym o ∙ ap (λ (z : Seen). z.on) (some_same (sym f ∙ was)))) (λ s f o. none-some f) k.waiting_are)
-    (by-job-same (seen_in b.tasks.pool) (seen_in q.pool) h _ b.waiting.by_job move (λ s f o. none-some (sym o ∙ ap (λ (z : Seen). z.on) (some_same (sym f ∙ was)))) (λ s f o. none-some f) k.by_job)
+    (waiting-same (seen_in b.tasks.pool) (seen_in q.pool) h _ (list_at b.waiting.lists 0) move
+    (λ s f o. absurd (none-some _ (sym o ∙ ap (λ (z : Seen). z.on) (some_same (sym f ∙ was))))) (λ s f o. absurd (none-some _ f)) k.waiting_are)
+    (by-job-same (seen_in b.tasks.pool) (seen_in q.pool) h _ b.waiting.by_job move
+    (λ s f o. absurd (none-some _ (sym o ∙ ap (λ (z : Seen). z.on) (some_same (sym f ∙ was))))) (λ s f o. absurd (none-some _ f)) k.by_job)
     (running-end (seen_in b.tasks.pool) (seen_in q.pool) h w _ b.running move was refl (omega (arith, seat-below b h w kind t k g x, k.seats)) k.running_are)
-    (λ s f. none-some f) (λ s f. none-some f) (omega (arith, count))
+    (λ s f. absurd (none-some _ f)) (λ s f. absurd (none-some _ f)) (omega (arith, count))
     (ap (λ (z : GroupTable). z.tasks) notes ∙ over-tasks b.groups t.notes.group h)
-    (subst (λ (z : GroupTable). AreMembers (members_in q.pool) (slot_value z.pool) q.starts q.ends) (sym notes) (members-over b.tasks.pool q.pool h e t b.groups b.tasks.starts b.tasks.ends q.starts q.ends k.members g (ap (λ (y : TaskState). is_none (end_of y)) x) pool count ends))
+    (subst (λ (z : GroupTable). AreMembers (members_in q.pool) (slot_value z.pool) q.starts q.ends) (sym notes)
+    (members-over b.tasks.pool q.pool h e t b.groups b.tasks.starts b.tasks.ends q.starts q.ends k.members g
+    (ap (λ (y : TaskState). is_none (end_of y)) x) pool count ends))
   where
     move : Put (seen_in b.tasks.pool) h None (seen_in q.pool)
     move = subst (λ (p : Slots Task). Put (seen_in b.tasks.pool) h None (seen_in p)) (sym pool) (put-ended b.tasks.pool h e b.tasks.ends t g)

@@ -33,9 +33,11 @@ module _ {A B : Type 0} (f : A → B) where
   mapped-new (suc count) = ap (λ (xs : List (Slot B)). free_slot 1 ∷ xs) (mapped-new count)
 
   -- a count of slots, and the same of the mapped ones
-  fold-mapped : (t : Slot B → Bool) (u : Slot A → Bool) → ((s : Slot A) → t (mapped_slot f s) ≡ u s) → (slots : List (Slot A)) (n : ℕ) → fold (λ a x. a + cond (t x) 1 0) n (map (mapped_slot f) slots) ≡ fold (λ a x. a + cond (u x) 1 0) n slots
+  fold-mapped : (t : Slot B → Bool) (u : Slot A → Bool) → ((s : Slot A) → t (mapped_slot f s) ≡ u s) → (slots : List (Slot A)) (n : ℕ)
+      → fold (λ a x. a + cond (t x) 1 0) n (map (mapped_slot f) slots) ≡ fold (λ a x. a + cond (u x) 1 0) n slots
   fold-mapped t u same [] n = refl
-  fold-mapped t u same (s ∷ ss) n = ap (λ (b : Bool). fold (λ a x. a + cond (t x) 1 0) (n + cond b 1 0) (map (mapped_slot f) ss)) (same s) ∙ fold-mapped t u same ss (n + cond (u s) 1 0)
+  fold-mapped t u same (s ∷ ss) n = ap (λ (b : Bool). fold (λ a x. a + cond (t x) 1 0) (n + cond b 1 0) (map (mapped_slot f) ss)) (same s)
+      ∙ fold-mapped t u same ss (n + cond (u s) 1 0)
 
   is_live-mapped : (s : Slot A) → is_live (mapped_slot f s) ≡ is_live s
   is_live-mapped s = grind (arith, nat_tests)
@@ -50,7 +52,10 @@ module _ {A B : Type 0} (f : A → B) where
 
 -- values that the mapping doesn't tell apart
 module _ {A B : Type 0} (b : B) where
-  pub mapped-same : (p : Slots A) (h : ℕ) (v : A) → slice_get p.slots (slot_of h) ≡ Some (used_slot (generation_of h) v) → (w : A) → mapped (λ _. b) (with_value p h w) ≡ mapped (λ _. b) p
+  pub mapped-same : (p : Slots A) (h : ℕ) (v : A) → slice_get p.slots (slot_of h) ≡ Some (used_slot (generation_of h) v) → (w : A)
+      → mapped (λ _. b) (with_value p h w) ≡ mapped (λ _. b) p
   mapped-same p h v used w =
       mapped-with_value (λ _. b) p h w
-      ∙ ap (λ (slots : List (Slot B)). record { generations = p.generations; slots = slots }) (set-same (map (mapped_slot (λ _. b)) p.slots) (slot_of h) (used_slot (generation_of h) b) (slice_get-map (mapped_slot (λ _. b)) p.slots (slot_of h) ∙ ap (option_map (mapped_slot (λ _. b))) used))
+      ∙ ap (λ (slots : List (Slot B)). record { generations = p.generations; slots = slots })
+      (set-same (map (mapped_slot (λ _. b)) p.slots) (slot_of h) (used_slot (generation_of h) b) (slice_get-map (mapped_slot (λ _. b)) p.slots (slot_of h)
+      ∙ ap (option_map (mapped_slot (λ _. b))) used))

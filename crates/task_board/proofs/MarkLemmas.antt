@@ -1,17 +1,8 @@
 -- Marks that are right, and what they tell.
-use Rattle.task_board.proofs.Names.{◌≡◌, ℕ, zero, suc, ◌<◌, Bool, true, bit_and, List, [], ◌∷◌, Option, Some, set, slice_get, refl, sym, ◌∙◌, ap, subst, inl, inr, arith, ◌&&◌, ◌==◌, false≢true, cases_Bool, nat_tests, bit_at_and, bit_at-lt, holds, in_mask, Slots, slot_of, slot_value, used_at, SomeLive, Mark, is_for, is_for_at, HasNoneFor, IsFirst, Action, Passes, runs_job_on, Covers, Chooses, Cores, Task, is_unstarted, HeldQueue, Takeable, NoneTakeable, NoneBetter, IsBest, seen, seen_in, begins_in, IsMarkOf, Marked}
+use Rattle.task_board.proofs.Names.{◌≡◌, ℕ, zero, suc, ◌<◌, Bool, true, bit_and, List, [], ◌∷◌, Option, Some, set, slice_get, refl, sym, ◌∙◌, ap, subst, inl, inr, arith, ◌==◌, false≢true, cases_Bool, nat_tests, bit_at_and, bit_at-lt, holds, in_mask, Slots, slot_of, slot_value, used_at, SomeLive, Mark, is_for, is_for_at, HasNoneFor, IsFirst, Action, Passes, runs_job_on, Covers, Chooses, Cores, Task, is_unstarted, HeldQueue, Takeable, NoneTakeable, NoneBetter, IsBest, seen, seen_in, begins_in, IsMarkOf, Marked, and_from, and_parts}
 use Rattle.mtapi_values.specs.declared.masks.Mask.{Mask}
 use Rattle.task_board.specs.declared.scheduler.Choice.{Choice}
 use Rattle.task_board.proofs.SeenLemmas.{some_same, seen-as, unstarted-seen, takes-to}
-
-pub and_left : (a b : Bool) → (a && b) ≡ true → a ≡ true
-and_left a b e1 = grind (arith, nat_tests)
-
-pub and_right : (a b : Bool) → (a && b) ≡ true → b ≡ true
-and_right a b e1 = grind (arith, nat_tests)
-
-pub and_both : (a b : Bool) → a ≡ true → b ≡ true → (a && b) ≡ true
-and_both a b x y = λ i. x i && y i
 
 in_mask-both : (w a b : ℕ) → in_mask w a ≡ true → in_mask w b ≡ true → in_mask w (bit_and a b) ≡ true
 in_mask-both w a b x y = grind (arith, nat_tests, bit_at_and a b w, bit_at-lt a w, bit_at-lt b w)
@@ -33,13 +24,14 @@ pub number-same : (a b : ℕ) → a ≡ b → (a == b) ≡ true
 number-same a b e = grind (arith, nat_tests)
 
 -- the mark of a task that is scheduled and may begin: its priority, and the cores in its mask that its job's actions cover
-pub mark-right : (actions : Slots Action) (lets : Option ℕ → Bool) (t : Task) (mask : Mask) (m : Mark) → is_unstarted t ≡ true → lets t.queue ≡ true → Covers actions t.job (Cores mask) → m.priority ≡ t.priority → m.mask.0 ≡ bit_and mask.0 t.cores → IsMarkOf actions lets (seen (Some t)) (Some m)
+pub mark-right : (actions : Slots Action) (lets : Option ℕ → Bool) (t : Task) (mask : Mask) (m : Mark) → is_unstarted t ≡ true → lets t.queue ≡ true
+    → Covers actions t.job (Cores mask) → m.priority ≡ t.priority → m.mask.0 ≡ bit_and mask.0 t.cores → IsMarkOf actions lets (seen (Some t)) (Some m)
 mark-right actions lets t mask m u q c priority cores = record {
   sound = λ w p e.
       let s = unstarted-seen t t.state u in
       let a = seen-as t t.state s.0 s.1 in
-      let in_m = ap (in_mask w) (sym cores) ∙ and_left (in_mask w m.mask.0) (p == m.priority) e in
-      let at = same-number p m.priority (and_right (in_mask w m.mask.0) (p == m.priority) e) in
+      let in_m = ap (in_mask w) (sym cores) ∙ (and_parts (in_mask w m.mask.0) (p == m.priority) e).0 in
+      let at = same-number p m.priority (and_parts (in_mask w m.mask.0) (p == m.priority) e).1 in
       let run = c.1.covered w (in_mask-left w mask.0 t.cores in_m) in (
         s.0,
         s.1,
@@ -54,7 +46,8 @@ mark-right actions lets t mask m u q c priority cores = record {
   whole = λ w s e k.
       let a = seen-as t t.state s e in
       let core = ap (in_mask w) (sym a.cores) ∙ k.core in
-      and_both _ _ (ap (in_mask w) cores ∙ in_mask-both w mask.0 t.cores (covers w (k.action.0, k.action.1, k.action.2, ap (λ (j : ℕ). runs_job_on j w k.action.1) (sym a.job) ∙ k.action.3)) core)
+      and_from _ _ (ap (in_mask w) cores ∙ in_mask-both w mask.0 t.cores
+      (covers w (k.action.0, k.action.1, k.action.2, ap (λ (j : ℕ). runs_job_on j w k.action.1) (sym a.job) ∙ k.action.3)) core)
       (number-same s.priority m.priority (a.priority ∙ sym priority));
 }
   where
@@ -69,7 +62,8 @@ mark-right actions lets t mask m u q c priority cores = record {
 for-some : (w p : ℕ) (o : Option Mark) → is_for_at w p o ≡ true → is_for w o ≡ true
 for-some w p o e1 = grind (arith, nat_tests)
 
-module _ (actions : Slots Action) (p : Slots Task) (queues : Slots HeldQueue) (marks : List (Option Mark)) (m : Marked actions (begins_in queues) (seen_in p) marks) (w : ℕ) where
+module _ (actions : Slots Action) (p : Slots Task) (queues : Slots HeldQueue) (marks : List (Option Mark))
+    (m : Marked actions (begins_in queues) (seen_in p) marks) (w : ℕ) where
   pub best-none : HasNoneFor w marks → NoneTakeable actions p queues w
   best-none none h t g k =
       let s = takes-to actions (begins_in queues h) w t k in
@@ -93,7 +87,8 @@ module _ (actions : Slots Action) (p : Slots Task) (queues : Slots HeldQueue) (m
   first-at priority place e1 = grind (arith, nat_tests)
 
   -- the choice of this task, by an action that the table of actions chose
-  pub found-best : (priority place h : ℕ) (t : Task) (c : Choice) → IsFirst w priority place marks → used_at place (slice_get p.slots place) ≡ Some (h, t) → c.task.0 ≡ h → c.priority ≡ t.priority → Chooses actions t.job w (Some (c.action, c.kind)) → IsBest actions p queues w (Some c)
+  pub found-best : (priority place h : ℕ) (t : Task) (c : Choice) → IsFirst w priority place marks → used_at place (slice_get p.slots place) ≡ Some (h, t)
+      → c.task.0 ≡ h → c.priority ≡ t.priority → Chooses actions t.job w (Some (c.action, c.kind)) → IsBest actions p queues w (Some c)
   found-best priority place h t c f used task prio a =
       let x = first-at priority place f in
       let pair : ◌≡◌ {A = ℕ × Task} (x.h, x.t) (h, t) = some_same (sym x.used ∙ used) in
@@ -110,7 +105,8 @@ module _ (actions : Slots Action) (p : Slots Task) (queues : Slots HeldQueue) (m
           priority = sym prio;
           runs = record { unstarted = takes.3.unstarted; queue = takes.3.queue; core = takes.3.core; action = a.3 };
         },
-        subst (λ (q : ℕ). NoneBetter actions p queues w q) (sym (prio ∙ (ap (λ (y : Task). y.priority) (sym value) ∙ x.priority_is))) (none-better priority place f),
+        subst (λ (q : ℕ). NoneBetter actions p queues w q) (sym (prio ∙ (ap (λ (y : Task). y.priority) (sym value) ∙ x.priority_is)))
+            (none-better priority place f),
       )
 
 -- Lists written at a place

@@ -43,7 +43,8 @@ module _ {T : Type 0} where
   slot-insert p q h t i = record { here = get-insert_same p q h t i; others = λ k d. get-insert_other p q h k t i d }
 
   pub slot-changed : (p : Slots T) (h : ℕ) (f : T → T) (t : T) → slot_value p h ≡ Some t → Put (slot_value p) h (Some (f t)) (slot_value (changed p h f))
-  slot-changed p h f t g = subst (λ (o : Option T). Put (slot_value p) h (Some (f t)) (slot_value (put p h (option_map f o)))) (sym g) (slot-value p h t (f t) g)
+  slot-changed p h f t g = subst (λ (o : Option T). Put (slot_value p) h (Some (f t)) (slot_value (put p h (option_map f o)))) (sym g)
+      (slot-value p h t (f t) g)
 
 -- What is seen
 
@@ -56,17 +57,20 @@ put-without p h t g = put-by seen (slot_value p) _ h None (slot-without p h t g)
 pub put-insert : (p q : Slots Task) (h : ℕ) (t : Task) → Inserts p q h t → Put (seen_in p) h (seen (Some t)) (seen_in q)
 put-insert p q h t i = put-by seen (slot_value p) (slot_value q) h (Some t) (slot-insert p q h t i)
 
-pub put-ended : (p : Slots Task) (h : ℕ) (e : TaskEnd) (n : ℕ) (t : Task) → slot_value p h ≡ Some t → Put (seen_in p) h None (seen_in (ended_in p h e n (Some t)))
+pub put-ended : (p : Slots Task) (h : ℕ) (e : TaskEnd) (n : ℕ) (t : Task) → slot_value p h ≡ Some t
+    → Put (seen_in p) h None (seen_in (ended_in p h e n (Some t)))
 put-ended p h e n t g = by_test t.notes.detached
   where
     by_test : (b : Bool) → Put (seen_in p) h None (seen_in (cond b (without p h) (with_value p h (with_state (Ended e n) t))))
     by_test true = put-without p h t g
     by_test false = put-value p h t (with_state (Ended e n) t) g
 
-pub put-changed : (p : Slots Task) (h : ℕ) (f : Task → Task) (t : Task) → slot_value p h ≡ Some t → Put (seen_in p) h (seen (Some (f t))) (seen_in (changed p h f))
+pub put-changed : (p : Slots Task) (h : ℕ) (f : Task → Task) (t : Task) → slot_value p h ≡ Some t
+    → Put (seen_in p) h (seen (Some (f t))) (seen_in (changed p h f))
 put-changed p h f t g = put-by seen (slot_value p) _ h (Some (f t)) (slot-changed p h f t g)
 
-pub seen-changed : (p : Slots Task) (h : ℕ) (f : Task → Task) → ((t : Task) → seen (Some (f t)) ≡ seen (Some t)) → (k : ℕ) → seen_in (changed p h f) k ≡ seen_in p k
+pub seen-changed : (p : Slots Task) (h : ℕ) (f : Task → Task) → ((t : Task) → seen (Some (f t)) ≡ seen (Some t)) → (k : ℕ)
+    → seen_in (changed p h f) k ≡ seen_in p k
 seen-changed p h f same k = by_found (slot_value p h) refl
   where
     by_found : (o : Option Task) → slot_value p h ≡ o → seen_in (changed p h f) k ≡ seen_in p k
@@ -86,18 +90,23 @@ seen-asked w t = grind (arith, nat_tests)
 pub over-unseen : (t : Task) (x : TaskState) → t.state ≡ x → is_unended t ≡ false → seen (Some t) ≡ None
 over-unseen t x e1 e2 = grind (arith, nat_tests)
 
-pub seen-looked : (p : Slots Task) (h who : ℕ) (last : Bool) (o : Option Task) → slot_value p h ≡ o → (k : ℕ) → seen_in (looked_in p h who last o) k ≡ seen_in p k
+pub seen-looked : (p : Slots Task) (h who : ℕ) (last : Bool) (o : Option Task) → slot_value p h ≡ o → (k : ℕ)
+    → seen_in (looked_in p h who last o) k ≡ seen_in p k
 seen-looked p h who last None g k = refl
 seen-looked p h who last (Some t) g k = by_tests (is_some (first (task_look_refusals who t))) (is_unended t) refl
   where
-    by_tests : (a b : Bool) → is_unended t ≡ b → seen_in (cond a p (cond b (with_value p h (with_notes (with_waiter (waiter_after who last)) t)) (without p h))) k ≡ seen_in p k
+    by_tests : (a b : Bool) → is_unended t ≡ b
+        → seen_in (cond a p (cond b (with_value p h (with_notes (with_waiter (waiter_after who last)) t)) (without p h))) k ≡ seen_in p k
     by_tests true b e = refl
-    by_tests false true e = put-same (seen_in p) _ h _ (put-value p h t (with_notes (with_waiter (waiter_after who last)) t) g) (seen-noted (with_waiter (waiter_after who last)) t ∙ ap seen (sym g)) k
+    by_tests false true e = put-same (seen_in p) _ h _ (put-value p h t (with_notes (with_waiter (waiter_after who last)) t) g)
+        (seen-noted (with_waiter (waiter_after who last)) t ∙ ap seen (sym g)) k
     by_tests false false e = put-same (seen_in p) _ h None (put-without p h t g) (sym (over-unseen t t.state refl e) ∙ ap seen (sym g)) k
 
 -- A move of which nothing is seen, with other groups, and with the same
 
-pub regrouped : (b : SchedulerTable) (q : TaskTable) (groups : GroupTable) → ((k : ℕ) → seen_in q.pool k ≡ seen_in b.tasks.pool k) → max_of q.pool ≡ max_of b.tasks.pool → q.starts ≡ b.tasks.starts → groups.tasks ≡ b.groups.tasks → AreMembers (members_in q.pool) (slot_value groups.pool) q.starts q.ends → IsScheduler b → IsScheduler (record b { tasks = q; groups = groups })
+pub regrouped : (b : SchedulerTable) (q : TaskTable) (groups : GroupTable) → ((k : ℕ) → seen_in q.pool k ≡ seen_in b.tasks.pool k)
+    → max_of q.pool ≡ max_of b.tasks.pool → q.starts ≡ b.tasks.starts → groups.tasks ≡ b.groups.tasks
+    → AreMembers (members_in q.pool) (slot_value groups.pool) q.starts q.ends → IsScheduler b → IsScheduler (record b { tasks = q; groups = groups })
 regrouped b q groups same max count sizes members k = record {
   members = members;
   task_slots = sizes ∙ k.task_slots ∙ sym max;
@@ -121,7 +130,9 @@ regrouped b q groups same max count sizes members k = record {
     all : seen_in b.tasks.pool ≡ seen_in q.pool
     all = sym (λ i h. same h i)
 
-pub quiet : (b : SchedulerTable) (q : TaskTable) → ((k : ℕ) → seen_in q.pool k ≡ seen_in b.tasks.pool k) → max_of q.pool ≡ max_of b.tasks.pool → q.starts ≡ b.tasks.starts → AreMembers (members_in q.pool) (slot_value b.groups.pool) q.starts q.ends → IsScheduler b → IsScheduler (record b { tasks = q })
+pub quiet : (b : SchedulerTable) (q : TaskTable) → ((k : ℕ) → seen_in q.pool k ≡ seen_in b.tasks.pool k) → max_of q.pool ≡ max_of b.tasks.pool
+    → q.starts ≡ b.tasks.starts → AreMembers (members_in q.pool) (slot_value b.groups.pool) q.starts q.ends → IsScheduler b
+    → IsScheduler (record b { tasks = q })
 quiet b q same max count members k = regrouped b q b.groups same max count refl members k
 
 -- One handle a slot
@@ -136,7 +147,8 @@ alone p h k s u e1 e2 e3 = grind (arith, nat_tests)
 unfoldable pub Alone : (ℕ → Option Seen) → ℕ → Type 0
 Alone after h = (k : ℕ) (s : Seen) → slot_of k ≡ slot_of h → after k ≡ Some s → k ≡ h
 
-pub alone-old : (p : Slots Task) (h : ℕ) (t : Task) (x : Option Seen) (after : ℕ → Option Seen) → slot_value p h ≡ Some t → Put (seen_in p) h x after → Alone after h
+pub alone-old : (p : Slots Task) (h : ℕ) (t : Task) (x : Option Seen) (after : ℕ → Option Seen) → slot_value p h ≡ Some t → Put (seen_in p) h x after
+    → Alone after h
 unfolding Alone
 alone-old p h t x after e1 e2 = grind (arith, nat_tests)
 
@@ -156,19 +168,26 @@ mark-away marks place other m d = get_or-set_other marks place other m None d
 unfoldable pub Steady : (ℕ → Option ℕ → Bool) → (ℕ → Option ℕ → Bool) → (ℕ → Option Seen) → ℕ → Type 0
 Steady lets now at h = (k : ℕ) (s : Seen) → k ≢ h → at k ≡ Some s → s.on ≡ None → now k s.queue ≡ lets k s.queue
 
-pub marked-put : (actions : Slots Action) (lets now : ℕ → Option ℕ → Bool) (at after : ℕ → Option Seen) (h : ℕ) (x : Option Seen) (marks : List (Option Mark)) (m : Option Mark) → Put at h x after → Steady lets now at h → Alone after h → slot_of h < length marks → IsMarkOf actions (now h) x m → Marked actions lets at marks → Marked actions now after (set marks (slot_of h) m)
+pub marked-put : (actions : Slots Action) (lets now : ℕ → Option ℕ → Bool) (at after : ℕ
+    → Option Seen) (h : ℕ) (x : Option Seen) (marks : List (Option Mark)) (m : Option Mark) → Put at h x after → Steady lets now at h → Alone after h
+    → slot_of h < length marks → IsMarkOf actions (now h) x m → Marked actions lets at marks → Marked actions now after (set marks (slot_of h) m)
 unfolding Alone Steady
 marked-put actions lets now at after h x marks m e1 e2 e3 e4 e5 e6 = grind (arith, nat_tests, cases_eq, slot_of, is_for_at, mark-here, mark_at, mark-away)
 
 -- the queues let the same tasks begin
-pub marked-steady : (actions : Slots Action) (lets now : ℕ → Option ℕ → Bool) (at : ℕ → Option Seen) (marks : List (Option Mark)) → ((k : ℕ) (s : Seen) → at k ≡ Some s → s.on ≡ None → now k s.queue ≡ lets k s.queue) → Marked actions lets at marks → Marked actions now at marks
+pub marked-steady : (actions : Slots Action) (lets now : ℕ → Option ℕ → Bool) (at : ℕ → Option Seen) (marks : List (Option Mark))
+    → ((k : ℕ) (s : Seen) → at k ≡ Some s → s.on ≡ None → now k s.queue ≡ lets k s.queue) → Marked actions lets at marks → Marked actions now at marks
 marked-steady actions lets now at marks e1 e2 = grind (arith, nat_tests)
 
 -- the mark of one handle is made anew
-pub marked-again : (actions : Slots Action) (lets now : ℕ → Option ℕ → Bool) (at : ℕ → Option Seen) (h : ℕ) (marks : List (Option Mark)) (m : Option Mark) → Steady lets now at h → Alone at h → slot_of h < length marks → IsMarkOf actions (now h) (at h) m → Marked actions lets at marks → Marked actions now at (set marks (slot_of h) m)
-marked-again actions lets now at h marks m steady one less right old = marked-put actions lets now at at h (at h) marks m (record { here = refl; others = λ k d. refl }) steady one less right old
+pub marked-again : (actions : Slots Action) (lets now : ℕ → Option ℕ → Bool) (at : ℕ → Option Seen) (h : ℕ) (marks : List (Option Mark)) (m : Option Mark)
+    → Steady lets now at h → Alone at h → slot_of h < length marks → IsMarkOf actions (now h) (at h) m → Marked actions lets at marks
+    → Marked actions now at (set marks (slot_of h) m)
+marked-again actions lets now at h marks m steady one less right old =
+    marked-put actions lets now at at h (at h) marks m (record { here = refl; others = λ k d. refl }) steady one less right old
 
-pub ranked-put : (at after : ℕ → Option Seen) (h : ℕ) (x : Option Seen) (n : ℕ) → Put at h x after → ((s : Seen) → x ≡ Some s → s.priority < n) → AreRanked at n → AreRanked after n
+pub ranked-put : (at after : ℕ → Option Seen) (h : ℕ) (x : Option Seen) (n : ℕ) → Put at h x after → ((s : Seen) → x ≡ Some s → s.priority < n) → AreRanked at n
+    → AreRanked after n
 ranked-put at after h x n e1 e2 e3 = grind (arith, nat_tests)
 
 -- the waiting tasks
@@ -181,7 +200,9 @@ pub stands-handle : (place : ℕ) (hs : List ℕ) → stands_at place hs ≡ tru
 stands-handle place [] e = absurd (cc)
 stands-handle place (x ∷ hs) e = by_test (slot_of x == place) refl e (stands-handle place hs)
   where
-    by_test : (b : Bool) → (slot_of x == place) ≡ b → (b || stands_at place hs) ≡ true → (stands_at place hs ≡ true → (k : ℕ) × (has_handle k hs ≡ true) × (slot_of k ≡ place)) → (k : ℕ) × (has_handle k (x ∷ hs) ≡ true) × (slot_of k ≡ place)
+    by_test : (b : Bool) → (slot_of x == place) ≡ b → (b || stands_at place hs) ≡ true
+        → (stands_at place hs ≡ true → (k : ℕ) × (has_handle k hs ≡ true) × (slot_of k ≡ place))
+        → (k : ℕ) × (has_handle k (x ∷ hs) ≡ true) × (slot_of k ≡ place)
     by_test true is f rest = (x, has-self x hs, grind (arith, nat_tests))
     by_test false is f rest = let k = rest f in (k.0, or-right (x == k.0) _ k.1, k.2)
 
@@ -192,16 +213,22 @@ waiting-list at hs old = record { listed = old.listed; is_seen = old.waits; orde
 list-waiting : (at : ℕ → Option Seen) (hs : List ℕ) → ListsBy (λ s. s.start) (λ s. s.on ≡ None) at hs → AreWaiting at hs
 list-waiting at hs new = record { listed = new.listed; waits = new.is_seen; ordered = new.ordered }
 
-pub waiting-push : (at after : ℕ → Option Seen) (h : ℕ) (s : Seen) (hs : List ℕ) → Put at h (Some s) after → at h ≡ None → s.on ≡ None → ((k : ℕ) (u : Seen) → at k ≡ Some u → u.start < s.start) → AreWaiting at hs → AreWaiting after (hs ++ h ∷ [])
-waiting-push at after h s hs move none waits less old = list-waiting after _ (lists-push (λ s. s.start) (λ s. s.on ≡ None) at after h s hs move none waits less (waiting-list at hs old))
+pub waiting-push : (at after : ℕ → Option Seen) (h : ℕ) (s : Seen) (hs : List ℕ) → Put at h (Some s) after → at h ≡ None → s.on ≡ None
+    → ((k : ℕ) (u : Seen) → at k ≡ Some u → u.start < s.start) → AreWaiting at hs → AreWaiting after (hs ++ h ∷ [])
+waiting-push at after h s hs move none waits less old =
+    list-waiting after _ (lists-push (λ s. s.start) (λ s. s.on ≡ None) at after h s hs move none waits less (waiting-list at hs old))
 
 -- the handle leaves the list
-pub waiting-leave : (at after : ℕ → Option Seen) (h : ℕ) (x : Option Seen) (hs : List ℕ) → Put at h x after → ((s : Seen) → x ≡ Some s → s.on ≡ None → ⊥) → AreWaiting at hs → AreWaiting after (without_handle h hs)
-waiting-leave at after h x hs move left old = list-waiting after _ (lists-leave (λ s. s.start) (λ s. s.on ≡ None) at after h x hs move left (waiting-list at hs old))
+pub waiting-leave : (at after : ℕ → Option Seen) (h : ℕ) (x : Option Seen) (hs : List ℕ) → Put at h x after → ((s : Seen) → x ≡ Some s → s.on ≡ None → ⊥)
+    → AreWaiting at hs → AreWaiting after (without_handle h hs)
+waiting-leave at after h x hs move left old =
+    list-waiting after _ (lists-leave (λ s. s.start) (λ s. s.on ≡ None) at after h x hs move left (waiting-list at hs old))
 
 -- a handle that wasn't in the list
-pub waiting-same : (at after : ℕ → Option Seen) (h : ℕ) (x : Option Seen) (hs : List ℕ) → Put at h x after → ((s : Seen) → at h ≡ Some s → s.on ≡ None → ⊥) → ((s : Seen) → x ≡ Some s → s.on ≡ None → ⊥) → AreWaiting at hs → AreWaiting after hs
-waiting-same at after h x hs move was is old = list-waiting after _ (lists-aside (λ s. s.start) (λ s. s.on ≡ None) at after h x hs move was is (waiting-list at hs old))
+pub waiting-same : (at after : ℕ → Option Seen) (h : ℕ) (x : Option Seen) (hs : List ℕ) → Put at h x after → ((s : Seen) → at h ≡ Some s → s.on ≡ None → ⊥)
+    → ((s : Seen) → x ≡ Some s → s.on ≡ None → ⊥) → AreWaiting at hs → AreWaiting after hs
+waiting-same at after h x hs move was is old =
+    list-waiting after _ (lists-aside (λ s. s.start) (λ s. s.on ≡ None) at after h x hs move was is (waiting-list at hs old))
 
 -- the running tasks
 
@@ -215,7 +242,9 @@ none-some : {A : Type 0} (o : Option A) (x : A) → is_some o ≡ false → o �
 none-some o x e1 e2 = grind (arith, nat_tests)
 
 -- a task begins on a worker that has none
-pub running-begin : (at after : ℕ → Option Seen) (h w : ℕ) (s : Seen) (r : List (Option TaskHandle)) → Put at h (Some s) after → s.on ≡ Some w → is_some (running_on r w) ≡ false → ((u : Seen) → at h ≡ Some u → u.on ≡ None) → w < length r → AreRunning at r → AreRunning after (set r w (Some (record { 0 = h })))
+pub running-begin : (at after : ℕ → Option Seen) (h w : ℕ) (s : Seen) (r : List (Option TaskHandle)) → Put at h (Some s) after → s.on ≡ Some w
+    → is_some (running_on r w) ≡ false → ((u : Seen) → at h ≡ Some u → u.on ≡ None) → w < length r → AreRunning at r
+    → AreRunning after (set r w (Some (record { 0 = h })))
 running-begin at after h w s r move on free waited less old = record {
   found = λ k v u e n. elim (cases_eq k h) [
     | inl here ↦
@@ -244,15 +273,18 @@ running-begin at after h w s r move on free waited less old = record {
     none-is-some (Some y) e f = cc
 
 -- the task that runs on a worker ends
-pub running-end : (at after : ℕ → Option Seen) (h w : ℕ) (s : Seen) (r : List (Option TaskHandle)) → Put at h None after → at h ≡ Some s → s.on ≡ Some w → w < length r → AreRunning at r → AreRunning after (set r w None)
+pub running-end : (at after : ℕ → Option Seen) (h w : ℕ) (s : Seen) (r : List (Option TaskHandle)) → Put at h None after → at h ≡ Some s → s.on ≡ Some w
+    → w < length r → AreRunning at r → AreRunning after (set r w None)
 running-end at after h w s r e1 e2 e3 e4 e5 = grind (arith, nat_tests, cases_eq, seat-away, some_same, running_on, seat-here)
 
 -- a task that doesn't run
-pub running-same : (at after : ℕ → Option Seen) (h : ℕ) (x : Option Seen) (r : List (Option TaskHandle)) → Put at h x after → ((s : Seen) (w : ℕ) → at h ≡ Some s → s.on ≡ Some w → ⊥) → ((s : Seen) (w : ℕ) → x ≡ Some s → s.on ≡ Some w → ⊥) → AreRunning at r → AreRunning after r
+pub running-same : (at after : ℕ → Option Seen) (h : ℕ) (x : Option Seen) (r : List (Option TaskHandle)) → Put at h x after
+    → ((s : Seen) (w : ℕ) → at h ≡ Some s → s.on ≡ Some w → ⊥) → ((s : Seen) (w : ℕ) → x ≡ Some s → s.on ≡ Some w → ⊥) → AreRunning at r → AreRunning after r
 running-same at after h x r e1 e2 e3 e4 = grind (arith, nat_tests)
 
 -- of two tasks of a list in order the one in front was started first
-pub order-index : (at : ℕ → Option Seen) (hs : List ℕ) (i j h k : ℕ) (s u : Seen) → InOrder at hs → i < j → slice_get hs i ≡ Some h → slice_get hs j ≡ Some k → at h ≡ Some s → at k ≡ Some u → s.start < u.start
+pub order-index : (at : ℕ → Option Seen) (hs : List ℕ) (i j h k : ℕ) (s u : Seen) → InOrder at hs → i < j → slice_get hs i ≡ Some h → slice_get hs j ≡ Some k
+    → at h ≡ Some s → at k ≡ Some u → s.start < u.start
 order-index at [] i j h k s u o less e f a b = absurd (cc)
 order-index at (x ∷ xs) zero zero h k s u o less e f a b = absurd (omega arith)
 order-index at (x ∷ xs) zero (suc j) h k s u o less e f a b = o.0 k s u (index-has k j xs f) (ap at (some_same e) ∙ a) b

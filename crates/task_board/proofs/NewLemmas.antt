@@ -10,15 +10,22 @@ none-at (suc n) zero = refl
 none-at (suc n) (suc i) = none-at n i
 
 unseen : (p : Slots Task) (max h : ℕ) → p.slots ≡ replicate max (free_slot 1) → seen_in p h ≡ None
-unseen p max h e = ap (λ (l : List (Slot Task)). seen (value_at (slice_get l (slot_of h)) (generation_of h))) e ∙ ap seen (get-fresh max (slot_of h) (generation_of h))
+unseen p max h e = ap (λ (l : List (Slot Task)). seen (value_at (slice_get l (slot_of h)) (generation_of h))) e
+    ∙ ap seen (get-fresh max (slot_of h) (generation_of h))
 
 no-some : {A : Type 0} (o : Option A) (x : A) → o ≡ None → o ≡ Some x → ⊥
 no-some o x e1 e2 = grind (arith, nat_tests)
 
 unmarked : (marks : List (Option Mark)) (max w p place : ℕ) → marks ≡ replicate max None → is_for_at w p (mark_at marks place) ≡ true → ⊥
-unmarked marks max w p place e f = false≢true (sym (ap (λ (l : List (Option Mark)). is_for_at w p (mark_at l place)) e ∙ ap (is_for_at w p) (none-at max place)) ∙ f)
+unmarked marks max w p place e f = false≢true (sym (ap (λ (l : List (Option Mark)). is_for_at w p (mark_at l place)) e ∙ ap (is_for_at w p) (none-at max place))
+    ∙ f)
 
-pub new-scheduler : (b : SchedulerTable) (max many : ℕ) → b.settings.workers ≤ 16 → b.ready ≡ record { workers = b.settings.workers; priorities = b.settings.priorities; marks = replicate max None } → b.tasks.pool.slots ≡ replicate max (free_slot 1) → b.waiting.places ≡ max → b.waiting.lists ≡ replicate 1 [] → 1 ≤ b.settings.actions → b.waiting.by_job ≡ replicate b.settings.actions [] → b.running ≡ replicate 25 None → b.queues.tasks ≡ max → b.queues.pool.slots ≡ replicate many (free_slot 1) → (count : ℕ) → b.groups.pool.slots ≡ replicate count (free_slot 1) → b.groups.tasks ≡ max → IsScheduler b
+pub new-scheduler : (b : SchedulerTable) (max many : ℕ) → b.settings.workers ≤ 16
+    → b.ready ≡ record { workers = b.settings.workers; priorities = b.settings.priorities; marks = replicate max None }
+    → b.tasks.pool.slots ≡ replicate max (free_slot 1) → b.waiting.places ≡ max → b.waiting.lists ≡ replicate 1 [] → 1 ≤ b.settings.actions
+    → b.waiting.by_job ≡ replicate b.settings.actions [] → b.running ≡ replicate 25 None → b.queues.tasks ≡ max
+    → b.queues.pool.slots ≡ replicate many (free_slot 1) → (count : ℕ) → b.groups.pool.slots ≡ replicate count (free_slot 1) → b.groups.tasks ≡ max
+    → IsScheduler b
 new-scheduler b max many few ready slots places lists some by_job running room queues count groups sizes = record {
   members = record {
     named = λ h e f. absurd (no-some _ e (no_member h) f);
@@ -49,11 +56,12 @@ new-scheduler b max many few ready slots places lists some by_job running room q
   by_job = record {
     some = subst (λ (n : ℕ). 1 ≤ n) (sym (ap length by_job ∙ length-replicate b.settings.actions [])) some;
     count = ap length by_job ∙ length-replicate b.settings.actions [];
-    each = λ r less. subst (λ (l : List ℕ). AreIn (waits_at (length b.waiting.by_job) r) (seen_in b.tasks.pool) l) (sym (ap (λ (l : List (List ℕ)). list_at l r) by_job ∙ empty b.settings.actions r)) (record {
-      listed = λ h s e n. absurd (no-some _ s (none h) e);
-      is_seen = λ h e. absurd (false≢true e);
-      ordered = tt;
-    });
+    each = λ r less. subst (λ (l : List ℕ). AreIn (waits_at (length b.waiting.by_job) r) (seen_in b.tasks.pool) l)
+        (sym (ap (λ (l : List (List ℕ)). list_at l r) by_job ∙ empty b.settings.actions r)) (record {
+          listed = λ h s e n. absurd (no-some _ s (none h) e);
+          is_seen = λ h e. absurd (false≢true e);
+          ordered = tt;
+        });
   };
   running_are = record {
     found = λ h w s e n. absurd (no-some _ s (none h) e);
@@ -81,7 +89,8 @@ new-scheduler b max many few ready slots places lists some by_job running room q
     none h = unseen b.tasks.pool max h slots
 
     no_member : (h : ℕ) → members_in b.tasks.pool h ≡ None
-    no_member h = ap (λ (l : List (Slot Task)). membership (value_at (slice_get l (slot_of h)) (generation_of h))) slots ∙ ap membership (get-fresh max (slot_of h) (generation_of h))
+    no_member h = ap (λ (l : List (Slot Task)). membership (value_at (slice_get l (slot_of h)) (generation_of h))) slots
+        ∙ ap membership (get-fresh max (slot_of h) (generation_of h))
 
     no_group : (g : ℕ) → slot_value b.groups.pool g ≡ None
     no_group g = ap (λ (l : List (Slot Members)). value_at (slice_get l (slot_of g)) (generation_of g)) groups ∙ get-fresh count (slot_of g) (generation_of g)

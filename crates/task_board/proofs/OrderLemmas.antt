@@ -14,7 +14,8 @@ at-middle h (x ∷ kept) rest = at-middle h kept rest
 
 pub past-middle : (h : ℕ) (kept rest : List ℕ) → slice_get (kept ++ h ∷ rest) (length kept + 1) ≡ slice_get rest 0
 past-middle h [] rest = refl
-past-middle h (x ∷ kept) rest = let same : suc (length kept) + 1 ≡ suc (length kept + 1) = omega arith in ap (slice_get (x ∷ kept ++ h ∷ rest)) same ∙ past-middle h kept rest
+past-middle h (x ∷ kept) rest = let same : suc (length kept) + 1 ≡ suc (length kept + 1) = omega arith in
+    ap (slice_get (x ∷ kept ++ h ∷ rest)) same ∙ past-middle h kept rest
 
 pub append-middle : (h : ℕ) (kept rest : List ℕ) → kept ++ h ∷ rest ≡ (kept ++ h ∷ []) ++ rest
 append-middle h [] rest = refl

@@ -1,7 +1,7 @@
 -- What each move of the tasks and of the queues keeps of the lists of the queues.
-use Rattle.task_board.proofs.Names.{nat_tests, ListsBy, ◌≡◌, ◌≢◌, ℕ, ◌<◌, Bool, true, false, List, [], ◌∷◌, ◌++◌, Option, Some, None, refl, sym, ◌∙◌, ap, subst, inl, inr, arith, slice_get, false≢true, cases_eq, cases_Bool, holds, Slots, slot_value, Inserts, without, changed, has_handle, without_handle, HeldQueue, held, with_task, without_task, with_opened, Queue, Seen, InOrder, begins_in, WasGiven, AreQueued}
+use Rattle.task_board.proofs.Names.{nat_tests, ListsBy, ◌≡◌, ◌≢◌, ℕ, ◌<◌, Bool, true, false, List, [], ◌∷◌, ◌++◌, Option, Some, None, refl, sym, ◌∙◌, ap, subst, inl, inr, arith, slice_get, false≢true, cases_eq, cases_Bool, holds, Slots, slot_value, Inserts, without, changed, has_handle, without_handle, HeldQueue, held, with_task, without_task, with_opened, Queue, Seen, InOrder, begins_in, WasGiven, AreQueued, none-some}
 use Rattle.queue_ready.specs.Ready.{is_first, may_begin}
-use Rattle.task_board.proofs.SeenLemmas.{none-some, some_same}
+use Rattle.task_board.proofs.SeenLemmas.{some_same}
 use Rattle.task_board.proofs.KeyedLemmas.{Put, rises-as, rises-same, lists-push, lists-leave}
 use Rattle.task_board.proofs.GivenLemmas.{PutQueue, put-queue_changed, put-queue_insert, put-queue_without, given-live, given-changed, given-insert, given-new, given-without}
 
@@ -9,10 +9,14 @@ use Rattle.task_board.proofs.GivenLemmas.{PutQueue, put-queue_changed, put-queue
 
 -- what is seen of the task names the queue as its list says
 pub record NamesAs (at : ℕ → Option Seen) (h : ℕ) (x : Option Seen) (q : ℕ) (y : HeldQueue) : Type 0 where
-  pub there : has_handle h y.tasks ≡ true → (s : Seen) × (x ≡ Some s) × (s.queue ≡ Some q) × (s.job ≡ y.queue.job) × ((u : Seen) → at h ≡ Some u → u.start ≡ s.start)
+  pub there : has_handle h y.tasks ≡ true
+      → (s : Seen) × (x ≡ Some s) × (s.queue ≡ Some q) × (s.job ≡ y.queue.job) × ((u : Seen) → at h ≡ Some u → u.start ≡ s.start)
   pub back : (s : Seen) → x ≡ Some s → s.queue ≡ Some q → has_handle h y.tasks ≡ true
 
-pub queued-put : (at after : ℕ → Option Seen) (h : ℕ) (x : Option Seen) (queues : Slots HeldQueue) (n : ℕ) → Put at h x after → ((q : ℕ) (y : HeldQueue) → slot_value queues q ≡ Some y → NamesAs at h x q y) → ((q : ℕ) (s : Seen) → x ≡ Some s → s.on ≡ None → s.queue ≡ Some q → (y : HeldQueue) × (slot_value queues q ≡ Some y)) → ((q : ℕ) (s : Seen) → x ≡ Some s → s.queue ≡ Some q → WasGiven queues q) → AreQueued at queues n → AreQueued after queues n
+pub queued-put : (at after : ℕ → Option Seen) (h : ℕ) (x : Option Seen) (queues : Slots HeldQueue) (n : ℕ) → Put at h x after
+    → ((q : ℕ) (y : HeldQueue) → slot_value queues q ≡ Some y → NamesAs at h x q y)
+    → ((q : ℕ) (s : Seen) → x ≡ Some s → s.on ≡ None → s.queue ≡ Some q → (y : HeldQueue) × (slot_value queues q ≡ Some y))
+    → ((q : ℕ) (s : Seen) → x ≡ Some s → s.queue ≡ Some q → WasGiven queues q) → AreQueued at queues n → AreQueued after queues n
 queued-put at after h x queues n move same live given old = record {
   listed = λ k q s y e f g. elim (cases_eq k h) [
     | inl here ↦ ap (λ (z : ℕ). has_handle z y.tasks) here ∙ (same q y g).back s (sym move.here ∙ ap after (sym here) ∙ e) f
@@ -43,50 +47,62 @@ queued-put at after h x queues n move same live given old = record {
 }
 
 -- a task of no queue starts
-pub queued-apart : (at after : ℕ → Option Seen) (h : ℕ) (s : Seen) (queues : Slots HeldQueue) (n : ℕ) → Put at h (Some s) after → at h ≡ None → s.queue ≡ None → AreQueued at queues n → AreQueued after queues n
+pub queued-apart : (at after : ℕ → Option Seen) (h : ℕ) (s : Seen) (queues : Slots HeldQueue) (n : ℕ) → Put at h (Some s) after → at h ≡ None → s.queue ≡ None
+    → AreQueued at queues n → AreQueued after queues n
 queued-apart at after h s queues n move none apart old =
     queued-put at after h (Some s) queues n move
     (λ q y g. record {
-      there = λ e. let u = old.names h q y g e in none-some (sym none ∙ u.1);
-      back = λ u e f. none-some (sym apart ∙ ap (λ (z : Seen). z.queue) (some_same e) ∙ f);
+      there = λ e. let u = old.names h q y g e in absurd (none-some _ (sym none ∙ u.1));
+      back = λ u e f. absurd (none-some _ (sym apart ∙ ap (λ (z : Seen). z.queue) (some_same e) ∙ f));
     })
-    (λ q u e o f. none-some (sym apart ∙ ap (λ (z : Seen). z.queue) (some_same e) ∙ f))
-    (λ q u e f. none-some (sym apart ∙ ap (λ (z : Seen). z.queue) (some_same e) ∙ f)) old
+    (λ q u e o f. absurd (none-some _ (sym apart ∙ ap (λ (z : Seen). z.queue) (some_same e) ∙ f)))
+    (λ q u e f. absurd (none-some _ (sym apart ∙ ap (λ (z : Seen). z.queue) (some_same e) ∙ f))) old
 
 -- a task begins to run
-pub queued-run : (at after : ℕ → Option Seen) (h w : ℕ) (was s : Seen) (queues : Slots HeldQueue) (n : ℕ) → Put at h (Some s) after → at h ≡ Some was → was.queue ≡ s.queue → was.job ≡ s.job → was.start ≡ s.start → s.on ≡ Some w → AreQueued at queues n → AreQueued after queues n
+pub queued-run : (at after : ℕ → Option Seen) (h w : ℕ) (was s : Seen) (queues : Slots HeldQueue) (n : ℕ) → Put at h (Some s) after → at h ≡ Some was
+    → was.queue ≡ s.queue → was.job ≡ s.job → was.start ≡ s.start → s.on ≡ Some w → AreQueued at queues n → AreQueued after queues n
 queued-run at after h w was s queues n move seen queue job start on old =
     queued-put at after h (Some s) queues n move
     (λ q y g. record {
       there = λ e.
           let u = old.names h q y g e in
-          let same : was ≡ u.0 = some_same (sym seen ∙ u.1) in
-          (s, refl, sym queue ∙ ap (λ (z : Seen). z.queue) same ∙ u.2, sym job ∙ ap (λ (z : Seen). z.job) same ∙ u.3, λ v e. ap (λ (z : Seen). z.start) (some_same (sym e ∙ seen)) ∙ start);
+          let same : was ≡ u.0 = some_same (sym seen ∙ u.1) in (
+            s,
+            refl,
+            sym queue ∙ ap (λ (z : Seen). z.queue) same ∙ u.2,
+            sym job ∙ ap (λ (z : Seen). z.job) same
+                ∙ u.3,
+            λ v e. ap (λ (z : Seen). z.start) (some_same (sym e ∙ seen)) ∙ start,
+          );
       back = λ u e f. old.listed h q was y seen (queue ∙ ap (λ (z : Seen). z.queue) (some_same e) ∙ f) g;
     })
-    (λ q u e o f. none-some (sym o ∙ ap (λ (z : Seen). z.on) (sym (some_same e)) ∙ on))
+    (λ q u e o f. absurd (none-some _ (sym o ∙ ap (λ (z : Seen). z.on) (sym (some_same e)) ∙ on)))
     (λ q u e f. old.given h q was seen (queue ∙ ap (λ (z : Seen). z.queue) (some_same e) ∙ f)) old
 
 -- a task ends that is in no live queue
-pub queued-out : (at after : ℕ → Option Seen) (h : ℕ) (queues : Slots HeldQueue) (n : ℕ) → Put at h None after → ((q : ℕ) (y : HeldQueue) → slot_value queues q ≡ Some y → has_handle h y.tasks ≡ true → ⊥) → AreQueued at queues n → AreQueued after queues n
+pub queued-out : (at after : ℕ → Option Seen) (h : ℕ) (queues : Slots HeldQueue) (n : ℕ) → Put at h None after
+    → ((q : ℕ) (y : HeldQueue) → slot_value queues q ≡ Some y → has_handle h y.tasks ≡ true → ⊥) → AreQueued at queues n → AreQueued after queues n
 queued-out at after h queues n move out old =
     queued-put at after h None queues n move
-    (λ q y g. record { there = λ e. absurd (out q y g e); back = λ u e f. none-some e })
-    (λ q u e o f. none-some e) (λ q u e f. none-some e) old
+    (λ q y g. record { there = λ e. absurd (out q y g e); back = λ u e f. absurd (none-some _ e) })
+    (λ q u e o f. absurd (none-some _ e)) (λ q u e f. absurd (none-some _ e)) old
 
 -- One task moves, and the list of its queue with it
 
 -- the list of a live queue
-list-in : (at : ℕ → Option Seen) (q : ℕ) (old : Slots HeldQueue) (n : ℕ) (v : HeldQueue) → AreQueued at old n → slot_value old q ≡ Some v → ListsBy (λ s. s.start) (λ s. s.queue ≡ Some q) at v.tasks
+list-in : (at : ℕ → Option Seen) (q : ℕ) (old : Slots HeldQueue) (n : ℕ) (v : HeldQueue) → AreQueued at old n → slot_value old q ≡ Some v
+    → ListsBy (λ s. s.start) (λ s. s.queue ≡ Some q) at v.tasks
 list-in at q old n v e1 e2 = grind (arith, nat_tests)
 
-of-job-in : (at : ℕ → Option Seen) (q : ℕ) (s : Seen) (old : Slots HeldQueue) (n : ℕ) (v : HeldQueue) (j : ℕ) → AreQueued at old n → slot_value old q ≡ Some v → at j ≡ Some s → s.queue ≡ Some q → s.job ≡ v.queue.job
+of-job-in : (at : ℕ → Option Seen) (q : ℕ) (s : Seen) (old : Slots HeldQueue) (n : ℕ) (v : HeldQueue) (j : ℕ) → AreQueued at old n → slot_value old q ≡ Some v
+    → at j ≡ Some s → s.queue ≡ Some q → s.job ≡ v.queue.job
 of-job-in at q s old n v j k was e f =
     let u = k.names j q v was (k.listed j q s v e f was) in
     ap (λ (z : Seen). z.job) (some_same (sym e ∙ u.1)) ∙ u.3
 
 -- the lists of all other queues, and what they say
-module _ (at after : ℕ → Option Seen) (h q : ℕ) (x : Option Seen) (old new : Slots HeldQueue) (n : ℕ) (v y : HeldQueue) (move : Put at h x after) (turn : PutQueue old q (Some y) new) (was : slot_value old q ≡ Some v) (same : y.queue ≡ v.queue) (k : AreQueued at old n) where
+module _ (at after : ℕ → Option Seen) (h q : ℕ) (x : Option Seen) (old new : Slots HeldQueue) (n : ℕ) (v y : HeldQueue) (move : Put at h x after)
+    (turn : PutQueue old q (Some y) new) (was : slot_value old q ≡ Some v) (same : y.queue ≡ v.queue) (k : AreQueued at old n) where
   -- the queue of another handle
   pub record Lists : Type 0 where
     pub list : ListsBy (λ s. s.start) (λ s. s.queue ≡ Some q) after y.tasks
@@ -126,13 +142,16 @@ module _ (at after : ℕ → Option Seen) (h q : ℕ) (x : Option Seen) (old new
       | inl here ↦ subst (λ (u : HeldQueue). InOrder after u.tasks) (some_same (sym turn.here ∙ ap (slot_value new) (sym here) ∙ g)) l.list.ordered
       | inr away ↦
           let there = sym (turn.others p away) ∙ g in
-          rises-same (λ s. s.start) at after z.tasks (λ j e. move.others j (λ too. false≢true (sym (l.apart p z away there) ∙ ap (λ (i : ℕ). has_handle i z.tasks) (sym too) ∙ e))) (k.ordered p z there)
+          rises-same (λ s. s.start) at after z.tasks
+          (λ j e. move.others j (λ too. false≢true (sym (l.apart p z away there) ∙ ap (λ (i : ℕ). has_handle i z.tasks) (sym too) ∙ e)))
+          (k.ordered p z there)
     ];
     live = λ j p s e o f. elim (cases_eq p q) [
       | inl here ↦ (_, ap (slot_value new) here ∙ turn.here)
       | inr away ↦ elim (cases_eq j h) [
         | inl too ↦ absurd (away (l.only s p (sym move.here ∙ ap after (sym too) ∙ e) f))
-        | inr other ↦ subst (λ (u : Option HeldQueue). (z : HeldQueue) × (u ≡ Some z)) (sym (turn.others p away)) (k.live j p s (sym (move.others j other) ∙ e) o f)
+        | inr other ↦ subst (λ (u : Option HeldQueue). (z : HeldQueue)
+            × (u ≡ Some z)) (sym (turn.others p away)) (k.live j p s (sym (move.others j other) ∙ e) o f)
       ]
     ];
     given = λ j p s e f. elim (cases_eq j h) [
@@ -148,9 +167,12 @@ module _ (at after : ℕ → Option Seen) (h q : ℕ) (x : Option Seen) (old new
   }
 
 -- a new task is put into a queue
-pub queued-enqueue : (at after : ℕ → Option Seen) (h q : ℕ) (s : Seen) (old : Slots HeldQueue) (n : ℕ) (v : HeldQueue) → Put at h (Some s) after → at h ≡ None → slot_value old q ≡ Some v → s.queue ≡ Some q → s.job ≡ v.queue.job → ((j : ℕ) (u : Seen) → at j ≡ Some u → u.start < s.start) → AreQueued at old n → AreQueued after (changed old q (with_task h)) n
+pub queued-enqueue : (at after : ℕ → Option Seen) (h q : ℕ) (s : Seen) (old : Slots HeldQueue) (n : ℕ) (v : HeldQueue) → Put at h (Some s) after → at h ≡ None
+    → slot_value old q ≡ Some v → s.queue ≡ Some q → s.job ≡ v.queue.job → ((j : ℕ) (u : Seen) → at j ≡ Some u → u.start < s.start) → AreQueued at old n
+    → AreQueued after (changed old q (with_task h)) n
 queued-enqueue at after h q s old n v move none was queue job last k =
-    queued-turn at after h q (Some s) old (changed old q (with_task h)) n v (with_task h v) move (put-queue_changed old q (with_task h) v was) was refl k (record {
+    queued-turn at after h q (Some s) old (changed old q (with_task h)) n v (with_task h v) move (put-queue_changed old q (with_task h) v was) was refl k
+    (record {
       list = lists-push (λ s. s.start) (λ s. s.queue ≡ Some q) at after h s v.tasks move none queue last (list-in at q old n v k was);
       job = λ u e. ap (λ (z : Seen). z.job) (sym (some_same e)) ∙ job;
       apart = λ p z away there. elim (cases_Bool (has_handle h z.tasks)) [
@@ -162,14 +184,16 @@ queued-enqueue at after h q s old n v move none was queue job last k =
     })
   where
     apart : (p : ℕ) (z : HeldQueue) → slot_value old p ≡ Some z → has_handle h z.tasks ≡ true → ⊥
-    apart p z there e = let u = k.names h p z there e in none-some (sym none ∙ u.1)
+    apart p z there e = let u = k.names h p z there e in absurd (none-some _ (sym none ∙ u.1))
 
 -- an ended task leaves its queue
-pub queued-leave : (at after : ℕ → Option Seen) (h q : ℕ) (s : Seen) (old : Slots HeldQueue) (n : ℕ) (v : HeldQueue) → Put at h None after → at h ≡ Some s → slot_value old q ≡ Some v → s.queue ≡ Some q → AreQueued at old n → AreQueued after (changed old q (without_task h)) n
+pub queued-leave : (at after : ℕ → Option Seen) (h q : ℕ) (s : Seen) (old : Slots HeldQueue) (n : ℕ) (v : HeldQueue) → Put at h None after → at h ≡ Some s
+    → slot_value old q ≡ Some v → s.queue ≡ Some q → AreQueued at old n → AreQueued after (changed old q (without_task h)) n
 queued-leave at after h q s old n v move seen was queue k =
-    queued-turn at after h q None old (changed old q (without_task h)) n v (without_task h v) move (put-queue_changed old q (without_task h) v was) was refl k (record {
-      list = lists-leave (λ s. s.start) (λ s. s.queue ≡ Some q) at after h None v.tasks move (λ u e f. none-some e) (list-in at q old n v k was);
-      job = λ u e. none-some e;
+    queued-turn at after h q None old (changed old q (without_task h)) n v (without_task h v) move (put-queue_changed old q (without_task h) v was) was refl k
+    (record {
+      list = lists-leave (λ s. s.start) (λ s. s.queue ≡ Some q) at after h None v.tasks move (λ u e f. absurd (none-some _ e)) (list-in at q old n v k was);
+      job = λ u e. absurd (none-some _ e);
       apart = λ p z away there. elim (cases_Bool (has_handle h z.tasks)) [
         | inl on ↦
             let u = k.names h p z there on in
@@ -177,13 +201,14 @@ queued-leave at after h q s old n v move seen was queue k =
             absurd (away (some_same (sym u.2 ∙ ap (λ (i : Seen). i.queue) (sym same) ∙ queue)))
         | inr off ↦ off
       ];
-      only = λ u p e f. none-some e;
+      only = λ u p e f. absurd (none-some _ e);
       given = λ p g. given-changed old q p (without_task h) v was g;
     })
 
 -- A queue changes, and no task does
 
-pub queued-with : (at : ℕ → Option Seen) (q : ℕ) (old : Slots HeldQueue) (n : ℕ) (v : HeldQueue) (on : Bool) → slot_value old q ≡ Some v → AreQueued at old n → AreQueued at (changed old q (with_opened on)) n
+pub queued-with : (at : ℕ → Option Seen) (q : ℕ) (old : Slots HeldQueue) (n : ℕ) (v : HeldQueue) (on : Bool) → slot_value old q ≡ Some v → AreQueued at old n
+    → AreQueued at (changed old q (with_opened on)) n
 queued-with at q old n v on was k = record {
   listed = λ j p s z e f g. elim (cases_eq p q) [
     | inl here ↦ ap (λ (u : HeldQueue). has_handle j u.tasks) (sym (is p z here g)) ∙ k.listed j q s v e (f ∙ ap Some here) was
@@ -216,7 +241,8 @@ queued-with at q old n v on was k = record {
     is : (p : ℕ) (z : HeldQueue) → p ≡ q → slot_value (changed old q (with_opened on)) p ≡ Some z → with_opened on v ≡ z
     is p z here g = some_same (sym turn.here ∙ ap (slot_value (changed old q (with_opened on))) (sym here) ∙ g)
 
-pub queued-new : (at : ℕ → Option Seen) (q : ℕ) (old new : Slots HeldQueue) (n : ℕ) (r : Queue) → Inserts old new q (held r []) → r.priority < n → AreQueued at old n → AreQueued at new n
+pub queued-new : (at : ℕ → Option Seen) (q : ℕ) (old new : Slots HeldQueue) (n : ℕ) (r : Queue) → Inserts old new q (held r []) → r.priority < n
+    → AreQueued at old n → AreQueued at new n
 queued-new at q old new n r i rank k = record {
   listed = λ j p s z e f g. elim (cases_eq p q) [
     | inl here ↦ absurd (given-new old new q (held r []) i (subst (λ (u : ℕ). WasGiven old u) here (k.given j p s e f)))
@@ -248,7 +274,8 @@ queued-new at q old new n r i rank k = record {
     is p z here g = some_same (sym turn.here ∙ ap (slot_value new) (sym here) ∙ g)
 
 -- a queue goes whose tasks that haven't ended all run
-pub queued-gone : (at : ℕ → Option Seen) (q : ℕ) (old : Slots HeldQueue) (n : ℕ) (v : HeldQueue) → slot_value old q ≡ Some v → ((h : ℕ) (s : Seen) → at h ≡ Some s → s.on ≡ None → s.queue ≡ Some q → ⊥) → AreQueued at old n → AreQueued at (without old q) n
+pub queued-gone : (at : ℕ → Option Seen) (q : ℕ) (old : Slots HeldQueue) (n : ℕ) (v : HeldQueue) → slot_value old q ≡ Some v
+    → ((h : ℕ) (s : Seen) → at h ≡ Some s → s.on ≡ None → s.queue ≡ Some q → ⊥) → AreQueued at old n → AreQueued at (without old q) n
 queued-gone at q old n v was none k = record {
   listed = λ j p s z e f g. k.listed j p s z e f (there p z g);
   names = λ j p z g e. k.names j p z (there p z g) e;
@@ -266,7 +293,7 @@ queued-gone at q old n v was none k = record {
 
     there : (p : ℕ) (z : HeldQueue) → slot_value (without old q) p ≡ Some z → slot_value old p ≡ Some z
     there p z g = elim (cases_eq p q) [
-      | inl here ↦ none-some (sym turn.here ∙ ap (slot_value (without old q)) (sym here) ∙ g)
+      | inl here ↦ absurd (none-some _ (sym turn.here ∙ ap (slot_value (without old q)) (sym here) ∙ g))
       | inr away ↦ sym (turn.others p away) ∙ g
     ]
 
@@ -277,31 +304,37 @@ pub begins-same : (old new : Slots HeldQueue) (h q : ℕ) → slot_value new q �
 begins-same old new h q e = ap (λ (o : Option HeldQueue). holds (λ (x : HeldQueue). may_begin h x.queue x.tasks) o) e
 
 -- the list of the queue has changed, but it has the same first task, or another one than this before and after
-begins-list : (old new : Slots HeldQueue) (h q : ℕ) (v y : HeldQueue) → slot_value old q ≡ Some v → slot_value new q ≡ Some y → y.queue ≡ v.queue → is_first h y.tasks ≡ is_first h v.tasks → begins_in new h (Some q) ≡ begins_in old h (Some q)
+begins-list : (old new : Slots HeldQueue) (h q : ℕ) (v y : HeldQueue) → slot_value old q ≡ Some v → slot_value new q ≡ Some y → y.queue ≡ v.queue
+    → is_first h y.tasks ≡ is_first h v.tasks → begins_in new h (Some q) ≡ begins_in old h (Some q)
 begins-list old new h q v y e1 e2 e3 e4 = grind (arith, nat_tests)
 
 first-push : (h k : ℕ) (hs : List ℕ) → k ≢ h → is_first k (hs ++ h ∷ []) ≡ is_first k hs
 first-push h k [] d = grind (arith, nat_tests)
 first-push h k (a ∷ hs) d = refl
 
-first-leave : (h k : ℕ) (hs : List ℕ) → k ≢ h → ((j : ℕ) → slice_get (without_handle h hs) 0 ≡ Some j → k ≢ j) → is_first k (without_handle h hs) ≡ is_first k hs
+first-leave : (h k : ℕ) (hs : List ℕ) → k ≢ h → ((j : ℕ) → slice_get (without_handle h hs) 0 ≡ Some j → k ≢ j)
+    → is_first k (without_handle h hs) ≡ is_first k hs
 first-leave h k [] d e = refl
 first-leave h k (a ∷ hs) d e = grind (arith, nat_tests)
 
-pub begins-enqueue : (old : Slots HeldQueue) (h q k p : ℕ) (v : HeldQueue) → slot_value old q ≡ Some v → k ≢ h → begins_in (changed old q (with_task h)) k (Some p) ≡ begins_in old k (Some p)
+pub begins-enqueue : (old : Slots HeldQueue) (h q k p : ℕ) (v : HeldQueue) → slot_value old q ≡ Some v → k ≢ h
+    → begins_in (changed old q (with_task h)) k (Some p) ≡ begins_in old k (Some p)
 begins-enqueue old h q k p v was d = elim (cases_eq p q) [
   | inl here ↦
       ap (λ (i : ℕ). begins_in (changed old q (with_task h)) k (Some i)) here
-      ∙ begins-list old (changed old q (with_task h)) k q v (with_task h v) was (put-queue_changed old q (with_task h) v was).here refl (first-push h k v.tasks d)
+      ∙ begins-list old (changed old q (with_task h)) k q v (with_task h v) was (put-queue_changed old q (with_task h) v was).here refl
+      (first-push h k v.tasks d)
       ∙ ap (λ (i : ℕ). begins_in old k (Some i)) (sym here)
   | inr away ↦ begins-same old (changed old q (with_task h)) k p ((put-queue_changed old q (with_task h) v was).others p away)
 ]
 
-pub begins-leave : (old : Slots HeldQueue) (h q k p : ℕ) (v : HeldQueue) → slot_value old q ≡ Some v → k ≢ h → ((j : ℕ) → slice_get (without_handle h v.tasks) 0 ≡ Some j → k ≢ j) → begins_in (changed old q (without_task h)) k (Some p) ≡ begins_in old k (Some p)
+pub begins-leave : (old : Slots HeldQueue) (h q k p : ℕ) (v : HeldQueue) → slot_value old q ≡ Some v → k ≢ h
+    → ((j : ℕ) → slice_get (without_handle h v.tasks) 0 ≡ Some j → k ≢ j) → begins_in (changed old q (without_task h)) k (Some p) ≡ begins_in old k (Some p)
 begins-leave old h q k p v was d e = elim (cases_eq p q) [
   | inl here ↦
       ap (λ (i : ℕ). begins_in (changed old q (without_task h)) k (Some i)) here
-      ∙ begins-list old (changed old q (without_task h)) k q v (without_task h v) was (put-queue_changed old q (without_task h) v was).here refl (first-leave h k v.tasks d e)
+      ∙ begins-list old (changed old q (without_task h)) k q v (without_task h v) was (put-queue_changed old q (without_task h) v was).here refl
+      (first-leave h k v.tasks d e)
       ∙ ap (λ (i : ℕ). begins_in old k (Some i)) (sym here)
   | inr away ↦ begins-same old (changed old q (without_task h)) k p ((put-queue_changed old q (without_task h) v was).others p away)
 ]

@@ -1,8 +1,8 @@
 -- Marks made anew for the waiting tasks of one job.
-use Rattle.task_board.proofs.Names.{nat_tests, ◌≡◌, ◌≢◌, ◌⊎◌, ℕ, zero, suc, ◌<◌, ◌+◌, Bool, true, List, [], ◌∷◌, length, length-set, Option, Some, None, set, slice_get, sym, ◌∙◌, ap, subst, inl, inr, arith, ◌==◌, cases_eq, get_or-set_same, get_or-set_other, slice_get_within, Kind, Slots, slot_of, slot_value, max_of, Inserts, changed, put, with_value, without, slot_of-live, get-with_value_same, get-with_value_other, get-insert_same, get-insert_before, get-insert_other, get-without_same, get-without_other, option_map, has_handle, has-index, index-has, Mark, ReadyMarks, mark_at, is_for_at, Action, has_enabled_job, new_action, with_enabled, runs_job_on, IsUnion, Task, Seen, seen_in, AreSeen, IsMarkOf, Marked, IsFresh, IsFreshFor, StandsBefore, Remarked}
+use Rattle.task_board.proofs.Names.{nat_tests, ◌≡◌, ◌≢◌, ◌⊎◌, ℕ, zero, suc, ◌<◌, ◌+◌, Bool, true, List, [], ◌∷◌, length, length-set, Option, Some, None, set, slice_get, sym, ◌∙◌, ap, subst, inl, inr, arith, ◌==◌, cases_eq, get_or-set_same, get_or-set_other, slice_get_within, Kind, Slots, slot_of, slot_value, max_of, Inserts, changed, put, with_value, without, slot_of-live, get-with_value_same, get-with_value_other, get-insert_same, get-insert_before, get-insert_other, get-without_same, get-without_other, option_map, has_handle, has-index, index-has, Mark, ReadyMarks, mark_at, is_for_at, Action, has_enabled_job, new_action, with_enabled, runs_job_on, IsUnion, Task, Seen, seen_in, AreSeen, IsMarkOf, Marked, IsFresh, IsFreshFor, StandsBefore, Remarked, and_parts}
 use Rattle.task_board.specs.Seen.{Takes}
 use Rattle.task_board.proofs.SeenLemmas.{some_same, seen-live}
-use Rattle.task_board.proofs.MarkLemmas.{and_left, and_right, same-number}
+use Rattle.task_board.proofs.MarkLemmas.{same-number}
 use Rattle.task_board.proofs.MoveLemmas.{alone}
 
 -- the slot of what is seen
@@ -18,18 +18,22 @@ mark-here marks place m less = get_or-set_same marks place m None less
 mark-away : (marks : List (Option Mark)) (place other : ℕ) (m : Option Mark) → other ≢ place → mark_at (set marks place m) other ≡ mark_at marks other
 mark-away marks place other m d = get_or-set_other marks place other m None d
 
-pub remarked-none : (actions : Slots Action) (lets : ℕ → Option ℕ → Bool) (at : ℕ → Option Seen) (job : ℕ) (hs : List ℕ) (r : ReadyMarks) → Remarked actions lets at job hs 0 r r
+pub remarked-none : (actions : Slots Action) (lets : ℕ → Option ℕ → Bool) (at : ℕ → Option Seen) (job : ℕ) (hs : List ℕ) (r : ReadyMarks)
+    → Remarked actions lets at job hs 0 r r
 remarked-none actions lets at job hs r = grind (arith, nat_tests)
 
 -- a handle more
-module _ (actions : Slots Action) (lets : ℕ → Option ℕ → Bool) (p : Slots Task) (job : ℕ) (hs : List ℕ) (index h : ℕ) (old now new : ReadyMarks) (waits : AreSeen (seen_in p) hs) (is : slice_get hs index ≡ Some h) (less : slot_of h < length now.marks) (done : Remarked actions lets (seen_in p) job hs index old now) where
+module _ (actions : Slots Action) (lets : ℕ → Option ℕ
+    → Bool) (p : Slots Task) (job : ℕ) (hs : List ℕ) (index h : ℕ) (old now new : ReadyMarks) (waits : AreSeen (seen_in p) hs) (is : slice_get hs index
+    ≡ Some h) (less : slot_of h < length now.marks) (done : Remarked actions lets (seen_in p) job hs index old now) where
   wider : (place : ℕ) → StandsBefore (seen_in p) job hs index place → StandsBefore (seen_in p) job hs (index + 1) place
   wider place b = record { i = b.i; h = b.h; s = b.s; before = omega (arith, b.before); stands = b.stands; is = b.is; has_job = b.has_job; slot = b.slot }
 
   skipped : ((s : Seen) → seen_in p h ≡ Some s → s.job ≡ job → ⊥) → new ≡ now → Remarked actions lets (seen_in p) job hs (index + 1) old new
   skipped e1 e2 = grind (arith, nat_tests)
 
-  marked : ((s : Seen) → seen_in p h ≡ Some s → s.job ≡ job) → IsFresh actions lets (seen_in p) h now new → Remarked actions lets (seen_in p) job hs (index + 1) old new
+  marked : ((s : Seen) → seen_in p h ≡ Some s → s.job ≡ job) → IsFresh actions lets (seen_in p) h now new
+      → Remarked actions lets (seen_in p) job hs (index + 1) old new
   marked mine f = subst (λ (r : ReadyMarks). Remarked actions lets (seen_in p) job hs (index + 1) old r) (sym f.now) (record {
     workers = done.workers;
     priorities = done.priorities;
@@ -38,11 +42,13 @@ module _ (actions : Slots Action) (lets : ℕ → Option ℕ → Bool) (p : Slot
       | inl beside ↦
           let s_is = waits h (index-has h index hs is) in
           let same = alone p h k s_is.0 s s_is.1 g beside in
-          subst (λ (m : Option Mark). IsMarkOf actions (lets k) (seen_in p k) m) (sym (ap (mark_at (set now.marks (slot_of h) f.mark)) beside ∙ mark-here now.marks (slot_of h) f.mark less))
+          subst (λ (m : Option Mark). IsMarkOf actions (lets k) (seen_in p k) m)
+          (sym (ap (mark_at (set now.marks (slot_of h) f.mark)) beside ∙ mark-here now.marks (slot_of h) f.mark less))
           (subst (λ (j : ℕ). IsMarkOf actions (lets j) (seen_in p j) f.mark) (sym same) f.right)
       | inr away ↦ elim (cases_eq i index) [
         | inl last ↦ absurd (away (ap slot_of (some_same (sym e ∙ ap (slice_get hs) last ∙ is))))
-        | inr earlier ↦ subst (λ (m : Option Mark). IsMarkOf actions (lets k) (seen_in p k) m) (sym (mark-away now.marks (slot_of h) (slot_of k) f.mark away)) (done.fresh i k s (omega arith) e g j)
+        | inr earlier ↦ subst (λ (m : Option Mark). IsMarkOf actions (lets k) (seen_in p k) m) (sym (mark-away now.marks (slot_of h) (slot_of k) f.mark away))
+            (done.fresh i k s (omega arith) e g j)
       ]
     ];
     others = λ place. elim (cases_eq place (slot_of h)) [
@@ -72,7 +78,8 @@ pub record SameBut (job : ℕ) (old new : Slots Action) : Type 0 where
 pub same-insert : (p q : Slots Action) (h job : ℕ) (kind : Kind) (cores : ℕ) → Inserts p q h (new_action job kind cores) → SameBut job p q
 same-insert p q h job kind cores e1 = grind (arith, nat_tests, cases_eq, get-insert_before, slot_value, get-insert_other, some_same, get-insert_same)
 
-pub same-changed : (p : Slots Action) (h job : ℕ) (on : Bool) (x : Action) → slot_value p h ≡ Some x → x.job ≡ job → SameBut job p (changed p h (with_enabled on))
+pub same-changed : (p : Slots Action) (h job : ℕ) (on : Bool) (x : Action) → slot_value p h ≡ Some x → x.job ≡ job
+    → SameBut job p (changed p h (with_enabled on))
 same-changed p h job on x g j =
     subst (λ (o : Option Action). SameBut job p (put p h (option_map (with_enabled on) o))) (sym g) (record {
       there = λ k a d e. elim (cases_eq k h) [
@@ -80,7 +87,8 @@ same-changed p h job on x g j =
         | inr away ↦ get-with_value_other p h k x (with_enabled on x) g away ∙ e
       ];
       back = λ k a d e. elim (cases_eq k h) [
-        | inl here ↦ absurd (d (ap (λ (y : Action). y.job) (some_same (sym e ∙ ap (slot_value (with_value p h (with_enabled on x))) here ∙ get-with_value_same p h x (with_enabled on x) g)) ∙ j))
+        | inl here ↦ absurd (d (ap (λ (y : Action). y.job)
+            (some_same (sym e ∙ ap (slot_value (with_value p h (with_enabled on x))) here ∙ get-with_value_same p h x (with_enabled on x) g)) ∙ j))
         | inr away ↦ sym (get-with_value_other p h k x (with_enabled on x) g away) ∙ e
       ];
     })
@@ -89,7 +97,7 @@ pub same-without : (p : Slots Action) (h job : ℕ) (x : Action) → slot_value 
 same-without p h job x e1 e2 = grind (arith, nat_tests, cases_eq, some_same, slot_value, get-without_other, get-without_same)
 
 runs-job : (job w : ℕ) (a : Action) → runs_job_on job w a ≡ true → a.job ≡ job
-runs-job job w a r = same-number a.job job (and_right a.enabled (a.job == job) (and_left (has_enabled_job job a) _ r))
+runs-job job w a r = same-number a.job job (and_parts a.enabled (a.job == job) (and_parts (has_enabled_job job a) _ r).0).1
 
 -- the same workers may take the task
 pub record TakenBy (old new : Slots Action) (lets now : Option ℕ → Bool) (s : Seen) : Type 0 where
@@ -106,7 +114,9 @@ taken-steady actions lets now s e1 = grind (arith, nat_tests)
 
 -- the marks are right for the other actions and queues once the tasks of the job in this list are marked anew, where all others may be
 -- taken as before
-pub marked-anew : (old new : Slots Action) (lets now : ℕ → Option ℕ → Bool) (p : Slots Task) (job : ℕ) (hs : List ℕ) (was after : ReadyMarks) → ((h : ℕ) (s : Seen) → seen_in p h ≡ Some s → s.on ≡ None → ((has_handle h hs ≡ true) × (s.job ≡ job)) ⊎ TakenBy old new (lets h) (now h) s) → Remarked new now (seen_in p) job hs (length hs) was after → Marked old lets (seen_in p) was.marks → Marked new now (seen_in p) after.marks
+pub marked-anew : (old new : Slots Action) (lets now : ℕ → Option ℕ → Bool) (p : Slots Task) (job : ℕ) (hs : List ℕ) (was after : ReadyMarks)
+    → ((h : ℕ) (s : Seen) → seen_in p h ≡ Some s → s.on ≡ None → ((has_handle h hs ≡ true) × (s.job ≡ job)) ⊎ TakenBy old new (lets h) (now h) s)
+    → Remarked new now (seen_in p) job hs (length hs) was after → Marked old lets (seen_in p) was.marks → Marked new now (seen_in p) after.marks
 marked-anew old new lets now p job hs was after others done m = record {
   sound = λ w q place e. elim (done.others place) [
     | inl kept ↦
@@ -129,24 +139,28 @@ marked-anew old new lets now p job hs was after others done m = record {
           | inl as_was ↦ ap (is_for_at w s.priority) as_was ∙ kept
           | inr b ↦
               let is = alone p b.h h b.s s b.is e (sym b.slot) in
-              let f = subst (λ (j : ℕ). IsMarkOf new (now j) (seen_in p j) (mark_at after.marks (slot_of j))) (sym is) (done.fresh b.i b.h b.s b.before b.stands b.is b.has_job) in
+              let f = subst (λ (j : ℕ). IsMarkOf new (now j) (seen_in p j) (mark_at after.marks (slot_of j))) (sym is)
+              (done.fresh b.i b.h b.s b.before b.stands b.is b.has_job) in
               f.whole w s e k
         ]
   ];
 }
   where
-    fresh : (h : ℕ) (s : Seen) → seen_in p h ≡ Some s → has_handle h hs ≡ true → s.job ≡ job → IsMarkOf new (now h) (seen_in p h) (mark_at after.marks (slot_of h))
+    fresh : (h : ℕ) (s : Seen) → seen_in p h ≡ Some s → has_handle h hs ≡ true → s.job ≡ job
+        → IsMarkOf new (now h) (seen_in p h) (mark_at after.marks (slot_of h))
     fresh h s e has j =
         let i = has-index h hs has in
         done.fresh i.0 h s (slice_get_within hs i.0 h i.1) i.1 e j
 
 -- The same cores
 
-takes-over : (job mask : ℕ) (old new : Slots Action) (lets : Option ℕ → Bool) (w : ℕ) (s : Seen) → SameBut job old new → IsUnion old job mask → IsUnion new job mask → Takes old lets w s → Takes new lets w s
+takes-over : (job mask : ℕ) (old new : Slots Action) (lets : Option ℕ → Bool) (w : ℕ) (s : Seen) → SameBut job old new → IsUnion old job mask
+    → IsUnion new job mask → Takes old lets w s → Takes new lets w s
 takes-over job mask old new lets w s e1 e2 e3 e4 = grind (arith, nat_tests)
 
 -- the marks are right for the other actions as they are, where those of the job cover the cores that they covered
-pub marked-over : (job mask : ℕ) (old new : Slots Action) (lets : ℕ → Option ℕ → Bool) (at : ℕ → Option Seen) (marks : List (Option Mark)) → SameBut job old new → IsUnion old job mask → IsUnion new job mask → Marked old lets at marks → Marked new lets at marks
+pub marked-over : (job mask : ℕ) (old new : Slots Action) (lets : ℕ → Option ℕ → Bool) (at : ℕ → Option Seen) (marks : List (Option Mark)) → SameBut job old new
+    → IsUnion old job mask → IsUnion new job mask → Marked old lets at marks → Marked new lets at marks
 marked-over job mask old new lets at marks same was now m = record {
   sound = λ w q place e.
       let s = m.sound w q place e in

@@ -13,7 +13,8 @@ runs-seen t w (Running v k) e r =
     (_, ap (seen_as t) e, ap Some same)
 runs-seen t w (Ended y n) e r = absurd (false≢true (ap (λ (z : TaskState). runs_on w (with_state z t)) (sym e) ∙ r))
 
-pub some-runs : (b : SchedulerTable) (w : ℕ) (t : TaskHandle) → IsScheduler b → running_on b.running w ≡ Some t → SomeLive (slot_value b.tasks.pool) (Passes (runs_on w))
+pub some-runs : (b : SchedulerTable) (w : ℕ) (t : TaskHandle) → IsScheduler b → running_on b.running w ≡ Some t
+    → SomeLive (slot_value b.tasks.pool) (Passes (runs_on w))
 some-runs b w t e1 e2 = grind (arith, nat_tests)
 
 pub none-runs : (b : SchedulerTable) (w : ℕ) → IsScheduler b → running_on b.running w ≡ None → NoneLive (slot_value b.tasks.pool) (Passes (runs_on w))
@@ -24,13 +25,16 @@ none-runs b w k e h t g r =
     no : {t : TaskHandle} → None ≡ Some t → ⊥
     no d = cc
 
-pub not-running : (b : SchedulerTable) (w : ℕ) → IsScheduler b → NoneLive (slot_value b.tasks.pool) (Passes (runs_on w)) → is_some (running_on b.running w) ≡ false
+pub not-running : (b : SchedulerTable) (w : ℕ) → IsScheduler b → NoneLive (slot_value b.tasks.pool) (Passes (runs_on w))
+    → is_some (running_on b.running w) ≡ false
 not-running b w e1 e2 = grind (arith, nat_tests, running_on, some-runs)
 
-pub running-tells : (b : SchedulerTable) (w : ℕ) (o : Option TaskHandle) → IsScheduler b → running_on b.running w ≡ o → is_some o ≡ true → SomeLive (slot_value b.tasks.pool) (Passes (runs_on w))
+pub running-tells : (b : SchedulerTable) (w : ℕ) (o : Option TaskHandle) → IsScheduler b → running_on b.running w ≡ o → is_some o ≡ true
+    → SomeLive (slot_value b.tasks.pool) (Passes (runs_on w))
 running-tells b w o e1 e2 e3 = grind (arith, nat_tests)
 
-pub running-denies : (b : SchedulerTable) (w : ℕ) (o : Option TaskHandle) → IsScheduler b → running_on b.running w ≡ o → is_some o ≡ false → NoneLive (slot_value b.tasks.pool) (Passes (runs_on w))
+pub running-denies : (b : SchedulerTable) (w : ℕ) (o : Option TaskHandle) → IsScheduler b → running_on b.running w ≡ o → is_some o ≡ false
+    → NoneLive (slot_value b.tasks.pool) (Passes (runs_on w))
 running-denies b w o e1 e2 e3 = grind (arith, nat_tests, none-runs)
 
 pub on-true : {P : Type 0} (b : Bool) → (b ≡ true → P) → OnTrue b P

@@ -5,9 +5,6 @@ use Rattle.task_board.specs.Seen.{Takes}
 pub some_same : {A : Type 0} {a b : A} → Some a ≡ Some b → a ≡ b
 some_same h = cc
 
-pub none-some : {A : Type 0} {P : Type 0} {x : A} → None ≡ Some x → P
-none-some e = absurd (cc)
-
 -- what is seen of a task is its own
 pub record SeenAs (t : Task) (x : TaskState) (s : Seen) : Type 0 where
   pub job : s.job ≡ t.job
@@ -32,7 +29,8 @@ pub seen-live : (p : Slots Task) (h : ℕ) (s : Seen) → seen_in p h ≡ Some s
 seen-live p h s e1 = grind (arith, nat_tests)
 
 -- a worker may take what it sees exactly where it may take the task
-pub takes-from : (actions : Slots Action) (lets : Option ℕ → Bool) (w : ℕ) (t : Task) (s : Seen) → seen (Some t) ≡ Some s → Takes actions lets w s → Takeable actions lets w t
+pub takes-from : (actions : Slots Action) (lets : Option ℕ → Bool) (w : ℕ) (t : Task) (s : Seen) → seen (Some t) ≡ Some s → Takes actions lets w s
+    → Takeable actions lets w t
 takes-from actions lets w t s e1 e2 = grind (arith, nat_tests)
 
 pub record TakenAs (actions : Slots Action) (lets : Option ℕ → Bool) (w : ℕ) (t : Task) : Type 0 where
@@ -58,7 +56,8 @@ takes-to actions lets w t k =
     }
 
 -- the priority of a mark that was made of a scheduled task
-pub mark-known : (p : Slots Task) (h : ℕ) (t : Task) (n : ℕ) (o : Option Mark) → slot_value p h ≡ Some t → AreRanked (seen_in p) n → IfSome o (λ m. is_unstarted t ≡ true) → IfSome o (λ m. m.priority ≡ t.priority) → IfSome o (λ m. m.priority < n)
+pub mark-known : (p : Slots Task) (h : ℕ) (t : Task) (n : ℕ) (o : Option Mark) → slot_value p h ≡ Some t → AreRanked (seen_in p) n
+    → IfSome o (λ m. is_unstarted t ≡ true) → IfSome o (λ m. m.priority ≡ t.priority) → IfSome o (λ m. m.priority < n)
 mark-known p h t n None g r u e = tt
 mark-known p h t n (Some m) g r u e =
     let s = unstarted-seen t t.state u in

@@ -1,6 +1,6 @@
 -- What the lists of walks have, and that tasks end alike along two lists which have the same of those that pass.
-use Rattle.task_board.proofs.Names.{nat_tests, ◌≡◌, ◌≢◌, ℕ, Bool, true, false, cond, List, [], ◌∷◌, length, Option, Some, None, refl, sym, ◌∙◌, ap, subst, arith, ◌==◌, ◌&&◌, ◌%◌, is_none, is_some, if◌then◌else◌, option_map, false≢true, TaskEnd, holds, Slots, slot_value, with_value, without, has_handle, Task, Ended, with_state, HeldQueue, tasks_of, TaskTable, ended_in, Walk, Waiting, OfJob, Queued, Seen, seen_in, InOrder, walked, AreIn, waits_at, is_walked, SchedulerTable, IsScheduler, records_of, ended_next, ended_each}
-use Rattle.task_board.proofs.MarkLemmas.{and_left, and_right, same-number, number-same, named-is}
+use Rattle.task_board.proofs.Names.{nat_tests, ◌≡◌, ◌≢◌, ℕ, Bool, true, false, cond, List, [], ◌∷◌, length, Option, Some, None, refl, sym, ◌∙◌, ap, subst, arith, ◌==◌, ◌&&◌, ◌%◌, is_none, is_some, if◌then◌else◌, option_map, false≢true, TaskEnd, holds, Slots, slot_value, with_value, without, has_handle, Task, Ended, with_state, HeldQueue, tasks_of, TaskTable, ended_in, Walk, Waiting, OfJob, Queued, Seen, seen_in, InOrder, walked, AreIn, waits_at, is_walked, SchedulerTable, IsScheduler, records_of, ended_next, ended_each, and_parts}
+use Rattle.task_board.proofs.MarkLemmas.{same-number, number-same, named-is}
 use Rattle.task_board.proofs.MappedLemmas.{value-mapped}
 use Rattle.task_board.proofs.KeyedLemmas.{has-self, has-later, not-twice, same-order}
 use Rattle.task_board.proofs.MoveLemmas.{slot-value, slot-without}
@@ -10,7 +10,8 @@ abbrev pub list_of : Walk → SchedulerTable → List ℕ
 list_of walk b = walked walk b.waiting b.queues.pool
 
 -- it has the tasks that it is to have
-pub walk-are : (b : SchedulerTable) (walk : Walk) → IsScheduler b → AreIn (is_walked b.settings.actions walk (records_of b.queues.pool)) (seen_in b.tasks.pool) (list_of walk b)
+pub walk-are : (b : SchedulerTable) (walk : Walk) → IsScheduler b
+    → AreIn (is_walked b.settings.actions walk (records_of b.queues.pool)) (seen_in b.tasks.pool) (list_of walk b)
 walk-are b Waiting k = record {
   listed = λ h s e m. k.waiting_are.listed h s e (no-some s.on m);
   is_seen = λ h e. let s = k.waiting_are.waits h e in (s.0, s.1, ap is_none s.2);
@@ -20,7 +21,8 @@ walk-are b Waiting k = record {
     no-some : (o : Option ℕ) → is_none o ≡ true → o ≡ None
     no-some None e = refl
     no-some (Some w) e = absurd (false≢true e)
-walk-are b (OfJob job) k = subst (λ (n : ℕ). AreIn (waits_at n (job % n)) (seen_in b.tasks.pool) (list_of (OfJob job) b)) k.by_job.count (k.by_job.each (job % length b.waiting.by_job) (omega (arith, k.by_job.some)))
+walk-are b (OfJob job) k = subst (λ (n : ℕ). AreIn (waits_at n (job % n)) (seen_in b.tasks.pool) (list_of (OfJob job) b)) k.by_job.count
+    (k.by_job.each (job % length b.waiting.by_job) (omega (arith, k.by_job.some)))
 walk-are b (Queued q) k = by_found (slot_value b.queues.pool q.0) refl
   where
     live : Bool
@@ -30,19 +32,21 @@ walk-are b (Queued q) k = by_found (slot_value b.queues.pool q.0) refl
     is_live None e = ap is_some (value-mapped (λ (x : HeldQueue). x.queue) b.queues.pool q.0 ∙ ap (option_map (λ (x : HeldQueue). x.queue)) e)
     is_live (Some x) e = ap is_some (value-mapped (λ (x : HeldQueue). x.queue) b.queues.pool q.0 ∙ ap (option_map (λ (x : HeldQueue). x.queue)) e)
 
-    by_found : (o : Option HeldQueue) → slot_value b.queues.pool q.0 ≡ o → AreIn (λ s. live && holds (λ j. j == q.0) s.queue) (seen_in b.tasks.pool) (tasks_of (slot_value b.queues.pool q.0))
+    by_found : (o : Option HeldQueue) → slot_value b.queues.pool q.0 ≡ o
+        → AreIn (λ s. live && holds (λ j. j == q.0) s.queue) (seen_in b.tasks.pool) (tasks_of (slot_value b.queues.pool q.0))
     by_found None e = subst (λ (z : Option HeldQueue). AreIn (λ s. live && holds (λ j. j == q.0) s.queue) (seen_in b.tasks.pool) (tasks_of z)) (sym e) (record {
-      listed = λ h s f m. absurd (false≢true (sym (is_live None e) ∙ and_left live _ m));
+      listed = λ h s f m. absurd (false≢true (sym (is_live None e) ∙ (and_parts live _ m).0));
       is_seen = λ h f. absurd (false≢true f);
       ordered = tt;
     })
-    by_found (Some x) e = subst (λ (z : Option HeldQueue). AreIn (λ s. live && holds (λ j. j == q.0) s.queue) (seen_in b.tasks.pool) (tasks_of z)) (sym e) (record {
-      listed = λ h s f m. k.queued.listed h q.0 s x f (named-is q.0 s.queue (and_right live _ m)) e;
-      is_seen = λ h f.
-          let s = k.queued.names h q.0 x e f in
-          (s.0, s.1, (λ i. is_live (Some x) e i && holds (λ j. j == q.0) (s.2 i)) ∙ number-same q.0 q.0 refl);
-      ordered = k.queued.ordered q.0 x e;
-    })
+    by_found (Some x) e = subst (λ (z : Option HeldQueue). AreIn (λ s. live && holds (λ j. j == q.0) s.queue) (seen_in b.tasks.pool) (tasks_of z)) (sym e)
+        (record {
+          listed = λ h s f m. k.queued.listed h q.0 s x f (named-is q.0 s.queue (and_parts live _ m).1) e;
+          is_seen = λ h f.
+              let s = k.queued.names h q.0 x e f in
+              (s.0, s.1, (λ i. is_live (Some x) e i && holds (λ j. j == q.0) (s.2 i)) ∙ number-same q.0 q.0 refl);
+          ordered = k.queued.ordered q.0 x e;
+        })
 
 -- Those of a list that pass
 
@@ -54,7 +58,8 @@ chosen-from : (f : ℕ → Bool) (k : ℕ) (hs : List ℕ) → has_handle k (cho
 chosen-from f k [] e = absurd (false≢true e)
 chosen-from f k (h ∷ hs) e = by_test (f h) refl e (chosen-from f k hs)
   where
-    by_test : (b : Bool) → f h ≡ b → has_handle k (if b then h ∷ chosen f hs else chosen f hs) ≡ true → (has_handle k (chosen f hs) ≡ true → (has_handle k hs ≡ true) × (f k ≡ true)) → (has_handle k (h ∷ hs) ≡ true) × (f k ≡ true)
+    by_test : (b : Bool) → f h ≡ b → has_handle k (if b then h ∷ chosen f hs else chosen f hs) ≡ true
+        → (has_handle k (chosen f hs) ≡ true → (has_handle k hs ≡ true) × (f k ≡ true)) → (has_handle k (h ∷ hs) ≡ true) × (f k ≡ true)
     by_test true p g rest =
         let here : (h == k) ≡ true → f k ≡ true = λ is. ap f (sym (same-number h k is)) ∙ p in
         let on : has_handle k (chosen f hs) ≡ true → has_handle k hs ≡ true = λ i. (rest i).0 in
@@ -105,21 +110,31 @@ once at (h ∷ hs) live o =
     (not-twice (λ s. s.start) at h s.0 hs s.1 o, once at hs (λ k e. live k (has-later k h hs e)) o.1)
 
 -- those that pass end, and no others
-each-chosen : (p : Task → Bool) (e : TaskEnd) (f : ℕ → Bool) (hs : List ℕ) (q : TaskTable) → AreOnce hs → ((h : ℕ) → has_handle h hs ≡ true → holds p (slot_value q.pool h) ≡ f h) → ended_each p e hs q ≡ ended_all e (chosen f hs) q
+each-chosen : (p : Task → Bool) (e : TaskEnd) (f : ℕ → Bool) (hs : List ℕ) (q : TaskTable) → AreOnce hs
+    → ((h : ℕ) → has_handle h hs ≡ true → holds p (slot_value q.pool h) ≡ f h) → ended_each p e hs q ≡ ended_all e (chosen f hs) q
 each-chosen p e f [] q one same = refl
 each-chosen p e f (h ∷ hs) q one same =
     ap (λ (b : Bool). ended_each p e hs (if b then ended_next e h q else q)) (same h (has-self h hs))
     ∙ by_test (f h) (λ r k. each-chosen p e f hs r one.1 k)
   where
-    by_test : (b : Bool) → ((r : TaskTable) → ((k : ℕ) → has_handle k hs ≡ true → holds p (slot_value r.pool k) ≡ f k) → ended_each p e hs r ≡ ended_all e (chosen f hs) r) → ended_each p e hs (if b then ended_next e h q else q) ≡ ended_all e (if b then h ∷ chosen f hs else chosen f hs) q
-    by_test true rest = rest (ended_next e h q) (λ k g. ap (holds p) (ended-others q.pool h k q.ends e (λ z. one.0 (ap (λ (j : ℕ). has_handle j hs) (sym z) ∙ g))) ∙ same k (has-later k h hs g))
+    by_test : (b : Bool) → ((r : TaskTable) → ((k : ℕ) → has_handle k hs ≡ true → holds p (slot_value r.pool k) ≡ f k)
+        → ended_each p e hs r ≡ ended_all e (chosen f hs) r)
+        → ended_each p e hs (if b then ended_next e h q else q) ≡ ended_all e (if b then h ∷ chosen f hs else chosen f hs) q
+    by_test true rest = rest (ended_next e h q)
+        (λ k g. ap (holds p) (ended-others q.pool h k q.ends e (λ z. one.0 (ap (λ (j : ℕ). has_handle j hs) (sym z) ∙ g))) ∙ same k (has-later k h hs g))
     by_test false rest = rest q (λ k g. same k (has-later k h hs g))
 
 -- two lists in the order of starts that have the same of the tasks that pass
-pub ends-same : (m n : Seen → Bool) (p r : Task → Bool) (e : TaskEnd) (q : TaskTable) (xs ys : List ℕ) → AreIn m (seen_in q.pool) xs → AreIn n (seen_in q.pool) ys → ((h : ℕ) (t : Task) → slot_value q.pool h ≡ Some t → has_handle h xs ≡ true → p t ≡ true → (has_handle h ys ≡ true) × (r t ≡ true)) → ((h : ℕ) (t : Task) → slot_value q.pool h ≡ Some t → has_handle h ys ≡ true → r t ≡ true → (has_handle h xs ≡ true) × (p t ≡ true)) → ended_each p e xs q ≡ ended_each r e ys q
+pub ends-same : (m n : Seen → Bool) (p r : Task → Bool) (e : TaskEnd) (q : TaskTable) (xs ys : List ℕ) → AreIn m (seen_in q.pool) xs
+    → AreIn n (seen_in q.pool) ys → ((h : ℕ) (t : Task) → slot_value q.pool h ≡ Some t → has_handle h xs ≡ true → p t ≡ true
+    → (has_handle h ys ≡ true) × (r t ≡ true))
+    → ((h : ℕ) (t : Task) → slot_value q.pool h ≡ Some t → has_handle h ys ≡ true → r t ≡ true → (has_handle h xs ≡ true) × (p t ≡ true))
+    → ended_each p e xs q ≡ ended_each r e ys q
 ends-same m n p r e q xs ys a b there back =
     each-chosen p e f xs q (once (seen_in q.pool) xs on a.ordered) (λ h g. refl)
-    ∙ ap (λ (hs : List ℕ). ended_all e hs q) (same-order (λ s. s.start) (seen_in q.pool) (chosen f xs) (chosen j ys) (λ h g. on h (chosen-from f h xs g).0) (order-chosen (seen_in q.pool) f xs a.ordered) (order-chosen (seen_in q.pool) j ys b.ordered) to from)
+    ∙ ap (λ (hs : List ℕ). ended_all e hs q)
+    (same-order (λ s. s.start) (seen_in q.pool) (chosen f xs) (chosen j ys) (λ h g. on h (chosen-from f h xs g).0)
+    (order-chosen (seen_in q.pool) f xs a.ordered) (order-chosen (seen_in q.pool) j ys b.ordered) to from)
     ∙ sym (each-chosen r e j ys q (once (seen_in q.pool) ys off b.ordered) (λ h g. refl))
   where
     f : ℕ → Bool

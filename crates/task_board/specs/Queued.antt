@@ -29,7 +29,8 @@ WasGiven queues q = (slot : Slot HeldQueue) → slice_get queues.slots (slot_of 
 -- the list of each live queue has exactly the unended tasks that name it, each of its job, in the order of their starts
 pub record AreQueued (at : ℕ → Option Seen) (queues : Slots HeldQueue) (priorities : ℕ) : Type 0 where
   pub listed : (h q : ℕ) (s : Seen) (x : HeldQueue) → at h ≡ Some s → s.queue ≡ Some q → slot_value queues q ≡ Some x → has_handle h x.tasks ≡ true
-  pub names : (h q : ℕ) (x : HeldQueue) → slot_value queues q ≡ Some x → has_handle h x.tasks ≡ true → (s : Seen) × (at h ≡ Some s) × (s.queue ≡ Some q) × (s.job ≡ x.queue.job)
+  pub names : (h q : ℕ) (x : HeldQueue) → slot_value queues q ≡ Some x → has_handle h x.tasks ≡ true
+      → (s : Seen) × (at h ≡ Some s) × (s.queue ≡ Some q) × (s.job ≡ x.queue.job)
   pub ordered : (q : ℕ) (x : HeldQueue) → slot_value queues q ≡ Some x → InOrder at x.tasks
   -- a task that hasn't begun names a live queue, if any, and each task one that was made
   pub live : (h q : ℕ) (s : Seen) → at h ≡ Some s → s.on ≡ None → s.queue ≡ Some q → (x : HeldQueue) × (slot_value queues q ≡ Some x)

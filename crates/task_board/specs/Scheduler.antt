@@ -41,7 +41,8 @@ pub record IsMarkOf (actions : Slots Action) (lets : Option ℕ → Bool) (x : O
 
 -- the marks are those of the tasks that may be taken
 pub record Marked (actions : Slots Action) (lets : ℕ → Option ℕ → Bool) (at : ℕ → Option Seen) (marks : List (Option Mark)) : Type 0 where
-  pub sound : (w p place : ℕ) → is_for_at w p (mark_at marks place) ≡ true → (h : ℕ) × (s : Seen) × (slot_of h ≡ place) × (at h ≡ Some s) × (s.priority ≡ p) × Takes actions (lets h) w s
+  pub sound : (w p place : ℕ) → is_for_at w p (mark_at marks place) ≡ true
+      → (h : ℕ) × (s : Seen) × (slot_of h ≡ place) × (at h ≡ Some s) × (s.priority ≡ p) × Takes actions (lets h) w s
   pub whole : (w h : ℕ) (s : Seen) → at h ≡ Some s → Takes actions (lets h) w s → is_for_at w s.priority (mark_at marks (slot_of h)) ≡ true
 
 -- the list has the handles of the tasks that haven't begun, in the order of their starts
@@ -134,13 +135,16 @@ pub record StandsBefore (at : ℕ → Option Seen) (job : ℕ) (hs : List ℕ) (
   pub slot : slot_of h ≡ place
 
 -- the tasks of this job before this index of the list are marked anew, and all other marks are as they were
-pub record Remarked (actions : Slots Action) (lets : ℕ → Option ℕ → Bool) (at : ℕ → Option Seen) (job : ℕ) (hs : List ℕ) (index : ℕ) (old new : ReadyMarks) : Type 0 where
+pub record Remarked (actions : Slots Action) (lets : ℕ → Option ℕ → Bool) (at : ℕ
+    → Option Seen) (job : ℕ) (hs : List ℕ) (index : ℕ) (old new : ReadyMarks) : Type 0 where
   pub workers : new.workers ≡ old.workers
   pub priorities : new.priorities ≡ old.priorities
   pub slots : length new.marks ≡ length old.marks
-  pub fresh : (i h : ℕ) (s : Seen) → i < index → slice_get hs i ≡ Some h → at h ≡ Some s → s.job ≡ job → IsMarkOf actions (lets h) (at h) (mark_at new.marks (slot_of h))
+  pub fresh : (i h : ℕ) (s : Seen) → i < index → slice_get hs i ≡ Some h → at h ≡ Some s → s.job ≡ job
+      → IsMarkOf actions (lets h) (at h) (mark_at new.marks (slot_of h))
   pub others : (place : ℕ) → (mark_at new.marks place ≡ mark_at old.marks place) ⊎ StandsBefore at job hs index place
 
 -- the waiting tasks of the job are marked anew; or its actions cover these cores, and the marks are as they were
-abbrev pub RemarkedUnless : (actions : Slots Action) (lets : ℕ → Option ℕ → Bool) (at : ℕ → Option Seen) (job mask : ℕ) (hs : List ℕ) (old new : ReadyMarks) → Type 0
+abbrev pub RemarkedUnless : (actions : Slots Action) (lets : ℕ → Option ℕ → Bool) (at : ℕ → Option Seen) (job mask : ℕ) (hs : List ℕ) (old new : ReadyMarks)
+    → Type 0
 RemarkedUnless actions lets at job mask hs old new = Remarked actions lets at job hs (length hs) old new ⊎ (IsUnion actions job mask × (new ≡ old))

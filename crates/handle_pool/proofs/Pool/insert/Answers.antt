@@ -7,4 +7,5 @@ invariant_of-self g c =
 
 pub returns-clause-inserts : goal.returns-clause-inserts
 returns-clause-inserts g c =
-    rw (← c.self.view_is, c.fill-generation.ensures.now, c.from.ensures) (Inserts-fill _ _ _ _ _ _ _ c.args.value c.self.invariant c.fill-generation.ensures.was)
+    rw (← c.self.view_is, c.fill-generation.ensures.now, c.from.ensures)
+    (Inserts-fill _ _ _ _ _ _ _ c.args.value c.self.invariant c.fill-generation.ensures.was)

@@ -12,10 +12,15 @@ unreachable-requires c =
     past-none hs c.loop-index._index (omega (arith, c.loop-index-test.true, c.len-index-end.ensures.count)) (sym c.loop-index.invariant.0 ∙ c.in_default.is)
 
 pub cover_at-cover-requires : goal.cover_at-cover-requires
-cover_at-cover-requires c = some-is _ (live-at c.self.inside.pool c.self.inside.jobs (c.args.job % c.max.result) c.loop-index._index c.in-Some.handle c.self.invariant (sym c.loop-index.invariant.0 ∙ c.in-Some.is))
+cover_at-cover-requires c = some-is _ (live-at c.self.inside.pool c.self.inside.jobs
+    (c.args.job % c.max.result) c.loop-index._index c.in-Some.handle c.self.invariant (sym c.loop-index.invariant.0 ∙ c.in-Some.is))
 
 pub next-next-requires : goal.next-next-requires
-next-next-requires c = (c.args.job % c.max.result, index-has c.in-Some.handle c.loop-index._index (list_at c.self.inside.jobs.lists (c.args.job % c.max.result)) (sym c.loop-index.invariant.0 ∙ c.in-Some.is))
+next-next-requires c = (
+  c.args.job % c.max.result,
+  index-has c.in-Some.handle c.loop-index._index (list_at c.self.inside.jobs.lists (c.args.job % c.max.result))
+      (sym c.loop-index.invariant.0 ∙ c.in-Some.is),
+)
 
 pub loop-index-preserved : goal.loop-index-preserved
 loop-index-preserved c =
@@ -29,5 +34,7 @@ returns c =
     let hs = list_at c.self.inside.jobs.lists (c.args.job % c.max.result) in
     let all : c.loop-index._index ≡ length hs = omega (arith, c.loop-index-test.false, c.len-index-end.ensures.count, c.loop-index.auto._index-end) in
     let done = subst (λ (k : ℕ). CoversBefore c.self.inside.pool hs k c.args.job c.loop-index.cover) all c.loop-index.invariant.1 in
-    let list = subst (λ (m : ℕ). CoversBefore c.self.inside.pool (list_at c.self.inside.jobs.lists (c.args.job % m)) (length (list_at c.self.inside.jobs.lists (c.args.job % m))) c.args.job c.loop-index.cover) c.max.ensures.value done in
-    subst (λ (p : Slots Action). Covers p c.args.job c.loop-index.cover) c.self.view_is (Covers-all c.self.inside.pool c.self.inside.jobs c.args.job c.loop-index.cover c.self.invariant list)
+    let list = subst (λ (m : ℕ). CoversBefore c.self.inside.pool (list_at c.self.inside.jobs.lists (c.args.job % m))
+    (length (list_at c.self.inside.jobs.lists (c.args.job % m))) c.args.job c.loop-index.cover) c.max.ensures.value done in
+    subst (λ (p : Slots Action). Covers p c.args.job c.loop-index.cover) c.self.view_is
+    (Covers-all c.self.inside.pool c.self.inside.jobs c.args.job c.loop-index.cover c.self.invariant list)

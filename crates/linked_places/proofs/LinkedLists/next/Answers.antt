@@ -21,7 +21,8 @@ returns-in-Some c list i at =
     let link : c.index.result.now ≡ f.link = c.index.ensures ∙ get_or_from_slice_get links (slot_of c.args.handle) f.link c.index.result.now f.read in
     let next = ap (λ (l : Link). l.next) (sym link) ∙ c.in-Some.is in
     let read : slice_get links c.in-Some.after ≡ Some c.index-in-Some.result.now =
-    slice_get_read links (length links) c.in-Some.after c.index-in-Some.result.now refl (within-next links c.args.handle _ c.in-Some.after f next) c.index-in-Some.ensures in
+    slice_get_read links (length links) c.in-Some.after c.index-in-Some.result.now refl
+    (within-next links c.args.handle _ c.in-Some.after f next) c.index-in-Some.ensures in
     next-some links c.args.handle _ c.in-Some.after c.index-in-Some.result.now f next read
 
 pub returns-in-None : goal.returns-in-None

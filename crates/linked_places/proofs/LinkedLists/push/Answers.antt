@@ -15,7 +15,8 @@ overflow_add-ends c =
     let links = c.self.inside.links.items in
     let ends = c.self.inside.ends.items in
     let at = read_ends links ends c.args.self.now c.args.list c.index-ends.result.now c.self.view_is c.requires.list c.index-ends.ensures in
-    let few = count-within links c.index-ends.result.now (list_at (map (handles_of links) ends) c.args.list) (c.self.invariant.each c.args.list c.index-ends.result.now at) in
+    let few = count-within links c.index-ends.result.now (list_at (map (handles_of links) ends) c.args.list)
+    (c.self.invariant.each c.args.list c.index-ends.result.now at) in
     omega (arith, few, c.self.invariant.few)
 
 pub invariant_of-self : goal.invariant_of-self
@@ -25,7 +26,8 @@ invariant_of-self c =
     let e = c.index-ends.result.now in
     let at = read_ends links ends c.args.self.now c.args.list e c.self.view_is c.requires.list c.index-ends.ensures in
     let linked = pushed links ends c.args.self.now c.args.list e c.args.handle c.self.view_is c.self.invariant at c.requires.place c.requires.nowhere in
-    rw (c.set_next.ensures, c.or.ensures) (IsLinked-view (links_with links e.last c.args.handle) (set ends c.args.list (ends_with e (slot_of c.args.handle))) (set (map (handles_of links) ends) c.args.list (list_at (map (handles_of links) ends) c.args.list ++ c.args.handle ∷ [])) linked)
+    rw (c.set_next.ensures, c.or.ensures) (IsLinked-view (links_with links e.last c.args.handle) (set ends c.args.list (ends_with e (slot_of c.args.handle)))
+    (set (map (handles_of links) ends) c.args.list (list_at (map (handles_of links) ends) c.args.list ++ c.args.handle ∷ [])) linked)
 
 pub returns : goal.returns
 returns c =
@@ -35,5 +37,8 @@ returns c =
     let at = read_ends links ends c.args.self.now c.args.list e c.self.view_is c.requires.list c.index-ends.ensures in
     let linked = pushed links ends c.args.self.now c.args.list e c.args.handle c.self.view_is c.self.invariant at c.requires.place c.requires.nowhere in
     let followed = links_followed links e.last (Some (slot_of c.args.handle)) in
-    let size : length (links_with links e.last c.args.handle) ≡ length links = length-set followed (slot_of c.args.handle) (link_of c.args.handle e.last None) ∙ length-followed links e.last (Some (slot_of c.args.handle)) in
-    rw (c.set_next.ensures, c.or.ensures) (view-with_list links (links_with links e.last c.args.handle) ends (set ends c.args.list (ends_with e (slot_of c.args.handle))) c.args.self.now c.args.list (λ (o : HandleLists). list_at o.lists c.args.list ++ c.args.handle ∷ []) c.self.view_is size linked)
+    let size : length (links_with links e.last c.args.handle) ≡ length links =
+    length-set followed (slot_of c.args.handle) (link_of c.args.handle e.last None) ∙ length-followed links e.last (Some (slot_of c.args.handle)) in
+    rw (c.set_next.ensures, c.or.ensures) (view-with_list links (links_with links e.last c.args.handle) ends
+    (set ends c.args.list (ends_with e (slot_of c.args.handle))) c.args.self.now c.args.list (λ (o : HandleLists). list_at o.lists c.args.list
+    ++ c.args.handle ∷ []) c.self.view_is size linked)

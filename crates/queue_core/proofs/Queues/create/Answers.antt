@@ -17,13 +17,16 @@ returns c =
     elim c.match-insert.branch [
       | in-Ok w ↦
           let made = w.in-Ok.ensures in
-          rw w.result-is (subst (λ (v : Queue). Creates old v (Ok (record { 0 = w.in-Ok.handle })) (table_of new tasks)) c.new.ensures (created p tasks old new w.in-Ok.handle c.new.result c.self.invariant c.self.view_is made.new_id made.room made.inserts))
+          rw w.result-is (subst (λ (v : Queue). Creates old v (Ok (record { 0 = w.in-Ok.handle })) (table_of new tasks)) c.new.ensures
+          (created p tasks old new w.in-Ok.handle c.new.result c.self.invariant c.self.view_is made.new_id made.room made.inserts))
       | in-Err-IdTaken w ↦
           let refused = w.in-Err-IdTaken.ensures in
           let why = subst (λ (e : InsertError). WhyRefused p (λ (x : Queue). x.id ≡ c.new.result.id) e) w.in-Err-IdTaken.field-0-is refused.refused in
-          rw w.result-is (subst (λ (v : Queue). Creates old v (Err ErrQueueExists) (table_of new tasks)) c.new.ensures (not_created_taken p tasks old new c.new.result c.self.view_is why refused.unchanged))
+          rw w.result-is (subst (λ (v : Queue). Creates old v (Err ErrQueueExists) (table_of new tasks)) c.new.ensures
+          (not_created_taken p tasks old new c.new.result c.self.view_is why refused.unchanged))
       | in-Err-Full w ↦
           let refused = w.in-Err-Full.ensures in
           let why = subst (λ (e : InsertError). WhyRefused p (λ (x : Queue). x.id ≡ c.new.result.id) e) w.in-Err-Full.field-0-is refused.refused in
-          rw w.result-is (subst (λ (v : Queue). Creates old v (Err ErrQueueLimit) (table_of new tasks)) c.new.ensures (not_created_full p tasks old new c.new.result c.self.view_is why refused.unchanged))
+          rw w.result-is (subst (λ (v : Queue). Creates old v (Err ErrQueueLimit) (table_of new tasks)) c.new.ensures
+          (not_created_full p tasks old new c.new.result c.self.view_is why refused.unchanged))
     ]

@@ -11,7 +11,8 @@ clear-requires c =
 pub invariant_of-self-2 : goal.invariant_of-self-2
 invariant_of-self-2 c =
     let live : slot_value c.self.inside.pool c.args.q.0 ≡ Some c.in-Some.field-0 = sym c.remove.ensures.value ∙ c.in-Some.is in
-    rw (c.in-Some.ensures.removed, c.clear.ensures, c.slot_of.ensures) (AreQueues-delete c.self.inside.pool c.self.inside.tasks c.args.q.0 c.self.invariant c.in-Some.field-0 live)
+    rw (c.in-Some.ensures.removed, c.clear.ensures, c.slot_of.ensures)
+    (AreQueues-delete c.self.inside.pool c.self.inside.tasks c.args.q.0 c.self.invariant c.in-Some.field-0 live)
 
 pub returns-clause-reply : goal.returns-clause-reply
 returns-clause-reply c =
@@ -21,7 +22,8 @@ returns-clause-reply c =
 pub returns-clause-ok : goal.returns-clause-ok
 returns-clause-ok c =
     let live : slot_value c.self.inside.pool c.args.q.0 ≡ Some c.in-Some.field-0 = sym c.remove.ensures.value ∙ c.in-Some.is in
-    rw (c.in-Some.ensures.removed, c.clear.ensures, c.slot_of.ensures) (view_deleted c.self.inside.pool c.self.inside.tasks c.args.q.0 c.self.invariant c.in-Some.field-0 live c.args.self.now c.self.view_is)
+    rw (c.in-Some.ensures.removed, c.clear.ensures, c.slot_of.ensures)
+    (view_deleted c.self.inside.pool c.self.inside.tasks c.args.q.0 c.self.invariant c.in-Some.field-0 live c.args.self.now c.self.view_is)
 
 pub returns-in_default-clause-reply : goal.returns-in_default-clause-reply
 returns-in_default-clause-reply c =

@@ -6,7 +6,12 @@ use Rattle.queue_core.proofs.Queues.facts.Goals as goal
 pub returns-in-Some : goal.returns-in-Some
 returns-in-Some c =
     let live : slot_value c.self.inside.pool c.args.q.0 ≡ Some c.in-Some.queue.now = sym c.in-Some.ensures.value in
-    rw (get-live c.self.inside.pool c.self.inside.tasks c.args.q.0 c.args.self.now c.in-Some.queue.now c.self.view_is live, c.facts.ensures, c.len.ensures.count, c.slot_of.ensures) refl
+    rw (
+      get-live c.self.inside.pool c.self.inside.tasks c.args.q.0 c.args.self.now c.in-Some.queue.now c.self.view_is live,
+      c.facts.ensures,
+      c.len.ensures.count,
+      c.slot_of.ensures,
+    ) refl
 
 pub returns-in-None : goal.returns-in-None
 returns-in-None c =

@@ -12,7 +12,8 @@ first-requires c =
 pub returns-in-Some-first : goal.returns-in-Some-first
 returns-in-Some-first c =
     let live : slot_value c.self.inside.pool c.args.q.0 ≡ Some c.in-Some.field-0.now = sym c.in-Some.ensures.value in
-    let first : slice_get (list_at c.self.inside.tasks.lists (slot_of c.args.q.0)) 0 ≡ Some c.in-Some-first.task = rw (← c.slot_of.ensures) (sym c.first.ensures ∙ c.in-Some-first.is) in
+    let first : slice_get (list_at c.self.inside.tasks.lists (slot_of c.args.q.0)) 0 ≡ Some c.in-Some-first.task =
+    rw (← c.slot_of.ensures) (sym c.first.ensures ∙ c.in-Some-first.is) in
     rw (get-live c.self.inside.pool c.self.inside.tasks c.args.q.0 c.args.self.now c.in-Some.field-0.now c.self.view_is live, first) refl
 
 pub returns-in-None : goal.returns-in-None

@@ -4,7 +4,10 @@ use Rattle.queue_core.proofs.QueueLemmas.{unended_from, tasks-listed}
 use Rattle.queue_core.proofs.Queues.next.Goals as goal
 
 pub next-requires : goal.next-requires
-next-requires c = (slot_of c.requires.0, (unended_from c.self.inside.pool c.self.inside.tasks c.requires.0 c.args.self.now c.args.t.0 c.self.view_is c.requires.1).has)
+next-requires c = (
+  slot_of c.requires.0,
+  (unended_from c.self.inside.pool c.self.inside.tasks c.requires.0 c.args.self.now c.args.t.0 c.self.view_is c.requires.1).has,
+)
 
 pub returns-in-Some : goal.returns-in-Some
 returns-in-Some c q i at =

@@ -16,8 +16,11 @@ make-requires g c =
 pub push-requires : goal.push-requires
 push-requires g c =
     let p = c.self.inside in
-    let below = free_below p.row.items p.made p.count c.args.place c.self.invariant.0 c.self.invariant.1 (rw (← c.self.view_is) at c.requires) in
-    (sym (ap length c.make.ensures.0 ∙ length-made p.row.items p.made c.args.place c.self.invariant.0 c.if-place-self.false), omega (arith, below, c.make.ensures.1, c.self.invariant.2))
+    let below = free_below p.row.items p.made p.count c.args.place c.self.invariant.0 c.self.invariant.1 (rw (← c.self.view_is) at c.requires) in (
+      sym (ap length c.make.ensures.0 ∙ length-made p.row.items p.made c.args.place c.self.invariant.0 c.if-place-self.false),
+      omega
+          (arith, below, c.make.ensures.1, c.self.invariant.2),
+    )
 
 pub overflow_add-self : goal.overflow_add-self
 overflow_add-self g c =
@@ -55,4 +58,5 @@ pub returns-clause-now : goal.returns-clause-now
 returns-clause-now g c =
     let p = c.self.inside in
     let below = free_below p.row.items p.made p.count c.args.place c.self.invariant.0 c.self.invariant.1 (rw (← c.self.view_is) at c.requires) in
-    rw (← c.self.view_is, c.push.ensures.0, c.make.ensures.0) (set-fresh p.row.items p.made p.count c.args.place (Live 1 c.args.value) c.self.invariant.0 c.if-place-self.false below)
+    rw (← c.self.view_is, c.push.ensures.0, c.make.ensures.0)
+    (set-fresh p.row.items p.made p.count c.args.place (Live 1 c.args.value) c.self.invariant.0 c.if-place-self.false below)

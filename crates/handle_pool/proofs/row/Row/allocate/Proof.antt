@@ -29,7 +29,8 @@ module _ {M : Type 1} {𝓤 : Ura M} (𝓛 : Logic 𝓤) (τ : Ty) where
       fpick ! (λ us. fsplit ! $ feq_l ! (λ e. fpick ! (λ vss. fsplit ! $ feq_l ! (λ e'. fsplit ! $ feq_l ! (λ e''. drop ! $
       in_a_block ! p (λ z. fsep (room_for τ z) (chunk τ z)) (fst∗ 𝓤 (never 𝓤) (sem 𝓛 (chunk τ null_ptr))) (λ b o at.
       show ! (λ (c : Bool × (ℕ × ℕ)). guard 𝓤 (v ≡ answer_val c.0 c.1.0 c.1.1) (sem 𝓛 (got chunk τ c.0 c.1.0 c.1.1))) (true, (b, o)) $
-      check ! (ap only e ∙ ap (λ (ws : List Val). live 0 (of_list ws)) (e' ∙ ap (λ (ws : List Val). ws ++ []) (e'' ∙ ap (λ (z : Ptr). ptr_val z ∷ []) at))) $ done !))))))
+      check ! (ap only e ∙ ap (λ (ws : List Val). live 0 (of_list ws)) (e'
+      ∙ ap (λ (ws : List Val). ws ++ []) (e'' ∙ ap (λ (z : Ptr). ptr_val z ∷ []) at))) $ done !))))))
   answer_word v (Err n) =
       qed 𝓛 (‵ (Answer.own_val (Err n) (v ∷ [])) ∷ ‵ ftrue ∷ []) ∵
       fpick ! (λ us. fsplit ! $ feq_l ! (λ e. fpick ! (λ vss. fsplit ! $ feq_l ! (λ e'. fsplit ! $ fpick ! (λ none. fsplit ! $ feq_l ! (λ e''. keep ! [] $
@@ -57,13 +58,16 @@ module _ (X : RattleType) where
 pub allocate_spec : {M : Type 1} → statement M
 allocate_spec 𝓤 𝓛 𝓜 𝓡 wired X L =
     let c = f.clauses X 𝓛 𝓜.mem 𝓡.returns in let W = walk_of 𝓛 (f.ended X) (stayed X) c in let 𝓣 = tables 𝓤 𝓛.H 𝓜 𝓡 𝓡.env in
-    proved 𝓛 (f.ended X) (stayed X) c 𝓜 𝓡
-    (Goes-dropped 𝓛 2 (RefOf (0 ∷ []) tt (plain (λ _. G.the_row)) (λ _. tt)) yes (λ κs x w. refl), (Goes-dropped 𝓛 2 (plain (λ _. usize)) yes (λ κs x w. refl), tt))
+    proved 𝓛 (f.ended X) (stayed X) c 𝓜 𝓡 (
+      Goes-dropped 𝓛 2 (RefOf (0 ∷ []) tt (plain (λ _. G.the_row)) (λ _. tt)) yes (λ κs x w. refl),
+      (Goes-dropped 𝓛 2 (plain (λ _. usize)) yes (λ κs x w. refl), tt),
+    )
     (f.Key.name (layouts (a_type ∷ []) (X, tt))) (fn' X) (code.unfolded 𝓤 𝓛.H 𝓜 𝓡 wired (X, tt))
     (λ κs. (shr_vals, (uint_vals w64, tt))) (λ κs. (shr_Tells (named 0) κs.0 G.the_row, (uint_Tells w64, tt))) (λ κs qs bounds a _ are.
     let κ = κs.0 in let q = qs.0 in let r = a.0 in let n = a.1.0 in let fn = are.1.0.1 in
     let y : W.Ghost = ((κs, qs, bounds, a, (shr_vals r, (uint_vals w64 n, tt))), tt) in
-    qed 𝓛 (((‵ (flft κ q) ⊛ ‵ (flft κs.1.0 qs.1.0) ⊛ ‵ ftrue) ⊛ ‵ ((ShrRef (named 0) κ G.the_row).own_val r (shr_vals r)) ⊛ ‵ (usize.own_val n (uint_vals w64 n)) ⊛ ‵ ftrue)
+    qed 𝓛 (((‵ (flft κ q) ⊛ ‵ (flft κs.1.0 qs.1.0) ⊛ ‵ ftrue) ⊛ ‵ ((ShrRef (named 0) κ G.the_row).own_val r (shr_vals r)) ⊛ ‵
+    (usize.own_val n (uint_vals w64 n)) ⊛ ‵ ftrue)
     ∷ (raw (fact 𝓤 (κs.1.0 ⊑ X.lives)) ⊛ raw (fact 𝓤 ((n * sz X < 2 ^ 63) × (0 < n)))) ∷ []) ∵
     split ! $ split3 ! $ move ! (4 ∷ []) $ split ! $ drop ! $ heard ! _ (λ asked. move ! (3 ∷ []) $ split3 ! $ keep ! (0 ∷ 3 ∷ 4 ∷ []) $ fsplit ! $ drop ! $
     let τ = ty_array (layout X) n in
@@ -77,9 +81,11 @@ allocate_spec 𝓤 𝓛 𝓜 𝓡 wired X L =
     enter ! _ _ _ _ _ $ alloc_all ! (λ l. pass_all ! refl ((tt, tt), ((tt, record { fits = fn }), tt)) $
     let En : Env 𝓤 𝓛.H = env (fn' X).locals l in
     let both : Body = head (after 2 (fn' X).body) in
-    let Then : After 𝓤 𝓛.H = any_q (after_seq 𝓤 𝓛.H (Wp 𝓤 𝓛.H 𝓣.C 𝓣.Λ En (after 3 (fn' X).body) (at_return 𝓤 𝓛.H En (W.post y))) (at_return 𝓤 𝓛.H En (W.post y))) in
+    let Then : After 𝓤 𝓛.H = any_q (after_seq 𝓤 𝓛.H (Wp 𝓤 𝓛.H 𝓣.C 𝓣.Λ En (after 3 (fn' X).body) (at_return 𝓤 𝓛.H En (W.post y)))
+    (at_return 𝓤 𝓛.H En (W.post y))) in
     sets ! (bin ! (get ! refl) (size_lit ! (record { fits = tiny })) (record { fits = bytes })) refl (tt, record { fits = bytes }) $
-    use0 𝓛 (raw (fact 𝓤 ((capped (size (bare τ)) ≡ s) × (capped (align (bare τ)) ≡ al)))) (fact_i 𝓤 ((capped (size (bare τ)) ≡ s) × (capped (align (bare τ)) ≡ al)) (emp 𝓤) laid) $
+    use0 𝓛 (raw (fact 𝓤 ((capped (size (bare τ)) ≡ s) × (capped (align (bare τ)) ≡ al))))
+    (fact_i 𝓤 ((capped (size (bare τ)) ≡ s) × (capped (align (bare τ)) ≡ al)) (emp 𝓤) laid) $
     nothing ! $ flt_i ! al (2 ^ 64) (capped_fits (align (layout X))) $ feq_i ! (List Val) (vint w64 al ∷ []) (vint w64 al ∷ []) refl $ fjoin ! $ fjoin ! $
     flt_i ! s (2 ^ 64) bytes $ feq_i ! (List Val) (vint w64 s ∷ []) (vint w64 s ∷ []) refl $ fjoin ! $ fjoin ! $
     move ! (2 ∷ []) $ feq_i ! (List Val) (shr_vals r) (shr_vals r) refl $ fjoin ! $ fjoin ! $
@@ -87,14 +93,17 @@ allocate_spec 𝓤 𝓛 𝓜 𝓡 wired X L =
     calls_at ! (framed 𝓤 𝓛.H 𝓜 (tables 𝓤 𝓛.H 𝓜 𝓡 𝓡.env)) D (met 𝓤 𝓛 𝓜 𝓡 (code.calls-std_heap::GlobalAllocator::allocate 𝓡.env wired)) z
     (and_then ! (get ! refl) (and_then ! (get ! refl) (and_then ! (align_word !) (no_more !)))) (λ v.
     use1 𝓛 (later (some (λ (u : Answer.Denot). ((‵ (flft κ q) ⊛ ‵ ftrue) ⊛ ‵ (Answer.own_val u (v ∷ []))) ⊛
-    some (λ (ws : Unit {0} × (Unit {0} × (Unit {0} × Unit {0}))). ‵ (fsep ftrue (fsep ftrue (fsep ftrue ftrue))) ⊛ ‵ (block_if_ok chunk (bare τ) u))))) (id⊢ 𝓤 _) $ await ! tt $ pick ! (λ u.
+    some (λ (ws : Unit {0} × (Unit {0} × (Unit {0} × Unit {0}))). ‵ (fsep ftrue (fsep ftrue (fsep ftrue ftrue))) ⊛ ‵ (block_if_ok chunk (bare τ) u)))))
+    (id⊢ 𝓤 _) $ await ! tt $ pick ! (λ u.
     split ! $ move ! (1 ∷ []) $ pick ! (λ ws. split ! $ drop ! $ move ! (1 ∷ []) $ split ! $ split ! $ move ! (2 ∷ 3 ∷ []) $
-    use2 𝓛 (some (λ (w : Bool × (ℕ × ℕ)). given (v ≡ answer_val w.0 w.1.0 w.1.1) (‵ (got chunk (bare τ) w.0 w.1.0 w.1.1)))) (answer_word 𝓛 (bare τ) v u) $ pick ! (λ w. learn ! (λ said.
+    use2 𝓛 (some (λ (w : Bool × (ℕ × ℕ)). given (v ≡ answer_val w.0 w.1.0 w.1.1) (‵ (got chunk (bare τ) w.0 w.1.0 w.1.1))))
+    (answer_word 𝓛 (bare τ) v u) $ pick ! (λ w. learn ! (λ said.
     given_or_refused (bare τ) ! v w.0 w.1.0 w.1.1 said
     (λ e. let b = w.1.0 in let o = w.1.1 in
     let d : Row X.Denot = record { at = block_ptr b o; items = []; room = n } in
     let it = vstruct (vcons (vptr b o) vnil) in
-    lands_as ! e refl (Answer-typed true b o) $ first ! $ switches_on ! (get_tag ! (vrt ! refl (fld ! refl (stop !))) (whole !)) $ exec ! 𝓣.C 𝓣.Λ En (arm_body 0 both) Then $
+    lands_as ! e refl (Answer-typed true b o) $ first ! $ switches_on ! (get_tag ! (vrt ! refl (fld ! refl (stop !))) (whole !)) $ exec ! 𝓣.C 𝓣.Λ En
+    (arm_body 0 both) Then $
     sets ! (of_opd ! (get_in ! (vrt ! refl (fld ! refl (stop !))) (in_variant ! 0 0 refl refl (whole !)))) refl (tt, tt) $
     sets ! (of_opd ! (get ! refl)) refl (tt, tt) $
     sets ! (agg ! (and_then ! (get ! refl) (no_more !))) refl (tt, (tt, tt)) $
@@ -112,15 +121,19 @@ allocate_spec 𝓤 𝓛 𝓜 𝓡 wired X L =
     use1 𝓛 (‵ ((Out X).own_val (Ok d) (live 0 (of_list (it ∷ [])) ∷ []))) (ok_of 𝓛 (RowOf X) AE.the_row d it) $
     returns ! (look_at ! 0 refl) $ free_all ! refl $
     suffices ! _ (ends_at 𝓛 (f.ended X) (stayed X) c y (live 0 (of_list (it ∷ []))) (Ok d) (tt, (tt, tt)) (tt, (tt, tt))) $ says ! (refl, refl) $
-    nothing ! $ nothing ! $ join ! $ nothing ! $ join ! $ nothing ! $ move ! (5 ∷ 0 ∷ []) $ join ! $ move ! (3 ∷ 0 ∷ []) $ join ! $ keep ! (0 ∷ 1 ∷ 2 ∷ []) $ done !)
+    nothing ! $ nothing ! $ join ! $ nothing ! $ join ! $ nothing ! $ move ! (5 ∷ 0 ∷ []) $ join ! $ move ! (3 ∷ 0 ∷ []) $ join ! $ keep ! (0 ∷ 1 ∷ 2
+    ∷ []) $ done !)
     (λ e. let b = w.1.0 in let o = w.1.1 in
     let no = vstruct vnil in
-    lands_as ! e refl (Answer-typed false b o) $ first ! $ switches_on ! (get_tag ! (vrt ! refl (fld ! refl (stop !))) (whole !)) $ exec ! 𝓣.C 𝓣.Λ En (arm_body 1 both) Then $
+    lands_as ! e refl (Answer-typed false b o) $ first ! $ switches_on ! (get_tag ! (vrt ! refl (fld ! refl (stop !))) (whole !)) $ exec ! 𝓣.C 𝓣.Λ En
+    (arm_body 1 both) Then $
     sets ! (of_opd ! (get_in ! (vrt ! refl (fld ! refl (stop !))) (in_variant ! 1 0 refl refl (whole !)))) refl (tt, tt) $
     sets_last ! (agg ! (and_then ! (lit ! tt) (and_then ! (get ! refl) (no_more !)))) refl (tt, (record { fits = lit< tt }, (tt, tt))) $
     exec ! 𝓣.C 𝓣.Λ En (after 3 (fn' X).body) (at_ret En (W.post y)) $ sets ! (of_opd ! (get ! refl)) refl (tt, (record { fits = lit< tt }, (tt, tt))) $
-    owned ! (Struct (Declared.shape AE.the_type)) (Is (Struct (Declared.shape AE.the_type))) (Struct-Makes 𝓛 (Declared.shape AE.the_type) tt) tt (no ∷ []) (tt, (refl, tt)) $
+    owned ! (Struct (Declared.shape AE.the_type)) (Is (Struct (Declared.shape AE.the_type))) (Struct-Makes 𝓛 (Declared.shape AE.the_type) tt) tt (no
+    ∷ []) (tt, (refl, tt)) $
     use1 𝓛 (‵ ((Out X).own_val (Err (record {})) (live 1 (of_list (no ∷ [])) ∷ []))) (err_of 𝓛 (RowOf X) AE.the_row (record {}) no) $
     returns ! (look_at ! 0 refl) $ free_all ! refl $
     suffices ! _ (ends_at 𝓛 (f.ended X) (stayed X) c y (live 1 (of_list (no ∷ []))) (Err (record {})) (tt, (tt, tt)) (tt, (tt, tt))) $ says ! tt $
-    nothing ! $ nothing ! $ join ! $ nothing ! $ join ! $ nothing ! $ move ! (5 ∷ 0 ∷ []) $ join ! $ move ! (3 ∷ 0 ∷ []) $ join ! $ keep ! (0 ∷ 1 ∷ 2 ∷ []) $ done !)))))))))
+    nothing ! $ nothing ! $ join ! $ nothing ! $ join ! $ nothing ! $ move ! (5 ∷ 0 ∷ []) $ join ! $ move ! (3 ∷ 0 ∷ []) $ join ! $ keep ! (0 ∷ 1 ∷ 2
+    ∷ []) $ done !)))))))))

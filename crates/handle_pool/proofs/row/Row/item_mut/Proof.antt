@@ -17,7 +17,8 @@ module _ (X : RattleType) where
 module _ (X : RattleType) (L : Laws X) {M : Type 1} {𝓤 : Ura M} (𝓛 : Logic 𝓤) (d : Row X.Denot) (us : List Val) (b o rb ro : ℕ) where
   -- all but the item
   abbrev Rest : ℕ → Fml
-  Rest i = fsep (others (shares (R X)) full_share d.items i b o) (fsep (Spare X d.room (length d.items) b o) (fsep (Held X d us) (cell_at full_share (RowOf X).mir us rb ro)))
+  Rest i = fsep (others (shares (R X)) full_share d.items i b o)
+      (fsep (Spare X d.room (length d.items) b o) (fsep (Held X d us) (cell_at full_share (RowOf X).mir us rb ro)))
 
   -- with another item it makes a row again
   back : (i : ℕ) → i < length d.items → d.at ≡ block_ptr b o → length d.items < d.room + 1 → d.room * sz X < 2 ^ 63 → (w : X.Denot)
@@ -29,7 +30,8 @@ module _ (X : RattleType) (L : Laws X) {M : Type 1} {𝓤 : Ura M} (𝓛 : Logic
       qed 𝓛 (‵ (part_at (R X) full_share w b (i * sz X + o)) ∷ ‵ (Rest i) ∷ []) ∵ move ! (1 ∷ []) $ fsplit ! $ move ! (2 ∷ 0 ∷ []) $
       rewrite ! 0 (λ (k : ℕ). ‵ (part_at (R X) full_share w b k)) (sym (place_is (sz X) o i)) refl $
       use2 𝓛 (‵ (row (R X) full_share ys b o)) (puts (shares (R X)) full_share 𝓛 d.items i w b o inside) $
-      use1 𝓛 (‵ (Items X ys b o)) (rows.whole (record { row = X; laws = L }) 𝓛 full_share (length ys) ys b o refl) $ move ! (1 ∷ []) $ fsplit3 ! $ move ! (3 ∷ 0 ∷ 1 ∷ []) $
+      use1 𝓛 (‵ (Items X ys b o)) (rows.whole (record { row = X; laws = L }) 𝓛 full_share (length ys) ys b o refl) $ move ! (1 ∷ []) $ fsplit3 ! $ move ! (3 ∷ 0
+      ∷ 1 ∷ []) $
       rewrite ! 1 (λ (k : ℕ). ‵ (Spare X d.room k b o)) (sym same) refl $
       row_made X L ! d ys us b o at (subst (λ (k : ℕ). k < d.room + 1) (sym same) le) fit $ move ! (1 ∷ 0 ∷ []) $ fjoin ! $
       fpack ! (List Val) (λ ws. fsep (cell_at full_share (RowOf X).mir ws rb ro) ((RowOf X).own_val (with_item d i w) ws)) us $ done !
@@ -42,12 +44,18 @@ some_at (x ∷ xs) (suc i) d inside = some_at xs i d (omega (arith, inside))
 pub item_mut_spec : {M : Type 1} → statement M
 item_mut_spec 𝓤 𝓛 𝓜 𝓡 wired X L =
     let c = f.clauses X 𝓛 𝓜.mem 𝓡.returns in let W = walk_of 𝓛 (f.ended X) (stayed X) c in let 𝓣 = tables 𝓤 𝓛.H 𝓜 𝓡 𝓡.env in
-    proved 𝓛 (f.ended X) (stayed X) c 𝓜 𝓡 (Goes-spent_ref 𝓛 2 (0 ∷ []) tt (plain (λ _. RowOf X)), (Goes-dropped 𝓛 2 (plain (λ _. usize)) yes (λ κs x w. refl), tt))
+    proved 𝓛 (f.ended X) (stayed X) c 𝓜 𝓡 (
+      Goes-spent_ref 𝓛 2 (0
+          ∷ []) tt (plain (λ _. RowOf X)),
+      (Goes-dropped 𝓛 2 (plain (λ _. usize)) yes (λ κs x w. refl), tt),
+    )
     (f.Key.name (layouts (a_type ∷ []) (X, tt))) (fn' X) (code.unfolded 𝓤 𝓛.H 𝓜 𝓡 wired (X, tt))
     (λ κs. (mut_vals, (uint_vals w64, tt))) (λ κs. (mut_Tells (named 0) κs.0 (RowOf X), (uint_Tells w64, tt))) (λ κs qs bounds a _ are.
-    let κ = κs.0 in let q = qs.0 in let d = a.0.now in let n = a.1.0 in let rb = a.0.ref_ptr.0 in let ro = a.0.ref_ptr.1 in let γ = a.0.ghost_name in let xs = d.items in
+    let κ = κs.0 in let q = qs.0 in let d = a.0.now in let n = a.1.0 in let rb = a.0.ref_ptr.0 in let ro = a.0.ref_ptr.1 in let γ = a.0.ghost_name in let xs =
+    d.items in
     let y : W.Ghost = ((κs, qs, bounds, a, (mut_vals a.0, (uint_vals w64 n, tt))), tt) in
-    qed 𝓛 (((‵ (flft κ q) ⊛ ‵ (flft κs.1.0 qs.1.0) ⊛ ‵ ftrue) ⊛ ‵ ((MutRef (named 0) κ (RowOf X)).own_val a.0 (mut_vals a.0)) ⊛ ‵ (usize.own_val n (uint_vals w64 n)) ⊛ ‵ ftrue)
+    qed 𝓛 (((‵ (flft κ q) ⊛ ‵ (flft κs.1.0 qs.1.0) ⊛ ‵ ftrue) ⊛ ‵ ((MutRef (named 0) κ (RowOf X)).own_val a.0 (mut_vals a.0)) ⊛ ‵
+    (usize.own_val n (uint_vals w64 n)) ⊛ ‵ ftrue)
     ∷ (raw (fact 𝓤 (κs.1.0 ⊑ X.lives)) ⊛ raw (fact 𝓤 (n < length d.items))) ∷ []) ∵
     split ! $ split3 ! $ move ! (4 ∷ []) $ split ! $ drop ! $ heard ! _ (λ is. move ! (3 ∷ []) $ split3 ! $ keep ! (0 ∷ 3 ∷ 4 ∷ []) $
     enter ! _ _ _ _ _ $ alloc_all ! (λ l. pass_all ! refl ((tt, tt), ((tt, record { fits = are.1.0.1 }), tt)) $
@@ -62,7 +70,8 @@ item_mut_spec 𝓤 𝓛 𝓜 𝓡 wired X L =
     -- let at = self.at;
     sets ! (of_opd ! (load ! (through ! refl (fld ! refl (stop !))) (look_in ! 3 (sub ! 0 refl (whole !))))) refl (tt, tt) $
     use1 𝓛 (given (length xs ≡ length xs) (‵ (row (R X) full_share xs b o))) (apart E 𝓛 full_share (length xs) xs b o) $ learn ! (λ _.
-    use1 𝓛 (‵ (part_at (R X) full_share x b (nth (sz X) o n)) ⊛ ‵ (others (shares (R X)) full_share xs n b o)) (takes (shares (R X)) full_share 𝓛 xs n (rows.hd xs (omega (arith, is))) b o is) $ split ! $
+    use1 𝓛 (‵ (part_at (R X) full_share x b (nth (sz X) o n)) ⊛ ‵ (others (shares (R X)) full_share xs n b o))
+    (takes (shares (R X)) full_share 𝓛 xs n (rows.hd xs (omega (arith, is))) b o is) $ split ! $
     rewrite ! 0 (λ (k : ℕ). ‵ (part_at (R X) full_share x b k)) (place_is (sz X) o n) refl $
     -- [the item; the others; the room after them; the word and the right; the row's cell; the open borrow; what is seen of it, in two entries]
     rewrite ! 4 (λ (ws : List Val). ‵ (cell_at full_share (RowOf X).mir ws rb ro)) (sym word_is) refl $
@@ -74,11 +83,15 @@ item_mut_spec 𝓤 𝓛 𝓜 𝓡 wired X L =
     exec ! 𝓣.C 𝓣.Λ (env (fn' X).locals l) (after 2 (fn' X).body) (at_ret _ (W.post y)) $
     sets ! (of_opd ! (get ! refl)) refl (tt, tt) $
     move ! (3 ∷ 4 ∷ []) $ fjoin ! $ move ! (3 ∷ 0 ∷ []) $ fjoin ! $ move ! (2 ∷ 0 ∷ []) $ fjoin ! $ move ! (2 ∷ 3 ∷ 4 ∷ 1 ∷ 0 ∷ []) $ group ! 5 $
-    use1 𝓛 (later (some (λ (γ' : GName). raw (Part 𝓛 (RowOf X) (R X) (with_item d n) (named 0) κ q rb ro b p γ (sem 𝓛 (Rest X L 𝓛 d us b o rb ro n)) (back X L 𝓛 d us b o rb ro n is at le fit) x γ'))))
-    (lends_Part 𝓛 (RowOf X) (R X) (with_item d n) (named 0) κ q rb ro b p γ (sem 𝓛 (Rest X L 𝓛 d us b o rb ro n)) (back X L 𝓛 d us b o rb ro n is at le fit) ((RowOf X).coded.code d) ((RowOf X).coded.code d) x) $ await ! tt $ pick ! (λ γ'.
+    use1 𝓛 (later (some (λ (γ' : GName). raw
+    (Part 𝓛 (RowOf X) (R X) (with_item d n) (named 0) κ q rb ro b p γ (sem 𝓛 (Rest X L 𝓛 d us b o rb ro n))
+    (back X L 𝓛 d us b o rb ro n is at le fit) x γ'))))
+    (lends_Part 𝓛 (RowOf X) (R X) (with_item d n) (named 0) κ q rb ro b p γ (sem 𝓛 (Rest X L 𝓛 d us b o rb ro n)) (back X L 𝓛 d us b o rb ro n is at le fit)
+    ((RowOf X).coded.code d) ((RowOf X).coded.code d) x) $ await ! tt $ pick ! (λ γ'.
     returns ! (look_at ! 0 refl) $ free_all ! refl $ keep ! (0 ∷ 2 ∷ []) $
     let lent : MutBor X.Denot = record { ref_ptr = (b, p); ghost_name = γ'; now = x } in
-    use1 𝓛 (‵ ((MutRef (named 0) κ (R X)).own_val lent (vptr b p ∷ [])) ⊛ ‵ (flft κ q) ⊛ ‵ (follows (RowOf X) (R X) γ γ' (with_item d n))) (id⊢ 𝓤 _) $ split3 ! $
+    use1 𝓛 (‵ ((MutRef (named 0) κ (R X)).own_val lent (vptr b p ∷ [])) ⊛ ‵ (flft κ q) ⊛ ‵ (follows (RowOf X) (R X) γ γ' (with_item d n)))
+    (id⊢ 𝓤 _) $ split3 ! $
     -- [the item; a token; what the row follows; a token]
     suffices ! _ (ends_at 𝓛 (f.ended X) (stayed X) c y (vptr b p) lent (tt, (tt, tt)) (tt, (tt, tt))) $
     nothing ! $ nothing ! $ join ! $ nothing ! $ join ! $ nothing ! $ move ! (5 ∷ 0 ∷ []) $ join ! $ move ! (3 ∷ 0 ∷ []) $ join ! $ group ! 3 $ frame ! $

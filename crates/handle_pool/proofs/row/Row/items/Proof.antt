@@ -31,23 +31,31 @@ module _ (X : RattleType) {M : Type 1} {𝓤 : Ura M} (𝓛 : Logic 𝓤) (κ : 
   shows_at : ent 𝓤 (sem 𝓛 Seen) (sep 𝓤 (sem 𝓛 (hidden_shr RawPtr κ p b (o + 0))) (sem 𝓛 Seen))
   shows_at =
       qed 𝓛 (‵ Seen ∷ []) ∵
-      shr_dup ! (Words X) (Struct-row_laws (shape (C.the_type (R X))) (ptr_row_laws, tt)) (p, tt) b o κ $ unhide ! $ fsplit ! $ fsplit ! $ hide ! $ keep ! (0 ∷ 3 ∷ []) $ done !
+      shr_dup ! (Words X) (Struct-row_laws (shape (C.the_type (R X))) (ptr_row_laws, tt)) (p, tt) b o κ $ unhide ! $ fsplit ! $ fsplit ! $ hide ! $ keep ! (0
+      ∷ 3 ∷ []) $ done !
 
 pub items_spec : {M : Type 1} → statement M
 items_spec 𝓤 𝓛 𝓜 𝓡 wired X L =
     let c = f.clauses X 𝓛 𝓜.mem 𝓡.returns in let W = walk_of 𝓛 (f.ended X) (stayed X) c in let 𝓣 = tables 𝓤 𝓛.H 𝓜 𝓡 𝓡.env in
-    proved 𝓛 (f.ended X) (stayed X) c 𝓜 𝓡 (Goes-dropped 𝓛 2 (RefOf (0 ∷ []) tt (plain (λ _. RowOf X)) (λ _. tt)) yes (λ κs x w. refl), (Goes-dropped 𝓛 2 (plain (λ _. usize)) yes (λ κs x w. refl), tt))
+    proved 𝓛 (f.ended X) (stayed X) c 𝓜 𝓡 (
+      Goes-dropped 𝓛 2 (RefOf (0 ∷ []) tt (plain (λ _. RowOf X)) (λ _. tt)) yes (λ κs x w. refl),
+      (Goes-dropped 𝓛 2 (plain (λ _. usize)) yes (λ κs x w. refl), tt),
+    )
     (f.Key.name (layouts (a_type ∷ []) (X, tt))) (fn' X) (code.unfolded 𝓤 𝓛.H 𝓜 𝓡 wired (X, tt))
     (λ κs. (shr_vals, (uint_vals w64, tt))) (λ κs. (shr_Tells (named 0) κs.0 (RowOf X), (uint_Tells w64, tt))) (λ κs qs bounds a _ are.
     let κ = κs.0 in let q = qs.0 in let d = a.0.now in let n = a.1.0 in let b = a.0.ref_ptr.0 in let o = a.0.ref_ptr.1 in
     let y : W.Ghost = ((κs, qs, bounds, a, (shr_vals a.0, (uint_vals w64 n, tt))), tt) in
-    qed 𝓛 (((‵ (flft κ q) ⊛ ‵ (flft κs.1.0 qs.1.0) ⊛ ‵ ftrue) ⊛ ‵ ((ShrRef (named 0) κ (RowOf X)).own_val a.0 (shr_vals a.0)) ⊛ ‵ (usize.own_val n (uint_vals w64 n)) ⊛ ‵ ftrue)
+    qed 𝓛 (((‵ (flft κ q) ⊛ ‵ (flft κs.1.0 qs.1.0) ⊛ ‵ ftrue) ⊛ ‵ ((ShrRef (named 0) κ (RowOf X)).own_val a.0 (shr_vals a.0)) ⊛ ‵
+    (usize.own_val n (uint_vals w64 n)) ⊛ ‵ ftrue)
     ∷ (raw (fact 𝓤 (κs.1.0 ⊑ X.lives)) ⊛ raw (fact 𝓤 (n ≡ length d.items))) ∷ []) ∵
     split ! $ split3 ! $ move ! (4 ∷ []) $ split ! $ drop ! $ heard ! _ (λ is. move ! (3 ∷ []) $ split3 ! $ keep ! (0 ∷ 3 ∷ 4 ∷ []) $
     -- [the `&`; the two tokens]
     fsplit ! $ drop ! $
-    use1 𝓛 (‵ (hidden_shr (Words X) κ (d.at, tt) b o) ⊛ ‵ (fhide (C.the_lent (R X) d d.at κ))) (lent_out 𝓛 (C.struct (R X)) (C.the_codes X.Denot X.coded) (C.the_heap (R X)) (C.the_lent (R X)) κ d b o) $ split ! $
-    move ! (1 ∷ []) $ unhide ! $ fsplit ! $ fsplit ! $ flt_l ! (λ le. flt_l ! (λ fit. fsplit ! $ use1 𝓛 (raw (fact 𝓤 (InBlock d.at))) (in_block_says 𝓛 d.at) $ heard ! (InBlock d.at) (λ inb. fsplit ! $ drop ! $ hide ! $
+    use1 𝓛 (‵ (hidden_shr (Words X) κ (d.at, tt) b o) ⊛ ‵ (fhide (C.the_lent (R X) d d.at κ)))
+    (lent_out 𝓛 (C.struct (R X)) (C.the_codes X.Denot X.coded) (C.the_heap (R X)) (C.the_lent (R X)) κ d b o) $ split ! $
+    move ! (1 ∷ []) $ unhide ! $ fsplit ! $ fsplit ! $ flt_l !
+    (λ le. flt_l ! (λ fit. fsplit ! $ use1 𝓛 (raw (fact 𝓤 (InBlock d.at))) (in_block_says 𝓛 d.at) $ heard ! (InBlock d.at)
+    (λ inb. fsplit ! $ drop ! $ hide ! $
     -- [the items; the row's word; the two tokens]
     move ! (1 ∷ 2 ∷ []) $ enter ! _ _ _ _ _ $ alloc_all ! (λ l. pass_all ! refl ((tt, tt), ((tt, record { fits = are.1.0.1 }), tt)) $
     pointer_in ! tt d.at inb b (o + 0) (shows_at X 𝓛 κ b o d.at) (λ q'.

@@ -17,22 +17,29 @@ module _ (X : RattleType) where
 pub push_spec : {M : Type 1} → statement M
 push_spec 𝓤 𝓛 𝓜 𝓡 wired X L =
     let c = f.clauses X 𝓛 𝓜.mem 𝓡.returns in let W = walk_of 𝓛 (f.ended X) (stayed X) c in let 𝓣 = tables 𝓤 𝓛.H 𝓜 𝓡 𝓡.env in
-    proved_at 𝓛 (f.ended X) (stayed X) c 𝓜 𝓡 (Goes-ref 𝓛 2 0 tt (plain (λ _. RowOf X)), (Goes-dropped 𝓛 2 (plain (λ _. usize)) yes (λ κs x w. refl), (Goes-dropped 𝓛 2 (plain (λ _. R X)) no (λ κs x w. refl), tt)))
+    proved_at 𝓛 (f.ended X) (stayed X) c 𝓜 𝓡 (
+      Goes-ref 𝓛 2 0 tt (plain (λ _. RowOf X)),
+      (Goes-dropped 𝓛 2 (plain (λ _. usize)) yes (λ κs x w. refl), (Goes-dropped 𝓛 2 (plain (λ _. R X)) no (λ κs x w. refl), tt)),
+    )
     (f.Key.name (layouts (a_type ∷ []) (X, tt))) (fn' X) (code.unfolded 𝓤 𝓛.H 𝓜 𝓡 wired (X, tt))
     (λ y are.
     let κs = y.0.0 in let qs = y.0.1 in let bounds = y.0.2 in let a = y.0.3 in
-    let κ = κs.0 in let q = qs.0 in let d = a.0.now in let n = a.1.0 in let x = a.1.1.0 in let rb = a.0.ref_ptr.0 in let ro = a.0.ref_ptr.1 in let xs = d.items in
+    let κ = κs.0 in let q = qs.0 in let d = a.0.now in let n = a.1.0 in let x = a.1.1.0 in let rb = a.0.ref_ptr.0 in let ro = a.0.ref_ptr.1 in let xs =
+    d.items in
     let Goal : List Val → List Val → List Val → Type 1 = λ us ns vs.
-    ent 𝓤 (sep 𝓤 (on_entry 𝓛 (f.signature X) κs qs a (us, (ns, (vs, tt)))) ((c κs a).requires tt)) (WpFn 𝓤 𝓛.H 𝓣.C 𝓣.Λ (fn' X) (us ++ (ns ++ (vs ++ []))) (W.post ((κs, qs, bounds, a, (us, (ns, (vs, tt)))), tt))) in
+    ent 𝓤 (sep 𝓤 (on_entry 𝓛 (f.signature X) κs qs a (us, (ns, (vs, tt)))) ((c κs a).requires tt))
+    (WpFn 𝓤 𝓛.H 𝓣.C 𝓣.Λ (fn' X) (us ++ (ns ++ (vs ++ []))) (W.post ((κs, qs, bounds, a, (us, (ns, (vs, tt)))), tt))) in
     let one = one_value (layout X) y.0.4.1.1.0 (((param_laws 0 X L).lawful 𝓛).typed x y.0.4.1.1.0 are.1.1.0) in
     let v = one.0 in let good = one.2 in let fn = are.1.0.1 in
     subst (λ (us : List Val). Goal us y.0.4.1.0 y.0.4.1.1.0) (sym are.0.0) (
     subst (λ (ns : List Val). Goal (mut_vals a.0) ns y.0.4.1.1.0) (sym are.1.0.0) (
     subst (λ (vs : List Val). Goal (mut_vals a.0) (uint_vals w64 n) vs) (sym one.1) (
     let z : W.Ghost = ((κs, qs, bounds, a, (mut_vals a.0, (uint_vals w64 n, (v ∷ [], tt)))), tt) in
-    qed 𝓛 (((‵ (flft κ q) ⊛ ‵ (flft κs.1.0 qs.1.0) ⊛ ‵ ftrue) ⊛ ‵ ((MutRef (named 0) κ (RowOf X)).own_val a.0 (mut_vals a.0)) ⊛ ‵ (usize.own_val n (uint_vals w64 n)) ⊛ ‵ ((R X).own_val x (v ∷ [])) ⊛ ‵ ftrue)
+    qed 𝓛 (((‵ (flft κ q) ⊛ ‵ (flft κs.1.0 qs.1.0) ⊛ ‵ ftrue) ⊛ ‵ ((MutRef (named 0) κ (RowOf X)).own_val a.0 (mut_vals a.0)) ⊛ ‵
+    (usize.own_val n (uint_vals w64 n)) ⊛ ‵ ((R X).own_val x (v ∷ [])) ⊛ ‵ ftrue)
     ∷ (raw (fact 𝓤 (κs.1.0 ⊑ X.lives)) ⊛ raw (fact 𝓤 ((n ≡ length xs) × (n < d.room)))) ∷ []) ∵
-    split ! $ split3 ! $ move ! (4 ∷ []) $ split ! $ drop ! $ heard ! _ (λ asked. move ! (3 ∷ []) $ split3 ! $ move ! (2 ∷ []) $ split ! $ keep ! (2 ∷ 4 ∷ 5 ∷ 0 ∷ []) $
+    split ! $ split3 ! $ move ! (4 ∷ []) $ split ! $ drop ! $ heard ! _
+    (λ asked. move ! (3 ∷ []) $ split3 ! $ move ! (2 ∷ []) $ split ! $ keep ! (2 ∷ 4 ∷ 5 ∷ 0 ∷ []) $
     -- [self; the two tokens; the item]
     enter ! _ _ _ _ _ $ alloc_all ! (λ l. pass_all ! refl ((tt, tt), ((tt, record { fits = fn }), (good, tt))) $
     fsplit3 ! $ move ! (1 ∷ 2 ∷ 3 ∷ []) $
@@ -46,7 +53,8 @@ push_spec 𝓤 𝓛 𝓜 𝓡 wired X L =
     rewrite ! 0 (λ (k : ℕ). ‵ (part_at (Array (R X) k) full_share xs b o)) (sym asked.0) refl $
     rewrite ! 1 (λ (k : ℕ). ‵ (Spare X d.room k b o)) (sym asked.0) refl $
     move ! (1 ∷ []) $ as_written ! (ty_array (layout X) (d.room - n)) b (o + n * sz X) $
-    use1 𝓛 (‵ (froom (layout X) b (n * sz X + o)) ⊛ ‵ (froom (ty_array (layout X) (d.room - (n + 1))) b (o + (n + 1) * sz X))) (rows.spare E 𝓛 b o n d.room asked.1) $ split ! $
+    use1 𝓛 (‵ (froom (layout X) b (n * sz X + o)) ⊛ ‵ (froom (ty_array (layout X) (d.room - (n + 1))) b (o + (n + 1) * sz X)))
+    (rows.spare E 𝓛 b o n d.room asked.1) $ split ! $
     -- [the place; the room after it; the items; the word; ..]
     first ! $ blocks ! $
     sets ! (bin ! (get ! refl) (size_lit ! (record { fits = tiny })) (record { fits = offset })) refl (tt, record { fits = offset }) $
@@ -62,8 +70,10 @@ push_spec 𝓤 𝓛 𝓜 𝓡 wired X L =
     move ! (0 ∷ 10 ∷ []) $ use2 𝓛 (‵ (part_at (R X) full_share x b (n * sz X + o))) (rows.el_in E 𝓛 full_share x b (n * sz X + o) v) $
     move ! (2 ∷ 0 ∷ []) $ use2 𝓛 (‵ (part_at (Array (R X) (n + 1)) full_share ys b o)) (rows.snoc E 𝓛 b o n xs x) $
     rewrite ! 0 (λ (k : ℕ). ‵ (part_at (Array (R X) k) full_share ys b o)) count refl $
-    move ! (1 ∷ []) $ as_raw ! (ty_array (layout X) (d.room - (n + 1))) b (o + (n + 1) * sz X) $ rewrite ! 0 (λ (k : ℕ). ‵ (Spare X d.room k b o)) count refl $ move ! (1 ∷ 0 ∷ []) $
-    row_made X L ! d ys us b o at le' fit $ rewrite ! 1 (λ (ws : List Val). ‵ (cell_at full_share (RowOf X).mir ws rb ro)) (sym word_is) refl $ move ! (1 ∷ 0 ∷ []) $
+    move ! (1 ∷ []) $ as_raw ! (ty_array (layout X) (d.room - (n + 1))) b (o
+    + (n + 1) * sz X) $ rewrite ! 0 (λ (k : ℕ). ‵ (Spare X d.room k b o)) count refl $ move ! (1 ∷ 0 ∷ []) $
+    row_made X L ! d ys us b o at le' fit $ rewrite ! 1 (λ (ws : List Val). ‵ (cell_at full_share (RowOf X).mir ws rb ro)) (sym word_is) refl $ move ! (1 ∷ 0
+    ∷ []) $
     closes ! tt (RowOf X) (record d { items = ys }) us rb ro $
     returns ! (look_at ! 0 refl) $ free_all ! refl $
     -- [two parts of self; a token; self's address; a token]

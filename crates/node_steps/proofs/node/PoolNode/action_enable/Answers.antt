@@ -12,5 +12,6 @@ returns-in-Ok c l who v =
 pub returns-in-Err : goal.returns-in-Err
 returns-in-Err c l who v =
     lands c.args.self.now l who _ _ c.enable_action.new.self _ c.args.self.now.scheduler.tasks c.enable_action.ensures.new
-    (action_absent c.args.self.now l who (op.ActionEnable c.args.action) c.args.action c.in-Err.status (with_enabled true) v (sym c.enable_action.ensures.reply ∙ c.in-Err.is) tt
+    (action_absent c.args.self.now l who (op.ActionEnable c.args.action) c.args.action c.in-Err.status (with_enabled true) v (sym c.enable_action.ensures.reply
+    ∙ c.in-Err.is) tt
     (λ none. past _ _ _ _ _ _ (not_true _ (sym c.if-not-is_open.ensures)) (at_none _ _ _ _ none)))

@@ -13,7 +13,8 @@ returns-in-ActionCreate c l v =
 pub returns-in-TaskStart : goal.returns-in-TaskStart
 returns-in-TaskStart c l v =
     ap (refusal_of (state_of c.args.self.now l) c.args.who) c.in-TaskStart.is
-    ∙ task_told c.args.self.now l c.args.who c.in-TaskStart.job c.in-TaskStart.args c.in-TaskStart.priority c.in-TaskStart.cores c.in-TaskStart.detached c.in-TaskStart.group
+    ∙ task_told c.args.self.now l c.args.who c.in-TaskStart.job c.in-TaskStart.args c.in-TaskStart.priority c.in-TaskStart.cores c.in-TaskStart.detached
+    c.in-TaskStart.group
     ∙ ap (option_map reply.Mtapi) (c.task_refusal.ensures.first l c.in-TaskStart.args v)
     ∙ c.mtapi-in-TaskStart.ensures
 
@@ -33,7 +34,8 @@ returns-in-GroupCreate c l v =
 pub returns-in-QueueCreate : goal.returns-in-QueueCreate
 returns-in-QueueCreate c l v =
     ap (refusal_of (state_of c.args.self.now l) c.args.who) c.in-QueueCreate.is
-    ∙ queue_told c.args.self.now l c.args.who c.in-QueueCreate.id c.in-QueueCreate.job c.in-QueueCreate.priority c.in-QueueCreate.limit c.in-QueueCreate.ordered c.in-QueueCreate.retain
+    ∙ queue_told c.args.self.now l c.args.who c.in-QueueCreate.id c.in-QueueCreate.job c.in-QueueCreate.priority c.in-QueueCreate.limit c.in-QueueCreate.ordered
+    c.in-QueueCreate.retain
     ∙ ap (option_map reply.Mtapi) (c.queue_refusal.ensures l v)
     ∙ c.mtapi-in-QueueCreate.ensures
 

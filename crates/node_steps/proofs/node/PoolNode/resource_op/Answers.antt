@@ -5,4 +5,5 @@ use Rattle.node_steps.proofs.node.PoolNode.resource_op.Goals as goal
 pub returns : goal.returns
 returns g c l v =
     let names = g.R.Rename.renaming c.args.names.now in
-    carries c.args.self.now l c.args.who (renamed_op names c.args.op.now) c.execute.result c.gate-gate.result c.execute.new.self v (stays names c.args.op.now ∙ c.requires.resource) c.gate-gate.ensures.phase c.gate-gate.ensures.workers c.execute.ensures
+    carries c.args.self.now l c.args.who (renamed_op names c.args.op.now) c.execute.result c.gate-gate.result c.execute.new.self v (stays names c.args.op.now
+    ∙ c.requires.resource) c.gate-gate.ensures.phase c.gate-gate.ensures.workers c.execute.ensures

@@ -15,10 +15,14 @@ returns-clause-terms c = same_terms c.args.self.now c.dispatch-reply.new.self _ 
     (does c.args.self.now c.dispatch-reply.new.self c.args.who c.args.op c.dispatch-reply.result c.dispatch-reply.ensures)
 
 pub returns-clause-stands : goal.returns-clause-stands
-returns-clause-stands c L st = goes_on c.args.self.now c.dispatch-reply.new.self L c.args.who c.args.op c.dispatch-reply.result st c.requires.seat (does c.args.self.now c.dispatch-reply.new.self c.args.who c.args.op c.dispatch-reply.result c.dispatch-reply.ensures st.lists st.live (sound c.args.self.now L st)) c.is_kept.ensures
+returns-clause-stands c L st = goes_on c.args.self.now c.dispatch-reply.new.self L c.args.who c.args.op c.dispatch-reply.result st c.requires.seat
+    (does c.args.self.now c.dispatch-reply.new.self c.args.who c.args.op c.dispatch-reply.result c.dispatch-reply.ensures st.lists st.live
+    (sound c.args.self.now L st)) c.is_kept.ensures
 
 pub returns-clause-small : goal.returns-clause-small
 returns-clause-small c =
     let L = c.requires.room.0 in
     let st = c.requires.room.1 in
-    issues_small c.args.self.now c.dispatch-reply.new.self st.lists c.args.who c.args.op c.dispatch-reply.result (does c.args.self.now c.dispatch-reply.new.self c.args.who c.args.op c.dispatch-reply.result c.dispatch-reply.ensures st.lists st.live (sound c.args.self.now L st))
+    issues_small c.args.self.now c.dispatch-reply.new.self st.lists c.args.who c.args.op c.dispatch-reply.result
+    (does c.args.self.now c.dispatch-reply.new.self c.args.who c.args.op c.dispatch-reply.result c.dispatch-reply.ensures st.lists st.live
+    (sound c.args.self.now L st))

@@ -13,10 +13,12 @@ pub returns-clause-terms : goal.returns-clause-terms
 returns-clause-terms c = same_terms c.args.self.now c.dispatch.new.self _ _ _ c.requires.room.0 c.requires.room.1 c.dispatch.ensures
 
 pub returns-clause-stands : goal.returns-clause-stands
-returns-clause-stands c L st = goes_on c.args.self.now c.dispatch.new.self L c.args.who (inward_op c.args.op.now) c.dispatch.result st c.requires.seat (c.dispatch.ensures st.lists st.live (sound c.args.self.now L st)) c.is_kept.ensures
+returns-clause-stands c L st = goes_on c.args.self.now c.dispatch.new.self L c.args.who (inward_op c.args.op.now) c.dispatch.result st c.requires.seat
+    (c.dispatch.ensures st.lists st.live (sound c.args.self.now L st)) c.is_kept.ensures
 
 pub returns-clause-small : goal.returns-clause-small
 returns-clause-small c =
     let L = c.requires.room.0 in
     let st = c.requires.room.1 in
-    issues_small c.args.self.now c.dispatch.new.self st.lists c.args.who (inward_op c.args.op.now) c.dispatch.result (c.dispatch.ensures st.lists st.live (sound c.args.self.now L st))
+    issues_small c.args.self.now c.dispatch.new.self st.lists c.args.who (inward_op c.args.op.now) c.dispatch.result
+    (c.dispatch.ensures st.lists st.live (sound c.args.self.now L st))

@@ -19,12 +19,35 @@ returns-in-Ok-enqueue c l who v =
     let f = c.in-Ok.facts in
     let may = c.in-Ok.ensures.may in
     let x = facts_found (slot_value n.scheduler.queues.pool c.args.queue.0) f may.found in
-    let y : NewTask = record { job = f.job; args = c.args.args.now; priority = f.priority; cores = c.args.cores.0; detached = c.args.detached; group = number_of c.args.group; queue = Some c.args.queue.0 } in
-    let same : y ≡ asked_of c.args.queue.0 x.0.queue c.args.args.now c.args.cores c.args.detached c.args.group = (λ i. record { job = (x.2 i).job; args = c.args.args.now; priority = (x.2 i).priority; cores = c.args.cores.0; detached = c.args.detached; group = number_of c.args.group; queue = Some c.args.queue.0 }) in
-    let none = causes_are n l who c.args.queue c.args.args.now c.args.cores c.args.detached c.args.group v may.opened c.is_kept.ensures may.alone x.0 x.1 f None x.2 (may.none l c.args.args.now f.priority v) in
+    let y : NewTask = record {
+      job = f.job;
+      args = c.args.args.now;
+      priority = f.priority;
+      cores = c.args.cores.0;
+      detached = c.args.detached;
+      group =
+          number_of c.args.group;
+      queue = Some c.args.queue.0;
+    } in
+    let same : y ≡ asked_of c.args.queue.0 x.0.queue c.args.args.now c.args.cores c.args.detached c.args.group =
+    (λ i. record {
+      job = (x.2 i).job;
+      args = c.args.args.now;
+      priority = (x.2 i).priority;
+      cores = c.args.cores.0;
+      detached = c.args.detached;
+      group =
+          number_of c.args.group;
+      queue = Some c.args.queue.0;
+    }) in
+    let none = causes_are n l who c.args.queue c.args.args.now c.args.cores c.args.detached c.args.group v may.opened c.is_kept.ensures may.alone x.0 x.1 f None
+    x.2 (may.none l c.args.args.now f.priority v) in
     lands n l who _ _ c.enqueue.new.self _ c.enqueue.new.self.tasks c.enqueue.ensures.new
-    (enqueue_steps n l who c.args.queue c.args.args.now c.args.cores c.args.detached c.args.group v may.opened c.is_kept.ensures may.alone x.0 x.1 none c.enqueue.new.self.tasks (Ok c.in-Ok-enqueue.task) y same
-    (subst (λ (r : Result TaskHandle MtapiStatus). Adds n.scheduler.tasks y r c.enqueue.new.self.tasks) c.in-Ok-enqueue.is (subst (λ (a : List ℤ). Adds n.scheduler.tasks (record y { args = a }) c.enqueue.result c.enqueue.new.self.tasks) c.again.ensures c.enqueue.ensures.adds)))
+    (enqueue_steps n l who c.args.queue c.args.args.now c.args.cores c.args.detached c.args.group v may.opened c.is_kept.ensures may.alone x.0 x.1 none
+    c.enqueue.new.self.tasks (Ok c.in-Ok-enqueue.task) y same
+    (subst (λ (r : Result TaskHandle MtapiStatus). Adds n.scheduler.tasks y r c.enqueue.new.self.tasks) c.in-Ok-enqueue.is
+    (subst (λ (a : List ℤ). Adds n.scheduler.tasks
+    (record y { args = a }) c.enqueue.result c.enqueue.new.self.tasks) c.again.ensures c.enqueue.ensures.adds)))
 
 pub returns-in-Err-enqueue : goal.returns-in-Err-enqueue
 returns-in-Err-enqueue c l who v =
@@ -32,9 +55,32 @@ returns-in-Err-enqueue c l who v =
     let f = c.in-Ok.facts in
     let may = c.in-Ok.ensures.may in
     let x = facts_found (slot_value n.scheduler.queues.pool c.args.queue.0) f may.found in
-    let y : NewTask = record { job = f.job; args = c.args.args.now; priority = f.priority; cores = c.args.cores.0; detached = c.args.detached; group = number_of c.args.group; queue = Some c.args.queue.0 } in
-    let same : y ≡ asked_of c.args.queue.0 x.0.queue c.args.args.now c.args.cores c.args.detached c.args.group = (λ i. record { job = (x.2 i).job; args = c.args.args.now; priority = (x.2 i).priority; cores = c.args.cores.0; detached = c.args.detached; group = number_of c.args.group; queue = Some c.args.queue.0 }) in
-    let none = causes_are n l who c.args.queue c.args.args.now c.args.cores c.args.detached c.args.group v may.opened c.is_kept.ensures may.alone x.0 x.1 f None x.2 (may.none l c.args.args.now f.priority v) in
+    let y : NewTask = record {
+      job = f.job;
+      args = c.args.args.now;
+      priority = f.priority;
+      cores = c.args.cores.0;
+      detached = c.args.detached;
+      group =
+          number_of c.args.group;
+      queue = Some c.args.queue.0;
+    } in
+    let same : y ≡ asked_of c.args.queue.0 x.0.queue c.args.args.now c.args.cores c.args.detached c.args.group =
+    (λ i. record {
+      job = (x.2 i).job;
+      args = c.args.args.now;
+      priority = (x.2 i).priority;
+      cores = c.args.cores.0;
+      detached = c.args.detached;
+      group =
+          number_of c.args.group;
+      queue = Some c.args.queue.0;
+    }) in
+    let none = causes_are n l who c.args.queue c.args.args.now c.args.cores c.args.detached c.args.group v may.opened c.is_kept.ensures may.alone x.0 x.1 f None
+    x.2 (may.none l c.args.args.now f.priority v) in
     lands n l who _ _ c.enqueue.new.self _ c.enqueue.new.self.tasks c.enqueue.ensures.new
-    (enqueue_steps n l who c.args.queue c.args.args.now c.args.cores c.args.detached c.args.group v may.opened c.is_kept.ensures may.alone x.0 x.1 none c.enqueue.new.self.tasks (Err c.in-Err-enqueue.status) y same
-    (subst (λ (r : Result TaskHandle MtapiStatus). Adds n.scheduler.tasks y r c.enqueue.new.self.tasks) c.in-Err-enqueue.is (subst (λ (a : List ℤ). Adds n.scheduler.tasks (record y { args = a }) c.enqueue.result c.enqueue.new.self.tasks) c.again.ensures c.enqueue.ensures.adds)))
+    (enqueue_steps n l who c.args.queue c.args.args.now c.args.cores c.args.detached c.args.group v may.opened c.is_kept.ensures may.alone x.0 x.1 none
+    c.enqueue.new.self.tasks (Err c.in-Err-enqueue.status) y same
+    (subst (λ (r : Result TaskHandle MtapiStatus). Adds n.scheduler.tasks y r c.enqueue.new.self.tasks) c.in-Err-enqueue.is
+    (subst (λ (a : List ℤ). Adds n.scheduler.tasks
+    (record y { args = a }) c.enqueue.result c.enqueue.new.self.tasks) c.again.ensures c.enqueue.ensures.adds)))

@@ -9,5 +9,9 @@ invariant_of-self c =
     let pool = b.tasks.pool in
     quiet _ c.asked.new.self
     (λ k. ap (λ (q : TaskTable). seen_in q.pool k) c.asked.ensures.new ∙ seen-changed pool c.args.t.0 (after_asked c.args.worker) (seen-asked c.args.worker) k)
-    (ap (λ (q : TaskTable). max_of q.pool) c.asked.ensures.new ∙ max-changed pool c.args.t.0 (after_asked c.args.worker)) (ap (λ (q : TaskTable). q.starts) c.asked.ensures.new)
-    (members-quiet pool c.asked.new.self.pool b.groups.pool b.tasks.starts b.tasks.ends c.asked.new.self.starts c.asked.new.self.ends (λ k. ap (λ (q : TaskTable). members_in q.pool k) c.asked.ensures.new ∙ member-asked pool c.args.t.0 c.args.worker k) (ap (λ (q : TaskTable). q.starts) c.asked.ensures.new) (ap (λ (q : TaskTable). q.ends) c.asked.ensures.new) c.self.invariant.members) c.self.invariant
+    (ap (λ (q : TaskTable). max_of q.pool) c.asked.ensures.new
+    ∙ max-changed pool c.args.t.0 (after_asked c.args.worker)) (ap (λ (q : TaskTable). q.starts) c.asked.ensures.new)
+    (members-quiet pool c.asked.new.self.pool b.groups.pool b.tasks.starts b.tasks.ends c.asked.new.self.starts c.asked.new.self.ends
+    (λ k. ap (λ (q : TaskTable). members_in q.pool k) c.asked.ensures.new
+    ∙ member-asked pool c.args.t.0 c.args.worker k) (ap (λ (q : TaskTable). q.starts) c.asked.ensures.new)
+    (ap (λ (q : TaskTable). q.ends) c.asked.ensures.new) c.self.invariant.members) c.self.invariant

@@ -9,5 +9,9 @@ invariant_of-self c =
     let pool = b.tasks.pool in
     quiet _ c.look.new.self
     (λ k. ap (λ (q : TaskTable). seen_in q.pool k) c.look.ensures.new ∙ seen-looked pool c.args.t.0 c.args.who c.args.last (slot_value pool c.args.t.0) refl k)
-    (ap (λ (q : TaskTable). max_of q.pool) c.look.ensures.new ∙ max-looked pool c.args.t.0 c.args.who c.args.last (slot_value pool c.args.t.0)) (ap (λ (q : TaskTable). q.starts) c.look.ensures.new)
-    (members-quiet pool c.look.new.self.pool b.groups.pool b.tasks.starts b.tasks.ends c.look.new.self.starts c.look.new.self.ends (λ k. ap (λ (q : TaskTable). members_in q.pool k) c.look.ensures.new ∙ member-looked pool c.args.t.0 c.args.who c.args.last (slot_value pool c.args.t.0) refl k) (ap (λ (q : TaskTable). q.starts) c.look.ensures.new) (ap (λ (q : TaskTable). q.ends) c.look.ensures.new) c.self.invariant.members) c.self.invariant
+    (ap (λ (q : TaskTable). max_of q.pool) c.look.ensures.new
+    ∙ max-looked pool c.args.t.0 c.args.who c.args.last (slot_value pool c.args.t.0)) (ap (λ (q : TaskTable). q.starts) c.look.ensures.new)
+    (members-quiet pool c.look.new.self.pool b.groups.pool b.tasks.starts b.tasks.ends c.look.new.self.starts c.look.new.self.ends
+    (λ k. ap (λ (q : TaskTable). members_in q.pool k) c.look.ensures.new
+    ∙ member-looked pool c.args.t.0 c.args.who c.args.last (slot_value pool c.args.t.0) refl k) (ap (λ (q : TaskTable). q.starts) c.look.ensures.new)
+    (ap (λ (q : TaskTable). q.ends) c.look.ensures.new) c.self.invariant.members) c.self.invariant
