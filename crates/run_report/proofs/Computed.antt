@@ -9,7 +9,8 @@ use Rattle.run_report.specs.WorkedLines.{WorkedShown, WorkedEnds, WorkedReplies,
 unfoldable use Rattle.run_report.specs.Summary.{with_tasks}
 
 pub worked_reports : WorkedReports
-unfolding digits report one_task after_from live_of issue change listed issued_at retired is_full may_issue fits answer_of has_worker end_each is_ready can_take has_better is_begin has_begin decided further_told end_at numbers_text end_text shown_of task_lines_of task_name call_lines_of
+unfolding digits report one_task after_from live_of issue change listed issued_at retired is_full may_issue fits answer_of has_worker end_each is_ready can_take
+    has_better is_begin has_begin decided further_told end_at numbers_text end_text shown_of task_lines_of task_name call_lines_of
 worked_reports = record { sum = refl; full = refl; cancelled = refl; locks_shown = refl; handed_out_shown = refl }
 
 worked_shown : WorkedShown

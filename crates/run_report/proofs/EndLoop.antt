@@ -39,7 +39,8 @@ same_handle a b e = grind (arith, nat_tests)
 
 -- what is read at a handle after one more step, by whether the handle was among them, whether its task passes, whether the step ends
 -- a task, and whether it is at this handle
-step_value : {X : Type 0} (a q b c : Bool) (out r : Option X) → (c ≡ true → b ≡ cond a false q) → cond (b && c) out (cond (a && q) out r) ≡ cond ((a || c) && q) out r
+step_value : {X : Type 0} (a q b c : Bool) (out r : Option X) → (c ≡ true → b ≡ cond a false q)
+    → cond (b && c) out (cond (a && q) out r) ≡ cond ((a || c) && q) out r
 step_value a q b c out r e1 = grind (arith, nat_tests)
 
 -- a task that has ended passes no more
@@ -82,12 +83,14 @@ ends_next n which e v all i old new l before after =
     path_same new _
     (same_path new _ after
     ∙ ap (λ (w : Seen). cond (holds (passes n which w) (w.unstarted k)) (with_end k e w) w) (same_path old _ before)
-    ∙ ap (λ (q : Unstarted → Bool). cond (holds q ((ends_among ks p e v).unstarted k)) (with_end k e (ends_among ks p e v)) (ends_among ks p e v)) (passes_same n which ks p e v)
+    ∙ ap (λ (q : Unstarted → Bool). cond (holds q ((ends_among ks p e v).unstarted k)) (with_end k e (ends_among ks p e v)) (ends_among ks p e v))
+    (passes_same n which ks p e v)
     ∙ same_path _ _ (ends_more p e v ks k)
     ∙ ap (λ (js : List ℕ). ends_among js p e v) (sym list))
 
 -- all of them
-pub ends_all : (p : Unstarted → Bool) (e : TaskEnd) (v : Seen) (ks : List ℕ) → ((h : ℕ) → is_some (v.unstarted h) ≡ true → among h ks ≡ true) → SameAs (ends_among ks p e v) (ends_where p e v)
+pub ends_all : (p : Unstarted → Bool) (e : TaskEnd) (v : Seen) (ks : List ℕ) → ((h : ℕ) → is_some (v.unstarted h) ≡ true → among h ks ≡ true)
+    → SameAs (ends_among ks p e v) (ends_where p e v)
 ends_all p e v ks e1 = grind (arith, nat_tests)
 
 -- the handles are the keys of what hasn't begun
@@ -99,11 +102,13 @@ keys_cover (x ∷ es) h e = by (nat_eq h x.0) refl e (keys_cover es h)
     or_true true = refl
     or_true false = refl
 
-    by : (b : Bool) → nat_eq h x.0 ≡ b → is_some (cond b (Some x.1) (lookup (nat_eq h) es)) ≡ true → (is_some (lookup (nat_eq h) es) ≡ true → among h (keys_of es) ≡ true)
+    by : (b : Bool) → nat_eq h x.0 ≡ b → is_some (cond b (Some x.1) (lookup (nat_eq h) es)) ≡ true
+        → (is_some (lookup (nat_eq h) es) ≡ true → among h (keys_of es) ≡ true)
         → ((x.0 == h) || among h (keys_of es)) ≡ true
     by true is found more = λ i. (at_key h x.0 is i) || among h (keys_of es)
     by false is found more = ap (λ b. (x.0 == h) || b) (more found) ∙ or_true (x.0 == h)
 
-pub ends_keys : (p : Unstarted → Bool) (e : TaskEnd) (v : Seen) (es : List (ℕ × Unstarted)) (all : List ℕ) (i : ℕ) (new : Seen) → length all ≤ i → all ≡ keys_of es → ((h : ℕ) → v.unstarted h ≡ lookup (nat_eq h) es)
+pub ends_keys : (p : Unstarted → Bool) (e : TaskEnd) (v : Seen) (es : List (ℕ × Unstarted)) (all : List ℕ) (i : ℕ) (new : Seen) → length all ≤ i
+    → all ≡ keys_of es → ((h : ℕ) → v.unstarted h ≡ lookup (nat_eq h) es)
     → SameAs new (ends_among (take i all) p e v) → SameAs new (ends_where p e v)
 ends_keys p e v es all i new e1 e2 e3 e4 = grind (arith, nat_tests, path_same, same_path, take_all, ends_all, keys_of, keys_cover)

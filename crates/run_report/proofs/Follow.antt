@@ -27,7 +27,8 @@ as_read : (v : Seen) (s : State) (l : List (Listed Task)) → Follows v s → ((
     → ((h : ℕ) → first_at unstarted_in l h ≡ first_at unstarted_in s.tasks h) → Follows v (record s { tasks = l })
 as_read v s l e1 e2 e3 = grind (arith, nat_tests, ends_first, unstarted_first)
 
-pub follows_notes : (v : Seen) (s : State) (k : ℕ) (g : Notes → Notes) (t : Task) → Follows v s → ((h : ℕ) → listed h s.tasks ≤ 1) → live_object s.tasks k ≡ Some t
+pub follows_notes : (v : Seen) (s : State) (k : ℕ) (g : Notes → Notes) (t : Task) → Follows v s → ((h : ℕ) → listed h s.tasks ≤ 1)
+    → live_object s.tasks k ≡ Some t
     → Follows v (record s { tasks = update k (with_notes g) s.tasks })
 follows_notes v s k g t f once found = as_read v s _ f
     (λ h. first-kept end_read h k (with_fields (with_notes g)) t (λ r. refl) refl s.tasks (once k) found)
@@ -39,7 +40,8 @@ ended_unstarted x e1 = grind (arith, nat_tests)
 not_waiting : (a : Bool) (t : Task) → is_unstarted t ≡ false → cond (a && is_unstarted t) (Some (unstarted_of t)) None ≡ None
 not_waiting a t e1 = grind (arith, nat_tests)
 
-pub follows_leaves : (v : Seen) (s : State) (k : ℕ) (t : Task) → Follows v s → ((h : ℕ) → listed h s.tasks ≤ 1) → live_object s.tasks k ≡ Some t → not (is_unended t) ≡ true
+pub follows_leaves : (v : Seen) (s : State) (k : ℕ) (t : Task) → Follows v s → ((h : ℕ) → listed h s.tasks ≤ 1) → live_object s.tasks k ≡ Some t
+    → not (is_unended t) ≡ true
     → Follows v (record s { tasks = retire k s.tasks })
 follows_leaves v s k t f once found over = as_read v s _ f
     (λ h. first-kept end_read h k gone t (λ r. refl) refl s.tasks (once k) found)
@@ -48,10 +50,12 @@ follows_leaves v s k t f once found over = as_read v s _ f
 and_second : (a b : Bool) → (a && b) ≡ true → b ≡ true
 and_second a b e1 = grind (arith, nat_tests)
 
-pub follows_frees : (v : Seen) (s : State) (g : ℕ) → Follows v s → Follows v (record s { tasks = change_all (λ t. is_member g t && not (is_unended t)) freed s.tasks })
+pub follows_frees : (v : Seen) (s : State) (g : ℕ) → Follows v s
+    → Follows v (record s { tasks = change_all (λ t. is_member g t && not (is_unended t)) freed s.tasks })
 follows_frees v s g f = as_read v s _ f
     (λ h. first-all end_read h _ freed (λ r. refl) (λ r e. refl) s.tasks)
-    (λ h. first-all unstarted_in h _ freed (λ r. refl) (λ r e. sym (not_waiting r.live r.fields (ended_unstarted r.fields.state (and_second (is_member g r.fields) _ e)))) s.tasks)
+    (λ h. first-all unstarted_in h _ freed (λ r. refl)
+    (λ r e. sym (not_waiting r.live r.fields (ended_unstarted r.fields.state (and_second (is_member g r.fields) _ e)))) s.tasks)
 
 still_waits : (a : Bool) (x : TaskState) → ((a && is_none (end_of x)) && scheduled x) ≡ (a && scheduled x)
 still_waits a x = grind (arith, nat_tests)
@@ -66,9 +70,11 @@ put_none : {X : Type 0} (h k : ℕ) (l : List (Listed Task)) (g : Listed Task �
 put_none h k l g e1 = grind (arith, nat_tests, first_at, first-none, same_number)
 
 pub follows_starts : (v : Seen) (s : State) (h : ℕ) (t : NewTask) → Follows v s → listed h s.tasks ≡ 0
-    → Follows (record v { unstarted = put h (Some (unstarted_of (new_task t s.starts))) v.unstarted }) (record s { tasks = issue h (new_task t s.starts) s.tasks; starts = s.starts + 1 })
+    → Follows (record v { unstarted = put h (Some (unstarted_of (new_task t s.starts))) v.unstarted })
+    (record s { tasks = issue h (new_task t s.starts) s.tasks; starts = s.starts + 1 })
 follows_starts v s h t f none = record {
-  ends = λ k. f.ends k ∙ ends_first s.tasks k ∙ sym (put_none h k s.tasks end_read none) ∙ sym (first-issued end_read k h (new_task t s.starts) s.tasks none) ∙ sym (ends_first _ k);
+  ends = λ k. f.ends k ∙ ends_first s.tasks k ∙ sym (put_none h k s.tasks end_read none) ∙ sym (first-issued end_read k h (new_task t s.starts) s.tasks none)
+      ∙ sym (ends_first _ k);
   unstarted = λ k.
       (λ i. cond (h == k) (Some (unstarted_of (new_task t s.starts))) (f.unstarted k i))
       ∙ (λ i. cond (h == k) (Some (unstarted_of (new_task t s.starts))) (unstarted_first s.tasks k i))
@@ -81,7 +87,8 @@ follows_starts v s h t f none = record {
 unstarted_open : (x : TaskState) → scheduled x ≡ true → end_in x ≡ None
 unstarted_open x e1 = grind (arith, nat_tests)
 
-pub follows_runs : (v : Seen) (s : State) (h w : ℕ) (k : Kind) (t : Task) → Follows v s → ((j : ℕ) → listed j s.tasks ≤ 1) → live_object s.tasks h ≡ Some t → is_unstarted t ≡ true
+pub follows_runs : (v : Seen) (s : State) (h w : ℕ) (k : Kind) (t : Task) → Follows v s → ((j : ℕ) → listed j s.tasks ≤ 1) → live_object s.tasks h ≡ Some t
+    → is_unstarted t ≡ true
     → Follows (record v { unstarted = put h None v.unstarted }) (record s { tasks = update h (with_state (Running w k)) s.tasks })
 follows_runs v s h w k t f once found fresh = record {
   ends = λ j.
@@ -118,7 +125,8 @@ follows_end v s h e t f once found = record {
 }
 
 -- every task that hasn't begun and passes ends
-pub follows_ends : (v : Seen) (s : State) (p : Unstarted → Bool) (e : TaskEnd) → Follows v s → Follows (ends_where p e v) (end_tasks (λ t. is_unstarted t && p (unstarted_of t)) e s)
+pub follows_ends : (v : Seen) (s : State) (p : Unstarted → Bool) (e : TaskEnd) → Follows v s
+    → Follows (ends_where p e v) (end_tasks (λ t. is_unstarted t && p (unstarted_of t)) e s)
 follows_ends v s p e e1 = grind (arith, nat_tests, unstarted_first, ends_first, first-ends, end_read, unstarted_in, and_false)
 
 -- Actions
@@ -135,7 +143,8 @@ action_changed h f l = changed_same h f (live_of l) ∙ sym (live_of-update h f 
 pub action_gone : (h : ℕ) (l : List (Listed Action)) → without_action h (live_of l) ≡ live_of (retire h l)
 action_gone h l = without_same h (live_of l) ∙ sym (live_of-retire h l)
 
-pub follows_actions : (v : Seen) (s : State) (es : List (ℕ × Action)) (l : List (Listed Action)) → Follows v s → es ≡ live_of l → Follows (record v { actions = es }) (record s { actions = l })
+pub follows_actions : (v : Seen) (s : State) (es : List (ℕ × Action)) (l : List (Listed Action)) → Follows v s → es ≡ live_of l
+    → Follows (record v { actions = es }) (record s { actions = l })
 follows_actions v s es l f same = record { ends = f.ends; unstarted = f.unstarted; actions = same; queues = f.queues }
 
 pub action_made : (h : ℕ) (a : Action) (l : List (Listed Action)) → live_of l ++ (h, a) ∷ [] ≡ live_of (issue h a l)
@@ -143,7 +152,8 @@ action_made h a l = sym (live_of-issue h a l)
 
 -- Queues
 
-follows_queues : (v : Seen) (s : State) (q : ℕ → Option LiveQueue) (l : List (Listed Queue)) → Follows v s → ((h : ℕ) → q h ≡ queue_at l h) → Follows (record v { queues = q }) (record s { queues = l })
+follows_queues : (v : Seen) (s : State) (q : ℕ → Option LiveQueue) (l : List (Listed Queue)) → Follows v s → ((h : ℕ) → q h ≡ queue_at l h)
+    → Follows (record v { queues = q }) (record s { queues = l })
 follows_queues v s q l f same = record { ends = f.ends; unstarted = f.unstarted; actions = f.actions; queues = same }
 
 -- what a test chooses, under a function

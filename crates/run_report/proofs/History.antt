@@ -7,9 +7,11 @@ use Rattle.run_report.proofs.Rows.{follows_next}
 follows_from : (n : ℕ) (v : Seen) (s : State) (L : List NodeEntry) → LegalFrom s L → Sound n s → Follows v s → Follows (seen_from n v L) (after_from s L)
 unfolding LegalFrom after_from seen_from
 follows_from n v s [] h i f = f
-follows_from n v s (e ∷ L) h i f = follows_from n (with_change n (change_of e.op e.reply) v) (next s e) L h.1 (sound_next n s e i) (follows_next n v s e h.0 i f)
+follows_from n v s (e ∷ L) h i f = follows_from n (with_change n (change_of e.op e.reply) v) (next s e) L h.1 (sound_next n s e i)
+    (follows_next n v s e h.0 i f)
 
-pub ends_by_entries : (terms : Terms) (L : List NodeEntry) → Legal terms L → (h : ℕ) → (seen_from terms.settings.workers nothing_seen L).ends h ≡ end_at (after terms L).tasks h
+pub ends_by_entries : (terms : Terms) (L : List NodeEntry) → Legal terms L → (h : ℕ)
+    → (seen_from terms.settings.workers nothing_seen L).ends h ≡ end_at (after terms L).tasks h
 unfolding listed live_of end_at unstarted_at
 ends_by_entries terms L legal h =
     (follows_from terms.settings.workers nothing_seen (opening terms) L legal.from (record { once = λ k. omega arith; distinct = tt; workers = refl })
@@ -34,6 +36,7 @@ pub seen_none : (n : ℕ) (v : Seen) → SameAs v nothing_seen → SameAs v (see
 unfolding seen_from
 seen_none n v s = s
 
-pub seen_next : (n i : ℕ) (L : List NodeEntry) (e : NodeEntry) (old new : Seen) → i < length L → e ≡ get_or L i e → SameAs old (seen_from n nothing_seen (take i L))
+pub seen_next : (n i : ℕ) (L : List NodeEntry) (e : NodeEntry) (old new : Seen) → i < length L → e ≡ get_or L i e
+    → SameAs old (seen_from n nothing_seen (take i L))
     → SameAs new (with_change n (change_of e.op e.reply) old) → SameAs new (seen_from n nothing_seen (take (i + 1) L))
 seen_next n i L e old new e1 e2 e3 e4 = grind (arith, nat_tests, take_at_read, path_same, same_path, with_change, change_of, seen_more)

@@ -34,10 +34,13 @@ regrouped e b x y e1 = grind (arith, nat_tests)
 
 by_one : (n job cores : ℕ) (a : Action) → some_below n (λ w. is_eligible n w job cores a) ≡ can_run n job cores a
 by_one n job cores a =
-    below_same n _ (λ w. has_enabled_job job a && (in_mask w a.cores && in_mask w cores)) (λ w l. regrouped (has_enabled_job job a) (nat_lt w n) (in_mask w a.cores) (in_mask w cores) (grind (arith, nat_tests, l)))
+    below_same n _ (λ w. has_enabled_job job a
+    && (in_mask w a.cores && in_mask w cores))
+    (λ w l. regrouped (has_enabled_job job a) (nat_lt w n) (in_mask w a.cores) (in_mask w cores) (grind (arith, nat_tests, l)))
     ∙ below_and n (has_enabled_job job a) (λ w. in_mask w a.cores && in_mask w cores)
 
-by_all : (n job cores : ℕ) (xs : List LiveAction) → some_below n (λ w. any_live (is_eligible n w job cores) (pairs xs)) ≡ list_any (λ a. can_run n job cores (action_of a)) xs
+by_all : (n job cores : ℕ) (xs : List LiveAction)
+    → some_below n (λ w. any_live (is_eligible n w job cores) (pairs xs)) ≡ list_any (λ a. can_run n job cores (action_of a)) xs
 by_all n job cores [] = below_none n
 by_all n job cores (x ∷ xs) =
     below_or n (λ w. is_eligible n w job cores (action_of x)) (λ w. any_live (is_eligible n w job cores) (pairs xs))
@@ -118,20 +121,24 @@ pub place_below : (h : ℕ) (xs : List LiveAction) (i : ℕ) → place_of h xs �
 place_below h [] i at = absurd (cc)
 place_below h (x ∷ xs) i at = by (x.handle == h) i at (place_below h xs)
   where
-    by : (b : Bool) (i : ℕ) → cond b (Some 0) (option_map suc (place_of h xs)) ≡ Some i → ((k : ℕ) → place_of h xs ≡ Some k → k < length xs) → i < length (x ∷ xs)
+    by : (b : Bool) (i : ℕ) → cond b (Some 0) (option_map suc (place_of h xs)) ≡ Some i → ((k : ℕ) → place_of h xs ≡ Some k → k < length xs)
+        → i < length (x ∷ xs)
     by true i at more = let z = some_is 0 i at in omega (arith, z)
     by false zero at more = omega arith
     by false (suc k) at more = let z = more k (before (place_of h xs) k at) in omega (arith, z)
 
 -- what changes at the place of a handle changes at the handle
 module _ (h : ℕ) where
-  pub place_set : (f : Action → Action) (xs : List LiveAction) (i : ℕ) (y d : LiveAction) → place_of h xs ≡ Some i → y.handle ≡ (get_or xs i d).handle → action_of y ≡ f (action_of (get_or xs i d))
+  pub place_set : (f : Action → Action) (xs : List LiveAction) (i : ℕ) (y d : LiveAction) → place_of h xs ≡ Some i → y.handle ≡ (get_or xs i d).handle
+      → action_of y ≡ f (action_of (get_or xs i d))
       → pairs (set xs i y) ≡ with_action h f (pairs xs)
   place_set f [] i y d at same acts = absurd (cc)
   place_set f (x ∷ xs) i y d at same acts = by (x.handle == h) i at same acts (place_set f xs)
     where
-      by : (b : Bool) (i : ℕ) → cond b (Some 0) (option_map suc (place_of h xs)) ≡ Some i → y.handle ≡ (get_or (x ∷ xs) i d).handle → action_of y ≡ f (action_of (get_or (x ∷ xs) i d))
-          → ((k : ℕ) (z e : LiveAction) → place_of h xs ≡ Some k → z.handle ≡ (get_or xs k e).handle → action_of z ≡ f (action_of (get_or xs k e)) → pairs (set xs k z) ≡ with_action h f (pairs xs))
+      by : (b : Bool) (i : ℕ) → cond b (Some 0) (option_map suc (place_of h xs)) ≡ Some i → y.handle ≡ (get_or (x ∷ xs) i d).handle
+          → action_of y ≡ f (action_of (get_or (x ∷ xs) i d))
+          → ((k : ℕ) (z e : LiveAction) → place_of h xs ≡ Some k → z.handle ≡ (get_or xs k e).handle → action_of z ≡ f (action_of (get_or xs k e))
+          → pairs (set xs k z) ≡ with_action h f (pairs xs))
           → pairs (set (x ∷ xs) i y) ≡ cond b ((x.handle, f (action_of x)) ∷ pairs xs) ((x.handle, action_of x) ∷ with_action h f (pairs xs))
       by true zero at same acts more = λ j. (same j, acts j) ∷ pairs xs
       by true (suc k) at same acts more = absurd (let z = some_is 0 (suc k) at in omega (arith, z))
@@ -142,7 +149,8 @@ module _ (h : ℕ) where
   place_out [] i at = absurd (cc)
   place_out (x ∷ xs) i at = by (x.handle == h) i at (place_out xs)
     where
-      by : (b : Bool) (i : ℕ) → cond b (Some 0) (option_map suc (place_of h xs)) ≡ Some i → ((k : ℕ) → place_of h xs ≡ Some k → pairs (remove xs k) ≡ without_action h (pairs xs))
+      by : (b : Bool) (i : ℕ) → cond b (Some 0) (option_map suc (place_of h xs)) ≡ Some i
+          → ((k : ℕ) → place_of h xs ≡ Some k → pairs (remove xs k) ≡ without_action h (pairs xs))
           → pairs (remove (x ∷ xs) i) ≡ cond b (pairs xs) ((x.handle, action_of x) ∷ without_action h (pairs xs))
       by true zero at more = refl
       by true (suc k) at more = absurd (let z = some_is 0 (suc k) at in omega (arith, z))

@@ -8,7 +8,8 @@ pub record Named (ends : ℕ → Option TaskEnd) (v : Seen) : Type 0 where
   pub same : (h : ℕ) → ends h ≡ v.ends h
   pub clear : (q : ℕ) → holds (λ x. not x.enabled) (v.queues q) ≡ false
 
-pub named_change : (n : ℕ) (c : EndEffect) (ends : ℕ → Option TaskEnd) (v : Seen) → names_each_end c ≡ true → Named ends v → Named (with_named_end c ends) (with_change n c v)
+pub named_change : (n : ℕ) (c : EndEffect) (ends : ℕ → Option TaskEnd) (v : Seen) → names_each_end c ≡ true → Named ends v
+    → Named (with_named_end c ends) (with_change n c v)
 named_change n c ends v e1 e2 = grind (arith, nat_tests)
 
 pub named_none : (n : ℕ) (ends : ℕ → Option TaskEnd) → ((h : ℕ) → ends h ≡ None) → Named ends (seen_from n nothing_seen [])
@@ -16,6 +17,7 @@ unfolding seen_from
 named_none n ends none = record { same = none; clear = λ q. refl }
 
 -- one entry more
-pub named_next : (n i : ℕ) (L : List NodeEntry) (e : NodeEntry) (c : EndEffect) (old new : ℕ → Option TaskEnd) → i < length L → e ≡ get_or L i e → c ≡ change_of e.op e.reply → names_each_end c ≡ true
+pub named_next : (n i : ℕ) (L : List NodeEntry) (e : NodeEntry) (c : EndEffect) (old new : ℕ → Option TaskEnd) → i < length L → e ≡ get_or L i e
+    → c ≡ change_of e.op e.reply → names_each_end c ≡ true
     → Named old (seen_from n nothing_seen (take i L)) → ((h : ℕ) → new h ≡ with_named_end c old h) → Named new (seen_from n nothing_seen (take (i + 1) L))
 named_next n i L e c old new e1 e2 e3 e4 e5 e6 = grind (arith, nat_tests, take_at_read, named_change, seen_from, nothing_seen, with_change, seen_more)

@@ -1,6 +1,6 @@
 -- The names that the proofs of this crate cite of lower crates and of its own specs/, passed on from one place. Declares nothing.
 pub use Rattle.std.proofs.Common.{Bool, List, None, Option, Result, Some, [], ap, append_assoc, arith, cond, drop, false, get_or, inl, inr, length, length-drop, refl, set, subst, suc, sym, take, true, zero, ℕ, ℤ, ◌&&◌, ◌++◌, ◌+◌, ◌-◌, ◌<◌, ◌∙◌, ◌∷◌, ◌≡◌, ◌≤◌, ◌⊎◌}
-pub use Rattle.std.proofs.lemmas.Bool.{eqb-true, or_parts}
+pub use Rattle.std.proofs.lemmas.Bool.{and_parts, eqb-true, or_parts}
 pub use Rattle.std.proofs.lemmas.Bool.Decides.{nat_tests}
 pub use Rattle.std.proofs.lemmas.Grind.{take_at_read}
 pub use Rattle.std.proofs.lemmas.List.{append-nil, drop-drop, drop-map, drop_more, get_or-map, length-append, length-map, map-append, nil_from_length, take_all}
@@ -9,22 +9,22 @@ pub use Rattle.std.specs.HashMap.{get}
 pub use Rattle.std.specs.List.{flat_map, list_any, remove, take-map}
 pub use Rattle.std.specs.Prelude.{IfOk, OnOk, codes, is_none, is_some, map, nat_eq, nat_lt, not, option_map, slice_get, ◌==◌, ◌||◌}
 pub use Rattle.handle_pool.proofs.ListedLemmas.{Distinct-issue, Distinct-retire, Distinct-update, at-issue, at-retire, at-update, listed-change, listed-issue, live_of-issue, live_of-retire, live_of-update}
-pub use Rattle.handle_pool.specs.Issued.{Listed, any_listed, any_live, gone, live_object, retire, update, with_fields}
+pub use Rattle.handle_pool.specs.Issued.{Listed, any_live, gone, live_object, retire, update, with_fields}
 pub use Rattle.handle_pool.specs.Stands.{Distinct}
 pub use Rattle.mtapi_machine.proofs.Made.{fst_true, snd_true}
 pub use Rattle.mtapi_machine.proofs.Moves.{IsKept, IsKeptBy, by_moves}
 pub use Rattle.mtapi_machine.specs.Ends.{end_in}
-pub use Rattle.mtapi_machine.specs.Legal.{IsNext, Legal, NodeEntry, after, next, row_of}
+pub use Rattle.mtapi_machine.specs.Legal.{IsNext, Legal, NodeEntry, after, next}
 pub use Rattle.mtapi_machine.specs.Moves.{Groups, Move, Mutexes, Queues, Rwls, Segments, Sems, after_moves, alters, apply, enables, ends_task, ends_waiting, frees_members, is_fresh, leaves, lets_members_go, makes_action, notes, phase_is, released, removes, runs_task, starts_task, stops, withdraws}
-pub use Rattle.mtapi_machine.specs.Row.{Allows, Row, after_row, gives, handle_of, live, never, only, unless}
-pub use Rattle.mtapi_machine.specs.State.{State, end_task, end_tasks, is_open, is_stop, opening, terms_with, workers}
+pub use Rattle.mtapi_machine.specs.Row.{handle_of}
+pub use Rattle.mtapi_machine.specs.State.{State, end_task, end_tasks, is_open, opening, terms_with, workers}
 pub use Rattle.mtapi_machine.specs.WorkRows.{picks, task_end}
 pub use Rattle.mtapi_machine.specs.declared.ops.Op.{Op}
 pub use Rattle.mtapi_machine.specs.declared.replies.Reply.{Reply}
 pub use Rattle.mtapi_objects.specs.Actions.{Action, has_enabled_job, is_eligible, new_action, some_below, with_enabled}
 pub use Rattle.mtapi_objects.specs.Groups.{freed, is_member, let_go}
 pub use Rattle.mtapi_objects.specs.Queues.{Queue, is_in, is_shut_in}
-pub use Rattle.mtapi_objects.specs.Tasks.{Ended, NewTask, Notes, Running, Scheduled, Task, TaskState, cancel_requested, end_of, ended, is_unended, is_unstarted, new_task, scheduled, watch_end, with_notes, with_state}
+pub use Rattle.mtapi_objects.specs.Tasks.{Ended, NewTask, Notes, Running, Task, TaskState, cancel_requested, end_of, ended, is_unended, is_unstarted, new_task, scheduled, watch_end, with_notes, with_state}
 pub use Rattle.mtapi_values.specs.Conditions.{holds}
 pub use Rattle.mtapi_values.specs.Masks.{in_mask}
 pub use Rattle.mtapi_values.specs.declared.ends.TaskEnd.{TaskEnd}

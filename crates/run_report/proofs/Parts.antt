@@ -23,7 +23,8 @@ pub further_more : (f : Told → List ℕ) (who : ℕ) (es : List NodeEntry) (p 
 unfolding further_told
 further_more f who es p ps h is = ap (λ l. flat_map f (further_told who es l)) (first_with ps p h is)
 
-pub all_more : (f : Told → List ℕ) (main : ℕ) (es : List NodeEntry) (p : Part) (ps : List Part) (before : ℕ) → 1 ≤ length ps → p ≡ get_or ps 0 p → before ≡ calls_before p.statements
+pub all_more : (f : Told → List ℕ) (main : ℕ) (es : List NodeEntry) (p : Part) (ps : List Part) (before : ℕ) → 1 ≤ length ps → p ≡ get_or ps 0 p
+    → before ≡ calls_before p.statements
     → flat_map f (all_told main es ps) ≡ f (reported main before es p) ++ flat_map f (further_told (main + 1) es (rest_of ps))
 all_more f main es p ps before e1 e2 e3 = grind (arith, nat_tests, flat_map, all_told, first_with, further_told)
 
@@ -33,17 +34,20 @@ pub if_ok : {E : Type 0} (r : Result (Vec ℕ) E) (a b : List ℕ) → a ≡ b �
 if_ok r a b e1 e2 = grind (arith, nat_tests)
 
 -- the text by the ends that were found and by the lines that were put together
-pub text_is : (load : Workload) (es : List NodeEntry) (ends : ℕ → Option TaskEnd) (n : ℕ) (parts : List Part) (no_tasks no_calls tasks calls : List ℕ) → ((h : ℕ) → ends h ≡ (seen_from n nothing_seen es).ends h)
+pub text_is : (load : Workload) (es : List NodeEntry) (ends : ℕ → Option TaskEnd) (n : ℕ) (parts : List Part) (no_tasks no_calls tasks calls : List ℕ)
+    → ((h : ℕ) → ends h ≡ (seen_from n nothing_seen es).ends h)
     → n ≡ load.settings.workers → parts ≡ load.parts → no_tasks ≡ [] → no_calls ≡ []
     → tasks ≡ no_tasks ++ flat_map (task_lines ends) (all_told n es parts) → calls ≡ no_calls ++ flat_map call_lines (all_told n es parts)
     → tasks ++ calls ≡ report_by (seen_from load.settings.workers nothing_seen es).ends (parts_told load es)
 text_is load es ends n parts no_tasks no_calls tasks calls e1 e2 e3 e4 e5 e6 e7 = grind (arith, nat_tests)
 
-pub report_is : (layout : Layout) (load : Workload) (es : List NodeEntry) → Legal (run_terms layout load) es → report_by (seen_from load.settings.workers nothing_seen es).ends (parts_told load es) ≡ report layout load es
+pub report_is : (layout : Layout) (load : Workload) (es : List NodeEntry) → Legal (run_terms layout load) es
+    → report_by (seen_from load.settings.workers nothing_seen es).ends (parts_told load es) ≡ report layout load es
 unfolding report
 report_is layout load es legal = ap (λ (f : ℕ → Option TaskEnd). report_by f (parts_told load es)) (λ j h. ends_by_entries (run_terms layout load) es legal h j)
 
 -- a journal with the terms of the workload is legal for these
-pub legal_same : (layout : Layout) (load : Workload) (settings : NodeSettings) (callers : ℕ) (es fs : List NodeEntry) → settings ≡ load.settings → callers ≡ length load.parts → es ≡ fs
+pub legal_same : (layout : Layout) (load : Workload) (settings : NodeSettings) (callers : ℕ) (es fs : List NodeEntry) → settings ≡ load.settings
+    → callers ≡ length load.parts → es ≡ fs
     → Legal (terms_with layout settings callers) fs → Legal (run_terms layout load) es
 legal_same layout load settings callers es fs e1 e2 e3 e4 = grind (arith, nat_tests)

@@ -1,5 +1,6 @@
 -- After each entry that may come next, what is seen is what stands in the state.
-use Rattle.run_report.proofs.Names.{arith, nat_tests, ◌≡◌, ℕ, ℤ, ◌≤◌, Bool, true, false, ◌&&◌, cond, List, [], ◌∷◌, Option, Some, refl, sym, ◌∙◌, ap, subst, ◌==◌, not, option_map, is_some, TaskEnd, Cancelled, Failed, holds, Listed, live_of, live_object, change, with_fields, gone, any_listed, listed, Action, new_action, with_enabled, Queue, is_shut_in, is_in, Task, NewTask, TaskState, Scheduled, Running, Ended, is_unstarted, is_unended, scheduled, watch_end, cancel_requested, Op, Reply, State, workers, is_stop, end_tasks, Move, Groups, Queues, Mutexes, Sems, Rwls, Segments, phase_is, released, stops, makes_action, enables, withdraws, starts_task, runs_task, ends_task, ends_waiting, notes, leaves, frees_members, lets_members_go, alters, removes, is_fresh, apply, after_moves, Row, unless, gives, never, Allows, after_row, only, live, handle_of, is_ready, can_take, picks, task_end, NodeEntry, IsNext, row_of, next, fst_true, snd_true, IsKeptBy, by_moves, EndEffect, Nothing, change_of, Seen, Follows, unstarted_of, unstarted_in, unstarted_at, queue_of, queue_at, ends_where, with_end, withdrawn, is_left, is_of, is_shut, enqueued, with_open, with_change}
+use Rattle.run_report.proofs.Names.{arith, nat_tests, ◌≡◌, ℕ, ℤ, ◌≤◌, Bool, true, false, ◌&&◌, cond, List, [], ◌∷◌, Option, Some, refl, sym, ◌∙◌, ap, subst, not, option_map, is_some, TaskEnd, Cancelled, Failed, holds, Listed, live_of, live_object, change, with_fields, gone, listed, Action, new_action, with_enabled, Queue, is_shut_in, is_in, Task, NewTask, is_unstarted, is_unended, scheduled, watch_end, cancel_requested, Op, Reply, State, workers, end_tasks, Move, Groups, Queues, Mutexes, Sems, Rwls, Segments, phase_is, released, stops, makes_action, enables, withdraws, starts_task, runs_task, ends_task, ends_waiting, notes, leaves, frees_members, lets_members_go, alters, removes, is_fresh, apply, after_moves, is_ready, picks, task_end, NodeEntry, IsNext, next, fst_true, snd_true, IsKeptBy, by_moves, EndEffect, Nothing, change_of, Seen, Follows, unstarted_of, unstarted_in, unstarted_at, queue_of, queue_at, ends_where, with_end, withdrawn, is_left, is_of, is_shut, enqueued, with_open, with_change}
+use Rattle.mtapi_values.specs.declared.statuses.MrapiStatus.{MrapiStatus}
 use Rattle.mtapi_values.specs.declared.statuses.MtapiStatus.{MtapiStatus}
 use Rattle.mtapi_values.specs.declared.statuses.MtapiStatus.TheVariants as m
 use Rattle.mtapi_values.specs.declared.handles.TaskHandle.{TaskHandle}
@@ -8,11 +9,13 @@ use Rattle.mtapi_values.specs.declared.handles.GroupHandle.{GroupHandle}
 use Rattle.mtapi_values.specs.declared.masks.Mask.{Mask}
 use Rattle.mtapi_objects.specs.Queues as queues
 use Rattle.mtapi_machine.specs.declared.ops.Op.TheVariants as op
-use Rattle.mtapi_machine.specs.declared.replies.Reply.TheVariants.{Ok, Handle, Picked, Idle, Stop}
+use Rattle.mtapi_machine.specs.declared.replies.Reply.TheVariants.{Ok, Handle, Mtapi, Mrapi}
 use Rattle.mtapi_machine.specs.State as kinds
 use Rattle.mtapi_machine.specs.Moves.{makes}
-use Rattle.mtapi_machine.specs.TaskRows.{asked_for, asked_of, cancels}
-use Rattle.mtapi_machine.specs.Rows.{row}
+use Rattle.mtapi_machine.specs.TaskRows.{asked_for, asked_of}
+use Rattle.mtapi_machine.specs.Answers.{Answers}
+use Rattle.mtapi_machine.specs.Answers as is
+use Rattle.mtapi_machine.proofs.Answered.{answered}
 use Rattle.mtapi_machine.specs.Laws.{IsMade, is_pick, MakesAction, EnablesAction, WithdrawsAction, StartsTask, EndsTask, ends_many, makes_of_sort, AltersObject, RemovesObject}
 use Rattle.run_report.proofs.Listed.{unstarted_first, first-found}
 use Rattle.run_report.proofs.Sound.{Sound, none_listed, sound_move}
@@ -121,29 +124,14 @@ module _ (n : ℕ) (v : Seen) where
       by (removes Rwls h) e = follows_same v s _ i.1 refl refl refl
       by (removes Segments h) e = follows_same v s _ i.1 refl refl refl
 
--- The tool: P of each reply that the row may give, with the state after it
+-- a refusal changes nothing of what is seen
+refused : (o : Op) (x : MtapiStatus) → change_of o (Mtapi x) ≡ Nothing
+refused o x = grind (arith, nat_tests)
 
-abbrev Leads : (Reply → State → Type 0) → State → Row → Type 0
-Leads P s (unless c x w) = P x s × Leads P s w
-Leads P s (gives x ms) = P x (after_moves ms s)
-Leads P s never = Unit {0}
+refused_caller : (o : Op) (x : MrapiStatus) → change_of o (Mrapi x) ≡ Nothing
+refused_caller o x = grind (arith, nat_tests)
 
-led : (P : Reply → State → Type 0) (s : State) (w : Row) (r : Reply) → Leads P s w → Allows w r → P r (after_row s w)
-led P s (unless true x w) r l a = subst (λ (q : Reply). P q s) (sym a) l.0
-led P s (unless false x w) r l a = led P s w r l.1 a
-led P s (gives x ms) r l a = subst (λ (q : Reply). P q (after_moves ms s)) (sym a) l
-led P s never r l a = absurd a
-
-leads_live : (P : Reply → State → Type 0) (s : State) {T : Type 0} (x : Option T) (v : Row) (w : T → Row) → Leads P s v → ((t : T) → x ≡ Some t → Leads P s (w t)) → Leads P s (live x v w)
-leads_live P s x v w e1 e2 = grind (arith, nat_tests)
-
-leads_only : (P : Reply → State → Type 0) (s : State) (b : Bool) (x : Reply) (ms : List Move) → (b ≡ true → P x (after_moves ms s)) → Leads P s (only b (gives x ms))
-leads_only P s b x ms e1 = grind (arith, nat_tests)
-
-leads_cond : (P : Reply → State → Type 0) (s : State) (b : Bool) (v w : Row) → Leads P s v → Leads P s w → Leads P s (cond b v w)
-leads_cond P s b v w e1 e2 = grind (arith, nat_tests)
-
--- The rows of the other ops, where what was seen stands in the state
+-- The answers to the other ops, where what was seen stands in the state
 
 module _ (s : State) (i : Sound (workers s) s) where
   abbrev W : Op → Reply → State → Type 0
@@ -160,39 +148,42 @@ module _ (s : State) (i : Sound (workers s) s) where
   closes : (t : State) → t.tasks ≡ s.tasks → t.actions ≡ s.actions → t.queues ≡ s.queues
       → Follows (ends_where (is_shut (queue_at s.queues)) Cancelled (seen_of s)) (end_tasks (λ u. is_unstarted u && is_shut_in s.queues u) Cancelled t)
   closes t a b c =
-      subst (λ (p : Task → Bool). Follows (ends_where (is_shut (queue_at s.queues)) Cancelled (seen_of s)) (end_tasks (λ u. is_unstarted u && p u) Cancelled t)) (λ j u. shut_same u j)
+      subst (λ (p : Task → Bool). Follows (ends_where (is_shut (queue_at s.queues)) Cancelled (seen_of s)) (end_tasks (λ u. is_unstarted u && p u) Cancelled t))
+      (λ j u. shut_same u j)
       (follows_ends (seen_of s) t (is_shut (queue_at s.queues)) Cancelled (follows_same (seen_of s) s t self a b c))
 
   -- actions
 
   withdraws_so : (es : List (ℕ × Action)) (l : List (Listed Action)) (c : MtapiStatus) → es ≡ live_of l
-      → Follows (withdrawn (workers s) es c (seen_of s)) (end_tasks (λ u. is_unstarted u && is_left (workers s) (live_of l) (unstarted_of u)) (Failed c) (record s { actions = l }))
+      → Follows (withdrawn (workers s) es c (seen_of s))
+      (end_tasks (λ u. is_unstarted u && is_left (workers s) (live_of l) (unstarted_of u)) (Failed c) (record s { actions = l }))
   withdraws_so es l c same =
-      subst (λ (fs : List (ℕ × Action)). Follows (ends_where (is_left (workers s) fs) (Failed c) (record (seen_of s) { actions = es })) (end_tasks (λ u. is_unstarted u && is_left (workers s) (live_of l) (unstarted_of u)) (Failed c) (record s { actions = l }))) (sym same)
-      (follows_ends (record (seen_of s) { actions = es }) (record s { actions = l }) (is_left (workers s) (live_of l)) (Failed c) (follows_actions (seen_of s) s es l self same))
+      subst (λ (fs : List (ℕ × Action)). Follows (ends_where (is_left (workers s) fs) (Failed c) (record (seen_of s) { actions = es }))
+      (end_tasks (λ u. is_unstarted u && is_left (workers s) (live_of l) (unstarted_of u)) (Failed c) (record s { actions = l }))) (sym same)
+      (follows_ends (record (seen_of s) { actions = es }) (record s { actions = l }) (is_left (workers s) (live_of l)) (Failed c)
+      (follows_actions (seen_of s) s es l self same))
 
   -- tasks
 
   fresh_tasks : (h : ℕ) → is_fresh kinds.tasks s h ≡ true → listed h s.tasks ≡ 0
   fresh_tasks h e = none_listed _ h s.tasks (snd_true _ _ e)
 
-  enqueues : (q : QueueHandle) (args : List ℤ) (cores : Mask) (detached : Bool) (group : Option GroupHandle) (x : Queue) (h : ℕ) → live_object s.queues q.0 ≡ Some x → is_fresh kinds.tasks s h ≡ true
+  enqueues : (q : QueueHandle) (args : List ℤ) (cores : Mask) (detached : Bool) (group : Option GroupHandle) (x : Queue) (h : ℕ)
+      → live_object s.queues q.0 ≡ Some x → is_fresh kinds.tasks s h ≡ true
       → W (op.TaskEnqueue q args cores detached group) (Handle h) (apply (starts_task h (asked_of q.0 x args cores detached group)) s)
   enqueues q args cores detached group x h at e =
-      subst (λ (o : Option Queue). Follows (enqueued h q.0 cores (option_map queue_of o) (seen_of s)) (apply (starts_task h (asked_of q.0 x args cores detached group)) s)) (sym at)
+      subst (λ (o : Option Queue). Follows (enqueued h q.0 cores (option_map queue_of o) (seen_of s))
+      (apply (starts_task h (asked_of q.0 x args cores detached group)) s)) (sym at)
       (follows_starts (seen_of s) s h (asked_of q.0 x args cores detached group) self (fresh_tasks h e))
 
   waits : (h : ℕ) (t : Task) → live_object s.tasks h ≡ Some t → is_some (unstarted_at s.tasks h) ≡ is_unstarted t
   waits h t e1 = grind (arith, nat_tests, unstarted_first, first-found, unstarted_in, is_unstarted, unstarted_of)
 
-  on_cancels : (k : TaskHandle) (t : Task) (x : TaskState) → live_object s.tasks k.0 ≡ Some t → t.state ≡ x → Leads (W (op.TaskCancel k)) s (cancels k.0 x)
-  on_cancels k t Scheduled e d =
-      subst (λ b. Follows (cond b (with_end k.0 Cancelled (seen_of s)) (seen_of s)) (apply (ends_task k.0 Cancelled) s)) (sym (waits k.0 t e ∙ ap scheduled d))
-      (follows_end (seen_of s) s k.0 Cancelled t self i.once e)
-  on_cancels k t (Running w j) e d =
-      subst (λ b. Follows (cond b (with_end k.0 Cancelled (seen_of s)) (seen_of s)) (apply (notes k.0 cancel_requested) s)) (sym (waits k.0 t e ∙ ap scheduled d))
-      (follows_notes (seen_of s) s k.0 cancel_requested t self i.once e)
-  on_cancels k t (Ended y j) e d = subst (λ b. Follows (cond b (with_end k.0 Cancelled (seen_of s)) (seen_of s)) s) (sym (waits k.0 t e ∙ ap scheduled d)) self
+  -- a cancel that leaves this state
+  cancels_so : (k : TaskHandle) (t : Task) (u : State) (b : Bool) → live_object s.tasks k.0 ≡ Some t → is_unstarted t ≡ b
+      → Follows (cond b (with_end k.0 Cancelled (seen_of s)) (seen_of s)) u
+      → W (op.TaskCancel k) Ok u
+  cancels_so k t u b e d f = subst (λ c. Follows (cond c (with_end k.0 Cancelled (seen_of s)) (seen_of s)) u) (sym (waits k.0 t e ∙ d)) f
 
   -- work
 
@@ -200,21 +191,12 @@ module _ (s : State) (i : Sound (workers s) s) where
   unfolding is_ready
   ready_unstarted t h = fst_true (is_unstarted t) _ h
 
-  on_picks : (w : ℕ) (r : Reply) → Leads (W op.Pick) s (picks s w r)
-  on_picks w (Picked t a k args) =
-      leads_live (W op.Pick) s (live_object s.tasks t.0) _ _ tt (λ x e. leads_live (W op.Pick) s (live_object s.actions a.0) _ _ tt (λ y d.
-      leads_only (W op.Pick) s _ _ (runs_task t.0 w y.kind ∷ [])
-      (λ b. follows_runs (seen_of s) s t.0 w y.kind x self i.once e (ready_unstarted x (fst_true (is_ready s x) _ (fst_true _ _ b))))))
-  on_picks w _ = leads_only (W op.Pick) s (not (any_listed (can_take s w) s.tasks)) Idle [] (λ b. self)
-
-  on_stops : (b : Bool) (w : ℕ) (v : Row) → Leads (W op.Pick) s v → Leads (W op.Pick) s (cond b (gives Stop (stops w ∷ [])) v)
-  on_stops b w v e1 = grind (arith, nat_tests)
-
   -- a task that ends after other objects changed
   ends_so : (h : ℕ) (e : TaskEnd) (t : Task) (u : State) → live_object s.tasks h ≡ Some t → u.tasks ≡ s.tasks → u.actions ≡ s.actions → u.queues ≡ s.queues
       → Follows (with_end h e (seen_of s)) (apply (ends_task h e) u)
   ends_so h e t u at a b c =
-      follows_end (seen_of s) u h e t (follows_same (seen_of s) s u self a b c) (λ j. subst (λ l. listed j l ≤ 1) (sym a) (i.once j)) ((λ j. live_object (a j) h) ∙ at)
+      follows_end (seen_of s) u h e t (follows_same (seen_of s) s u self a b c) (λ j. subst (λ l. listed j l ≤ 1) (sym a) (i.once j))
+      ((λ j. live_object (a j) h) ∙ at)
 
   -- queues
 
@@ -234,133 +216,48 @@ module _ (s : State) (i : Sound (workers s) s) where
       by : (b : Bool) → holds (λ y. not y.retain) (queue_at s.queues q.0) ≡ not b
           → W (op.QueueDisable q) Ok (after_moves (alters Queues q.0 (queues.opened false) ∷ cond b [] (ends_waiting (is_in q.0) Cancelled ∷ [])) s)
       by true t =
-          subst (λ c. Follows (cond c (ends_where (is_of q.0) Cancelled (with_open q.0 false (seen_of s))) (with_open q.0 false (seen_of s))) (apply (alters Queues q.0 (queues.opened false)) s)) (sym t) shut
+          subst (λ c. Follows (cond c (ends_where (is_of q.0) Cancelled (with_open q.0 false (seen_of s))) (with_open q.0 false (seen_of s)))
+          (apply (alters Queues q.0 (queues.opened false)) s)) (sym t) shut
       by false t =
-          subst (λ c. Follows (cond c (ends_where (is_of q.0) Cancelled (with_open q.0 false (seen_of s))) (with_open q.0 false (seen_of s))) (apply (ends_waiting (is_in q.0) Cancelled) (apply (alters Queues q.0 (queues.opened false)) s))) (sym t)
+          subst (λ c. Follows (cond c (ends_where (is_of q.0) Cancelled (with_open q.0 false (seen_of s))) (with_open q.0 false (seen_of s)))
+          (apply (ends_waiting (is_in q.0) Cancelled) (apply (alters Queues q.0 (queues.opened false)) s))) (sym t)
           (follows_ends _ _ (is_of q.0) Cancelled shut)
 
-  row_leads : (who : ℕ) (o : Op) (r : Reply) → changes_nothing o ≡ false → Leads (W o) s (row s who o r)
-  row_leads who op.Close r p = (self, closes _ refl refl refl)
-  row_leads who (op.ActionCreate job kind cores) r p = (
-    self,
-    (
-      self,
-      (
-        self,
-        leads_only (W (op.ActionCreate job kind cores)) s _ _ (makes_action (handle_of r) (new_action job kind cores.0) ∷ [])
-            (λ b. follows_actions (seen_of s) s _ _ self (action_made (handle_of r) (new_action job kind cores.0) s.actions)),
-      ),
-    ),
-  )
-  row_leads who (op.ActionEnable a) r p =
-      (self, leads_live (W (op.ActionEnable a)) s (live_object s.actions a.0) _ _ self (λ x e. follows_actions (seen_of s) s _ _ self (action_changed a.0 (with_enabled true) s.actions)))
-  row_leads who (op.ActionDisable a) r p = (
-    self,
-    leads_live (W (op.ActionDisable a)) s (live_object s.actions a.0) _ _ self
-        (λ x e. withdraws_so _ (change a.0 (with_fields (with_enabled false)) s.actions) m.ErrActionDisabled (action_changed a.0 (with_enabled false) s.actions)),
-  )
-  row_leads who (op.ActionDelete a) r p =
-      (self, leads_live (W (op.ActionDelete a)) s (live_object s.actions a.0) _ _ self (λ x e. withdraws_so _ (change a.0 gone s.actions) m.ErrActionDeleted (action_gone a.0 s.actions)))
-  row_leads who (op.TaskStart job args priority cores detached group) r p = (
-    self,
-    (
-      self,
-      (
-        self,
-        (
-          self,
-          (
-            self,
-            (
-              self,
-              (
-                self,
-                leads_only (W (op.TaskStart job args priority cores detached group)) s _ _ (starts_task (handle_of r) (asked_for job args priority cores detached group) ∷ [])
-                    (λ b. follows_starts (seen_of s) s (handle_of r) (asked_for job args priority cores detached group) self (fresh_tasks (handle_of r) b)),
-              ),
-            ),
-          ),
-        ),
-      ),
-    ),
-  )
-  row_leads who (op.TaskEnqueue q args cores detached group) r p = (
-    self,
-    (
-      self,
-      leads_live (W (op.TaskEnqueue q args cores detached group)) s (live_object s.queues q.0) _ _ self (λ x e. (
-        self,
-        (
-          self,
-          (
-            self,
-            (
-              self,
-              (
-                self,
-                (
-                  self,
-                  (
-                    self,
-                    leads_only (W (op.TaskEnqueue q args cores detached group)) s _ _ (starts_task (handle_of r) (asked_of q.0 x args cores detached group) ∷ [])
-                        (λ b. enqueues q args cores detached group x (handle_of r) e b),
-                  ),
-                ),
-              ),
-            ),
-          ),
-        ),
-      )),
-    ),
-  )
-  row_leads who (op.TaskCancel t) r p = (self, leads_live (W (op.TaskCancel t)) s (live_object s.tasks t.0) _ _ self (λ x e. on_cancels t x x.state e refl))
-  row_leads who (op.QueueCreate id job priority limit ordered retain) r p = (
-    self,
-    (
-      self,
-      (
-        self,
-        (
-          self,
-          (
-            self,
-            leads_only (W (op.QueueCreate id job priority limit ordered retain)) s _ _ (makes Queues (handle_of r) _ ∷ [])
-                (λ b. follows_queue_made (seen_of s) s (handle_of r) _ self (fresh_queues (handle_of r) b)),
-          ),
-        ),
-      ),
-    ),
-  )
-  row_leads who (op.QueueEnable q) r p =
-      (self, leads_live (W (op.QueueEnable q)) s (live_object s.queues q.0) _ _ self (λ x e. follows_queue_changed (seen_of s) s q.0 true x self e))
-  row_leads who (op.QueueDisable q) r p =
-      (self, leads_live (W (op.QueueDisable q)) s (live_object s.queues q.0) _ _ self (λ x e. disables q x e x.retain refl))
-  row_leads who (op.QueueDelete q) r p = (
-    self,
-    leads_live (W (op.QueueDelete q)) s (live_object s.queues q.0) _ _ self
-        (λ x e. follows_queue_gone _ _ q.0 (follows_ends (seen_of s) s (is_of q.0) (Failed m.ErrQueueDeleted) self) i.distinct),
-  )
-  row_leads who op.Pick r p = (self, (self, (self, on_stops (is_stop s) who _ (on_picks who r))))
-  row_leads who (op.Finish t d) r p =
-      (self, leads_live (W (op.Finish t d)) s (live_object s.tasks t.0) _ _ self (λ x e. (self, ends_so t.0 (task_end d.end) x s e refl refl refl)))
-  row_leads who (op.WatchEnd t) r p =
-      (self, leads_live (W (op.WatchEnd t)) s (live_object s.tasks t.0) _ _ self (λ x e. (self, (self, ends_so t.0 (watch_end x) x s e refl refl refl))))
-  row_leads who (op.TallyEnd t) r p = (
-    self,
-    leads_live (W (op.TallyEnd t)) s (live_object s.tasks t.0) _ _ self (λ x e. (
-      self,
-      (
-        self,
-        leads_cond (W (op.TallyEnd t)) s (x.notes.tally.stage == 4) _ _ (ends_so t.0 x.notes.tally.verdict x s e refl refl refl)
-            (leads_live (W (op.TallyEnd t)) s (live_object s.segments x.notes.tally.segment) _ _ tt (λ y f. leads_live (W (op.TallyEnd t)) s (live_object s.mutexes x.notes.tally.mutex) _ _ tt
-            (λ z g. ends_so t.0 _ x _ e refl refl refl))),
-      ),
-    )),
-  )
-  row_leads who _ r p = absurd (cc)
+  by_answer : (who : ℕ) (o : Op) (r : Reply) (ms : List Move) → Answers s who o r ms → changes_nothing o ≡ false → W o r (after_moves ms s)
+  by_answer who _ _ _ (is.refuses o x e) p = subst (λ c. Follows (with_change (workers s) c (seen_of s)) s) (sym (refused o x)) self
+  by_answer who _ _ _ (is.refuses_caller o x e) p = subst (λ c. Follows (with_change (workers s) c (seen_of s)) s) (sym (refused_caller o x)) self
+  by_answer who _ _ _ (is.closes_node a) p = closes _ refl refl refl
+  by_answer who _ _ _ (is.creates_action job kind cores h f) p = follows_actions (seen_of s) s _ _ self (action_made h (new_action job kind cores.0) s.actions)
+  by_answer who _ _ _ (is.enables_action a x e) p = follows_actions (seen_of s) s _ _ self (action_changed a.0 (with_enabled true) s.actions)
+  by_answer who _ _ _ (is.disables_action a x e) p =
+      withdraws_so _ (change a.0 (with_fields (with_enabled false)) s.actions) m.ErrActionDisabled (action_changed a.0 (with_enabled false) s.actions)
+  by_answer who _ _ _ (is.deletes_action a x e) p = withdraws_so _ (change a.0 gone s.actions) m.ErrActionDeleted (action_gone a.0 s.actions)
+  by_answer who _ _ _ (is.starts job args priority cores detached group h f) p =
+      follows_starts (seen_of s) s h (asked_for job args priority cores detached group) self (fresh_tasks h f.fresh)
+  by_answer who _ _ _ (is.enqueues q args cores detached group h x e u f n) p = enqueues q args cores detached group x h e f.fresh
+  by_answer who _ _ _ (is.cancels_waiting t x e d) p = cancels_so t x _ true e (ap scheduled d) (follows_end (seen_of s) s t.0 Cancelled x self i.once e)
+  by_answer who _ _ _ (is.cancels_running t x w k e d) p =
+      cancels_so t x _ false e (ap scheduled d) (follows_notes (seen_of s) s t.0 cancel_requested x self i.once e)
+  by_answer who _ _ _ (is.cancels_over t x y n e d) p = cancels_so t x _ false e (ap scheduled d) self
+  by_answer who _ _ _ (is.creates_queue id job priority limit ordered retain h n f) p = follows_queue_made (seen_of s) s h _ self (fresh_queues h f)
+  by_answer who _ _ _ (is.enables_queue q x e) p = follows_queue_changed (seen_of s) s q.0 true x self e
+  by_answer who _ _ _ (is.retains_queue q x e d) p = disables q x e true d
+  by_answer who _ _ _ (is.disables_queue q x e d) p = disables q x e false d
+  by_answer who _ _ _ (is.deletes_queue q x e) p =
+      follows_queue_gone _ _ q.0 (follows_ends (seen_of s) s (is_of q.0) (Failed m.ErrQueueDeleted) self) i.distinct
+  by_answer who _ _ _ (is.idles_in_new a) p = self
+  by_answer who _ _ _ (is.idles a) p = self
+  by_answer who _ _ _ (is.stops_worker a b d) p = follows_same (seen_of s) s _ self refl refl refl
+  by_answer who _ _ _ (is.picks t a x y b l e d z g k) p = follows_runs (seen_of s) s t.0 who y.kind x self i.once e (ready_unstarted x z)
+  by_answer who _ _ _ (is.finishes t done x h u) p = ends_so t.0 (task_end done.end) x s h.found refl refl refl
+  by_answer who _ _ _ (is.ends_watch t x h u) p = ends_so t.0 (watch_end x) x s h.found refl refl refl
+  by_answer who _ _ _ (is.tally_ends_failed t x h u) p = ends_so t.0 x.notes.tally.verdict x s h.found refl refl refl
+  by_answer who _ _ _ (is.tally_ends t x y z h u v f g) p = ends_so t.0 _ x _ h.found refl refl refl
+  by_answer who _ _ _ _ p = absurd (cc)
 
 -- one entry on
-pub follows_next : (n : ℕ) (v : Seen) (s : State) (e : NodeEntry) → IsNext s e → Sound n s → Follows v s → Follows (with_change n (change_of e.op e.reply) v) (next s e)
+pub follows_next : (n : ℕ) (v : Seen) (s : State) (e : NodeEntry) → IsNext s e → Sound n s → Follows v s
+    → Follows (with_change n (change_of e.op e.reply) v) (next s e)
 follows_next n v s e h i f = by (changes_nothing e.op) refl
   where
     by : (b : Bool) → changes_nothing e.op ≡ b → Follows (with_change n (change_of e.op e.reply) v) (next s e)
@@ -370,4 +267,4 @@ follows_next n v s e h i f = by (changes_nothing e.op) refl
     by false p =
         subst (λ (k : ℕ). Follows (with_change k (change_of e.op e.reply) v) (next s e)) i.workers
         (subst (λ (w : Seen). Follows (with_change (workers s) (change_of e.op e.reply) w) (next s e)) (sym (follows_path v s f))
-        (led (W s (record { once = i.once; distinct = i.distinct; workers = refl }) e.op) s (row_of s e) e.reply (row_leads s (record { once = i.once; distinct = i.distinct; workers = refl }) e.who e.op e.reply p) h.allowed))
+        (by_answer s (record { once = i.once; distinct = i.distinct; workers = refl }) e.who e.op e.reply _ (answered s e.who e.op e.reply h.allowed) p))

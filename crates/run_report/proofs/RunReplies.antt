@@ -18,7 +18,8 @@ decided_lines who (e ∷ es) [] l = absurd (omega arith)
 decided_lines who (e ∷ es) (n ∷ ns) l = by (e.who == who) (decided_lines who es ns (omega arith))
   where
     by : (b : Bool) → decided who es ≡ decided_in (lines_of who es ns)
-        → cond (b && not (is_pending e.reply)) (e.reply ∷ decided who es) (decided who es) ≡ decided_in (cond b (line e.op e.reply n ∷ lines_of who es ns) (lines_of who es ns))
+        → cond (b && not (is_pending e.reply)) (e.reply ∷ decided who es) (decided who es)
+        ≡ decided_in (cond b (line e.op e.reply n ∷ lines_of who es ns) (lines_of who es ns))
     by true k = ap (λ d. cond (not (is_pending e.reply)) (e.reply ∷ d) d) k
     by false k = k
 
@@ -27,7 +28,8 @@ unfolding decided_in
 decided_append [] b = refl
 decided_append (l ∷ ls) b = by (not (is_pending l.reply)) (decided_append ls b)
   where
-    by : (c : Bool) → decided_in (ls ++ b) ≡ decided_in ls ++ decided_in b → cond c (l.reply ∷ decided_in (ls ++ b)) (decided_in (ls ++ b)) ≡ cond c (l.reply ∷ decided_in ls) (decided_in ls) ++ decided_in b
+    by : (c : Bool) → decided_in (ls ++ b) ≡ decided_in ls ++ decided_in b
+        → cond c (l.reply ∷ decided_in (ls ++ b)) (decided_in (ls ++ b)) ≡ cond c (l.reply ∷ decided_in ls) (decided_in ls) ++ decided_in b
     by true k = ap (λ x. l.reply ∷ x) k
     by false k = k
 
@@ -49,10 +51,12 @@ unfolding Carried decided_in
 carried_reads bound [] lines [] c = ap decided_in c
 carried_reads bound [] lines (r ∷ rs) c = absurd c
 carried_reads bound (s ∷ ss) lines [] c = absurd c
-carried_reads bound (s ∷ ss) lines (r ∷ rs) c = grind (arith, nat_tests, carried_reads (bound ++ handle_of r ∷ []) ss c.1 rs c.4, decided_append, made_reads, call_of, handle_of)
+carried_reads bound (s ∷ ss) lines (r ∷ rs) c =
+    grind (arith, nat_tests, carried_reads (bound ++ handle_of r ∷ []) ss c.1 rs c.4, decided_append, made_reads, call_of, handle_of)
 
 -- the first ones, as many as there are statements, are the replies to them
-carried_first : (bound : List ℕ) (ss : List Statement) (lines : List Line) (rs more : List Reply) → Carried Made bound ss lines rs → take (length ss) (rs ++ more) ≡ rs
+carried_first : (bound : List ℕ) (ss : List Statement) (lines : List Line) (rs more : List Reply) → Carried Made bound ss lines rs
+    → take (length ss) (rs ++ more) ≡ rs
 unfolding Carried
 carried_first bound [] lines [] more c = refl
 carried_first bound [] lines (r ∷ rs) more c = absurd c
@@ -65,14 +69,16 @@ unfolding decided_in
 head_reads b rest = grind (arith, nat_tests)
 
 -- and so are those behind them
-main_reads : (ss : List Statement) (lines : List Line) (all rs : List Reply) → all ≡ decided_in lines → MainRan in_lines ss lines rs → take (length ss) (drop (calls_before ss) all) ≡ rs
+main_reads : (ss : List Statement) (lines : List Line) (all rs : List Reply) → all ≡ decided_in lines → MainRan in_lines ss lines rs
+    → take (length ss) (drop (calls_before ss) all) ≡ rs
 main_reads ss lines all rs is m =
     ap (λ l. take (length ss) (drop (calls_before ss) l)) (is ∙ ap decided_in m.is)
     ∙ ap (take (length ss)) (head_reads (has_begin ss) (m.body ++ tail_of_main) ∙ decided_append m.body tail_of_main)
     ∙ ap (λ l. take (length ss) (l ++ decided_in tail_of_main)) (carried_reads [] ss m.body rs m.carried)
     ∙ carried_first [] ss m.body rs (decided_in tail_of_main) m.carried
 
-caller_reads : (ss : List Statement) (lines : List Line) (all rs : List Reply) → all ≡ decided_in lines → CallerRan in_lines ss lines rs → take (length ss) (drop 1 all) ≡ rs
+caller_reads : (ss : List Statement) (lines : List Line) (all rs : List Reply) → all ≡ decided_in lines → CallerRan in_lines ss lines rs
+    → take (length ss) (drop 1 all) ≡ rs
 unfolding decided_in
 caller_reads ss lines all rs is m =
     ap (λ l. take (length ss) (drop 1 l)) (is ∙ ap decided_in (m.is ∙ ap (λ (l : List Line). l ++ m.body) m.entered.1))
@@ -86,7 +92,8 @@ module _ (es : List NodeEntry) (ns : List ℕ) (same : length es ≡ length ns) 
   abbrev lines : ℕ → List Line
   lines who = lines_of who es ns
 
-  callers_read : (who : ℕ) (ps : List Part) (rss : List (List Reply)) → CallersRan in_lines lines who ps rss → map (λ t. t.replies) (further_told who es ps) ≡ rss
+  callers_read : (who : ℕ) (ps : List Part) (rss : List (List Reply)) → CallersRan in_lines lines who ps rss
+      → map (λ t. t.replies) (further_told who es ps) ≡ rss
   unfolding CallersRan further_told
   callers_read who [] [] c = refl
   callers_read who [] (rs ∷ rss) c = absurd c

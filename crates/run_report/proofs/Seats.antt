@@ -11,7 +11,8 @@ decided_more who [] e = refl
 decided_more who (x ∷ L) e = by (decides who x) (decided_more who L e)
   where
     by : (b : Bool) → decided who (L ++ e ∷ []) ≡ decided who L ++ cond (decides who e) (e.reply ∷ []) []
-        → cond b (x.reply ∷ decided who (L ++ e ∷ [])) (decided who (L ++ e ∷ [])) ≡ cond b (x.reply ∷ decided who L) (decided who L) ++ cond (decides who e) (e.reply ∷ []) []
+        → cond b (x.reply ∷ decided who (L ++ e ∷ [])) (decided who (L ++ e ∷ []))
+        ≡ cond b (x.reply ∷ decided who L) (decided who L) ++ cond (decides who e) (e.reply ∷ []) []
     by true more = ap (λ l. x.reply ∷ l) more
     by false more = more
 

@@ -27,14 +27,16 @@ unfolding listed end_each
 listed_ends k p e n [] = refl
 listed_ends k p e n (r ∷ rs) = by (r.live && p r.fields) (listed_ends k p e n rs) (listed_ends k p e (n + 1) rs)
   where
-    by : (b : Bool) → listed k (end_each p e n rs) ≡ listed k rs → listed k (end_each p e (n + 1) rs) ≡ listed k rs → listed k (cond b (ended e n r ∷ end_each p e (n + 1) rs) (r ∷ end_each p e n rs)) ≡ cond (r.handle == k) 1 0 + listed k rs
+    by : (b : Bool) → listed k (end_each p e n rs) ≡ listed k rs → listed k (end_each p e (n + 1) rs) ≡ listed k rs
+        → listed k (cond b (ended e n r ∷ end_each p e (n + 1) rs) (r ∷ end_each p e n rs)) ≡ cond (r.handle == k) 1 0 + listed k rs
     by true same more = ap (λ m. cond (r.handle == k) 1 0 + m) more
     by false same more = ap (λ m. cond (r.handle == k) 1 0 + m) same
 
 once_ends : (p : Task → Bool) (e : TaskEnd) (n : ℕ) (l : List (Listed Task)) → Once l → Once (end_each p e n l)
 once_ends p e n l one k = subst (λ (m : ℕ). m ≤ 1) (sym (listed_ends k p e n l)) (one k)
 
-listed_all : (k : ℕ) (p : Task → Bool) (f : Listed Task → Listed Task) → ((r : Listed Task) → (f r).handle ≡ r.handle) → (l : List (Listed Task)) → listed k (change_all p f l) ≡ listed k l
+listed_all : (k : ℕ) (p : Task → Bool) (f : Listed Task → Listed Task) → ((r : Listed Task) → (f r).handle ≡ r.handle) → (l : List (Listed Task))
+    → listed k (change_all p f l) ≡ listed k l
 unfolding listed change_all
 listed_all k p f keeps [] = refl
 listed_all k p f keeps (r ∷ rs) = by (r.live && p r.fields) (listed_all k p f keeps rs)
@@ -43,7 +45,8 @@ listed_all k p f keeps (r ∷ rs) = by (r.live && p r.fields) (listed_all k p f 
     by true more = λ i. cond (keeps r i == k) 1 0 + more i
     by false more = ap (λ m. cond (r.handle == k) 1 0 + m) more
 
-once_all : (p : Task → Bool) (f : Listed Task → Listed Task) (l : List (Listed Task)) → ((r : Listed Task) → (f r).handle ≡ r.handle) → Once l → Once (change_all p f l)
+once_all : (p : Task → Bool) (f : Listed Task → Listed Task) (l : List (Listed Task)) → ((r : Listed Task) → (f r).handle ≡ r.handle) → Once l
+    → Once (change_all p f l)
 once_all p f l keeps one k = subst (λ (m : ℕ). m ≤ 1) (sym (listed_all k p f keeps l)) (one k)
 
 module _ (n : ℕ) where
@@ -58,7 +61,8 @@ module _ (n : ℕ) where
 
   pub sound_move : IsKept (Sound n)
   sound_move o s (starts_task h t) e i =
-      with_tasks s _ i (once_issue _ h _ s.tasks (snd_true _ _ (snd_true (is_open s.phase) _ (fst_true _ _ (fst_true _ _ (fst_true _ _ e.may))))) i.once) refl refl
+      with_tasks s _ i (once_issue _ h _ s.tasks
+      (snd_true _ _ (snd_true (is_open s.phase) _ (fst_true _ _ (fst_true _ _ (fst_true _ _ e.may))))) i.once) refl refl
   sound_move o s (runs_task h w k) e i = with_tasks s _ i (once_change h (with_fields (with_state (Running w k))) s.tasks (λ r. refl) i.once) refl refl
   sound_move o s (ends_task h x) e i = with_tasks s _ i (once_change h (ended x s.ends) s.tasks (λ r. refl) i.once) refl refl
   sound_move o s (ends_waiting q x) e i = with_tasks s _ i (once_ends _ x s.ends s.tasks i.once) refl refl

@@ -14,9 +14,12 @@ pub further_with : (by : ℕ → Option TaskEnd) (t u : Totals) (who : ℕ) (es 
     → u ≡ with_tasks by t p.statements (reported who 1 es p).replies
     → with_parts by u (further_told (who + 1) es (rest_of ps)) ≡ with_parts by t (further_told who es ps)
 unfolding further_told with_parts
-further_with by t u who es p ps h is made = ap (λ (x : Totals). with_parts by x (further_told (who + 1) es (rest_of ps))) made ∙ sym (ap (λ (l : List Part). with_parts by t (further_told who es l)) (first_with ps p h is))
+further_with by t u who es p ps h is made =
+    ap (λ (x : Totals). with_parts by x (further_told (who + 1) es (rest_of ps))) made
+    ∙ sym (ap (λ (l : List Part). with_parts by t (further_told who es l)) (first_with ps p h is))
 
-pub all_with : (by : ℕ → Option TaskEnd) (t u : Totals) (main : ℕ) (es : List NodeEntry) (p : Part) (ps : List Part) (before : ℕ) → 1 ≤ length ps → p ≡ get_or ps 0 p → before ≡ calls_before p.statements
+pub all_with : (by : ℕ → Option TaskEnd) (t u : Totals) (main : ℕ) (es : List NodeEntry) (p : Part) (ps : List Part) (before : ℕ) → 1 ≤ length ps
+    → p ≡ get_or ps 0 p → before ≡ calls_before p.statements
     → u ≡ with_tasks by t p.statements (reported main before es p).replies
     → with_parts by u (further_told (main + 1) es (rest_of ps)) ≡ with_parts by t (all_told main es ps)
 unfolding with_parts
@@ -32,29 +35,37 @@ onto : (out new piece rest whole : List ℕ) → new ≡ out ++ piece → out ++
 onto out new piece rest whole made so = ap (λ x. x ++ rest) made ∙ append_assoc out piece rest ∙ so
 
 -- the pieces of the line, one after another
-pub line_is : (t : Totals) (a b c d e f g h out : List ℕ) → a ≡ [] → b ≡ a ++ counted (codes "tasks ") t.tasks → c ≡ b ++ counted (codes " completed ") t.completed → d ≡ c ++ counted (codes " cancelled ") t.cancelled
-    → e ≡ d ++ counted (codes " error ") t.failed → f ≡ e ++ counted (codes " refused ") t.refused → g ≡ f ++ codes " sum " → h ≡ g ++ signed_decimal t.sum → out ≡ h ++ 10 ∷ [] → out ≡ totals_text t
+pub line_is : (t : Totals) (a b c d e f g h out : List ℕ) → a ≡ [] → b ≡ a ++ counted (codes "tasks ") t.tasks
+    → c ≡ b ++ counted (codes " completed ") t.completed → d ≡ c ++ counted (codes " cancelled ") t.cancelled
+    → e ≡ d ++ counted (codes " error ") t.failed → f ≡ e ++ counted (codes " refused ") t.refused → g ≡ f ++ codes " sum " → h ≡ g ++ signed_decimal t.sum
+    → out ≡ h ++ 10 ∷ [] → out ≡ totals_text t
 unfolding totals_text
 line_is t a b c d e f g h out ia ib ic iid ie iff ig ih io =
     io
-    ∙ onto g h (signed_decimal t.sum) _ _ ih (onto f g (codes " sum ") _ _ ig (onto e f (counted (codes " refused ") t.refused) _ _ iff (onto d e (counted (codes " error ") t.failed) _ _ ie (onto c d (counted (codes " cancelled ") t.cancelled) _ _ iid
+    ∙ onto g h (signed_decimal t.sum) _ _ ih
+    (onto f g (codes " sum ") _ _ ig (onto e f (counted (codes " refused ") t.refused) _ _ iff
+    (onto d e (counted (codes " error ") t.failed) _ _ ie (onto c d (counted (codes " cancelled ") t.cancelled) _ _ iid
     (onto b c (counted (codes " completed ") t.completed) _ _ ic (onto a b (counted (codes "tasks ") t.tasks) _ _ ib (ap (λ x. x ++ totals_text t) ia)))))))
 
 -- ---- the whole
 
 -- the same from totals that are the same
-pub part_is : (t u : Totals) (by : ℕ → Option TaskEnd) (ss : List Statement) (rs : List Reply) → t ≡ no_totals → u ≡ with_tasks by t ss rs → u ≡ with_tasks by no_totals ss rs
+pub part_is : (t u : Totals) (by : ℕ → Option TaskEnd) (ss : List Statement) (rs : List Reply) → t ≡ no_totals → u ≡ with_tasks by t ss rs
+    → u ≡ with_tasks by no_totals ss rs
 part_is t u by ss rs none made = made ∙ ap (λ (x : Totals). with_tasks by x ss rs) none
 
 -- the totals by the ends that were found
-pub totals_are : (load : Workload) (es : List NodeEntry) (ends : ℕ → Option TaskEnd) (n : ℕ) (parts : List Part) → ((h : ℕ) → ends h ≡ (seen_from n nothing_seen es).ends h) → n ≡ load.settings.workers → parts ≡ load.parts
+pub totals_are : (load : Workload) (es : List NodeEntry) (ends : ℕ → Option TaskEnd) (n : ℕ) (parts : List Part)
+    → ((h : ℕ) → ends h ≡ (seen_from n nothing_seen es).ends h) → n ≡ load.settings.workers → parts ≡ load.parts
     → with_parts ends no_totals (all_told n es parts) ≡ with_parts (seen_from load.settings.workers nothing_seen es).ends no_totals (parts_told load es)
 totals_are load es ends n parts e1 e2 e3 = grind (arith, nat_tests)
 
 -- for a legal list the ends that entries show are those in the last state
-pub summary_is : (layout : Layout) (load : Workload) (es : List NodeEntry) → Legal (run_terms layout load) es → with_parts (seen_from load.settings.workers nothing_seen es).ends no_totals (parts_told load es) ≡ totals layout load es
+pub summary_is : (layout : Layout) (load : Workload) (es : List NodeEntry) → Legal (run_terms layout load) es
+    → with_parts (seen_from load.settings.workers nothing_seen es).ends no_totals (parts_told load es) ≡ totals layout load es
 unfolding totals
-summary_is layout load es legal = ap (λ (f : ℕ → Option TaskEnd). with_parts f no_totals (parts_told load es)) (λ j h. ends_by_entries (run_terms layout load) es legal h j)
+summary_is layout load es legal = ap (λ (f : ℕ → Option TaskEnd). with_parts f no_totals (parts_told load es))
+    (λ j h. ends_by_entries (run_terms layout load) es legal h j)
 
 -- a well-formed workload has at most 20,000 statements
 lines_more : (p : Part) (rest : List ℕ) → length p.statements + length rest ≤ length (part_lines p ++ rest)

@@ -21,14 +21,16 @@ nows_at replies i r room at = ap (λ (q : Bor Reply). q.now) at ∙ sym (get_or-
 
 -- the replies to the statements of a part, behind their references
 pub nows_part : (replies : List (Bor Reply)) (before count : ℕ) → nows (take count (drop before replies)) ≡ take count (drop before (nows replies))
-nows_part replies before count = sym (take-map (λ (r : Bor Reply). r.now) count (drop before replies)) ∙ ap (take count) (sym (drop-map (λ (r : Bor Reply). r.now) before replies))
+nows_part replies before count = sym (take-map (λ (r : Bor Reply). r.now) count (drop before replies))
+    ∙ ap (take count) (sym (drop-map (λ (r : Bor Reply). r.now) before replies))
 
 nothing_left : {A : Type 0} (l : List A) (i : ℕ) → length l ≤ i → drop i l ≡ []
 nothing_left l i past = nil_from_length (drop i l) (omega (arith, length-drop i l))
 
 module _ {A B C : Type 0} where
   -- a value of what is left of two lists, at its first elements
-  both_more : (F : List A → List B → C) (ss : List A) (rs : List B) (i : ℕ) (s : A) (r : B) → i < length ss → s ≡ get_or ss i s → i < length rs → r ≡ get_or rs i r
+  both_more : (F : List A → List B → C) (ss : List A) (rs : List B) (i : ℕ) (s : A) (r : B) → i < length ss → s ≡ get_or ss i s → i < length rs
+      → r ≡ get_or rs i r
       → F (drop i ss) (drop i rs) ≡ F (s ∷ drop (i + 1) ss) (r ∷ drop (i + 1) rs)
   both_more F ss rs i s r e1 e2 e3 e4 = grind (arith, nat_tests, drop_more)
 
@@ -46,18 +48,21 @@ unfolding task_lines_of
 no_task_lines part by [] = refl
 no_task_lines part by (s ∷ ss) = refl
 
-pub task_lines-next : (part : List ℕ) (by : ℕ → Option TaskEnd) (ss : List Statement) (rs : List Reply) (i : ℕ) (s : Statement) (r : Reply) (out new whole : List ℕ)
+pub task_lines-next : (part : List ℕ) (by : ℕ
+    → Option TaskEnd) (ss : List Statement) (rs : List Reply) (i : ℕ) (s : Statement) (r : Reply) (out new whole : List ℕ)
     → i < length ss → s ≡ get_or ss i s → i < length rs → r ≡ get_or rs i r
     → out ++ task_lines_of part by (drop i ss) (drop i rs) ≡ whole → new ≡ out ++ cond (is_task (shown_of s.deed)) (task_line part by s r) []
     → new ++ task_lines_of part by (drop (i + 1) ss) (drop (i + 1) rs) ≡ whole
 unfolding task_lines_of
 task_lines-next part by ss rs i s r out new whole l at m got so made =
-    grows out new (cond (is_task (shown_of s.deed)) (task_line part by s r) []) (task_lines_of part by (drop (i + 1) ss) (drop (i + 1) rs)) whole (task_lines_of part by (drop i ss) (drop i rs))
+    grows out new (cond (is_task (shown_of s.deed)) (task_line part by s r) []) (task_lines_of part by (drop (i + 1) ss) (drop (i + 1) rs)) whole
+    (task_lines_of part by (drop i ss) (drop i rs))
     so (both_more (task_lines_of part by) ss rs i s r l at m got) made
 
 pub task_lines-past_replies : (part : List ℕ) (by : ℕ → Option TaskEnd) (ss : List Statement) (rs : List Reply) (i : ℕ) (out whole : List ℕ)
     → length rs ≤ i → out ++ task_lines_of part by (drop i ss) (drop i rs) ≡ whole → out ≡ whole
-task_lines-past_replies part by ss rs i out whole past so = ends out whole _ so (ap (λ l. task_lines_of part by (drop i ss) l) (nothing_left rs i past) ∙ no_task_lines part by (drop i ss))
+task_lines-past_replies part by ss rs i out whole past so =
+    ends out whole _ so (ap (λ l. task_lines_of part by (drop i ss) l) (nothing_left rs i past) ∙ no_task_lines part by (drop i ss))
 
 pub task_lines-past : (part : List ℕ) (by : ℕ → Option TaskEnd) (ss : List Statement) (rs : List Reply) (i : ℕ) (out whole : List ℕ)
     → length ss ≤ i → out ++ task_lines_of part by (drop i ss) (drop i rs) ≡ whole → out ≡ whole
@@ -77,12 +82,14 @@ pub call_lines-next : (part : List ℕ) (name : ℕ → List ℕ) (ss : List Sta
     → new ++ call_lines_of part name (drop (i + 1) ss) (drop (i + 1) rs) ≡ whole
 unfolding call_lines_of
 call_lines-next part name ss rs i s r out new whole l at m got so made =
-    grows out new (call_line part name s.line (shown_of s.deed) r) (call_lines_of part name (drop (i + 1) ss) (drop (i + 1) rs)) whole (call_lines_of part name (drop i ss) (drop i rs))
+    grows out new (call_line part name s.line (shown_of s.deed) r) (call_lines_of part name (drop (i + 1) ss) (drop (i + 1) rs)) whole
+    (call_lines_of part name (drop i ss) (drop i rs))
     so (both_more (call_lines_of part name) ss rs i s r l at m got) made
 
 pub call_lines-past_replies : (part : List ℕ) (name : ℕ → List ℕ) (ss : List Statement) (rs : List Reply) (i : ℕ) (out whole : List ℕ)
     → length rs ≤ i → out ++ call_lines_of part name (drop i ss) (drop i rs) ≡ whole → out ≡ whole
-call_lines-past_replies part name ss rs i out whole past so = ends out whole _ so (ap (λ l. call_lines_of part name (drop i ss) l) (nothing_left rs i past) ∙ no_call_lines part name (drop i ss))
+call_lines-past_replies part name ss rs i out whole past so =
+    ends out whole _ so (ap (λ l. call_lines_of part name (drop i ss) l) (nothing_left rs i past) ∙ no_call_lines part name (drop i ss))
 
 pub call_lines-past : (part : List ℕ) (name : ℕ → List ℕ) (ss : List Statement) (rs : List Reply) (i : ℕ) (out whole : List ℕ)
     → length ss ≤ i → out ++ call_lines_of part name (drop i ss) (drop i rs) ≡ whole → out ≡ whole
@@ -100,7 +107,8 @@ no_place n [] h = refl
 no_place n (s ∷ ss) h = refl
 
 -- where a handle was found, it has its first place
-place_step : (n h : ℕ) (found : Option ℕ) (b : Bool) (old rest : Option ℕ) → b ≡ is_found h found → first_of_two (first_of_two old (place_if n h found)) rest ≡ first_of_two old (cond b (Some n) rest)
+place_step : (n h : ℕ) (found : Option ℕ) (b : Bool) (old rest : Option ℕ) → b ≡ is_found h found
+    → first_of_two (first_of_two old (place_if n h found)) rest ≡ first_of_two old (cond b (Some n) rest)
 place_step n h found b old rest e1 = grind (arith, nat_tests)
 
 pub place-next : (ss : List Statement) (rs : List Reply) (h i : ℕ) (s : Statement) (r : Reply) (old new whole found : Option ℕ)
@@ -115,10 +123,12 @@ place-next ss rs h i s r old new whole found l at m got so made is =
     ∙ ap (first_of_two old) (sym (both_more (λ a b. place_from i a b h) ss rs i s r l at m got))
     ∙ so
 
-pub place-past_replies : (ss : List Statement) (rs : List Reply) (h i : ℕ) (old whole : Option ℕ) → length rs ≤ i → first_of_two old (place_from i (drop i ss) (drop i rs) h) ≡ whole → old ≡ whole
+pub place-past_replies : (ss : List Statement) (rs : List Reply) (h i : ℕ) (old whole : Option ℕ) → length rs ≤ i
+    → first_of_two old (place_from i (drop i ss) (drop i rs) h) ≡ whole → old ≡ whole
 place-past_replies ss rs h i old whole e1 e2 = grind (arith, nat_tests, first_none, first_of_two, place_from, nothing_left, no_place)
 
-pub place-past : (ss : List Statement) (rs : List Reply) (h i : ℕ) (old whole : Option ℕ) → length ss ≤ i → first_of_two old (place_from i (drop i ss) (drop i rs) h) ≡ whole → old ≡ whole
+pub place-past : (ss : List Statement) (rs : List Reply) (h i : ℕ) (old whole : Option ℕ) → length ss ≤ i
+    → first_of_two old (place_from i (drop i ss) (drop i rs) h) ≡ whole → old ≡ whole
 unfolding place_from
 place-past ss rs h i old whole e1 e2 = grind (arith, nat_tests, first_none, first_of_two, place_from, nothing_left)
 
@@ -140,7 +150,8 @@ named all h n [] rs left = refl
 named all h n (s ∷ ss) [] left = refl
 named all h n (s ∷ ss) (r ∷ rs) left = by (makes h s r) (named all h (n + 1) ss rs (drop_next all n s ss left))
   where
-    by : (b : Bool) → name_at all (place_from (n + 1) ss rs h) ≡ task_name ss rs h → name_at all (cond b (Some n) (place_from (n + 1) ss rs h)) ≡ cond b (name_text s.name) (task_name ss rs h)
+    by : (b : Bool) → name_at all (place_from (n + 1) ss rs h) ≡ task_name ss rs h
+        → name_at all (cond b (Some n) (place_from (n + 1) ss rs h)) ≡ cond b (name_text s.name) (task_name ss rs h)
     by true more = ap name_of (get_dropped all n s ss left)
     by false more = more
 
@@ -152,10 +163,12 @@ pub named_lines : (ss : List Statement) (rs : List Reply) (places : ℕ → Opti
 named_lines ss rs places is part = ap (λ (f : ℕ → List ℕ). call_lines_of part f ss rs) (λ j h. (ap (name_at ss) (is h) ∙ named ss h 0 ss rs refl) j)
 
 -- a line that shows no given task is the same whatever the names are
-unnamed_line : (part : List ℕ) (f g : ℕ → List ℕ) (line : ℕ) (shown : Shown) (r : Reply) → is_given shown ≡ false → call_line part f line shown r ≡ call_line part g line shown r
+unnamed_line : (part : List ℕ) (f g : ℕ → List ℕ) (line : ℕ) (shown : Shown) (r : Reply) → is_given shown ≡ false
+    → call_line part f line shown r ≡ call_line part g line shown r
 unnamed_line part f g line shown r e1 = grind (arith, nat_tests)
 
-unnamed : (part : List ℕ) (f g : ℕ → List ℕ) (ss : List Statement) (rs : List Reply) → list_any shows_given ss ≡ false → call_lines_of part f ss rs ≡ call_lines_of part g ss rs
+unnamed : (part : List ℕ) (f g : ℕ → List ℕ) (ss : List Statement) (rs : List Reply) → list_any shows_given ss ≡ false
+    → call_lines_of part f ss rs ≡ call_lines_of part g ss rs
 unfolding call_lines_of
 unnamed part f g [] rs plain = refl
 unnamed part f g (s ∷ ss) [] plain = refl

@@ -50,7 +50,8 @@ sum_load = workload 1024 (action_line ∷ start_line 2 (codes "t") ∷ using 3 (
 
 -- room for one task: the second is refused, and a wait for it is answered by a status
 abbrev pub full_load : Workload
-full_load = workload 1 (action_line ∷ start_line 2 (codes "t") ∷ start_line 3 (codes "u") ∷ using 4 (deed.Wait 2 timeout.Infinite) ∷ using 5 (deed.Wait 1 timeout.Infinite) ∷ [])
+full_load = workload 1 (action_line ∷ start_line 2 (codes "t") ∷ start_line 3 (codes "u") ∷ using 4 (deed.Wait 2 timeout.Infinite)
+    ∷ using 5 (deed.Wait 1 timeout.Infinite) ∷ [])
 
 abbrev pub full_run : List NodeEntry
 full_run =
@@ -122,7 +123,9 @@ handed_out = record {
 
 pub record WorkedReports : Type 0 where
   pub sum : report One sum_load one_task ≡ lines (codes "main.t completed 5" ∷ [])
-  pub full : report One full_load full_run ≡ lines (codes "main.t completed 5" ∷ codes "main.u refused MTAPI_ERR_TASK_LIMIT" ∷ codes "! main 4 MTAPI_ERR_TASK_INVALID" ∷ [])
+  pub full : report One full_load full_run
+      ≡ lines (codes "main.t completed 5" ∷ codes "main.u refused MTAPI_ERR_TASK_LIMIT" ∷ codes "! main 4 MTAPI_ERR_TASK_INVALID" ∷ [])
   pub cancelled : report One cancelled_load cancelled_run ≡ lines (codes "main.t cancelled" ∷ [])
-  pub locks_shown : call_lines locks ≡ lines (codes "= main 2 1" ∷ codes "= main 3 2" ∷ codes "! main 4 MRAPI_ERR_MUTEX_LOCKORDER" ∷ codes "! main 7 MRAPI_ERR_MUTEX_NOTLOCKED" ∷ [])
+  pub locks_shown : call_lines locks ≡ lines (codes "= main 2 1" ∷ codes "= main 3 2" ∷ codes "! main 4 MRAPI_ERR_MUTEX_LOCKORDER"
+      ∷ codes "! main 7 MRAPI_ERR_MUTEX_NOTLOCKED" ∷ [])
   pub handed_out_shown : call_lines handed_out ≡ lines (codes "= main 7 y" ∷ codes "= main 8 x" ∷ codes "! main 9 MTAPI_GROUP_COMPLETED" ∷ [])

@@ -84,14 +84,39 @@ end_71 h = if h == 71 then Some Cancelled else None
 -- a status is shown of each statement but `begin` and those that ask for a task; a number of a lock and a read alone, and a given task of
 -- a wait for any alone; and the tasks are those that a start and an enqueue ask for
 pub record WorkedShown : Type 0 where
-  pub mtapi_status : call_lines (all_answered (reply.Mtapi mtapi.ErrParameter)) ≡ lines (codes "! main 2 MTAPI_ERR_PARAMETER" ∷ codes "! main 3 MTAPI_ERR_PARAMETER" ∷ codes "! main 4 MTAPI_ERR_PARAMETER" ∷ codes "! main 5 MTAPI_ERR_PARAMETER" ∷ codes "! main 8 MTAPI_ERR_PARAMETER" ∷ codes "! main 9 MTAPI_ERR_PARAMETER" ∷ codes "! main 10 MTAPI_ERR_PARAMETER" ∷ codes "! main 11 MTAPI_ERR_PARAMETER" ∷ codes "! main 12 MTAPI_ERR_PARAMETER" ∷ codes "! main 13 MTAPI_ERR_PARAMETER" ∷ codes "! main 14 MTAPI_ERR_PARAMETER" ∷ codes "! main 15 MTAPI_ERR_PARAMETER" ∷ codes "! main 16 MTAPI_ERR_PARAMETER" ∷ codes "! main 17 MTAPI_ERR_PARAMETER" ∷ codes "! main 18 MTAPI_ERR_PARAMETER" ∷ codes "! main 19 MTAPI_ERR_PARAMETER" ∷ codes "! main 20 MTAPI_ERR_PARAMETER" ∷ codes "! main 21 MTAPI_ERR_PARAMETER" ∷ codes "! main 22 MTAPI_ERR_PARAMETER" ∷ codes "! main 23 MTAPI_ERR_PARAMETER" ∷ codes "! main 24 MTAPI_ERR_PARAMETER" ∷ codes "! main 25 MTAPI_ERR_PARAMETER" ∷ codes "! main 26 MTAPI_ERR_PARAMETER" ∷ codes "! main 27 MTAPI_ERR_PARAMETER" ∷ codes "! main 28 MTAPI_ERR_PARAMETER" ∷ codes "! main 29 MTAPI_ERR_PARAMETER" ∷ codes "! main 30 MTAPI_ERR_PARAMETER" ∷ codes "! main 31 MTAPI_ERR_PARAMETER" ∷ codes "! main 32 MTAPI_ERR_PARAMETER" ∷ codes "! main 33 MTAPI_ERR_PARAMETER" ∷ codes "! main 34 MTAPI_ERR_PARAMETER" ∷ codes "! main 35 MTAPI_ERR_PARAMETER" ∷ codes "! main 36 MTAPI_ERR_PARAMETER" ∷ codes "! main 37 MTAPI_ERR_PARAMETER" ∷ codes "! main 38 MTAPI_ERR_PARAMETER" ∷ codes "! main 39 MTAPI_ERR_PARAMETER" ∷ codes "! main 40 MTAPI_ERR_PARAMETER" ∷ [])
-  pub mrapi_status : call_lines (all_answered (reply.Mrapi mrapi.ErrSpent)) ≡ lines (codes "! main 2 MRAPI_ERR_SPENT" ∷ codes "! main 3 MRAPI_ERR_SPENT" ∷ codes "! main 4 MRAPI_ERR_SPENT" ∷ codes "! main 5 MRAPI_ERR_SPENT" ∷ codes "! main 8 MRAPI_ERR_SPENT" ∷ codes "! main 9 MRAPI_ERR_SPENT" ∷ codes "! main 10 MRAPI_ERR_SPENT" ∷ codes "! main 11 MRAPI_ERR_SPENT" ∷ codes "! main 12 MRAPI_ERR_SPENT" ∷ codes "! main 13 MRAPI_ERR_SPENT" ∷ codes "! main 14 MRAPI_ERR_SPENT" ∷ codes "! main 15 MRAPI_ERR_SPENT" ∷ codes "! main 16 MRAPI_ERR_SPENT" ∷ codes "! main 17 MRAPI_ERR_SPENT" ∷ codes "! main 18 MRAPI_ERR_SPENT" ∷ codes "! main 19 MRAPI_ERR_SPENT" ∷ codes "! main 20 MRAPI_ERR_SPENT" ∷ codes "! main 21 MRAPI_ERR_SPENT" ∷ codes "! main 22 MRAPI_ERR_SPENT" ∷ codes "! main 23 MRAPI_ERR_SPENT" ∷ codes "! main 24 MRAPI_ERR_SPENT" ∷ codes "! main 25 MRAPI_ERR_SPENT" ∷ codes "! main 26 MRAPI_ERR_SPENT" ∷ codes "! main 27 MRAPI_ERR_SPENT" ∷ codes "! main 28 MRAPI_ERR_SPENT" ∷ codes "! main 29 MRAPI_ERR_SPENT" ∷ codes "! main 30 MRAPI_ERR_SPENT" ∷ codes "! main 31 MRAPI_ERR_SPENT" ∷ codes "! main 32 MRAPI_ERR_SPENT" ∷ codes "! main 33 MRAPI_ERR_SPENT" ∷ codes "! main 34 MRAPI_ERR_SPENT" ∷ codes "! main 35 MRAPI_ERR_SPENT" ∷ codes "! main 36 MRAPI_ERR_SPENT" ∷ codes "! main 37 MRAPI_ERR_SPENT" ∷ codes "! main 38 MRAPI_ERR_SPENT" ∷ codes "! main 39 MRAPI_ERR_SPENT" ∷ codes "! main 40 MRAPI_ERR_SPENT" ∷ [])
+  pub mtapi_status : call_lines (all_answered (reply.Mtapi mtapi.ErrParameter))
+      ≡ lines (codes "! main 2 MTAPI_ERR_PARAMETER" ∷ codes "! main 3 MTAPI_ERR_PARAMETER" ∷ codes "! main 4 MTAPI_ERR_PARAMETER"
+      ∷ codes "! main 5 MTAPI_ERR_PARAMETER" ∷ codes "! main 8 MTAPI_ERR_PARAMETER" ∷ codes "! main 9 MTAPI_ERR_PARAMETER"
+      ∷ codes "! main 10 MTAPI_ERR_PARAMETER" ∷ codes "! main 11 MTAPI_ERR_PARAMETER" ∷ codes "! main 12 MTAPI_ERR_PARAMETER"
+      ∷ codes "! main 13 MTAPI_ERR_PARAMETER" ∷ codes "! main 14 MTAPI_ERR_PARAMETER" ∷ codes "! main 15 MTAPI_ERR_PARAMETER"
+      ∷ codes "! main 16 MTAPI_ERR_PARAMETER" ∷ codes "! main 17 MTAPI_ERR_PARAMETER" ∷ codes "! main 18 MTAPI_ERR_PARAMETER"
+      ∷ codes "! main 19 MTAPI_ERR_PARAMETER" ∷ codes "! main 20 MTAPI_ERR_PARAMETER" ∷ codes "! main 21 MTAPI_ERR_PARAMETER"
+      ∷ codes "! main 22 MTAPI_ERR_PARAMETER" ∷ codes "! main 23 MTAPI_ERR_PARAMETER" ∷ codes "! main 24 MTAPI_ERR_PARAMETER"
+      ∷ codes "! main 25 MTAPI_ERR_PARAMETER" ∷ codes "! main 26 MTAPI_ERR_PARAMETER" ∷ codes "! main 27 MTAPI_ERR_PARAMETER"
+      ∷ codes "! main 28 MTAPI_ERR_PARAMETER" ∷ codes "! main 29 MTAPI_ERR_PARAMETER" ∷ codes "! main 30 MTAPI_ERR_PARAMETER"
+      ∷ codes "! main 31 MTAPI_ERR_PARAMETER" ∷ codes "! main 32 MTAPI_ERR_PARAMETER" ∷ codes "! main 33 MTAPI_ERR_PARAMETER"
+      ∷ codes "! main 34 MTAPI_ERR_PARAMETER" ∷ codes "! main 35 MTAPI_ERR_PARAMETER" ∷ codes "! main 36 MTAPI_ERR_PARAMETER"
+      ∷ codes "! main 37 MTAPI_ERR_PARAMETER" ∷ codes "! main 38 MTAPI_ERR_PARAMETER" ∷ codes "! main 39 MTAPI_ERR_PARAMETER"
+      ∷ codes "! main 40 MTAPI_ERR_PARAMETER" ∷ [])
+  pub mrapi_status : call_lines (all_answered (reply.Mrapi mrapi.ErrSpent))
+      ≡ lines (codes "! main 2 MRAPI_ERR_SPENT" ∷ codes "! main 3 MRAPI_ERR_SPENT" ∷ codes "! main 4 MRAPI_ERR_SPENT" ∷ codes "! main 5 MRAPI_ERR_SPENT"
+      ∷ codes "! main 8 MRAPI_ERR_SPENT" ∷ codes "! main 9 MRAPI_ERR_SPENT" ∷ codes "! main 10 MRAPI_ERR_SPENT" ∷ codes "! main 11 MRAPI_ERR_SPENT"
+      ∷ codes "! main 12 MRAPI_ERR_SPENT" ∷ codes "! main 13 MRAPI_ERR_SPENT" ∷ codes "! main 14 MRAPI_ERR_SPENT" ∷ codes "! main 15 MRAPI_ERR_SPENT"
+      ∷ codes "! main 16 MRAPI_ERR_SPENT" ∷ codes "! main 17 MRAPI_ERR_SPENT" ∷ codes "! main 18 MRAPI_ERR_SPENT" ∷ codes "! main 19 MRAPI_ERR_SPENT"
+      ∷ codes "! main 20 MRAPI_ERR_SPENT" ∷ codes "! main 21 MRAPI_ERR_SPENT" ∷ codes "! main 22 MRAPI_ERR_SPENT" ∷ codes "! main 23 MRAPI_ERR_SPENT"
+      ∷ codes "! main 24 MRAPI_ERR_SPENT" ∷ codes "! main 25 MRAPI_ERR_SPENT" ∷ codes "! main 26 MRAPI_ERR_SPENT" ∷ codes "! main 27 MRAPI_ERR_SPENT"
+      ∷ codes "! main 28 MRAPI_ERR_SPENT" ∷ codes "! main 29 MRAPI_ERR_SPENT" ∷ codes "! main 30 MRAPI_ERR_SPENT" ∷ codes "! main 31 MRAPI_ERR_SPENT"
+      ∷ codes "! main 32 MRAPI_ERR_SPENT" ∷ codes "! main 33 MRAPI_ERR_SPENT" ∷ codes "! main 34 MRAPI_ERR_SPENT" ∷ codes "! main 35 MRAPI_ERR_SPENT"
+      ∷ codes "! main 36 MRAPI_ERR_SPENT" ∷ codes "! main 37 MRAPI_ERR_SPENT" ∷ codes "! main 38 MRAPI_ERR_SPENT" ∷ codes "! main 39 MRAPI_ERR_SPENT"
+      ∷ codes "! main 40 MRAPI_ERR_SPENT" ∷ [])
   pub number : call_lines (all_answered (reply.Number (negsuc 8))) ≡ lines (codes "= main 22 -9" ∷ codes "= main 39 -9" ∷ [])
-  pub given : call_lines (record { name = codes "c"; statements = lined 1 every_deed; replies = map (λ d. reply.Given (task 5) Cancelled) every_deed }) ≡ lines (codes "= c 12 " ∷ [])
+  pub given : call_lines (record { name = codes "c"; statements = lined 1 every_deed; replies = map (λ d. reply.Given (task 5) Cancelled) every_deed })
+      ≡ lines (codes "= c 12 " ∷ [])
   pub handle : call_lines (all_answered (reply.Handle 9)) ≡ []
   pub ok : call_lines (all_answered reply.Ok) ≡ []
   pub tasks : task_lines end_71 (all_answered (reply.Handle 71)) ≡ lines (codes "main.x cancelled" ∷ codes "main.x cancelled" ∷ [])
-  pub refused : task_lines end_71 (all_answered (reply.Mtapi mtapi.ErrNoCore)) ≡ lines (codes "main.x refused MTAPI_ERR_NO_CORE" ∷ codes "main.x refused MTAPI_ERR_NO_CORE" ∷ [])
+  pub refused : task_lines end_71 (all_answered (reply.Mtapi mtapi.ErrNoCore))
+      ≡ lines (codes "main.x refused MTAPI_ERR_NO_CORE" ∷ codes "main.x refused MTAPI_ERR_NO_CORE" ∷ [])
 
 -- How tasks end
 
@@ -134,13 +159,22 @@ every_end = record {
 
 -- a further part with one task, and a group, which is none
 abbrev pub one_end : Told
-one_end = record { name = codes "c"; statements = statement 12 (codes "a") asks ∷ statement 13 (codes "g") deed.Group ∷ []; replies = reply.Handle 73 ∷ reply.Handle 72 ∷ [] }
+one_end = record {
+  name = codes "c";
+  statements = statement 12 (codes "a") asks ∷ statement 13 (codes "g") deed.Group ∷ [];
+  replies =
+      reply.Handle 73 ∷ reply.Handle 72 ∷ [];
+}
 
 pub record WorkedEnds : Type 0 where
-  pub told : task_lines ends every_end ≡ lines (codes "main.a completed 5,-7" ∷ codes "main.b cancelled" ∷ codes "main.c error MTAPI_ERR_ARG_SIZE" ∷ codes "main.d completed" ∷ codes "main.e " ∷ codes "main.f completed -1,4,-30" ∷ codes "main.g refused MTAPI_ERR_TASK_LIMIT" ∷ codes "main.h refused MTAPI_ERR_QUEUE_DISABLED" ∷ [])
+  pub told : task_lines ends every_end ≡ lines (codes "main.a completed 5,-7" ∷ codes "main.b cancelled" ∷ codes "main.c error MTAPI_ERR_ARG_SIZE"
+      ∷ codes "main.d completed" ∷ codes "main.e " ∷ codes "main.f completed -1,4,-30" ∷ codes "main.g refused MTAPI_ERR_TASK_LIMIT"
+      ∷ codes "main.h refused MTAPI_ERR_QUEUE_DISABLED" ∷ [])
   pub further : task_lines ends one_end ≡ lines (codes "c.a error MTAPI_ERR_ARG_SIZE" ∷ [])
-  pub counted : totals_text (with_parts ends no_totals (every_end ∷ one_end ∷ [])) ≡ lines (codes "tasks 9 completed 3 cancelled 1 error 2 refused 2 sum -29" ∷ [])
-  pub written : totals_text (record { tasks = 21; completed = 22; cancelled = 23; failed = 24; refused = 25; sum = negsuc 25 }) ≡ lines (codes "tasks 21 completed 22 cancelled 23 error 24 refused 25 sum -26" ∷ [])
+  pub counted : totals_text (with_parts ends no_totals (every_end ∷ one_end ∷ []))
+      ≡ lines (codes "tasks 9 completed 3 cancelled 1 error 2 refused 2 sum -29" ∷ [])
+  pub written : totals_text (record { tasks = 21; completed = 22; cancelled = 23; failed = 24; refused = 25; sum = negsuc 25 })
+      ≡ lines (codes "tasks 21 completed 22 cancelled 23 error 24 refused 25 sum -26" ∷ [])
 
 -- Whose replies are read
 
@@ -180,12 +214,19 @@ journal =
 -- the parts behind main's
 abbrev pub further_told : List Told
 further_told =
-    record { name = codes "c"; statements = statement 12 (codes "g") deed.Group ∷ using 13 (deed.WaitAny 0 timeout.Infinite) ∷ []; replies = reply.Handle 35 ∷ reply.Handle 38 ∷ [] }
+    record {
+      name = codes "c";
+      statements = statement 12 (codes "g") deed.Group ∷ using 13 (deed.WaitAny 0 timeout.Infinite) ∷ [];
+      replies =
+          reply.Handle 35 ∷ reply.Handle 38 ∷ [];
+    }
     ∷ record { name = codes "d"; statements = []; replies = [] } ∷ []
 
 pub record WorkedReplies : Type 0 where
-  pub begins : parts_told (three_parts with_begin) journal ≡ record { name = codes "main"; statements = with_begin; replies = reply.Handle 32 ∷ reply.Handle 36 ∷ [] } ∷ further_told
-  pub releases : parts_told (three_parts without_begin) journal ≡ record { name = codes "main"; statements = without_begin; replies = reply.Handle 36 ∷ [] } ∷ further_told
+  pub begins : parts_told (three_parts with_begin) journal
+      ≡ record { name = codes "main"; statements = with_begin; replies = reply.Handle 32 ∷ reply.Handle 36 ∷ [] } ∷ further_told
+  pub releases : parts_told (three_parts without_begin) journal
+      ≡ record { name = codes "main"; statements = without_begin; replies = reply.Handle 36 ∷ [] } ∷ further_told
 
 -- the lines of the report
 pub record WorkedLines : Type 0 where

@@ -7,5 +7,6 @@ loop-entry-init c = ap nows c.new-replies.ensures.items ∙ decided_none c.args.
 
 pub loop-entry-preserved : goal.loop-entry-preserved
 loop-entry-preserved c =
-    decided_next c.args.who c.loop-entry.entry-index c.args.entries.now c.entry-item.result (nows c.loop-entry.replies.items) (nows c.push_if_decides.new.replies.items)
+    decided_next c.args.who c.loop-entry.entry-index c.args.entries.now c.entry-item.result (nows c.loop-entry.replies.items)
+    (nows c.push_if_decides.new.replies.items)
     c.loop-entry-test.true c.entry-item.is c.loop-entry.invariant c.in_ok-push_if_decides.ensures

@@ -7,15 +7,19 @@ pub returns-in_ok-push_part-in-len1-up-clause-tasks : goal.returns-in_ok-push_pa
 returns-in_ok-push_part-in-len1-up-clause-tasks t c =
     let by = task_lines (get nat_eq c.args.ended.now) in
     on_ok c.push_further.result _ _
-    (two_pieces c.args.page.now.tasks.items c.push_part.new.page.tasks.items c.push_further.new.page.tasks.items (by (reported c.args.who 1 c.args.entries.now c.part-item.result))
+    (two_pieces c.args.page.now.tasks.items c.push_part.new.page.tasks.items c.push_further.new.page.tasks.items
+    (by (reported c.args.who 1 c.args.entries.now c.part-item.result))
     (flat_map by (further_told (c.args.who + 1) c.args.entries.now (rest_of c.args.parts.now))) _
-    (further_more by c.args.who c.args.entries.now c.part-item.result c.args.parts.now c.in-len1-up.len_at_least c.part-item.is) c.in_ok-push_part-in-len1-up.ensures.tasks)
+    (further_more by c.args.who c.args.entries.now c.part-item.result c.args.parts.now c.in-len1-up.len_at_least c.part-item.is)
+    c.in_ok-push_part-in-len1-up.ensures.tasks)
     c.push_further.ensures.tasks
 
 pub returns-in_ok-push_part-in-len1-up-clause-calls : goal.returns-in_ok-push_part-in-len1-up-clause-calls
 returns-in_ok-push_part-in-len1-up-clause-calls t c =
     on_ok c.push_further.result _ _
-    (two_pieces c.args.page.now.calls.items c.push_part.new.page.calls.items c.push_further.new.page.calls.items (call_lines (reported c.args.who 1 c.args.entries.now c.part-item.result))
+    (two_pieces c.args.page.now.calls.items c.push_part.new.page.calls.items c.push_further.new.page.calls.items
+    (call_lines (reported c.args.who 1 c.args.entries.now c.part-item.result))
     (flat_map call_lines (further_told (c.args.who + 1) c.args.entries.now (rest_of c.args.parts.now))) _
-    (further_more call_lines c.args.who c.args.entries.now c.part-item.result c.args.parts.now c.in-len1-up.len_at_least c.part-item.is) c.in_ok-push_part-in-len1-up.ensures.calls)
+    (further_more call_lines c.args.who c.args.entries.now c.part-item.result c.args.parts.now c.in-len1-up.len_at_least c.part-item.is)
+    c.in_ok-push_part-in-len1-up.ensures.calls)
     c.push_further.ensures.calls

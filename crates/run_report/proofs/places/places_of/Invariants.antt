@@ -2,4 +2,5 @@ use Rattle.run_report.proofs.Names.{nat_eq, ◌≡◌, ℕ, drop, get, nows, fir
 use Rattle.run_report.proofs.places.places_of.Given as goal
 
 abbrev pub invariant-loop-i : goal.invariant-loop-i
-invariant-loop-i l = (h : ℕ) → first_of_two (get nat_eq l.places h) (place_from l.i (drop l.i l.statements) (drop l.i (nows l.replies)) h) ≡ place_from 0 l.statements (nows l.replies) h
+invariant-loop-i l = (h : ℕ) → first_of_two (get nat_eq l.places h) (place_from l.i (drop l.i l.statements) (drop l.i (nows l.replies)) h)
+    ≡ place_from 0 l.statements (nows l.replies) h

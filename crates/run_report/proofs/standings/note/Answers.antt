@@ -4,7 +4,8 @@ use Rattle.run_report.proofs.standings.note.Goals as goal
 
 pub returns-in_ok-push-in-MakesAction : goal.returns-in_ok-push-in-MakesAction
 returns-in_ok-push-in-MakesAction c =
-    subst (λ (change : EndEffect). SameAs (seen_in (record c.args.table.now { actions = c.push.new.self })) (with_change c.args.workers change (seen_in c.args.table.now))) (sym c.in-MakesAction.is)
+    subst (λ (change : EndEffect). SameAs (seen_in (record c.args.table.now { actions = c.push.new.self }))
+    (with_change c.args.workers change (seen_in c.args.table.now))) (sym c.in-MakesAction.is)
     (record {
       ends = λ h. refl;
       unstarted = λ h. refl;

@@ -9,4 +9,5 @@ pub loop-entry-preserved : goal.loop-entry-preserved
 loop-entry-preserved c =
     seen_next c.args.workers c.loop-entry.entry-index c.args.entries.now c.entry-item.result (seen_in c.loop-entry.table) (seen_in c.note.new.table)
     c.loop-entry-test.true c.entry-item.is c.loop-entry.invariant
-    (subst (λ (change : EndEffect). SameAs (seen_in c.note.new.table) (with_change c.args.workers change (seen_in c.loop-entry.table))) c.change_of.ensures c.in_ok-note.ensures)
+    (subst (λ (change : EndEffect). SameAs (seen_in c.note.new.table)
+    (with_change c.args.workers change (seen_in c.loop-entry.table))) c.change_of.ensures c.in_ok-note.ensures)

@@ -4,13 +4,18 @@ use Rattle.run_report.proofs.task_lines.push_task_lines.Goals as goal
 
 pub returns-in_default : goal.returns-in_default
 returns-in_default c =
-    task_lines-past_replies c.args.part.now (get nat_eq c.args.ended.now) c.args.statements.now (nows c.args.replies.now) c.loop-i.i c.loop-i.out.items _ (nows_past c.args.replies.now c.loop-i.i c.in_default.ensures.lookup.3) c.loop-i.invariant
+    task_lines-past_replies c.args.part.now (get nat_eq c.args.ended.now) c.args.statements.now (nows c.args.replies.now) c.loop-i.i c.loop-i.out.items _
+    (nows_past c.args.replies.now c.loop-i.i c.in_default.ensures.lookup.3) c.loop-i.invariant
 
 pub loop-i-preserved : goal.loop-i-preserved
 loop-i-preserved c =
-    task_lines-next c.args.part.now (get nat_eq c.args.ended.now) c.args.statements.now (nows c.args.replies.now) c.loop-i.i c.index-statements-i.result c.in-Some.reply.now.now
+    task_lines-next c.args.part.now (get nat_eq c.args.ended.now) c.args.statements.now
+    (nows c.args.replies.now) c.loop-i.i c.index-statements-i.result c.in-Some.reply.now.now
     c.loop-i.out.items c.push_if_task.new.out.items _
-    c.loop-i-test.true c.index-statements-i.is (nows_room c.args.replies.now c.loop-i.i c.in-Some.ensures.lookup.3.0) (nows_at c.args.replies.now c.loop-i.i c.in-Some.reply.now c.in-Some.ensures.lookup.3.0 c.in-Some.ensures.lookup.1) c.loop-i.invariant c.in_ok-push_if_task.ensures
+    c.loop-i-test.true c.index-statements-i.is (nows_room c.args.replies.now c.loop-i.i c.in-Some.ensures.lookup.3.0)
+    (nows_at c.args.replies.now c.loop-i.i c.in-Some.reply.now c.in-Some.ensures.lookup.3.0 c.in-Some.ensures.lookup.1) c.loop-i.invariant
+    c.in_ok-push_if_task.ensures
 
 pub returns : goal.returns
-returns c = task_lines-past c.args.part.now (get nat_eq c.args.ended.now) c.args.statements.now (nows c.args.replies.now) c.loop-i.i c.loop-i.out.items _ c.loop-i-test.false c.loop-i.invariant
+returns c = task_lines-past c.args.part.now (get nat_eq c.args.ended.now) c.args.statements.now
+    (nows c.args.replies.now) c.loop-i.i c.loop-i.out.items _ c.loop-i-test.false c.loop-i.invariant
