@@ -12,7 +12,8 @@ use Rattle.mtapi_machine.specs.Answers as is
 abbrev Lists : ℕ → State → Type 0
 Lists h s = 1 ≤ listed h s.tasks
 
-lists_by : (s : State) (who : ℕ) (o : Op) (k : ℕ) (ms : List Move) (h : ℕ) → accepted_by o (Handle k) ≡ Some h → Answers s who o (Handle k) ms → Lists h (after_moves ms s)
+lists_by : (s : State) (who : ℕ) (o : Op) (k : ℕ) (ms : List Move) (h : ℕ) → accepted_by o (Handle k) ≡ Some h → Answers s who o (Handle k) ms
+    → Lists h (after_moves ms s)
 lists_by s who o k ms h e1 e2 = grind (arith, nat_tests, after_moves, starts_task, asked_for, some_same, some_issued, asked_of)
 
 start_lists : (s : State) (who : ℕ) (o : Op) (r : Reply) (h : ℕ) → accepted_by o r ≡ Some h → Allows (row s who o r) r → Lists h (after_row s (row s who o r))
@@ -40,23 +41,27 @@ opening_stands terms = (refl, record { dead = tt; stopped = λ f. absurd (cc) })
 pub stands_after : (terms : Terms) (L : List NodeEntry) → Stands terms (after terms L)
 stands_after terms L = after_stands terms (opening terms) L (opening_stands terms)
 
-pub all_after : (terms : Terms) (A B : List NodeEntry) (main : ℕ) → Legal terms (A ++ entry main op.Final Ok ∷ B) → AllEnded (after terms (A ++ entry main op.Final Ok ∷ B)).tasks
+pub all_after : (terms : Terms) (A B : List NodeEntry) (main : ℕ) → Legal terms (A ++ entry main op.Final Ok ∷ B)
+    → AllEnded (after terms (A ++ entry main op.Final Ok ∷ B)).tasks
 unfolding LegalFrom
 all_after terms A B main h =
     let rest : LegalFrom (after terms A) (entry main op.Final Ok ∷ B) = Legal-rest (opening terms) A (entry main op.Final Ok ∷ B) h.from in
     let before : Stands terms (after terms A) = stands_after terms A in
     let now : Stopped (after terms A) = final_stopped terms (after terms A) main h.fits.settings.workers.0 before.0 rest.0 in
-    let late : Stopped (after terms (A ++ entry main op.Final Ok ∷ B)) = subst Stopped (sym (after-append (opening terms) A (entry main op.Final Ok ∷ B))) (after_stopped (after terms A) (entry main op.Final Ok ∷ B) now) in
+    let late : Stopped (after terms (A ++ entry main op.Final Ok ∷ B)) =
+    subst Stopped (sym (after-append (opening terms) A (entry main op.Final Ok ∷ B))) (after_stopped (after terms A) (entry main op.Final Ok ∷ B) now) in
     ((stands_after terms (A ++ entry main op.Final Ok ∷ B)).1.stopped late).1
 
 -- The law
 
-listed_after : (terms : Terms) (P Q : List NodeEntry) (e : NodeEntry) (h : ℕ) → LegalFrom (opening terms) (P ++ e ∷ Q) → accepted e ≡ Some h → 1 ≤ listed h (after terms (P ++ e ∷ Q)).tasks
+listed_after : (terms : Terms) (P Q : List NodeEntry) (e : NodeEntry) (h : ℕ) → LegalFrom (opening terms) (P ++ e ∷ Q) → accepted e ≡ Some h
+    → 1 ≤ listed h (after terms (P ++ e ∷ Q)).tasks
 unfolding LegalFrom after_from
 listed_after terms P Q e h l i =
     let rest : LegalFrom (after terms P) (e ∷ Q) = Legal-rest (opening terms) P (e ∷ Q) l in
     let now : 1 ≤ listed h (next (after terms P) e).tasks = next_lists (after terms P) e h rest.0 i in
-    let more : listed h (next (after terms P) e).tasks ≤ listed h (after_from (next (after terms P) e) Q).tasks = grows_listed h _ _ (after_grows (next (after terms P) e) Q) in
+    let more : listed h (next (after terms P) e).tasks ≤ listed h (after_from (next (after terms P) e) Q).tasks =
+    grows_listed h _ _ (after_grows (next (after terms P) e) Q) in
     subst (λ (t : State). 1 ≤ listed h t.tasks) (sym (after-append (opening terms) P (e ∷ Q))) (omega arith)
 
 pub shown : {A : Type 0} (o : Option A) → IsSome o → (x : A) × (o ≡ Some x)
@@ -67,20 +72,27 @@ pub listed_once : (terms : Terms) (es : List NodeEntry) (h : ℕ) → Legal term
 listed_once terms es h legal = once_from terms es h
 
 -- an end that a prefix shows stays over every longer prefix
-pub front_stays : (terms : Terms) (es A M B : List NodeEntry) (h : ℕ) (e : TaskEnd) → Legal terms es → es ≡ A ++ (M ++ B) → end_at (after terms A).tasks h ≡ Some e → end_at (after terms (A ++ M)).tasks h ≡ Some e
+pub front_stays : (terms : Terms) (es A M B : List NodeEntry) (h : ℕ) (e : TaskEnd) → Legal terms es → es ≡ A ++ (M ++ B)
+    → end_at (after terms A).tasks h ≡ Some e → end_at (after terms (A ++ M)).tasks h ≡ Some e
 front_stays terms es A M B h e legal is i = end_later (opening terms) A M h e i
 
 -- and over the whole list
-front_ends : (terms : Terms) (es A M : List NodeEntry) (h : ℕ) (e : TaskEnd) → Legal terms es → es ≡ A ++ M → end_at (after terms A).tasks h ≡ Some e → end_at (after terms es).tasks h ≡ Some e
+front_ends : (terms : Terms) (es A M : List NodeEntry) (h : ℕ) (e : TaskEnd) → Legal terms es → es ≡ A ++ M → end_at (after terms A).tasks h ≡ Some e
+    → end_at (after terms es).tasks h ≡ Some e
 front_ends terms es A M h e legal is i =
-    ap (λ (L : List NodeEntry). end_at (after terms L).tasks h) is ∙ front_stays terms es A M [] h e legal (is ∙ ap (λ (L : List NodeEntry). A ++ L) (sym (append-nil M))) i
+    ap (λ (L : List NodeEntry). end_at (after terms L).tasks h) is
+    ∙ front_stays terms es A M [] h e legal (is ∙ ap (λ (L : List NodeEntry). A ++ L) (sym (append-nil M))) i
 
 -- every task that an entry of a legal list accepted ends once, where the list has the final step
 pub closed_end : (terms : Terms) (es A B : List NodeEntry) (main : ℕ) → Legal terms es → es ≡ A ++ entry main op.Final Ok ∷ B → TasksEndOnce terms es
 closed_end terms es A B main legal last P Q e h cut i =
     let once : listed h (after terms es).tasks ≤ 1 = listed_once terms es h legal in
-    let some : 1 ≤ listed h (after terms es).tasks = subst (λ (L : List NodeEntry). 1 ≤ listed h (after terms L).tasks) (sym cut) (listed_after terms P Q e h (subst (λ (L : List NodeEntry). LegalFrom (opening terms) L) cut legal.from) i) in
-    let all : AllEnded (after terms es).tasks = subst (λ (L : List NodeEntry). AllEnded (after terms L).tasks) (sym last) (all_after terms A B main (subst (λ (L : List NodeEntry). Legal terms L) last legal)) in
+    let some : 1 ≤ listed h (after terms es).tasks =
+    subst (λ (L : List NodeEntry). 1 ≤ listed h (after terms L).tasks) (sym cut)
+    (listed_after terms P Q e h (subst (λ (L : List NodeEntry). LegalFrom (opening terms) L) cut legal.from) i) in
+    let all : AllEnded (after terms es).tasks =
+    subst (λ (L : List NodeEntry). AllEnded (after terms L).tasks) (sym last)
+    (all_after terms A B main (subst (λ (L : List NodeEntry). Legal terms L) last legal)) in
     let found : (x : TaskEnd) × (end_at (after terms es).tasks h ≡ Some x) = all_end h (after terms es).tasks all some in record {
       one = omega arith;
       end = found.0;
@@ -88,7 +100,8 @@ closed_end terms es A B main legal last P Q e h cut i =
       stays = λ C M D is seen. stays C M D is seen found.0 found.1;
     }
   where
-    stays : (C M D : List NodeEntry) → es ≡ C ++ (M ++ D) → IsSome (end_at (after terms C).tasks h) → (x : TaskEnd) → end_at (after terms es).tasks h ≡ Some x → end_at (after terms (C ++ M)).tasks h ≡ Some x
+    stays : (C M D : List NodeEntry) → es ≡ C ++ (M ++ D) → IsSome (end_at (after terms C).tasks h) → (x : TaskEnd) → end_at (after terms es).tasks h ≡ Some x
+        → end_at (after terms (C ++ M)).tasks h ≡ Some x
     stays C M D is seen x at =
         let was : (y : TaskEnd) × (end_at (after terms C).tasks h ≡ Some y) = shown (end_at (after terms C).tasks h) seen in
         front_stays terms es C M D h was.0 legal is was.1 ∙ sym (front_ends terms es C (M ++ D) h was.0 legal is was.1) ∙ at

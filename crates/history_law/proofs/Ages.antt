@@ -1,8 +1,10 @@
 -- What each move does to the objects of one kind: they stay listed, none comes back to life, and a new one has a new handle.
-use Rattle.history_law.proofs.Names.{nat_tests, ◌≡◌, ℕ, ◌+◌, ◌≤◌, Bool, true, false, cond, List, [], ◌∷◌, Some, refl, sym, ◌∙◌, ap, subst, arith, ◌==◌, ◌&&◌, is_some, cond_both, ObjectKind, TaskEnd, Failed, Op, Listed, live_of, live_object, listed, change, change_all, issue, with_fields, gone, Action, with_enabled, Queue, Task, Notes, TaskState, Ended, Running, with_state, with_notes, ended, end_each, new_task, NewTask, is_member, freed, let_go, State, FieldsOf, objects_of, is_open, Sort, Fields, all_of, Move, Groups, Queues, Mutexes, Sems, Rwls, Segments, makes_action, enables, withdraws, starts_task, runs_task, ends_task, ends_waiting, notes, leaves, frees_members, lets_members_go, is_fresh, apply, IsMade, WithdrawsAction, AltersObject, MakesAction, StartsTask, makes_of_sort, snd_true, rest_keeps, some_same, and_left}
+use Rattle.history_law.proofs.Names.{nat_tests, ◌≡◌, ℕ, ◌≤◌, Bool, true, false, cond, List, [], ◌∷◌, Some, refl, sym, ◌∙◌, ap, subst, arith, ◌==◌, ◌&&◌, is_some, cond_both, ObjectKind, Op, Listed, live_of, live_object, listed, change, issue, with_fields, gone, Action, with_enabled, Queue, Task, new_task, NewTask, State, FieldsOf, objects_of, is_open, Sort, Fields, all_of, Move, Groups, Queues, Mutexes, Sems, Rwls, Segments, makes_action, enables, withdraws, starts_task, is_fresh, apply, IsMade, WithdrawsAction, AltersObject, MakesAction, StartsTask, makes_of_sort, snd_true, rest_keeps, some_same}
 use Rattle.mtapi_values.specs.declared.handles.ObjectKind.TheVariants as kind
 use Rattle.history_law.specs.Words.{makes_object}
 use Rattle.history_law.proofs.Moves.{opens_fresh}
+use Rattle.history_law.proofs.TaskSteps as step
+use Rattle.history_law.proofs.TaskSteps.{Step, Steps, tasks_go, step_handle, step_dead}
 use Rattle.history_law.proofs.Sorts.{sort_move}
 use Rattle.history_law.proofs.Answered.{true_false}
 use Rattle.history_law.proofs.lists.Found.{at_head, at_here, at_past}
@@ -73,12 +75,8 @@ module _ {T : Type 0} (K : T → T → Type 0) where
     each_change : (h : ℕ) (f : Listed T → Listed T) (l : List (Listed T)) → ((r : Listed T) → Ages K r (f r)) → AgesEach l (change h f l)
     unfolding change
     each_change h f [] k = tt
-    each_change h f (r ∷ rs) k = cond_both (r.live && (r.handle == h)) (f r ∷ rs) (r ∷ change h f rs) (AgesEach (r ∷ rs)) (λ e. (k r, each_same rs)) (λ e. (ages_same r, each_change h f rs k))
-
-    each_all : (p : T → Bool) (f : Listed T → Listed T) (l : List (Listed T)) → ((r : Listed T) → Ages K r (f r)) → AgesEach l (change_all p f l)
-    unfolding change_all
-    each_all p f [] k = tt
-    each_all p f (r ∷ rs) k = (cond_both (r.live && p r.fields) (f r) r (Ages K r) (λ e. k r) (λ e. ages_same r), each_all p f rs k)
+    each_change h f (r ∷ rs) k = cond_both (r.live && (r.handle == h)) (f r ∷ rs) (r
+        ∷ change h f rs) (AgesEach (r ∷ rs)) (λ e. (k r, each_same rs)) (λ e. (ages_same r, each_change h f rs k))
 
     gone_ages : (r : Listed T) → Ages K r (gone r)
     gone_ages r = record { handle = refl; dead = λ d. refl; fields = same r.fields }
@@ -86,25 +84,14 @@ module _ {T : Type 0} (K : T → T → Type 0) where
   fields_age : (f : T → T) → ((x : T) → K x (f x)) → (r : Listed T) → Ages K r (with_fields f r)
   fields_age f k r = record { handle = refl; dead = λ d. d; fields = k r.fields }
 
-state_same : (y : TaskState) (x : Task) → SameTask x (with_state y x)
-state_same y x = record { job = refl; args = refl; priority = refl; cores = refl; queue = refl; start = refl }
+step_same : (s : State) (r : Listed Task) (m : Move) (q : Listed Task) → Step s r m q → SameTask r.fields q.fields
+step_same s r m q x = grind arith
 
-notes_same : (f : Notes → Notes) (x : Task) → SameTask x (with_notes f x)
-notes_same f x = record { job = refl; args = refl; priority = refl; cores = refl; queue = refl; start = refl }
-
-ended_ages : (e : TaskEnd) (n : ℕ) (r : Listed Task) → Ages SameTask r (ended e n r)
-ended_ages e n r = record { handle = refl; dead = and_left r.live _; fields = state_same (Ended e n) r.fields }
-
-each_ends : (p : Task → Bool) (e : TaskEnd) (n : ℕ) (l : List (Listed Task)) → AgesEach SameTask l (end_each p e n l)
-unfolding end_each
-each_ends p e n [] = tt
-each_ends p e n (r ∷ rs) = grind (arith, nat_tests, each_ends p e (n + 1) rs, each_ends p e n rs, cond_both, end_each, ended_ages, same_task)
-
-freed_ages : (r : Listed Task) → Ages SameTask r (freed r)
-freed_ages r = record { handle = refl; dead = λ d. refl; fields = record { job = refl; args = refl; priority = refl; cores = refl; queue = refl; start = refl } }
-
-let_go_ages : (r : Listed Task) → Ages SameTask r (let_go r)
-let_go_ages r = record { handle = refl; dead = and_left r.live _; fields = record { job = refl; args = refl; priority = refl; cores = refl; queue = refl; start = refl } }
+steps_age : (s : State) (m : Move) (l k : List (Listed Task)) → ((h : ℕ) (t : NewTask) → m ≡ starts_task h t → ⊥) → Steps s m l k → AgesEach SameTask l k
+steps_age s _ _ _ n (step.none m) = tt
+steps_age s _ _ _ n (step.new h t) = absurd (n h t refl)
+steps_age s _ _ _ n (step.next m r q rs qs x k) =
+    (record { handle = step_handle s r m q x; dead = step_dead s r m q x; fields = step_same s r m q x }, steps_age s m rs qs n k)
 
 enabled_same : (b : Bool) (x : Action) → SameAction x (with_enabled b x)
 enabled_same b x = record { job = refl; kind = refl; cores = refl }
@@ -116,12 +103,14 @@ altered_same : (h : ℕ) (f : Queue → Queue) (o : Op) → AltersObject Queues 
 altered_same h f o e1 x = grind (arith, nat_tests)
 
 -- so it is of the kinds that no rule of tasks speaks of
-sort_ages : (k : Sort) (K : Fields k → Fields k → Type 0) → ((x : Fields k) → K x x) → (s : State) (o : Op) → ((j : ℕ) (f : Fields k → Fields k) → AltersObject k j f o → (x : Fields k) → K x (f x)) → (Q : List (Listed (Fields k)) → Type 0)
+sort_ages : (k : Sort) (K : Fields k → Fields k → Type 0) → ((x : Fields k) → K x x) → (s : State) (o : Op)
+    → ((j : ℕ) (f : Fields k → Fields k) → AltersObject k j f o → (x : Fields k) → K x (f x)) → (Q : List (Listed (Fields k)) → Type 0)
     → ((h : ℕ) (x : Fields k) → makes_of_sort k o ≡ true → is_fresh (all_of k) s h ≡ true → Q ((all_of k).list s) → Q (issue h x ((all_of k).list s)))
     → ((m : List (Listed (Fields k))) → AgesEach K ((all_of k).list s) m → Q ((all_of k).list s) → Q m)
     → (m : Move) → IsMade s o m → Q ((all_of k).list s) → Q ((all_of k).list (apply m s))
 sort_ages k K same s o alter Q new old m e v =
-    sort_move k s o Q (λ j x z. new j x z.by z.may) (λ j f w. old _ (each_change K same j (with_fields f) ((all_of k).list s) (fields_age K f (alter j f w)))) (λ j w. old _ (each_change K same j gone ((all_of k).list s) (gone_ages K same))) m e v
+    sort_move k s o Q (λ j x z. new j x z.by z.may) (λ j f w. old _ (each_change K same j (with_fields f) ((all_of k).list s) (fields_age K f (alter j f w))))
+    (λ j w. old _ (each_change K same j gone ((all_of k).list s) (gone_ages K same))) m e v
 
 -- an op whose move makes an object is one that makes it
 
@@ -144,29 +133,30 @@ makes_sort k o e1 = grind (arith, nat_tests)
 
 -- what a new object, by an op that makes it, and ageing keep, each move keeps
 pub kind_move : (k : ObjectKind) (s : State) (o : Op) (Q : List (Listed (FieldsOf k)) → Type 0)
-    → ((h : ℕ) (x : FieldsOf k) → makes_object k o ≡ true → is_fresh (objects_of k) s h ≡ true → Q ((objects_of k).list s) → Q (issue h x ((objects_of k).list s)))
+    → ((h : ℕ) (x : FieldsOf k) → makes_object k o ≡ true → is_fresh (objects_of k) s h ≡ true → Q ((objects_of k).list s)
+    → Q (issue h x ((objects_of k).list s)))
     → ((m : List (Listed (FieldsOf k))) → AgesEach (SameFields k) ((objects_of k).list s) m → Q ((objects_of k).list s) → Q m)
     → (m : Move) → IsMade s o m → Q ((objects_of k).list s) → Q ((objects_of k).list (apply m s))
 kind_move kind.Action s o Q new old (makes_action h a) e v = new h a (makes_this a o e.by) e.may v
-kind_move kind.Action s o Q new old (enables h) e v = old _ (each_change SameAction same_action h _ s.actions (fields_age SameAction (with_enabled true) (enabled_same true))) v
+kind_move kind.Action s o Q new old (enables h) e v =
+    old _ (each_change SameAction same_action h _ s.actions (fields_age SameAction (with_enabled true) (enabled_same true))) v
 kind_move kind.Action s o Q new old (withdraws h f c) e v = old _ (each_change SameAction same_action h f s.actions (withdrawn_ages h f o e.by)) v
 kind_move kind.Action s o Q new old x e v = rest_keeps (λ t. Q t.actions) (λ t g q m c r y p. p) x s v
-kind_move kind.Task s o Q new old (starts_task h t) e v = new h (new_task t s.starts) (makes_task t o e.by) (snd_true (is_open s.phase) _ (opens_fresh s h t e.may)) v
-kind_move kind.Task s o Q new old (runs_task h w k) e v = old _ (each_change SameTask same_task h _ s.tasks (fields_age SameTask (with_state (Running w k)) (state_same (Running w k)))) v
-kind_move kind.Task s o Q new old (ends_task h x) e v = old _ (each_change SameTask same_task h _ s.tasks (ended_ages x s.ends)) v
-kind_move kind.Task s o Q new old (ends_waiting p x) e v = old _ (each_ends _ x s.ends s.tasks) v
-kind_move kind.Task s o Q new old (withdraws h f c) e v = old _ (each_ends _ (Failed c) s.ends s.tasks) v
-kind_move kind.Task s o Q new old (notes h f) e v = old _ (each_change SameTask same_task h _ s.tasks (fields_age SameTask (with_notes f) (notes_same f))) v
-kind_move kind.Task s o Q new old (leaves h) e v = old _ (each_change SameTask same_task h gone s.tasks (gone_ages SameTask same_task)) v
-kind_move kind.Task s o Q new old (frees_members g) e v = old _ (each_all SameTask same_task _ freed s.tasks freed_ages) v
-kind_move kind.Task s o Q new old (lets_members_go g) e v = old _ (each_all SameTask same_task (is_member g) let_go s.tasks let_go_ages) v
-kind_move kind.Task s o Q new old x e v = rest_keeps (λ t. Q t.tasks) (λ t g q m c r y p. p) x s v
-kind_move kind.Group s o Q new old m e v = sort_ages Groups (SameFields kind.Group) nothing_same s o (λ j f w x. tt) Q (λ h x b i. new h x (makes_sort Groups o b) i) old m e v
-kind_move kind.Queue s o Q new old m e v = sort_ages Queues SameQueue same_queue s o (λ j f w x. altered_same j f o w x) Q (λ h x b i. new h x (makes_sort Queues o b) i) old m e v
-kind_move kind.Mutex s o Q new old m e v = sort_ages Mutexes (SameFields kind.Mutex) nothing_same s o (λ j f w x. tt) Q (λ h x b i. new h x (makes_sort Mutexes o b) i) old m e v
-kind_move kind.Sem s o Q new old m e v = sort_ages Sems (SameFields kind.Sem) nothing_same s o (λ j f w x. tt) Q (λ h x b i. new h x (makes_sort Sems o b) i) old m e v
-kind_move kind.Rwl s o Q new old m e v = sort_ages Rwls (SameFields kind.Rwl) nothing_same s o (λ j f w x. tt) Q (λ h x b i. new h x (makes_sort Rwls o b) i) old m e v
-kind_move kind.Shmem s o Q new old m e v = sort_ages Segments (SameFields kind.Shmem) nothing_same s o (λ j f w x. tt) Q (λ h x b i. new h x (makes_sort Segments o b) i) old m e v
+kind_move kind.Task s o Q new old (starts_task h t) e v =
+    new h (new_task t s.starts) (makes_task t o e.by) (snd_true (is_open s.phase) _ (opens_fresh s h t e.may)) v
+kind_move kind.Task s o Q new old x e v = old _ (steps_age s x s.tasks _ (λ h t i. cc) (tasks_go s x)) v
+kind_move kind.Group s o Q new old m e v =
+    sort_ages Groups (SameFields kind.Group) nothing_same s o (λ j f w x. tt) Q (λ h x b i. new h x (makes_sort Groups o b) i) old m e v
+kind_move kind.Queue s o Q new old m e v =
+    sort_ages Queues SameQueue same_queue s o (λ j f w x. altered_same j f o w x) Q (λ h x b i. new h x (makes_sort Queues o b) i) old m e v
+kind_move kind.Mutex s o Q new old m e v =
+    sort_ages Mutexes (SameFields kind.Mutex) nothing_same s o (λ j f w x. tt) Q (λ h x b i. new h x (makes_sort Mutexes o b) i) old m e v
+kind_move kind.Sem s o Q new old m e v =
+    sort_ages Sems (SameFields kind.Sem) nothing_same s o (λ j f w x. tt) Q (λ h x b i. new h x (makes_sort Sems o b) i) old m e v
+kind_move kind.Rwl s o Q new old m e v =
+    sort_ages Rwls (SameFields kind.Rwl) nothing_same s o (λ j f w x. tt) Q (λ h x b i. new h x (makes_sort Rwls o b) i) old m e v
+kind_move kind.Shmem s o Q new old m e v =
+    sort_ages Segments (SameFields kind.Shmem) nothing_same s o (λ j f w x. tt) Q (λ h x b i. new h x (makes_sort Segments o b) i) old m e v
 
 -- How often a handle is listed, and whether it is live
 
@@ -209,7 +199,8 @@ module _ {T : Type 0} where
   pub live_listed : (h : ℕ) (l : List (Listed T)) → is_some (live_object l h) ≡ true → 1 ≤ listed h l
   unfolding live_of listed
   live_listed h [] e = absurd (cc)
-  live_listed h (r ∷ rs) e = at_head r h (λ a b. let k : cond {A = ℕ} (r.handle == h) 1 0 ≡ 1 = ap (λ (c : Bool). cond {A = ℕ} c 1 0) b in omega arith) (λ n. let k = live_listed h rs (sym (ap is_some (at_past r rs h n)) ∙ e) in omega arith)
+  live_listed h (r ∷ rs) e = at_head r h (λ a b. let k : cond {A = ℕ} (r.handle == h) 1 0 ≡ 1 = ap (λ (c : Bool). cond {A = ℕ} c 1 0) b in
+      omega arith) (λ n. let k = live_listed h rs (sym (ap is_some (at_past r rs h n)) ∙ e) in omega arith)
 
 -- What holds of each object that was issued under a handle
 
@@ -226,15 +217,22 @@ module _ {T : Type 0} where
   pub under_none : (h : ℕ) (F : T → Type 0) (l : List (Listed T)) → listed h l ≡ 0 → Under h F l
   unfolding listed
   under_none h F [] e = tt
-  under_none h F (r ∷ rs) e = ((λ j. let k : cond {A = ℕ} (r.handle == h) 1 0 ≡ 1 = ap (λ (c : Bool). cond {A = ℕ} c 1 0) j in absurd (omega arith)), under_none h F rs (omega arith))
+  under_none h F (r ∷ rs) e = (
+    (λ j. let k : cond {A = ℕ} (r.handle == h) 1 0 ≡ 1 = ap (λ (c : Bool). cond {A = ℕ} c 1 0) j in
+        absurd (omega arith)),
+    under_none h F rs (omega arith),
+  )
 
   pub under_at : (h : ℕ) (F : T → Type 0) (l : List (Listed T)) (x : T) → Under h F l → live_object l h ≡ Some x → F x
   unfolding live_of
   under_at h F [] x u e = absurd (cc)
-  under_at h F (r ∷ rs) x u e = at_head r h (λ a b. subst F (some_same (sym (at_here r rs h a b) ∙ e)) (u.0 b)) (λ n. under_at h F rs x u.1 (sym (at_past r rs h n) ∙ e))
+  under_at h F (r ∷ rs) x u e = at_head r h (λ a b. subst F (some_same (sym (at_here r rs h a b) ∙ e)) (u.0 b))
+      (λ n. under_at h F rs x u.1 (sym (at_past r rs h n) ∙ e))
 
-  pub under_ages : (K : T → T → Type 0) (h : ℕ) (F : T → Type 0) → ((x y : T) → K x y → F x → F y) → (l m : List (Listed T)) → AgesEach K l m → Under h F l → Under h F m
+  pub under_ages : (K : T → T → Type 0) (h : ℕ) (F : T → Type 0) → ((x y : T) → K x y → F x → F y) → (l m : List (Listed T)) → AgesEach K l m → Under h F l
+      → Under h F m
   under_ages K h F g [] [] a u = tt
   under_ages K h F g [] (q ∷ qs) a u = absurd a
   under_ages K h F g (r ∷ rs) [] a u = absurd a
-  under_ages K h F g (r ∷ rs) (q ∷ qs) a u = ((λ e. g r.fields q.fields a.0.fields (u.0 (ap (λ (n : ℕ). n == h) (sym a.0.handle) ∙ e))), under_ages K h F g rs qs a.1 u.1)
+  under_ages K h F g (r ∷ rs) (q ∷ qs) a u =
+      ((λ e. g r.fields q.fields a.0.fields (u.0 (ap (λ (n : ℕ). n == h) (sym a.0.handle) ∙ e))), under_ages K h F g rs qs a.1 u.1)

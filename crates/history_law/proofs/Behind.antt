@@ -17,7 +17,8 @@ other_release : (o : Op) (s : State) (who : ℕ) (v : Bool) (x : Move) → is_re
 other_release o s who v released n k e = true_false k n
 other_release o s who v x n k e = rest_keeps (λ t. t.released ≡ v) (λ t g q m c r y p. p) x s e
 
-row_release : (s : State) (who : ℕ) (o : Op) (r : Reply) → is_release o ≡ true → says_ok r ≡ false → Allows (row s who o r) r → (after_row s (row s who o r)).released ≡ s.released
+row_release : (s : State) (who : ℕ) (o : Op) (r : Reply) → is_release o ≡ true → says_ok r ≡ false → Allows (row s who o r) r
+    → (after_row s (row s who o r)).released ≡ s.released
 row_release s who o r e1 e2 e3 = grind (arith, nat_tests)
 
 next_released : (s : State) (e : NodeEntry) → IsNext s e → is_released e ≡ false → (next s e).released ≡ s.released
@@ -47,7 +48,8 @@ apart_marks (b ∷ bs) zero (suc v) e = refl
 apart_marks (b ∷ bs) (suc w) zero e = refl
 apart_marks (b ∷ bs) (suc w) (suc v) e = apart_marks bs w v (less_apart v w e)
 
-other_stops : (o : Op) (s : State) (who w : ℕ) (v : Bool) (x : Move) → (who == w) ≡ false → May s who o x → marked w s.stopped ≡ v → marked w (apply x s).stopped ≡ v
+other_stops : (o : Op) (s : State) (who w : ℕ) (v : Bool) (x : Move) → (who == w) ≡ false → May s who o x → marked w s.stopped ≡ v
+    → marked w (apply x s).stopped ≡ v
 other_stops o s who w v (stops y) n k e = apart_marks s.stopped w y (ap (λ (i : ℕ). i == w) k ∙ n) ∙ e
 other_stops o s who w v x n k e = rest_keeps (λ t. marked w t.stopped ≡ v) (λ t g q m c r y p. p) x s e
 
@@ -55,15 +57,18 @@ no_pick : (o : Op) (s : State) (w : ℕ) (v : Bool) (x : Move) → is_pick o ≡
 no_pick o s w v (stops y) n k e = true_false k.by n
 no_pick o s w v x n k e = rest_keeps (λ t. marked w t.stopped ≡ v) (λ t g q m c r y p. p) x s e
 
-row_stops : (s : State) (w who : ℕ) (o : Op) (r : Reply) → is_pick o ≡ true → says_stop r ≡ false → Allows (row s who o r) r → marked w (after_row s (row s who o r)).stopped ≡ marked w s.stopped
+row_stops : (s : State) (w who : ℕ) (o : Op) (r : Reply) → is_pick o ≡ true → says_stop r ≡ false → Allows (row s who o r) r
+    → marked w (after_row s (row s who o r)).stopped ≡ marked w s.stopped
 row_stops s w who o r e1 e2 e3 = grind (arith, nat_tests)
 
 next_stops : (s : State) (e : NodeEntry) (w : ℕ) → IsNext s e → is_stop_of w e ≡ false → marked w (next s e).stopped ≡ marked w s.stopped
 next_stops s e w n i = on_test (λ b. (b && says_stop e.reply) ≡ false → marked w (next s e).stopped ≡ marked w s.stopped) (e.who == w)
-    (λ j k. whether (is_pick e.op) (λ j. row_stops s w e.who e.op e.reply j k n.allowed) (λ j. made_moves (λ t. marked w t.stopped ≡ marked w s.stopped) s e (λ t x y z. no_pick e.op t w (marked w s.stopped) x j y z) refl))
+    (λ j k. whether (is_pick e.op) (λ j. row_stops s w e.who e.op e.reply j k n.allowed)
+    (λ j. made_moves (λ t. marked w t.stopped ≡ marked w s.stopped) s e (λ t x y z. no_pick e.op t w (marked w s.stopped) x j y z) refl))
     (λ j k. by_moves (λ t. marked w t.stopped ≡ marked w s.stopped) s e n (λ t x y z. other_stops e.op t e.who w (marked w s.stopped) x j y z) refl) i
 
-unstopped : (s : State) (L : List NodeEntry) (w : ℕ) → LegalFrom s L → some_entry (is_stop_of w) L ≡ false → marked w (after_from s L).stopped ≡ marked w s.stopped
+unstopped : (s : State) (L : List NodeEntry) (w : ℕ) → LegalFrom s L → some_entry (is_stop_of w) L ≡ false
+    → marked w (after_from s L).stopped ≡ marked w s.stopped
 unstopped s L w l n = kept_without (is_stop_of w) (λ t. marked w t.stopped ≡ marked w s.stopped) (λ t e i m v. next_stops t e w i m ∙ v) s L l n refl
 
 each_marked : (n w : ℕ) (l : List Bool) → all_marked n l ≡ true → w < n → marked w l ≡ true
@@ -77,10 +82,13 @@ none_marked zero w = refl
 none_marked (suc n) zero = refl
 none_marked (suc n) (suc w) = none_marked n w
 
-pub final_behind : (terms : Terms) (A B : List NodeEntry) (who w : ℕ) → Legal terms (A ++ entry who op.Final Ok ∷ B) → w < terms.settings.workers → some_entry (is_stop_of w) A ≡ true
+pub final_behind : (terms : Terms) (A B : List NodeEntry) (who w : ℕ) → Legal terms (A ++ entry who op.Final Ok ∷ B) → w < terms.settings.workers
+    → some_entry (is_stop_of w) A ≡ true
 final_behind terms A B who w l less = true_from_ne_false (some_entry (is_stop_of w) A) (λ i.
     let n : IsNext (after terms A) (entry who op.Final Ok) = cut_from (opening terms) A B (entry who op.Final Ok) l.from in
     let same : workers (after terms A) ≡ terms.settings.workers = ap (λ (t : Terms). t.settings.workers) (stands_after terms A).0 in
-    let r : marked w (after terms A).stopped ≡ true = each_marked (workers (after terms A)) w (after terms A).stopped (final_marked (after terms A) who n) (omega arith) in
-    let u : marked w (after terms A).stopped ≡ false = unstopped (opening terms) A w (Legal-front (opening terms) A (entry who op.Final Ok ∷ B) l.from) i ∙ none_marked 25 w in
+    let r : marked w (after terms A).stopped ≡ true =
+    each_marked (workers (after terms A)) w (after terms A).stopped (final_marked (after terms A) who n) (omega arith) in
+    let u : marked w (after terms A).stopped ≡ false =
+    unstopped (opening terms) A w (Legal-front (opening terms) A (entry who op.Final Ok ∷ B) l.from) i ∙ none_marked 25 w in
     true_false r u)

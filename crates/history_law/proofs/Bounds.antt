@@ -21,9 +21,11 @@ stopped_room terms L l = room_stays (opening terms) L l refl
 
 -- The phase
 
-early_next : (s : State) (who : ℕ) (o : Op) (r : Reply) → IsNext s (entry who o r) → closes o ≡ false → is_past_open s.phase ≡ false → is_past_open (next s (entry who o r)).phase ≡ false
+early_next : (s : State) (who : ℕ) (o : Op) (r : Reply) → IsNext s (entry who o r) → closes o ≡ false → is_past_open s.phase ≡ false
+    → is_past_open (next s (entry who o r)).phase ≡ false
 unfolding LegalFrom after_from
-early_next s who Initialize r n c l = cond_both (not (is_new s.phase)) [] (phase_is Open ∷ []) (λ q. is_past_open (after_moves q s).phase ≡ false) (λ e. l) (λ e. refl)
+early_next s who Initialize r n c l = cond_both (not (is_new s.phase)) [] (phase_is Open ∷ []) (λ q. is_past_open (after_moves q s).phase
+    ≡ false) (λ e. l) (λ e. refl)
 early_next s who Close r n c l = true_false refl c
 early_next s who Final r n c l = true_false refl c
 early_next s who o r n c l = ap is_past_open (phase_stays s (entry who o r ∷ []) (n, tt) (refl, tt)) ∙ l

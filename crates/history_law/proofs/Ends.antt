@@ -29,7 +29,8 @@ pub grows_listed : (h : ℕ) (l m : List (Listed Task)) → Grows l m → listed
 unfolding listed
 grows_listed h [] m g = omega arith
 grows_listed h (r ∷ rs) [] g = absurd g
-grows_listed h (r ∷ rs) (q ∷ qs) g = let k = grows_listed h rs qs g.1 in let e : cond {A = ℕ} (q.handle == h) 1 0 ≡ cond {A = ℕ} (r.handle == h) 1 0 = ap (λ (x : ℕ). cond {A = ℕ} (x == h) 1 0) g.0.handle in omega arith
+grows_listed h (r ∷ rs) (q ∷ qs) g = let k = grows_listed h rs qs g.1 in let e : cond {A = ℕ} (q.handle == h) 1 0 ≡ cond {A = ℕ} (r.handle == h) 1 0 =
+    ap (λ (x : ℕ). cond {A = ℕ} (x == h) 1 0) g.0.handle in omega arith
 
 ended_end : (t : Task) → HasEnded t → (e : TaskEnd) × (end_in t.state ≡ Some e)
 ended_end t h = by_state t.state h
@@ -49,5 +50,6 @@ all_end h (r ∷ rs) a i = grind (arith, nat_tests, all_end h rs a.1, cond_both,
 pub fronts_grow : (s : State) (P M : List NodeEntry) → Grows (after_from s P).tasks (after_from s (P ++ M)).tasks
 fronts_grow s P M = subst (λ (t : State). Grows (after_from s P).tasks t.tasks) (sym (after-append s P M)) (after_grows (after_from s P) M)
 
-pub end_later : (s : State) (P M : List NodeEntry) (h : ℕ) (e : TaskEnd) → end_at (after_from s P).tasks h ≡ Some e → end_at (after_from s (P ++ M)).tasks h ≡ Some e
+pub end_later : (s : State) (P M : List NodeEntry) (h : ℕ) (e : TaskEnd) → end_at (after_from s P).tasks h ≡ Some e
+    → end_at (after_from s (P ++ M)).tasks h ≡ Some e
 end_later s P M h e i = grows_end h e (after_from s P).tasks (after_from s (P ++ M)).tasks (fronts_grow s P M) i

@@ -5,6 +5,7 @@ pub mod Ends
 pub mod Accepted
 pub mod Worked
 pub mod SeatMoves
+pub mod TaskSteps
 pub mod TaskMoves
 pub mod lists
 pub mod Others

@@ -13,12 +13,14 @@ bit b = cond b 1 0
 abbrev pub has_number : ℕ → List (Listed Task) → ℕ
 has_number n l = how_many (λ r. is_number n r.fields.state) l
 
-change_number : (n d h : ℕ) (f : Listed Task → Listed Task) (l : List (Listed Task)) → ((r : Listed Task) → bit (is_number n (f r).fields.state) ≤ bit (is_number n r.fields.state) + d) → has_number n (change h f l) ≤ has_number n l + d
+change_number : (n d h : ℕ) (f : Listed Task → Listed Task) (l : List (Listed Task))
+    → ((r : Listed Task) → bit (is_number n (f r).fields.state) ≤ bit (is_number n r.fields.state) + d) → has_number n (change h f l) ≤ has_number n l + d
 unfolding change
 change_number n d h f [] k = omega arith
 change_number n d h f (r ∷ rs) k = grind (arith, nat_tests, change_number n d h f rs k)
 
-all_number : (n : ℕ) (p : Task → Bool) (f : Listed Task → Listed Task) (l : List (Listed Task)) → ((r : Listed Task) → bit (is_number n (f r).fields.state) ≡ bit (is_number n r.fields.state)) → has_number n (change_all p f l) ≤ has_number n l
+all_number : (n : ℕ) (p : Task → Bool) (f : Listed Task → Listed Task) (l : List (Listed Task))
+    → ((r : Listed Task) → bit (is_number n (f r).fields.state) ≡ bit (is_number n r.fields.state)) → has_number n (change_all p f l) ≤ has_number n l
 unfolding change_all
 all_number n p f [] k = omega arith
 all_number n p f (r ∷ rs) k = grind (arith, nat_tests, all_number n p f rs k)
@@ -46,7 +48,8 @@ unfolding end_each
 ends_high n p e k [] z = omega arith
 ends_high n p e k (r ∷ rs) z =
     let x : has_number n (end_each p e k rs) ≤ 1 = ends_high n p e k rs (omega arith) in
-    cond_both (r.live && p r.fields) (ended e k r ∷ end_each p e (k + 1) rs) (r ∷ end_each p e k rs) (λ q. has_number n q ≤ 1) (λ c. by_same (k == n) refl (ends_high n p e (k + 1) rs (omega arith))) (λ c. omega arith)
+    cond_both (r.live && p r.fields) (ended e k r ∷ end_each p e (k + 1) rs) (r ∷ end_each p e k rs) (λ q. has_number n q
+    ≤ 1) (λ c. by_same (k == n) refl (ends_high n p e (k + 1) rs (omega arith))) (λ c. omega arith)
   where
     by_same : (b : Bool) → (k == n) ≡ b → has_number n (end_each p e (k + 1) rs) ≤ 1 → bit b + has_number n (end_each p e (k + 1) rs) ≤ 1
     by_same true i y =
@@ -56,7 +59,8 @@ ends_high n p e k (r ∷ rs) z =
     by_same false i y = omega arith
 
 -- and none from the last one on
-ends_above : (n : ℕ) (p : Task → Bool) (e : TaskEnd) (k : ℕ) (l : List (Listed Task)) → k + count_listed p l ≤ n → has_number n l ≡ 0 → has_number n (end_each p e k l) ≡ 0
+ends_above : (n : ℕ) (p : Task → Bool) (e : TaskEnd) (k : ℕ) (l : List (Listed Task)) → k + count_listed p l ≤ n → has_number n l ≡ 0
+    → has_number n (end_each p e k l) ≡ 0
 unfolding end_each
 ends_above n p e k [] i z = refl
 ends_above n p e k (r ∷ rs) i z = grind (arith, nat_tests, ends_above n p e (k + 1) rs, ends_above n p e k rs, cond_both, end_each, other_number)
@@ -70,7 +74,8 @@ pub record Numbered (s : State) : Type 0 where
 kept_numbers : (s t : State) → Numbered s → t.ends ≡ s.ends → ((n : ℕ) → has_number n t.tasks ≤ has_number n s.tasks) → Numbered t
 kept_numbers s t v e f = grind (arith, nat_tests)
 
-many_numbers : (s : State) (l : List (Listed Task)) (p : Task → Bool) (e : TaskEnd) → Numbered s → Numbered (record s { tasks = end_each p e s.ends s.tasks; ends = s.ends + count_listed p s.tasks })
+many_numbers : (s : State) (l : List (Listed Task)) (p : Task → Bool) (e : TaskEnd) → Numbered s
+    → Numbered (record s { tasks = end_each p e s.ends s.tasks; ends = s.ends + count_listed p s.tasks })
 many_numbers s l p e e1 = grind (arith, nat_tests, nat_lt, ends_above, end_each, ends_low, ends_high)
 
 one_number : (s : State) (h : ℕ) (e : TaskEnd) → Numbered s → Numbered (record s { tasks = change h (ended e s.ends) s.tasks; ends = s.ends + 1 })
@@ -103,8 +108,10 @@ none_more : (a b : ℕ) → a ≤ b + 0 → a ≤ b
 none_more a b e = omega arith
 
 numbered_move : (s : State) (m : Move) → Numbered s → Numbered (apply m s)
-numbered_move s (starts_task h t) v = kept_numbers s _ v refl (λ n. let e : has_number n (issue h (new_task t s.starts) s.tasks) ≡ has_number n s.tasks = issue_number n h (new_task t s.starts) s.tasks refl in omega arith)
-numbered_move s (runs_task h w k) v = kept_numbers s _ v refl (λ n. none_more _ _ (change_number n 0 h (with_fields (with_state (Running w k))) s.tasks (λ r. omega arith)))
+numbered_move s (starts_task h t) v = kept_numbers s _ v refl (λ n. let e : has_number n (issue h (new_task t s.starts) s.tasks) ≡ has_number n s.tasks =
+    issue_number n h (new_task t s.starts) s.tasks refl in omega arith)
+numbered_move s (runs_task h w k) v = kept_numbers s _ v refl
+    (λ n. none_more _ _ (change_number n 0 h (with_fields (with_state (Running w k))) s.tasks (λ r. omega arith)))
 numbered_move s (ends_task h e) v = one_number s h e v
 numbered_move s (ends_waiting p e) v = many_numbers s s.tasks _ e v
 numbered_move s (withdraws h f c) v = let u = many_numbers s s.tasks _ (Failed c) v in record { once = u.once; above = u.above }

@@ -1,5 +1,5 @@
 -- A group gives its members in the order of their ends.
-use Rattle.history_law.proofs.Names.{◌≡◌, ℕ, ◌+◌, ◌≤◌, ◌<◌, Bool, true, false, cond, List, [], ◌∷◌, ◌++◌, Option, Some, None, refl, sym, ◌∙◌, ap, subst, arith, ◌==◌, ◌&&◌, nat_lt, is_some, eqb-true, cond_both, nat_tests, TaskEnd, Failed, Listed, live_of, live_object, listed, change, change_all, issue, with_fields, gone, Task, Notes, TaskState, Scheduled, Running, Ended, end_of, with_state, with_notes, ended, end_each, new_task, is_member, Ending, insert, insert_ended, endings, in_no_group, freed, let_go, Terms, Op, Reply, State, opening, Move, starts_task, runs_task, ends_task, ends_waiting, withdraws, notes, leaves, frees_members, lets_members_go, apply, after_moves, moves_of, row, NodeEntry, IsNext, next, LegalFrom, Legal, after_from, after, Grows, Legal-front, Legal-rest, after-append, fst_true, snd_true, rest_keeps, after_grows, looks_for_any, is_given, number_at, EndedBefore, GivenInOrder, some_same, Answers, answered}
+use Rattle.history_law.proofs.Names.{◌≡◌, ℕ, ◌≤◌, ◌<◌, Bool, true, false, cond, List, [], ◌∷◌, ◌++◌, Option, Some, None, refl, sym, ◌∙◌, ap, subst, arith, ◌==◌, nat_lt, is_some, eqb-true, cond_both, nat_tests, TaskEnd, Failed, Listed, live_of, live_object, listed, change, with_fields, gone, Task, Notes, TaskState, Scheduled, Running, Ended, end_of, with_notes, ended, is_member, Ending, insert, insert_ended, endings, in_no_group, Terms, Op, Reply, State, opening, Move, ends_task, ends_waiting, withdraws, notes, leaves, apply, after_moves, moves_of, row, NodeEntry, IsNext, next, LegalFrom, Legal, after_from, after, Grows, Legal-front, Legal-rest, after-append, fst_true, snd_true, rest_keeps, after_grows, looks_for_any, is_given, number_at, EndedBefore, GivenInOrder, some_same, Answers, answered}
 use Rattle.mtapi_values.specs.declared.handles.ObjectKind.TheVariants as kind
 use Rattle.history_law.specs.Order.{gives as gives_task, number_in}
 use Rattle.history_law.proofs.Moves.{once_from}
@@ -13,7 +13,9 @@ use Rattle.history_law.proofs.lists.AtHandles.{at_retired}
 use Rattle.history_law.proofs.Reuse.{Gone, stays_gone}
 use Rattle.history_law.proofs.Answered.{true_false, none_some, on_test}
 use Rattle.mtapi_machine.specs.Answers as is
-use Rattle.history_law.proofs.lists.Found.{at_head, at_here, at_past}
+use Rattle.history_law.proofs.TaskSteps as step
+use Rattle.history_law.proofs.TaskSteps.{Step, Steps, tasks_go}
+use Rattle.history_law.proofs.lists.Found.{at_head, at_here}
 
 -- Sorted endings
 
@@ -62,20 +64,23 @@ same_number : (x : TaskState) (e z : TaskEnd) (k n : ℕ) → end_of x ≡ Some 
 unfolding number_told
 same_number x e z k n i o = ap (number_told k) (sym i ∙ ap end_of o)
 
-gave_by : (s : State) (who g h : ℕ) (o : Op) (r : Reply) (ms : List Move) → looks_for_any g o ≡ true → is_given h r ≡ true → OnceIn s.tasks → Answers s who o r ms → Gave s g h ms
+gave_by : (s : State) (who g h : ℕ) (o : Op) (r : Reply) (ms : List Move) → looks_for_any g o ≡ true → is_given h r ≡ true → OnceIn s.tasks
+    → Answers s who o r ms → Gave s g h ms
 gave_by s who g h _ _ _ i j o (is.any_given x last v y ys t e n a b f d) =
     let all : AllOf (IsEnding x.0 s.tasks) (y ∷ ys) = subst (AllOf (IsEnding x.0 s.tasks)) b (all_endings x.0 s.tasks o) in
     let sorted : Sorted (y ∷ ys) = subst Sorted b (sorted_endings x.0 (live_of s.tasks)) in
     let here : y.number ≤ y.number = omega arith in
     let k : y.number ≡ n = same_number t.state y.end e y.number n (all.0.ended t f) d in
-    let least : AllOf (FromNumber n) (endings x.0 (live_of s.tasks)) = subst (λ (z : ℕ). AllOf (FromNumber z) (endings x.0 (live_of s.tasks))) k (subst (AllOf (FromNumber y.number)) (sym b) (here, sorted.0)) in
+    let least : AllOf (FromNumber n) (endings x.0 (live_of s.tasks)) =
+    subst (λ (z : ℕ). AllOf (FromNumber z) (endings x.0 (live_of s.tasks))) k (subst (AllOf (FromNumber y.number)) (sym b) (here, sorted.0)) in
     subst (λ (z : ℕ). Gave s z h (notes y.task in_no_group ∷ leaves y.task ∷ [])) (eqb-true x.0 g i)
     (subst (λ (z : ℕ). Gave s x.0 z (notes y.task in_no_group ∷ leaves y.task ∷ [])) (eqb-true y.task h j)
     (record { task = t; end = e; number = n; found = f; over = d; member = all.0.member t f; least = least; moves = refl }))
 gave_by s who g h _ _ _ i j o _ = true_false j refl
 
 gave : (s : State) (e : NodeEntry) (g h : ℕ) → OnceIn s.tasks → IsNext s e → gives_task g h e ≡ true → Gave s g h (moves_of (row s e.who e.op e.reply))
-gave s e g h o n i = gave_by s e.who g h e.op e.reply _ (fst_true (looks_for_any g e.op) _ i) (snd_true (looks_for_any g e.op) _ i) o (answered s e.who e.op e.reply n.allowed)
+gave s e g h o n i = gave_by s e.who g h e.op e.reply _ (fst_true (looks_for_any g e.op) _ i) (snd_true (looks_for_any g e.op) _ i) o
+    (answered s e.who e.op e.reply n.allowed)
 
 -- The members that are left have numbers from this one on
 
@@ -86,30 +91,9 @@ abbrev AllFrom : ℕ → ℕ → List (Listed Task) → Type 0
 AllFrom g n [] = Unit {0}
 AllFrom g n (r ∷ rs) = From g n r × AllFrom g n rs
 
-from_issue : (g n h : ℕ) (x : Task) (l : List (Listed Task)) → end_of x.state ≡ None → AllFrom g n l → AllFrom g n (issue h x l)
-unfolding issue
-from_issue g n h x [] e a = ((λ i j p k. none_some (sym e ∙ k)), tt)
-from_issue g n h x (r ∷ rs) e a = (a.0, from_issue g n h x rs e a.1)
-
-from_change : (g n h : ℕ) (f : Listed Task → Listed Task) (l : List (Listed Task)) → ((r : Listed Task) → live_object l h ≡ Some r.fields → From g n r → From g n (f r)) → AllFrom g n l → AllFrom g n (change h f l)
-unfolding change live_of
-from_change g n h f [] k a = tt
-from_change g n h f (r ∷ rs) k a = cond_both (r.live && (r.handle == h)) (f r ∷ rs) (r ∷ change h f rs) (AllFrom g n)
-    (λ c. (k r (at_here r rs h (fst_true r.live _ c) (snd_true r.live _ c)) a.0, a.1)) (λ c. (a.0, from_change g n h f rs (λ q e. k q (at_past r rs h c ∙ e)) a.1))
-
-from_all : (g n : ℕ) (p : Task → Bool) (f : Listed Task → Listed Task) (l : List (Listed Task)) → ((r : Listed Task) → From g n (f r)) → AllFrom g n l → AllFrom g n (change_all p f l)
-unfolding change_all
-from_all g n p f [] k a = tt
-from_all g n p f (r ∷ rs) k a = (cond_both (r.live && p r.fields) (f r) r (From g n) (λ c. k r) (λ c. a.0), from_all g n p f rs k a.1)
-
 over_from : (g n k : ℕ) (e : TaskEnd) (r : Listed Task) → n ≤ k → From g n (ended e k r)
 unfolding number_told
 over_from g n k e r l = λ i j p q. let s : k ≡ p.1 = ap (number_told k) q in omega arith
-
-from_ends : (g n : ℕ) (p : Task → Bool) (e : TaskEnd) (k : ℕ) (l : List (Listed Task)) → n ≤ k → AllFrom g n l → AllFrom g n (end_each p e k l)
-unfolding end_each
-from_ends g n p e k [] i a = tt
-from_ends g n p e k (r ∷ rs) i a = grind (arith, nat_tests, from_ends g n p e (k + 1) rs, from_ends g n p e k rs i a.1, cond_both, end_each, over_from)
 
 -- the next number, and the members
 record Left (g n : ℕ) (s : State) : Type 0 where
@@ -119,17 +103,31 @@ record Left (g n : ℕ) (s : State) : Type 0 where
 noted_from : (g n who : ℕ) (f : Notes → Notes) (r : Listed Task) → Noted who f r.fields → From g n r → From g n (with_fields (with_notes f) r)
 noted_from g n who f r x k = grind (arith, nat_tests, with_fields, with_notes, true_false)
 
+from_step : (g n who : ℕ) (o : Op) (s : State) (r : Listed Task) (m : Move) (q : Listed Task) → Step s r m q → May s who o m → n ≤ s.ends → From g n r
+    → From g n q
+from_step g n who o s r _ _ (step.stays m) k l v = v
+from_step g n who o s r _ _ (step.runs h w z a i e) k l v = λ i j p q. none_some q
+from_step g n who o s r _ _ (step.ends h x a i e) k l v = over_from g n s.ends x r l
+from_step g n who o s r _ _ (step.waited p x m a u i) k l v = over_from g n m x r (omega arith)
+from_step g n who o s r _ _ (step.left h f c m a u i) k l v = over_from g n m (Failed c) r (omega arith)
+from_step g n who o s r _ _ (step.noted h f a i e) k l v = noted_from g n who f r (subst (Noted who f) (some_same (sym k.1 ∙ e)) k.2) v
+from_step g n who o s r _ _ (step.let_go_of z a u) k l v = λ i j p q. true_false j refl
+from_step g n who o s r _ _ _ k l v = λ i j p q. true_false i refl
+
+from_steps : (g n who : ℕ) (o : Op) (s : State) (m : Move) (l k : List (Listed Task)) → May s who o m → n ≤ s.ends → Steps s m l k → AllFrom g n l
+    → AllFrom g n k
+from_steps g n who o s _ _ _ y i (step.none m) a = tt
+from_steps g n who o s _ _ _ y i (step.new h t) a = ((λ i j p q. none_some q), tt)
+from_steps g n who o s _ _ _ y i (step.next m r q rs qs x k) a = (from_step g n who o s r m q x y i a.0, from_steps g n who o s m rs qs y i k a.1)
+
+ends_rise : (n : ℕ) (s : State) (m : Move) → n ≤ s.ends → n ≤ (apply m s).ends
+ends_rise n s (ends_task h e) l = omega arith
+ends_rise n s (ends_waiting p e) l = omega arith
+ends_rise n s (withdraws h f c) l = omega arith
+ends_rise n s m l = rest_keeps (λ t. n ≤ t.ends) (λ t g q y c r z p. p) m s l
+
 left_move : (g n who : ℕ) (o : Op) (s : State) (x : Move) → May s who o x → Left g n s → Left g n (apply x s)
-left_move g n who o s (starts_task h t) k v = record { next = v.next; all = from_issue g n h (new_task t s.starts) s.tasks refl v.all }
-left_move g n who o s (runs_task h w z) k v = record { next = v.next; all = from_change g n h (with_fields (with_state (Running w z))) s.tasks (λ r e u i j p q. none_some q) v.all }
-left_move g n who o s (ends_task h e) k v = record { next = let l : n ≤ s.ends = v.next in omega arith; all = from_change g n h (ended e s.ends) s.tasks (λ r f u. over_from g n s.ends e r v.next) v.all }
-left_move g n who o s (ends_waiting p e) k v = record { next = let l : n ≤ s.ends = v.next in omega arith; all = from_ends g n _ e s.ends s.tasks v.next v.all }
-left_move g n who o s (withdraws h f c) k v = record { next = let l : n ≤ s.ends = v.next in omega arith; all = from_ends g n _ (Failed c) s.ends s.tasks v.next v.all }
-left_move g n who o s (notes h f) k v = grind (arith, nat_tests, from_change, with_fields, with_notes, noted_from, some_same)
-left_move g n who o s (leaves h) k v = record { next = v.next; all = from_change g n h gone s.tasks (λ r e u i j p q. true_false i refl) v.all }
-left_move g n who o s (frees_members z) k v = record { next = v.next; all = from_all g n _ freed s.tasks (λ r i j p q. true_false i refl) v.all }
-left_move g n who o s (lets_members_go z) k v = record { next = v.next; all = from_all g n (is_member z) let_go s.tasks (λ r i j p q. true_false j refl) v.all }
-left_move g n who o s x k v = rest_keeps (Left g n) (λ t g q m c r y p. record { next = p.next; all = p.all }) x s (record { next = v.next; all = v.all })
+left_move g n who o s x k v = record { next = ends_rise n s x v.next; all = from_steps g n who o s x s.tasks _ k v.next (tasks_go s x) v.all }
 
 left_along : (g n : ℕ) (s : State) (L : List NodeEntry) → LegalFrom s L → Left g n s → Left g n (after_from s L)
 left_along g n s L l v = kept_along (Left g n) (λ t e i. by_moves (Left g n) t e i (left_move g n e.who e.op)) s L l v
@@ -138,17 +136,22 @@ left_along g n s L l v = kept_along (Left g n) (λ t e i. by_moves (Left g n) t 
 from_endings : (g n : ℕ) (l : List (Listed Task)) → AllOf (FromNumber n) (endings g (live_of l)) → AllFrom g n l
 unfolding endings live_of
 from_endings g n [] a = tt
-from_endings g n (r ∷ rs) a = on_test (λ b. AllOf (FromNumber n) (endings g (cond b ((r.handle, r.fields) ∷ live_of rs) (live_of rs))) → AllFrom g n (r ∷ rs)) r.live
-    (λ e a. on_test (λ b. AllOf (FromNumber n) (cond b (insert_ended r.handle (end_of r.fields.state) (endings g (live_of rs))) (endings g (live_of rs))) → AllFrom g n (r ∷ rs)) (is_member g r.fields) (λ e a. here (end_of r.fields.state) refl a (from_endings g n rs)) (λ e a. ((λ i j p q. true_false j e), (from_endings g n rs) a)) a)
+from_endings g n (r ∷ rs) a = on_test (λ b. AllOf (FromNumber n) (endings g (cond b ((r.handle, r.fields) ∷ live_of rs) (live_of rs)))
+    → AllFrom g n (r ∷ rs)) r.live
+    (λ e a. on_test (λ b. AllOf (FromNumber n) (cond b (insert_ended r.handle (end_of r.fields.state) (endings g (live_of rs))) (endings g (live_of rs)))
+    → AllFrom g n (r ∷ rs)) (is_member g r.fields) (λ e a. here (end_of r.fields.state) refl a (from_endings g n rs))
+    (λ e a. ((λ i j p q. true_false j e), (from_endings g n rs) a)) a)
     (λ e a. ((λ i j p q. true_false i e), (from_endings g n rs) a)) a
   where
-    here : (x : Option (TaskEnd × ℕ)) → end_of r.fields.state ≡ x → AllOf (FromNumber n) (insert_ended r.handle x (endings g (live_of rs))) → (AllOf (FromNumber n) (endings g (live_of rs)) → AllFrom g n rs) → AllFrom g n (r ∷ rs)
+    here : (x : Option (TaskEnd × ℕ)) → end_of r.fields.state ≡ x → AllOf (FromNumber n) (insert_ended r.handle x (endings g (live_of rs)))
+        → (AllOf (FromNumber n) (endings g (live_of rs)) → AllFrom g n rs) → AllFrom g n (r ∷ rs)
     here None e a k = ((λ i j p q. none_some (sym e ∙ q)), k a)
     here (Some y) e a k =
         let b = all_inserted (FromNumber n) (record { task = r.handle; end = y.0; number = y.1 }) (endings g (live_of rs)) a in
         ((λ i j p q. subst (λ (z : TaskEnd × ℕ). n ≤ z.1) (some_same (sym e ∙ q)) b.0), k b.1)
 
-from_at : (g n : ℕ) (l : List (Listed Task)) (h : ℕ) (t : Task) → AllFrom g n l → live_object l h ≡ Some t → is_member g t ≡ true → (p : TaskEnd × ℕ) → end_of t.state ≡ Some p → n ≤ p.1
+from_at : (g n : ℕ) (l : List (Listed Task)) (h : ℕ) (t : Task) → AllFrom g n l → live_object l h ≡ Some t → is_member g t ≡ true → (p : TaskEnd × ℕ)
+    → end_of t.state ≡ Some p → n ≤ p.1
 unfolding live_of
 from_at g n [] h t a e m p q = absurd (cc)
 from_at g n (r ∷ rs) h t a e m p q = grind (arith, nat_tests, from_at g n rs h t a.1, at_head, some_same, at_here, is_member, end_of)
@@ -159,7 +162,8 @@ number_found : (l : List (Listed Task)) (h : ℕ) (t : Task) → OnceIn l → li
 unfolding number_at
 number_found l h t o e = read_found h (λ m. number_at m h) (λ (x : Task). number_in x.state) (λ r rs. refl) l t o e
 
-number_stays : (x y : TaskState) (n : ℕ) → ((e : TaskEnd) (k : ℕ) → end_of x ≡ Some (e, k) → end_of y ≡ Some (e, k)) → number_in x ≡ Some n → number_in y ≡ Some n
+number_stays : (x y : TaskState) (n : ℕ) → ((e : TaskEnd) (k : ℕ) → end_of x ≡ Some (e, k) → end_of y ≡ Some (e, k)) → number_in x ≡ Some n
+    → number_in y ≡ Some n
 unfolding number_told
 number_stays Scheduled y n k i = absurd (cc)
 number_stays (Running w j) y n k i = absurd (cc)
@@ -191,9 +195,11 @@ same_task [] a b n o i j = absurd (cc)
 same_task (r ∷ rs) a b n o i j = by_hand (r.handle == a) refl (r.handle == b) refl i j (λ x y. same_task rs a b n (omega arith) x y)
   where
     twice : number_in r.fields.state ≡ Some n → (h : ℕ) → number_at rs h ≡ Some n → ⊥
-    twice i h j = let z : bit (is_number n r.fields.state) ≡ 1 = own_bit n r.fields.state i in let y : 1 ≤ has_number n rs = number_counts rs h n j in omega arith
+    twice i h j = let z : bit (is_number n r.fields.state) ≡ 1 = own_bit n r.fields.state i in let y : 1 ≤ has_number n rs = number_counts rs h n j in
+        omega arith
 
-    by_hand : (x : Bool) → (r.handle == a) ≡ x → (y : Bool) → (r.handle == b) ≡ y → cond x (number_in r.fields.state) (number_at rs a) ≡ Some n → cond y (number_in r.fields.state) (number_at rs b) ≡ Some n
+    by_hand : (x : Bool) → (r.handle == a) ≡ x → (y : Bool) → (r.handle == b) ≡ y → cond x (number_in r.fields.state) (number_at rs a) ≡ Some n
+        → cond y (number_in r.fields.state) (number_at rs b) ≡ Some n
         → (number_at rs a ≡ Some n → number_at rs b ≡ Some n → a ≡ b) → a ≡ b
     by_hand true p true q i j k = sym (eqb-true r.handle a p) ∙ eqb-true r.handle b q
     by_hand true p false q i j k = absurd (twice i b j)
@@ -205,17 +211,21 @@ same_task (r ∷ rs) a b n o i j = by_hand (r.handle == a) refl (r.handle == b) 
 -- what gave a task left it dead
 gave_gone : (s : State) (g h : ℕ) (ms : List Move) → OnceIn s.tasks → Gave s g h ms → Gone kind.Task h (after_moves ms s).tasks
 gave_gone s g h ms o v =
-    let changed : OnceIn (change h (with_fields (with_notes in_no_group)) s.tasks) = once_same s.tasks _ (λ j. listed_change j h (with_fields (with_notes in_no_group)) s.tasks (λ r. refl)) o in
+    let changed : OnceIn (change h (with_fields (with_notes in_no_group)) s.tasks) =
+    once_same s.tasks _ (λ j. listed_change j h (with_fields (with_notes in_no_group)) s.tasks (λ r. refl)) o in
     let some : 1 ≤ listed h s.tasks = live_listed h s.tasks (ap is_some v.found) in
     subst (λ (ns : List Move). Gone kind.Task h (after_moves ns s).tasks) (sym v.moves)
     (record {
-      some = subst (λ (n : ℕ). 1 ≤ n) (sym (listed_change h h gone _ (λ r. refl) ∙ listed_change h h (with_fields (with_notes in_no_group)) s.tasks (λ r. refl))) some;
+      some = subst (λ (n : ℕ). 1 ≤ n) (sym (listed_change h h gone _ (λ r. refl)
+          ∙ listed_change h h (with_fields (with_notes in_no_group)) s.tasks (λ r. refl))) some;
       dead = none_dead h _ (ap is_some (at_retired h (change h (with_fields (with_notes in_no_group)) s.tasks) changed));
     })
 
 -- the record's number, at the entry that gives and at the end
-gave_number : (s : State) (g h : ℕ) (ms : List Move) (L : List NodeEntry) → OnceIn s.tasks → (v : Gave s g h ms) → number_at (after_from s L).tasks h ≡ Some v.number
-gave_number s g h ms L o v = grows_number h v.number s.tasks (after_from s L).tasks (after_grows s L) (number_found s.tasks h v.task o v.found ∙ ap number_in v.over)
+gave_number : (s : State) (g h : ℕ) (ms : List Move) (L : List NodeEntry) → OnceIn s.tasks → (v : Gave s g h ms)
+    → number_at (after_from s L).tasks h ≡ Some v.number
+gave_number s g h ms L o v = grows_number h v.number s.tasks (after_from s L).tasks (after_grows s L) (number_found s.tasks h v.task o v.found
+    ∙ ap number_in v.over)
 
 gave_below : (s : State) (g h : ℕ) (ms : List Move) → OnceIn s.tasks → Numbered s → (v : Gave s g h ms) → v.number ≤ s.ends
 gave_below s g h ms o u v = by_test (nat_lt s.ends v.number) refl
@@ -232,8 +242,10 @@ gave_below s g h ms o u v = by_test (nat_lt s.ends v.number) refl
 later : (s u : State) (g a b : ℕ) (ms ns : List Move) → (v : Gave s g a ms) → (w : Gave u g b ns) → Left g v.number u → v.number ≤ w.number
 later s u g a b ms ns v w l = from_at g v.number u.tasks b w.task l.all w.found w.member (w.end, w.number) (ap end_of w.over)
 
-in_order : (s u t : State) (g a b : ℕ) (ms ns : List Move) → (v : Gave s g a ms) → (w : Gave u g b ns) → Left g v.number u → Gone kind.Task a u.tasks → Numbered t → number_at t.tasks a ≡ Some v.number → number_at t.tasks b ≡ Some w.number → EndedBefore t a b
-in_order s u t g a b ms ns v w l d m x y = record { first = v.number; second = w.number; first_end = x; second_end = y; less = by_same (v.number == w.number) refl }
+in_order : (s u t : State) (g a b : ℕ) (ms ns : List Move) → (v : Gave s g a ms) → (w : Gave u g b ns) → Left g v.number u → Gone kind.Task a u.tasks
+    → Numbered t → number_at t.tasks a ≡ Some v.number → number_at t.tasks b ≡ Some w.number → EndedBefore t a b
+in_order s u t g a b ms ns v w l d m x y =
+    record { first = v.number; second = w.number; first_end = x; second_end = y; less = by_same (v.number == w.number) refl }
   where
     by_same : (c : Bool) → (v.number == w.number) ≡ c → v.number < w.number
     by_same false i = let k : v.number ≤ w.number = later s u g a b ms ns v w l in grind (arith, nat_tests)
@@ -250,12 +262,21 @@ given_in_order terms es g legal A B C x y a b cut i j =
     let prefix : LegalFrom (after terms A) (x ∷ B) = Legal-front (after terms A) (x ∷ B) (y ∷ C) rest in
     let behind : LegalFrom (after_from (after terms A) (x ∷ B)) (y ∷ C) = Legal-rest (after terms A) (x ∷ B) (y ∷ C) rest in
     let v = gave (after terms A) x g a (once_from terms A) rest.0 i in
-    let once : OnceIn (after_from (after terms A) (x ∷ B)).tasks = subst (λ (t : State). OnceIn t.tasks) (after-append (opening terms) A (x ∷ B)) (once_from terms (A ++ x ∷ B)) in
+    let once : OnceIn (after_from (after terms A) (x ∷ B)).tasks =
+    subst (λ (t : State). OnceIn t.tasks) (after-append (opening terms) A (x ∷ B)) (once_from terms (A ++ x ∷ B)) in
     let w = gave (after_from (after terms A) (x ∷ B)) y g b once behind.0 j in
-    let left : Left g v.number (after_from (after terms A) (x ∷ B)) = left_along g v.number (after terms A) (x ∷ B) prefix (record { next = gave_below _ g a _ (once_from terms A) (numbered_after terms A) v; all = from_endings g v.number (after terms A).tasks v.least }) in
-    let gone : Gone kind.Task a (after_from (after terms A) (x ∷ B)).tasks = (stays_gone kind.Task a (next (after terms A) x) B prefix.1 (gave_gone (after terms A) g a _ (once_from terms A) v)).0 in
+    let left : Left g v.number (after_from (after terms A) (x ∷ B)) =
+    left_along g v.number (after terms A) (x
+    ∷ B) prefix (record {
+      next = gave_below _ g a _ (once_from terms A) (numbered_after terms A) v;
+      all =
+          from_endings g v.number (after terms A).tasks v.least;
+    }) in
+    let gone : Gone kind.Task a (after_from (after terms A) (x ∷ B)).tasks =
+    (stays_gone kind.Task a (next (after terms A) x) B prefix.1 (gave_gone (after terms A) g a _ (once_from terms A) v)).0 in
     let whole_is : after terms es ≡ after_from (after terms A) (x ∷ (B ++ y ∷ C)) = ap (after terms) cut ∙ after-append (opening terms) A (x ∷ (B ++ y ∷ C)) in
-    let rest_is : after_from (after terms A) (x ∷ (B ++ y ∷ C)) ≡ after_from (after_from (after terms A) (x ∷ B)) (y ∷ C) = after-append (after terms A) (x ∷ B) (y ∷ C) in
+    let rest_is : after_from (after terms A) (x ∷ (B ++ y ∷ C)) ≡ after_from (after_from (after terms A) (x ∷ B)) (y ∷ C) =
+    after-append (after terms A) (x ∷ B) (y ∷ C) in
     in_order _ _ (after terms es) g a b _ _ v w left gone (numbered_after terms es)
     (ap (λ (t : State). number_at t.tasks a) whole_is ∙ gave_number (after terms A) g a _ (x ∷ (B ++ y ∷ C)) (once_from terms A) v)
     (ap (λ (t : State). number_at t.tasks b) (whole_is ∙ rest_is) ∙ gave_number (after_from (after terms A) (x ∷ B)) g b _ (y ∷ C) once w)

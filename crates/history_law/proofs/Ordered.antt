@@ -39,7 +39,8 @@ ready_let : (s : State) (t : Task) (q : ℕ) → t.queue ≡ Some q → is_ready
 unfolding is_ready
 ready_let s t q e h = grind (arith, nat_tests, snd_true, is_unstarted, live_of, live_object, some_same)
 
-ordered_head : (q : ℕ) (t : Task) (l : List (ℕ × Task)) (o : Option Queue) → ((x : Queue) → o ≡ Some x → x.ordered ≡ true) → holds (lets q t l) o ≡ true → is_head q t l ≡ true
+ordered_head : (q : ℕ) (t : Task) (l : List (ℕ × Task)) (o : Option Queue) → ((x : Queue) → o ≡ Some x → x.ordered ≡ true) → holds (lets q t l) o ≡ true
+    → is_head q t l ≡ true
 ordered_head q t l None f h = absurd (cc)
 ordered_head q t l (Some x) f h = by_ordered x.ordered (f x refl) (snd_true x.enabled _ h)
   where
@@ -49,7 +50,8 @@ ordered_head q t l (Some x) f h = by_ordered x.ordered (f x refl) (snd_true x.en
 
 -- A task that stands before another in its queue, and isn't waited for, has ended
 
-ended_before : (h : ℕ) (F : Task → Type 0) (p : Task → Bool) (l : List (Listed Task)) → ((t : Task) → F t → is_unended t ≡ true → p t ≡ true) → Under h F l → DeadEnded l → any_live p (live_of l) ≡ false → 1 ≤ listed h l → IsSome (end_at l h)
+ended_before : (h : ℕ) (F : Task → Type 0) (p : Task → Bool) (l : List (Listed Task)) → ((t : Task) → F t → is_unended t ≡ true → p t ≡ true) → Under h F l
+    → DeadEnded l → any_live p (live_of l) ≡ false → 1 ≤ listed h l → IsSome (end_at l h)
 unfolding live_of listed end_at
 ended_before h F p [] g u d n k = absurd (omega arith)
 ended_before h F p (r ∷ rs) g u d n k = grind (arith, nat_tests, ended_before h F p rs g u.1 d.1, on_test, end_in, end_at, any_live, live_of)
@@ -69,7 +71,8 @@ not_picked s z h e o i n = false_from_ne_true (picks h z) (λ j.
     let u : is_unstarted t.1.task ≡ true = ready_unstarted s t.1.task t.1.ready in
     none_some (sym (unstarted_none t.1.task u) ∙ (sym (end_found s.tasks h t.1.task o t.1.task_found) ∙ i)))
 
-never_picked : (s : State) (L : List NodeEntry) (h : ℕ) (e : TaskEnd) → LegalFrom s L → OnceIn s.tasks → end_at s.tasks h ≡ Some e → some_entry (picks h) L ≡ false
+never_picked : (s : State) (L : List NodeEntry) (h : ℕ) (e : TaskEnd) → LegalFrom s L → OnceIn s.tasks → end_at s.tasks h ≡ Some e
+    → some_entry (picks h) L ≡ false
 unfolding LegalFrom after_from
 never_picked s [] h e l o i = refl
 never_picked s (z ∷ zs) h e l o i =
@@ -104,7 +107,8 @@ under_more h F G [] f u = tt
 under_more h F G (r ∷ rs) f u = ((λ e. f r.fields (u.0 e)), under_more h F G rs f u.1)
 
 ordered_made : (q : ℕ) (o : Op) (s : State) → asks_ordered o ≡ true → QueueAs o q s → HasObject kind.Queue q IsOrdered s
-ordered_made q (op.QueueCreate id job priority limit ordered retain) s e v = record { some = v.some; under = under_more q _ IsOrdered s.queues (λ x k. k.ordered ∙ e) v.under }
+ordered_made q (op.QueueCreate id job priority limit ordered retain) s e v =
+    record { some = v.some; under = under_more q _ IsOrdered s.queues (λ x k. k.ordered ∙ e) v.under }
 ordered_made q _ s e v = true_false e refl
 
 -- The law
@@ -137,7 +141,8 @@ after_both q a b s C v = record {
 }
 
 -- the queue is made, a is put, and b is put
-both_put : (q a b : ℕ) (s : State) (A B C : List NodeEntry) (o x y : NodeEntry) → LegalFrom s (o ∷ (A ++ x ∷ (B ++ y ∷ C))) → makes_ordered q o ≡ true → puts q a x ≡ true → puts q b y ≡ true → Both q a b (after_from s (o ∷ (A ++ x ∷ (B ++ y ∷ C))))
+both_put : (q a b : ℕ) (s : State) (A B C : List NodeEntry) (o x y : NodeEntry) → LegalFrom s (o ∷ (A ++ x ∷ (B ++ y ∷ C))) → makes_ordered q o ≡ true
+    → puts q a x ≡ true → puts q b y ≡ true → Both q a b (after_from s (o ∷ (A ++ x ∷ (B ++ y ∷ C))))
 unfolding LegalFrom after_from
 both_put q a b s A B C o x y l p r t =
     let s1 : State = next s o in
@@ -146,7 +151,9 @@ both_put q a b s A B C o x y l p r t =
     let sy : State = after_from (next sx x) B in
     let ly : LegalFrom sy (y ∷ C) = Legal-rest (next sx x) B (y ∷ C) lx.1 in
     let queue : HasObject kind.Queue q IsOrdered s1 = ordered_made q o.op s1 (fst_true (asks_ordered o.op) _ p) (queued_as s o q l.0 (ordered_issues q o p)) in
-    let queue_y : HasObject kind.Queue q IsOrdered sy = has_along kind.Queue q IsOrdered stays_ordered (next sx x) B (has_along kind.Queue q IsOrdered stays_ordered sx (x ∷ []) (has_along kind.Queue q IsOrdered stays_ordered s1 A queue)) in
+    let queue_y : HasObject kind.Queue q IsOrdered sy =
+    has_along kind.Queue q IsOrdered stays_ordered (next sx x) B
+    (has_along kind.Queue q IsOrdered stays_ordered sx (x ∷ []) (has_along kind.Queue q IsOrdered stays_ordered s1 A queue)) in
     let f = started_as sx x a lx.0 (puts_issues q a x r) in
     let g = started_as sy y b ly.0 (puts_issues q b y t) in
     let up : sx.starts + 1 ≤ (next sx x).starts = let e : (next sx x).starts ≡ sx.starts + 1 = f.3 in omega arith in
@@ -160,7 +167,8 @@ both_put q a b s A B C o x y l p r t =
       less = omega arith;
       first_in = put_queue q f.0 x.op (fst_true (puts_into q x.op) _ r) f.1;
       second_in = put_queue q g.0 y.op (fst_true (puts_into q y.op) _ t) g.1;
-      first = has_along kind.Task a _ (task_then (new_task f.0 sx.starts)) sy (y ∷ []) (has_along kind.Task a _ (task_then (new_task f.0 sx.starts)) (next sx x) B f.2);
+      first = has_along kind.Task a _ (task_then (new_task f.0 sx.starts)) sy (y
+          ∷ []) (has_along kind.Task a _ (task_then (new_task f.0 sx.starts)) (next sx x) B f.2);
       second = g.2;
       queue = has_along kind.Queue q IsOrdered stays_ordered sy (y ∷ []) queue_y;
     } in
@@ -168,18 +176,22 @@ both_put q a b s A B C o x y l p r t =
     subst (Both q a b) (sym (after-append s1 A (x ∷ (B ++ y ∷ C)) ∙ after-append (next sx x) B (y ∷ C))) end
 
 -- where b is picked, a has ended
-first_ended : (terms : Terms) (q a b : ℕ) (s : State) (z : NodeEntry) → Stands terms s → Both q a b s → IsNext s z → picks b z ≡ true → IsSome (end_at s.tasks a)
+first_ended : (terms : Terms) (q a b : ℕ) (s : State) (z : NodeEntry) → Stands terms s → Both q a b s → IsNext s z → picks b z ≡ true
+    → IsSome (end_at s.tasks a)
 first_ended terms q a b s z stands v n p =
     let t = picks_took s z b n p in
     let same : SameTask (new_task v.k v.j) t.1.task = under_at b _ s.tasks t.1.task v.second.under t.1.task_found in
     let let_go : holds (lets q t.1.task (live_of s.tasks)) (live_object s.queues q) ≡ true = ready_let s t.1.task q (same.queue ∙ v.second_in) t.1.ready in
-    let head : is_head q t.1.task (live_of s.tasks) ≡ true = ordered_head q t.1.task (live_of s.tasks) (live_object s.queues q) (λ x e. under_at q IsOrdered s.queues x v.queue.under e) let_go in
-    ended_before a (SameTask (new_task v.n v.i)) (λ u. is_unended_in q u && nat_lt u.start t.1.task.start) s.tasks (λ u f m. passes u f m same) v.first.under stands.1.dead (not_true _ head) v.first.some
+    let head : is_head q t.1.task (live_of s.tasks) ≡ true =
+    ordered_head q t.1.task (live_of s.tasks) (live_object s.queues q) (λ x e. under_at q IsOrdered s.queues x v.queue.under e) let_go in
+    ended_before a (SameTask (new_task v.n v.i)) (λ u. is_unended_in q u
+    && nat_lt u.start t.1.task.start) s.tasks (λ u f m. passes u f m same) v.first.under stands.1.dead (not_true _ head) v.first.some
   where
     own : is_in q (new_task v.n v.i) ≡ true
     own = ap (holds (λ h. h == q)) v.first_in ∙ eq-eqb q q refl
 
-    passes : (u : Task) → SameTask (new_task v.n v.i) u → is_unended u ≡ true → {t : Task} → SameTask (new_task v.k v.j) t → (is_unended_in q u && nat_lt u.start t.start) ≡ true
+    passes : (u : Task) → SameTask (new_task v.n v.i) u → is_unended u ≡ true → {t : Task} → SameTask (new_task v.k v.j) t
+        → (is_unended_in q u && nat_lt u.start t.start) ≡ true
     passes u f m {t} g =
         let c : is_in q u ≡ true = ap (holds (λ h. h == q)) f.queue ∙ own in
         let l : v.i < v.j = v.less in
@@ -192,11 +204,15 @@ next_of s z D l = l.0
 
 pub runs_in_order : (terms : Terms) (es : List NodeEntry) (q : ℕ) → Legal terms es → RunsInOrder terms es q
 runs_in_order terms es q legal Z A B C D o x y z a b cut p r t u =
-    let whole : LegalFrom (opening terms) ((Z ++ o ∷ (A ++ x ∷ (B ++ y ∷ C))) ++ z ∷ D) = subst (λ (L : List NodeEntry). LegalFrom (opening terms) L) cut legal.from in
+    let whole : LegalFrom (opening terms) ((Z ++ o ∷ (A ++ x ∷ (B ++ y ∷ C))) ++ z ∷ D) =
+    subst (λ (L : List NodeEntry). LegalFrom (opening terms) L) cut legal.from in
     let prefix : LegalFrom (opening terms) (Z ++ o ∷ (A ++ x ∷ (B ++ y ∷ C))) = Legal-front (opening terms) (Z ++ o ∷ (A ++ x ∷ (B ++ y ∷ C))) (z ∷ D) whole in
-    let rest : LegalFrom (after terms (Z ++ o ∷ (A ++ x ∷ (B ++ y ∷ C)))) (z ∷ D) = Legal-rest (opening terms) (Z ++ o ∷ (A ++ x ∷ (B ++ y ∷ C))) (z ∷ D) whole in
+    let rest : LegalFrom (after terms (Z ++ o ∷ (A ++ x ∷ (B ++ y ∷ C)))) (z ∷ D) =
+    Legal-rest (opening terms) (Z ++ o ∷ (A ++ x ∷ (B ++ y ∷ C))) (z ∷ D) whole in
     let both : Both q a b (after terms (Z ++ o ∷ (A ++ x ∷ (B ++ y ∷ C)))) =
-    subst (Both q a b) (sym (after-append (opening terms) Z (o ∷ (A ++ x ∷ (B ++ y ∷ C))))) (both_put q a b (after terms Z) A B C o x y (Legal-rest (opening terms) Z (o ∷ (A ++ x ∷ (B ++ y ∷ C))) prefix) p r t) in
-    let ended : IsSome (end_at (after terms (Z ++ o ∷ (A ++ x ∷ (B ++ y ∷ C)))).tasks a) = first_ended terms q a b _ z (stands_after terms (Z ++ o ∷ (A ++ x ∷ (B ++ y ∷ C)))) both (next_of _ z D rest) u in
+    subst (Both q a b) (sym (after-append (opening terms) Z (o ∷ (A ++ x ∷ (B ++ y ∷ C)))))
+    (both_put q a b (after terms Z) A B C o x y (Legal-rest (opening terms) Z (o ∷ (A ++ x ∷ (B ++ y ∷ C))) prefix) p r t) in
+    let ended : IsSome (end_at (after terms (Z ++ o ∷ (A ++ x ∷ (B ++ y ∷ C)))).tasks a) =
+    first_ended terms q a b _ z (stands_after terms (Z ++ o ∷ (A ++ x ∷ (B ++ y ∷ C)))) both (next_of _ z D rest) u in
     let e = shown (end_at (after terms (Z ++ o ∷ (A ++ x ∷ (B ++ y ∷ C)))).tasks a) ended in
     record { ended = ended; never = never_picked _ (z ∷ D) a e.0 rest (once_from terms (Z ++ o ∷ (A ++ x ∷ (B ++ y ∷ C)))) e.1 }

@@ -1,5 +1,5 @@
 -- What the entries of other seats leave to a seat.
-use Rattle.history_law.proofs.Names.{◌≡◌, ◌≢◌, ℕ, zero, suc, Bool, true, false, cond, List, [], ◌∷◌, Some, None, refl, sym, ◌∙◌, ap, subst, arith, ◌==◌, ◌&&◌, not, slice_set, nat_tests, TaskEnd, marked, holds, Op, Reply, Failed, Terms, Listed, live_object, count_listed, change, with_fields, gone, is_member, in_no_group, freed, let_go, Task, Notes, with_notes, TaskState, Scheduled, Running, Ended, runner, runs_on, is_unstarted, is_unended, with_state, ended, new_task, State, opening, NodeEntry, next, LegalFrom, Legal, after_from, after, end_in, end_at, moves_phase, is_release, is_late_end, IsWaiter, Waits, OnceListed, Work, RunsWith, IsUntouched, Others, WorkerKeeps, NoPhase, NoRelease, Move, phase_is, released, stops, starts_task, runs_task, ends_task, ends_waiting, withdraws, notes, leaves, frees_members, lets_members_go, apply, after_moves, fst_true, snd_true, not_true, rest_keeps, some_same, and-false, eq-eqb, Answers, IsNext}
+use Rattle.history_law.proofs.Names.{◌≡◌, ◌≢◌, ℕ, zero, suc, Bool, true, false, cond, List, [], ◌∷◌, Some, None, refl, sym, ◌∙◌, ap, subst, arith, ◌==◌, ◌&&◌, not, slice_set, nat_tests, TaskEnd, marked, holds, Op, Reply, Terms, Listed, live_object, count_listed, with_fields, gone, is_member, in_no_group, let_go, Task, Notes, with_notes, TaskState, Scheduled, Running, Ended, runner, runs_on, is_unstarted, is_unended, State, opening, NodeEntry, next, LegalFrom, Legal, after_from, after, end_in, end_at, moves_phase, is_release, is_late_end, IsWaiter, Waits, OnceListed, Work, RunsWith, IsUntouched, Others, WorkerKeeps, NoPhase, NoRelease, Move, phase_is, released, stops, runs_task, ends_task, notes, leaves, apply, after_moves, fst_true, snd_true, not_true, rest_keeps, some_same, eq-eqb, Answers, IsNext}
 use Rattle.history_law.proofs.Reuse.{terms_next}
 use Rattle.history_law.proofs.SeatMoves.{Noted, May, MayEnd, is_any_look, by_moves, answer, kept_along}
 pub use Rattle.history_law.proofs.TaskMoves.{same_found}
@@ -8,7 +8,9 @@ use Rattle.mtapi_machine.specs.Answers as is
 use Rattle.history_law.proofs.Moves.{once_along, once_from}
 use Rattle.history_law.proofs.lists.Members.{AllOf, IsEnding, all_endings}
 use Rattle.history_law.proofs.lists.Every.{Every, every_at}
-use Rattle.history_law.proofs.lists.Found.{FoundAs, found_changed, count_changed, count_issued, count_ends, count_all, both}
+use Rattle.history_law.proofs.lists.Found.{FoundAs, found_changed}
+use Rattle.history_law.proofs.TaskSteps as step
+use Rattle.history_law.proofs.TaskSteps.{Step, tasks_go, many_steps}
 use Rattle.history_law.proofs.Answered.{whether, true_false}
 
 -- The mark of a waiter
@@ -34,16 +36,9 @@ may_end_apart w who t e1 e2 = grind (arith, nat_tests)
 apart_seats : (y who w : ℕ) → y ≡ who → who ≢ w → (y == w) ≡ false
 apart_seats y who w e n = subst (λ (v : ℕ). (v == w) ≡ false) (sym e) (grind (arith, nat_tests))
 
--- a change of a task of which the worker's count knows nothing
-count_alike : (w j : ℕ) (f : Listed Task → Listed Task) (l : List (Listed Task)) (t : Task) → live_object l j ≡ Some t → ((r : Listed Task) → r.live ≡ true → r.fields ≡ t → ((f r).live && runs_on w (f r).fields) ≡ runs_on w t) → count_listed (runs_on w) (change j f l) ≡ count_listed (runs_on w) l
-count_alike w j f l t e g = let n = count_changed (runs_on w) j f (runs_on w t) l t e g in omega arith
-
-state_alike : (w : ℕ) (f : Task → Task) → ((t : Task) → (f t).state ≡ t.state) → (t : Task) (r : Listed Task) → r.live ≡ true → r.fields ≡ t → ((with_fields f r).live && runs_on w (with_fields f r).fields) ≡ runs_on w t
-state_alike w f k t r a s = both r.live _ a ∙ (ap (λ (x : TaskState). holds (λ y. y.0 == w) (runner x)) (k r.fields) ∙ ap (runs_on w) s)
-
 -- a member that is let go of runs as before
-goes_alike : (w : ℕ) (r : Listed Task) → r.live ≡ true → ((let_go r).live && runs_on w (let_go r).fields) ≡ runs_on w r.fields
-goes_alike w r e1 = grind (arith, nat_tests)
+goes_alike : (w : ℕ) (r : Listed Task) → ((let_go r).live && runs_on w (let_go r).fields) ≡ (r.live && runs_on w r.fields)
+goes_alike w r = grind (arith, nat_tests)
 
 -- a worker gets a task, and a task ends
 abbrev pub turns_worker : Move → Bool
@@ -51,23 +46,40 @@ turns_worker (runs_task h w k) = true
 turns_worker (ends_task h e) = true
 turns_worker _ = false
 
--- the other moves leave how many tasks run on a worker
-pub other_count : (w who : ℕ) (o : Op) (s : State) (x : Move) → turns_worker x ≡ false → May s who o x → count_listed (runs_on w) (apply x s).tasks ≡ count_listed (runs_on w) s.tasks
-other_count w who o s (starts_task j t) n k = let e = count_issued (runs_on w) j (new_task t s.starts) s.tasks in omega arith
-other_count w who o s (runs_task j y z) n k = true_false refl n
-other_count w who o s (ends_task j e) n k = true_false refl n
-other_count w who o s (notes j f) n k = count_alike w j (with_fields (with_notes f)) s.tasks k.0 k.1 (state_alike w (with_notes f) (λ t. refl) k.0)
-other_count w who o s (leaves j) n k = count_alike w j gone s.tasks k.0 k.1 (λ r a f. sym (runs_over w k.0 k.2))
-other_count w who o s (ends_waiting p e) n k = count_ends (runs_on w) (λ t. is_unstarted t && p t) e s.ends s.tasks (λ r m a f. and-false _ ∙ sym (runs_scheduled w r.fields (fst_true _ _ f)))
-other_count w who o s (withdraws j f c) n k = count_ends (runs_on w) _ (Failed c) s.ends s.tasks (λ r m a i. and-false _ ∙ sym (runs_scheduled w r.fields (fst_true _ _ i)))
-other_count w who o s (frees_members g) n k = count_all (runs_on w) _ freed s.tasks (λ r a i. sym (runs_over w r.fields (not_true _ (snd_true (is_member g r.fields) _ i))))
-other_count w who o s (lets_members_go g) n k = count_all (runs_on w) (is_member g) let_go s.tasks (λ r a i. goes_alike w r a)
-other_count w who o s x n k = rest_keeps (λ t. count_listed (runs_on w) t.tasks ≡ count_listed (runs_on w) s.tasks) (λ t g q m c r y p. p) x s refl
+not_live : (a b c : Bool) → a ≡ true → b ≡ false → ((a && c) && false) ≡ (a && b)
+not_live a b c e1 e2 = grind (arith, nat_tests)
 
-work_count : (w who : ℕ) (o : Op) → who ≢ w → (s : State) (x : Move) → May s who o x → count_listed (runs_on w) (apply x s).tasks ≡ count_listed (runs_on w) s.tasks
-work_count w who o n s (runs_task j y z) k = grind (arith, nat_tests, count_alike, with_fields, with_state, apart_seats, runs_scheduled)
-work_count w who o n s (ends_task j e) k = count_alike w j (ended e s.ends) s.tasks k.0 k.1 (λ r a f. and-false _ ∙ sym (may_end_apart w who k.0 n k.2))
-work_count w who o n s x k = other_count w who o s x refl k
+-- the other moves leave how many tasks run on a worker
+other_step : (w who : ℕ) (o : Op) (s : State) (r : Listed Task) (m : Move) (q : Listed Task) → Step s r m q → turns_worker m ≡ false → May s who o m
+    → (q.live && runs_on w q.fields) ≡ (r.live && runs_on w r.fields)
+other_step w who o s r _ _ (step.stays m) n k = refl
+other_step w who o s r _ _ (step.runs j y z a i e) n k = true_false refl n
+other_step w who o s r _ _ (step.ends j x a i e) n k = true_false refl n
+other_step w who o s r _ _ (step.waited p x m a u i) n k = not_live r.live _ _ a (runs_scheduled w r.fields (fst_true _ _ u))
+other_step w who o s r _ _ (step.left j f c m a u i) n k = not_live r.live _ _ a (runs_scheduled w r.fields (fst_true _ _ u))
+other_step w who o s r _ _ (step.noted j f a i e) n k = refl
+other_step w who o s r _ _ (step.goes j a i e) n k =
+    λ x. sym a x && sym (runs_over w r.fields (subst (λ (t : Task). is_unended t ≡ false) (some_same (sym k.1 ∙ e)) k.2)) x
+other_step w who o s r _ _ (step.freed_of g a u) n k = λ x. sym a x && sym (runs_over w r.fields (not_true _ (snd_true (is_member g r.fields) _ u))) x
+other_step w who o s r _ _ (step.let_go_of g a u) n k = goes_alike w r
+
+pub other_count : (w who : ℕ) (o : Op) (s : State) (x : Move) → turns_worker x ≡ false → May s who o x
+    → count_listed (runs_on w) (apply x s).tasks ≡ count_listed (runs_on w) s.tasks
+other_count w who o s x n k =
+    many_steps (λ z. z.live && runs_on w z.fields) s x s.tasks _ (λ h t e. refl) (λ r q y. other_step w who o s r x q y n k) (tasks_go s x)
+
+work_step : (w who : ℕ) (o : Op) → who ≢ w → (s : State) (r : Listed Task) (m : Move) (q : Listed Task) → Step s r m q → May s who o m
+    → (q.live && runs_on w q.fields) ≡ (r.live && runs_on w r.fields)
+work_step w who o d s r _ _ (step.runs j y z a i e) k =
+    λ x. r.live && (apart_seats y who w k.3 d ∙ sym (runs_scheduled w r.fields (subst (λ (t : Task). is_unstarted t ≡ true) (some_same (sym k.1 ∙ e)) k.2))) x
+work_step w who o d s r _ _ (step.ends j x a i e) k = not_live r.live _ _ a (may_end_apart w who r.fields d (subst (MayEnd who) (some_same (sym k.1 ∙ e)) k.2))
+work_step w who o d s r _ _ (step.stays m) k = refl
+work_step w who o d s r m q x k = other_step w who o s r m q x refl k
+
+work_count : (w who : ℕ) (o : Op) → who ≢ w → (s : State) (x : Move) → May s who o x
+    → count_listed (runs_on w) (apply x s).tasks ≡ count_listed (runs_on w) s.tasks
+work_count w who o d s x k =
+    many_steps (λ z. z.live && runs_on w z.fields) s x s.tasks _ (λ h t e. refl) (λ r q y. work_step w who o d s r x q y k) (tasks_go s x)
 
 runs_here : (w : ℕ) (q : Work) (t : Task) → RunsWith w q t → runs_on w t ≡ true
 runs_here w q t i = ap (λ (x : TaskState). holds (λ r. r.0 == w) (runner x)) i.state ∙ eq-eqb w w refl
@@ -84,7 +96,8 @@ other_head : (w : ℕ) (e : NodeEntry) (es : List NodeEntry) → Others w (e ∷
 other_head w e es e1 = grind (arith, nat_tests)
 
 -- a member that leaves its group and goes isn't the task of a waiter
-left_apart : (w h : ℕ) (s : State) (g j : ℕ) (x : Task) → live_object s.tasks j ≡ Some x → is_member g x ≡ true → Waits s w h → Waits (after_moves (notes j in_no_group ∷ leaves j ∷ []) s) w h
+left_apart : (w h : ℕ) (s : State) (g j : ℕ) (x : Task) → live_object s.tasks j ≡ Some x → is_member g x ≡ true → Waits s w h
+    → Waits (after_moves (notes j in_no_group ∷ leaves j ∷ []) s) w h
 left_apart w h s g j x e m v =
     let u = found_changed (IsWaiter w) j h (with_fields (with_notes in_no_group)) (λ r. refl) s.tasks v.0 v.1 v.2 (λ r i a f. absurd (apart i)) in
     found_changed (IsWaiter w) j h gone (λ r. refl) _ u.0 u.1 u.2 (λ r i a f. absurd (apart i))
@@ -93,12 +106,14 @@ left_apart w h s g j x e m v =
     apart i = true_false m (no_member g x (ap (λ (t : Task). t.notes.group) (same_found s j h i x v.0 e v.1) ∙ v.2.alone))
 
 -- a look at a group gives a member, and no seat waits for one
-any_by : (w h : ℕ) (s : State) (who : ℕ) (o : Op) (r : Reply) (ms : List Move) → is_any_look o ≡ true → OnceListed s → Waits s w h → Answers s who o r ms → Waits (after_moves ms s) w h
+any_by : (w h : ℕ) (s : State) (who : ℕ) (o : Op) (r : Reply) (ms : List Move) → is_any_look o ≡ true → OnceListed s → Waits s w h → Answers s who o r ms
+    → Waits (after_moves ms s) w h
 any_by w h s who _ _ _ b o v (is.refuses p x e) = v
 any_by w h s who _ _ _ b o v (is.refuses_caller p x e) = v
 any_by w h s who _ _ _ b o v (is.any_early g x e d) = v
 any_by w h s who _ _ _ b o v (is.any_late g) = v
-any_by w h s who _ _ _ b o v (is.any_given g last x y ys t z n e d f i) = left_apart w h s g.0 y.task t f ((subst (AllOf (IsEnding g.0 s.tasks)) d (all_endings g.0 s.tasks o)).0.member t f) v
+any_by w h s who _ _ _ b o v (is.any_given g last x y ys t z n e d f i) =
+    left_apart w h s g.0 y.task t f ((subst (AllOf (IsEnding g.0 s.tasks)) d (all_endings g.0 s.tasks o)).0.member t f) v
 any_by w h s who _ _ _ b o v _ = true_false b refl
 
 pub once_stays : (s : State) (L : List NodeEntry) → OnceListed s → OnceListed (after_from s L)
@@ -108,7 +123,8 @@ pub once_after : (terms : Terms) (L : List NodeEntry) → Legal terms L → Once
 once_after terms L l = once_from terms L
 
 -- what each entry of another seat keeps, a list of them keeps
-by_others : (w : ℕ) (P : State → Type 0) → ((s : State) (e : NodeEntry) → IsNext s e → e.who ≢ w → P s → P (next s e)) → (s : State) (L : List NodeEntry) → LegalFrom s L → Others w L → P s → P (after_from s L)
+by_others : (w : ℕ) (P : State → Type 0) → ((s : State) (e : NodeEntry) → IsNext s e → e.who ≢ w → P s → P (next s e)) → (s : State) (L : List NodeEntry)
+    → LegalFrom s L → Others w L → P s → P (after_from s L)
 unfolding LegalFrom after_from
 by_others w P k s [] l o v = v
 by_others w P k s (e ∷ es) l o v = let q = other_head w e es o in by_others w P k (next s e) es l.1 q.1 (k s e l.0 q.0 v)
@@ -120,15 +136,25 @@ once_then s e o = once_stays s (e ∷ []) o
 pub waiter_stays : (s : State) (L : List NodeEntry) (w h : ℕ) → OnceListed s → LegalFrom s L → Others w L → Waits s w h → Waits (after_from s L) w h
 waiter_stays s L w h n l o v =
     (by_others w (λ t. OnceListed t × Waits t w h)
-    (λ t e i a x. (once_then t e x.0, whether (is_any_look e.op) (λ b. any_by w h t e.who e.op e.reply _ b x.0 x.1 (answer t e i)) (λ b. by_moves (λ u. Waits u w h) t e i (found_moved (IsWaiter w) e.who h e.op (waits_stay w h e.who e.op a b)) x.1))) s L l o (n, v)).1
+    (λ t e i a x. (
+      once_then t e x.0,
+      whether (is_any_look e.op) (λ b. any_by w h t e.who e.op e.reply _ b x.0 x.1 (answer t e i))
+          (λ b. by_moves (λ u. Waits u w h) t e i (found_moved (IsWaiter w) e.who h e.op (waits_stay w h e.who e.op a b)) x.1),
+    )) s L l o (n, v)).1
 
-count_stays : (s : State) (L : List NodeEntry) (w : ℕ) → LegalFrom s L → Others w L → count_listed (runs_on w) (after_from s L).tasks ≡ count_listed (runs_on w) s.tasks
+count_stays : (s : State) (L : List NodeEntry) (w : ℕ) → LegalFrom s L → Others w L
+    → count_listed (runs_on w) (after_from s L).tasks ≡ count_listed (runs_on w) s.tasks
 count_stays s L w l o =
-    by_others w (λ t. count_listed (runs_on w) t.tasks ≡ count_listed (runs_on w) s.tasks) (λ t e i a v. by_moves (λ u. count_listed (runs_on w) u.tasks ≡ count_listed (runs_on w) s.tasks) t e i (λ u x k y. work_count w e.who e.op a u x k ∙ y) v) s L l o refl
+    by_others w (λ t. count_listed (runs_on w) t.tasks
+    ≡ count_listed (runs_on w) s.tasks) (λ t e i a v. by_moves (λ u. count_listed (runs_on w) u.tasks
+    ≡ count_listed (runs_on w) s.tasks) t e i (λ u x k y. work_count w e.who e.op a u x k ∙ y) v) s L l o refl
 
-runs_stay : (s : State) (L : List NodeEntry) (w h : ℕ) (q : Work) → LegalFrom s L → Others w L → FoundAs (RunsWith w q) s.tasks h → FoundAs (RunsWith w q) (after_from s L).tasks h
+runs_stay : (s : State) (L : List NodeEntry) (w h : ℕ) (q : Work) → LegalFrom s L → Others w L → FoundAs (RunsWith w q) s.tasks h
+    → FoundAs (RunsWith w q) (after_from s L).tasks h
 runs_stay s L w h q l o v =
-    by_others w (λ t. FoundAs (RunsWith w q) t.tasks h) (λ t e i a x. by_moves (λ u. FoundAs (RunsWith w q) u.tasks h) t e i (found_moved (RunsWith w q) e.who h e.op (runs_stay_live w h q e.who e.op a)) x) s L l o v
+    by_others w (λ t. FoundAs (RunsWith w q) t.tasks h)
+    (λ t e i a x. by_moves (λ u. FoundAs (RunsWith w q) u.tasks h) t e i
+    (found_moved (RunsWith w q) e.who h e.op (runs_stay_live w h q e.who e.op a)) x) s L l o v
 
 pub work_stays : (s : State) (L : List NodeEntry) (w : ℕ) → LegalFrom s L → Others w L → WorkerKeeps s (after_from s L) w
 work_stays s L w l o = record {
@@ -149,7 +175,8 @@ unfolding LegalFrom after_from
 phase_stays s [] l n = refl
 phase_stays s (e ∷ es) l n = phase_stays (next s e) es l.1 n.1 ∙ by_moves (λ t. t.phase ≡ s.phase) s e l.0 (phase_move e.who e.op n.0 s) refl
 
-release_move : (who : ℕ) (o : Op) → is_release o ≡ false → (s t : State) (x : Move) → May t who o x → t.released ≡ s.released → (apply x t).released ≡ s.released
+release_move : (who : ℕ) (o : Op) → is_release o ≡ false → (s t : State) (x : Move) → May t who o x → t.released ≡ s.released
+    → (apply x t).released ≡ s.released
 release_move who o n s t released k v = true_false k n
 release_move who o n s t x k v = rest_keeps (λ u. u.released ≡ s.released) (λ t g q m c r y p. p) x t v
 
@@ -174,7 +201,8 @@ time_kept : (who : ℕ) (o : Op) → IsKept InTime who o
 time_kept who o = grind (arith, nat_tests)
 
 pub time_after : (s : State) (L : List NodeEntry) → LegalFrom s L → Every InTime s.tasks → Every InTime (after_from s L).tasks
-time_after s L l v = kept_along (λ t. Every InTime t.tasks) (λ t e i. by_moves (λ u. Every InTime u.tasks) t e i (every_moved InTime e.who e.op (time_kept e.who e.op))) s L l v
+time_after s L l v = kept_along (λ t. Every InTime t.tasks)
+    (λ t e i. by_moves (λ u. Every InTime u.tasks) t e i (every_moved InTime e.who e.op (time_kept e.who e.op))) s L l v
 
 -- so does the end in the first record under a handle
 ended_late : (h : ℕ) (e : TaskEnd) (l : List (Listed Task)) → Every InTime l → end_at l h ≡ Some e → is_late_end e ≡ false
@@ -206,9 +234,11 @@ clean_kept : (who : ℕ) (o : Op) → IsKept Clean who o
 clean_kept who o = grind (arith, nat_tests, true_false, noted_clean)
 
 clean_after : (s : State) (L : List NodeEntry) → LegalFrom s L → Every Clean s.tasks → Every Clean (after_from s L).tasks
-clean_after s L l v = kept_along (λ t. Every Clean t.tasks) (λ t e i. by_moves (λ u. Every Clean u.tasks) t e i (every_moved Clean e.who e.op (clean_kept e.who e.op))) s L l v
+clean_after s L l v = kept_along (λ t. Every Clean t.tasks)
+    (λ t e i. by_moves (λ u. Every Clean u.tasks) t e i (every_moved Clean e.who e.op (clean_kept e.who e.op))) s L l v
 
-pub unstarted_untouched : (terms : Terms) (L : List NodeEntry) (h : ℕ) (t : Task) → Legal terms L → live_object (after terms L).tasks h ≡ Some t → is_unstarted t ≡ true → IsUntouched t
+pub unstarted_untouched : (terms : Terms) (L : List NodeEntry) (h : ℕ) (t : Task) → Legal terms L → live_object (after terms L).tasks h ≡ Some t
+    → is_unstarted t ≡ true → IsUntouched t
 unstarted_untouched terms L h t l a i = every_at Clean (after terms L).tasks h t (clean_after (opening terms) L l.from tt) a i
 
 -- The terms stay
@@ -230,4 +260,5 @@ stopped_move w who o s (stops y) k v = set_keeps s.stopped w y v
 stopped_move w who o s x k v = rest_keeps (λ t. marked w t.stopped ≡ true) (λ t g q m c r y p. p) x s v
 
 pub stopped_stays : (s : State) (L : List NodeEntry) (w : ℕ) → LegalFrom s L → marked w s.stopped ≡ true → marked w (after_from s L).stopped ≡ true
-stopped_stays s L w l v = kept_along (λ t. marked w t.stopped ≡ true) (λ t e i. by_moves (λ u. marked w u.stopped ≡ true) t e i (stopped_move w e.who e.op)) s L l v
+stopped_stays s L w l v = kept_along (λ t. marked w t.stopped
+    ≡ true) (λ t e i. by_moves (λ u. marked w u.stopped ≡ true) t e i (stopped_move w e.who e.op)) s L l v

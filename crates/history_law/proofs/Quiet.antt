@@ -1,11 +1,13 @@
 -- In a quiet history a task ends as the kind of an action of its job answers.
-use Rattle.history_law.proofs.Names.{nat_tests, arith, ◌≡◌, ℕ, Bool, true, false, List, [], ◌∷◌, Some, refl, sym, ◌∙◌, ap, ◌&&◌, nat_lt, int_eq, pointwise, eqb-true, Decides-int_eq, slice_eq-Decides, in_mask, Kind, TaskEnd, Cancelled, is_pure, answer_of, Answered, IsAnswered, Listed, live_object, issue, change, with_fields, gone, Action, with_enabled, has_enabled_job, is_eligible, Task, TaskState, Scheduled, Running, Ended, runs_as, kind_number, is_unstarted, with_state, with_notes, is_member, freed, let_go, Queue, is_shut_in, Op, Reply, Terms, State, opening, workers, Move, Queues, makes_action, enables, withdraws, starts_task, runs_task, ends_task, ends_waiting, notes, leaves, frees_members, lets_members_go, makes, alters, removes, apply, after_moves, task_end, NodeEntry, IsNext, IsHonest, next, LegalFrom, after_from, IsMade, MakesAction, WithdrawsAction, EndsTask, AltersObject, is_pick, ends_many, makes_of_sort, end_in, some_same, fst_true, snd_true, by_moves, is_quiet, AreQuiet, HasPure, task_at, IsPlain, QuietTasksEndPlainly, ℤ, Answers, not, not_false}
+use Rattle.history_law.proofs.Names.{nat_tests, arith, ◌≡◌, ℕ, Bool, true, false, List, [], ◌∷◌, Some, refl, sym, ◌∙◌, ap, ◌&&◌, nat_lt, int_eq, pointwise, eqb-true, Decides-int_eq, slice_eq-Decides, in_mask, Kind, TaskEnd, Cancelled, is_pure, answer_of, Answered, IsAnswered, Listed, live_object, issue, change, with_fields, gone, Action, with_enabled, has_enabled_job, is_eligible, Task, TaskState, Scheduled, Running, Ended, runs_as, kind_number, is_unstarted, with_state, Queue, is_shut_in, Op, Reply, Terms, State, opening, workers, Move, Queues, makes_action, enables, withdraws, runs_task, ends_task, ends_waiting, makes, alters, removes, apply, after_moves, task_end, NodeEntry, IsNext, IsHonest, next, LegalFrom, after_from, IsMade, MakesAction, WithdrawsAction, EndsTask, AltersObject, is_pick, ends_many, makes_of_sort, end_in, some_same, fst_true, snd_true, by_moves, is_quiet, AreQuiet, HasPure, task_at, IsPlain, QuietTasksEndPlainly, ℤ, Answers, not, not_false}
 use Rattle.mtapi_values.specs.declared.kinds.Kind.TheVariants as kind
 use Rattle.mtapi_machine.specs.declared.ops.Op.TheVariants as op
 use Rattle.history_law.proofs.Answered.{true_false, whether}
 use Rattle.history_law.proofs.SeatMoves.{answer}
 use Rattle.mtapi_machine.specs.Answers as is
-use Rattle.history_law.proofs.lists.Every.{Every, every_issue, every_change, every_all, every_map, every_at, every_passing, always}
+use Rattle.history_law.proofs.lists.Every.{Every, every_issue, every_change, every_map, every_at, always}
+use Rattle.history_law.proofs.TaskSteps as step
+use Rattle.history_law.proofs.TaskSteps.{Step, tasks_go, every_steps}
 use Rattle.history_law.proofs.lists.Found.{found_changed, found_issued}
 use Rattle.history_law.proofs.lists.KindNumbers.{same_kind}
 
@@ -40,7 +42,15 @@ IsCalm s = Calm s.actions s.queues s.tasks
 pure_more : (h : ℕ) (a : Action) (l : List (Listed Action)) (job : ℕ) (k : Kind) → HasPure l job k → HasPure (issue h a l) job k
 pure_more h a l job k p =
     let x = found_issued (λ y. y ≡ p.action) h p.handle a l p.action p.found refl in
-    record { handle = p.handle; action = x.0; found = x.1; of_job = ap (λ (y : Action). y.job) x.2 ∙ p.of_job; of_kind = ap (λ (y : Action). y.kind) x.2 ∙ p.of_kind; pure = p.pure }
+    record {
+      handle = p.handle;
+      action = x.0;
+      found = x.1;
+      of_job = ap (λ (y : Action). y.job) x.2 ∙ p.of_job;
+      of_kind =
+          ap (λ (y : Action). y.kind) x.2 ∙ p.of_kind;
+      pure = p.pure;
+    }
 
 pure_enabled : (h : ℕ) (l : List (Listed Action)) (job : ℕ) (k : Kind) → HasPure l job k → HasPure (change h (with_fields (with_enabled true)) l) job k
 pure_enabled h l job k p =
@@ -48,10 +58,12 @@ pure_enabled h l job k p =
     (λ r i a e. (a, (ap (λ (y : Action). y.job) e ∙ p.of_job, ap (λ (y : Action). y.kind) e ∙ p.of_kind))) in
     record { handle = p.handle; action = x.0; found = x.1; of_job = x.2.0; of_kind = x.2.1; pure = p.pure }
 
-goes_in : (l m : List (Listed Action)) (job : ℕ) (args : List ℤ) → ((k : Kind) → HasPure l job k → HasPure m job k) → (x : TaskState) → GoesIn l job args x → GoesIn m job args x
+goes_in : (l m : List (Listed Action)) (job : ℕ) (args : List ℤ) → ((k : Kind) → HasPure l job k → HasPure m job k) → (x : TaskState) → GoesIn l job args x
+    → GoesIn m job args x
 goes_in l m job args e1 x e2 = grind (arith, nat_tests)
 
-goes_all : (l m : List (Listed Action)) (tasks : List (Listed Task)) → ((job : ℕ) (k : Kind) → HasPure l job k → HasPure m job k) → Every (Goes l) tasks → Every (Goes m) tasks
+goes_all : (l m : List (Listed Action)) (tasks : List (Listed Task)) → ((job : ℕ) (k : Kind) → HasPure l job k → HasPure m job k) → Every (Goes l) tasks
+    → Every (Goes m) tasks
 goes_all l m tasks f g = every_map (Goes l) (λ t. Unit {0}) (Goes m) tasks (λ t x u. goes_in l m t.job t.args (f t.job) t.state x) g (always tasks)
 
 -- The moves of an op that neither takes nor ends tasks by itself, and makes no queue
@@ -86,27 +98,34 @@ queue_special o e1 = grind (arith, nat_tests)
 queue_opened : (h : ℕ) (f : Queue → Queue) (o : Op) → is_quiet o ≡ true → AltersObject Queues h f o → (x : Queue) → (f x).enabled ≡ true
 queue_opened h f o e1 e2 x = grind (arith, nat_tests)
 
+step_goes : (o : Op) → is_quiet o ≡ true → is_special o ≡ false → (s : State) (r : Listed Task) (m : Move) (z : Listed Task) → Step s r m z → IsMade s o m
+    → Goes s.actions r.fields → Goes s.actions z.fields
+step_goes o q n s r _ _ (step.runs h w k a i f) e g = true_false (pick_special o e.by) n
+step_goes o q n s r _ _ (step.ends h x a i f) e g = true_false (end_special h o q e.by) n
+step_goes o q n s r _ _ (step.waited p x k a u l) e g = true_false (many_special o q e.by) n
+step_goes o q n s r _ _ (step.left h f c k a u l) e g = absurd (none_withdrawn h f o q e.by)
+step_goes o q n s r _ _ _ e g = g
+
 calm_move : (o : Op) → is_quiet o ≡ true → is_special o ≡ false → (s : State) (m : Move) → IsMade s o m → IsCalm s → IsCalm (apply m s)
 calm_move o q n s (makes_action h a) e v = grind (arith, nat_tests, every_issue, made_pure, goes_all, pure_more)
 calm_move o q n s (enables h) e v = grind (arith, nat_tests, every_change, with_fields, with_enabled, goes_all, pure_enabled)
 calm_move o q n s (withdraws h f c) e v = absurd (none_withdrawn h f o q e.by)
-calm_move o q n s (starts_task h t) e v = record { pure = v.pure; on = v.on; goes = every_issue (Goes s.actions) h _ s.tasks tt v.goes }
-calm_move o q n s (runs_task h w k) e v = true_false (pick_special o e.by) n
-calm_move o q n s (ends_task h x) e v = true_false (end_special h o q e.by) n
-calm_move o q n s (ends_waiting p x) e v = true_false (many_special o q e.by) n
-calm_move o q n s (notes h f) e v = record { pure = v.pure; on = v.on; goes = every_change (Goes s.actions) h (with_fields (with_notes f)) s.tasks (λ r d g. g) v.goes }
-calm_move o q n s (leaves h) e v = record { pure = v.pure; on = v.on; goes = every_change (Goes s.actions) h gone s.tasks (λ r d g. g) v.goes }
-calm_move o q n s (frees_members g) e v = record { pure = v.pure; on = v.on; goes = every_all (Goes s.actions) _ freed s.tasks (λ r y. y) v.goes }
-calm_move o q n s (lets_members_go g) e v = record { pure = v.pure; on = v.on; goes = every_all (Goes s.actions) (is_member g) let_go s.tasks (λ r y. y) v.goes }
 calm_move o q n s (makes Queues h x) e v = true_false (queue_special o e.by) n
-calm_move o q n s (alters Queues h f) e v = record { pure = v.pure; on = every_change IsOn h (with_fields f) s.queues (λ r d p. queue_opened h f o q e.by r.fields) v.on; goes = v.goes }
+calm_move o q n s (alters Queues h f) e v =
+    record { pure = v.pure; on = every_change IsOn h (with_fields f) s.queues (λ r d p. queue_opened h f o q e.by r.fields) v.on; goes = v.goes }
 calm_move o q n s (removes Queues h) e v = record { pure = v.pure; on = every_change IsOn h gone s.queues (λ r d p. p) v.on; goes = v.goes }
-calm_move o q n s _ e v = v
+calm_move o q n s m e v =
+    record {
+      pure = v.pure;
+      on = v.on;
+      goes = every_steps (Goes s.actions) s m s.tasks _ (λ h t i. tt) (λ r z x. step_goes o q n s r m z x e) (tasks_go s m) v.goes;
+    }
 
 -- The other ops, by their answers
 
 -- a task that is taken
-takes : (s : State) (w t a : ℕ) (x : Task) (y : Action) → IsCalm s → live_object s.tasks t ≡ Some x → live_object s.actions a ≡ Some y → is_eligible (workers s) w x.job x.cores y ≡ true → IsCalm (apply (runs_task t w y.kind) s)
+takes : (s : State) (w t a : ℕ) (x : Task) (y : Action) → IsCalm s → live_object s.tasks t ≡ Some x → live_object s.actions a ≡ Some y
+    → is_eligible (workers s) w x.job x.cores y ≡ true → IsCalm (apply (runs_task t w y.kind) s)
 takes s w t a x y v e d m = record {
   pure = v.pure;
   on = v.on;
@@ -114,37 +133,64 @@ takes s w t a x y v e d m = record {
 }
   where
     job : y.job ≡ x.job
-    job = eqb-true y.job x.job (snd_true y.enabled _ (fst_true (has_enabled_job x.job y) _ (fst_true (has_enabled_job x.job y && nat_lt w (workers s)) _ (fst_true (has_enabled_job x.job y && nat_lt w (workers s) && in_mask w y.cores) _ m))))
+    job = eqb-true y.job x.job (snd_true y.enabled _
+        (fst_true (has_enabled_job x.job y) _ (fst_true (has_enabled_job x.job y
+        && nat_lt w (workers s)) _ (fst_true (has_enabled_job x.job y && nat_lt w (workers s) && in_mask w y.cores) _ m))))
 
     runs : (r : Listed Task) → x ≡ r.fields → HasPure s.actions r.fields.job y.kind
-    runs r i = record { handle = a; action = y; found = d; of_job = job ∙ ap (λ (z : Task). z.job) i; of_kind = refl; pure = every_at IsPure s.actions a y v.pure d }
+    runs r i = record {
+      handle = a;
+      action = y;
+      found = d;
+      of_job = job ∙ ap (λ (z : Task). z.job) i;
+      of_kind = refl;
+      pure =
+          every_at IsPure s.actions a y v.pure d;
+    }
 
 -- a task that runs as this kind has the kind of an action of its job
 running : (actions : List (Listed Action)) (w : ℕ) (k : Kind) (t : Task) → Goes actions t → runs_as w k t ≡ true → HasPure actions t.job k
 running actions w k t g e = grind (arith, nat_tests, kind_number, true_false, same_kind, eqb-true, snd_true)
 
 -- a task that ends as such a kind answers
-ends : (s : State) (t : ℕ) (x : Task) (d : Answered) → IsCalm s → live_object s.tasks t ≡ Some x → HasPure s.actions x.job d.kind → x.args ≡ d.args → IsAnswered d → IsCalm (apply (ends_task t (task_end d.end)) s)
+ends : (s : State) (t : ℕ) (x : Task) (d : Answered) → IsCalm s → live_object s.tasks t ≡ Some x → HasPure s.actions x.job d.kind → x.args ≡ d.args
+    → IsAnswered d → IsCalm (apply (ends_task t (task_end d.end)) s)
 ends s t x d v e p same i = grind (arith, nat_tests, every_change, task_end, some_same, answer_of)
 
 same_args : (xs ys : List ℤ) → pointwise int_eq xs ys ≡ true → xs ≡ ys
 same_args xs ys e = (slice_eq-Decides Decides-int_eq xs ys (pointwise int_eq xs ys) refl).0 e
 
 -- no task runs as another kind
-pub none_impure : (s : State) (who t : ℕ) (k : Kind) (x : Task) → IsCalm s → is_pure k ≡ false → live_object s.tasks t ≡ Some x → not (runs_as who k x) ≡ false → ⊥
+pub none_impure : (s : State) (who t : ℕ) (k : Kind) (x : Task) → IsCalm s → is_pure k ≡ false → live_object s.tasks t ≡ Some x → not (runs_as who k x) ≡ false
+    → ⊥
 none_impure s who t k x v n e m = true_false (running s.actions who k x (every_at (Goes s.actions) s.tasks t x v.goes e) (not_false _ m)).pure n
 
 none_shut : (queues : List (Listed Queue)) (t : Task) → Every IsOn queues → is_shut_in queues t ≡ false
 none_shut queues t e1 = grind (arith, nat_tests, live_object, every_at)
 
-on_close : (s : State) → IsCalm s → IsCalm (apply (ends_waiting (is_shut_in s.queues) Cancelled) s)
-on_close s e1 = grind (arith, nat_tests, every_passing, is_unstarted, is_shut_in, true_false, snd_true, none_shut)
+abbrev closing : State → Move
+closing s = ends_waiting (is_shut_in s.queues) Cancelled
 
-by_answer : (s : State) (who : ℕ) (o : Op) (r : Reply) (ms : List Move) → IsHonest o → IsCalm s → is_special o ≡ true → Answers s who o r ms → IsCalm (after_moves ms s)
+on_close : (s : State) → IsCalm s → IsCalm (apply (closing s) s)
+on_close s v =
+    record {
+      pure = v.pure;
+      on = v.on;
+      goes =
+          every_steps (Goes s.actions) s (closing s) s.tasks _ (λ h t i. tt) (λ r q x. by r q x) (tasks_go s (closing s)) v.goes;
+    }
+  where
+    by : (r q : Listed Task) → Step s r (closing s) q → Goes s.actions r.fields → Goes s.actions q.fields
+    by r _ (step.stays _) g = g
+    by r _ (step.waited _ _ n a u i) g = true_false (snd_true (is_unstarted r.fields) _ u) (none_shut s.queues r.fields v.on)
+
+by_answer : (s : State) (who : ℕ) (o : Op) (r : Reply) (ms : List Move) → IsHonest o → IsCalm s → is_special o ≡ true → Answers s who o r ms
+    → IsCalm (after_moves ms s)
 by_answer s who _ _ _ i v n (is.refuses o x e) = v
 by_answer s who _ _ _ i v n (is.refuses_caller o x e) = v
 by_answer s who _ _ _ i v n (is.closes_node a) = on_close s v
-by_answer s who _ _ _ i v n (is.creates_queue id job priority limit ordered retain h a f) = record { pure = v.pure; on = every_issue IsOn _ _ s.queues refl v.on; goes = v.goes }
+by_answer s who _ _ _ i v n (is.creates_queue id job priority limit ordered retain h a f) =
+    record { pure = v.pure; on = every_issue IsOn _ _ s.queues refl v.on; goes = v.goes }
 by_answer s who _ _ _ i v n (is.idles_in_new a) = v
 by_answer s who _ _ _ i v n (is.idles a) = v
 by_answer s who _ _ _ i v n (is.stops_worker a b c) = v
@@ -156,7 +202,8 @@ by_answer s who _ _ _ i v n (is.tally_ends t x y z k f d a b) = absurd (none_imp
 by_answer s who _ _ _ i v n _ = true_false n refl
 
 pub calm_next : (s : State) (e : NodeEntry) → IsNext s e → is_quiet e.op ≡ true → IsCalm s → IsCalm (next s e)
-calm_next s e i q v = whether (is_special e.op) (λ n. by_answer s e.who e.op e.reply _ i.honest v n (answer s e i)) (λ n. by_moves IsCalm s e (λ t m a c. calm_move e.op q n t m a c) v)
+calm_next s e i q v = whether (is_special e.op) (λ n. by_answer s e.who e.op e.reply _ i.honest v n (answer s e i))
+    (λ n. by_moves IsCalm s e (λ t m a c. calm_move e.op q n t m a c) v)
 
 pub calm_along : (s : State) (L : List NodeEntry) → LegalFrom s L → AreQuiet L → IsCalm s → IsCalm (after_from s L)
 unfolding LegalFrom after_from
@@ -173,7 +220,8 @@ unfolding task_at
 every_task P [] h t v e = absurd (cc)
 every_task P (r ∷ rs) h t v e = grind (arith, nat_tests, every_task P rs h t v.1, task_at, some_same)
 
-plain_end : (actions : List (Listed Action)) (job : ℕ) (args : List ℤ) (x : TaskState) (e : TaskEnd) → GoesIn actions job args x → end_in x ≡ Some e → IsPlain actions job args e
+plain_end : (actions : List (Listed Action)) (job : ℕ) (args : List ℤ) (x : TaskState) (e : TaskEnd) → GoesIn actions job args x → end_in x ≡ Some e
+    → IsPlain actions job args e
 plain_end actions job args x e e1 e2 = grind (arith, nat_tests)
 
 pub quiet_tasks_end_plainly : QuietTasksEndPlainly

@@ -16,7 +16,8 @@ no_end = refl
 refuses_close : EndsAfterClose usual too_early first_handle → ⊥
 unfolding too_early
 refuses_close f =
-    let before : List NodeEntry = main op.Initialize reply.Ok ∷ main makes_action (reply.Handle first_handle) ∷ main (add_task 0) (reply.Handle first_handle) ∷ [] in
+    let before : List NodeEntry = main op.Initialize reply.Ok ∷ main makes_action (reply.Handle first_handle) ∷ main (add_task 0) (reply.Handle first_handle)
+    ∷ [] in
     let prefix : List NodeEntry = main op.Initialize reply.Ok ∷ main makes_action (reply.Handle first_handle) ∷ [] in
     let x = f before [] prefix (main op.Final reply.Ok ∷ []) (main (add_task 0) (reply.Handle first_handle)) 1 refl refl refl in
     not_some (sym no_end ∙ x.ended)
@@ -41,9 +42,11 @@ refuses_kind terms f = (f refl refl).entries refl refl
 
 refuses_core : ObeysMasks on_another_core 2 → ⊥
 refuses_core f =
-    let prefix : List NodeEntry = main (op.ActionCreate 1 kind.Add second_core) (reply.Handle first_handle) ∷ main (add_task 0) (reply.Handle first_handle) ∷ [] in
+    let prefix : List NodeEntry = main (op.ActionCreate 1 kind.Add second_core) (reply.Handle first_handle) ∷ main (add_task 0) (reply.Handle first_handle)
+    ∷ [] in
     let x = f prefix [] 0 (task first_handle) the_action kind.Add (pos 2 ∷ pos 3 ∷ []) refl refl in
-    true_false (sym (x.action [] (main (add_task 0) (reply.Handle first_handle) ∷ []) (main (op.ActionCreate 1 kind.Add second_core) (reply.Handle first_handle)) 2 refl refl refl))
+    true_false (sym (x.action [] (main (add_task 0) (reply.Handle first_handle)
+    ∷ []) (main (op.ActionCreate 1 kind.Add second_core) (reply.Handle first_handle)) 2 refl refl refl))
 
 refuses_twice : GivenInOrder usual given_twice first_handle → ⊥
 refuses_twice f =
@@ -63,7 +66,8 @@ refuses_order : RunsInOrder usual (two_put ++ picks_second) first_handle → ⊥
 unfolding two_put
 refuses_order f =
     let z : List NodeEntry = main op.Initialize reply.Ok ∷ main makes_action (reply.Handle first_handle) ∷ [] in
-    let x = f z [] [] [] [] (main (op.QueueCreate 1 1 0 2 true true) (reply.Handle first_handle)) (main puts_one (reply.Handle first_handle)) (main puts_one (reply.Handle next_handle)) (worker op.Pick (reply.Picked (task next_handle) the_action kind.Add []))
+    let x = f z [] [] [] [] (main (op.QueueCreate 1 1 0 2 true true) (reply.Handle first_handle)) (main puts_one (reply.Handle first_handle))
+    (main puts_one (reply.Handle next_handle)) (worker op.Pick (reply.Picked (task next_handle) the_action kind.Add []))
     first_handle next_handle refl refl refl refl refl in
     is_none_some _ not_run x.ended
 
@@ -83,7 +87,8 @@ apart : Some Cancelled ≡ Some (Completed []) → ⊥
 apart e = cc
 
 refuses_two : TellsItsEnd usual two_ends first_handle → ⊥
-refuses_two f = apart (sym (f [] (completed_then ∷ []) cancelled_first Cancelled refl refl) ∙ f (cancelled_first ∷ []) [] completed_then (Completed []) refl refl)
+refuses_two f = apart (sym (f [] (completed_then ∷ []) cancelled_first Cancelled refl refl)
+    ∙ f (cancelled_first ∷ []) [] completed_then (Completed []) refl refl)
 
 apart_seats : (v w : ℕ) → v < w → v ≡ w → ⊥
 apart_seats v w l e = omega arith
@@ -103,10 +108,12 @@ unfolding beside_a_tally
 refuses_tally_mutex f =
     let held : 0 < 1 = omega arith in
     apart_seats 0 2 (omega arith)
-    ((f beside_a_tally [] h1 refl).one 0 2 (inr (record { task = task h1; before = begins; since = caller_gets; cut = refl; got = tally_has_it; unended = refl })) (inl held))
+    ((f beside_a_tally [] h1 refl).one 0 2 (inr
+    (record { task = task h1; before = begins; since = caller_gets; cut = refl; got = tally_has_it; unended = refl })) (inl held))
 
 refuses_beside : RwlsKeepTo (makes_rwl ∷ reads_beside) → ⊥
-refuses_beside f = by_holders ((f (makes_rwl ∷ reads_beside) [] first_handle refl).held 2 (record { before = []; by = makes_rwl; behind = reads_beside; cut = refl; issued = refl; limited = refl }))
+refuses_beside f = by_holders ((f (makes_rwl ∷ reads_beside) [] first_handle refl).held 2
+    (record { before = []; by = makes_rwl; behind = reads_beside; cut = refl; issued = refl; limited = refl }))
   where
     by_holders : OneWriter (makes_rwl ∷ reads_beside) first_handle ⊎ ReadersAlone (makes_rwl ∷ reads_beside) first_handle 2 → ⊥
     by_holders (inl x) = apart_seats 0 1 (omega arith) (sym x.readers)
@@ -122,7 +129,8 @@ refuses_none : SemsKeepTo gets_none → ⊥
 refuses_none f = apart_seats 0 1 (omega arith) (sym ((f gets_none [] first_handle refl).unmade refl))
 
 refuses_readers : RwlsKeepTo three_read → ⊥
-refuses_readers f = by_holders ((f three_read [] first_handle refl).held 2 (record { before = []; by = makes_rwl; behind = _; cut = refl; issued = refl; limited = refl }))
+refuses_readers f = by_holders ((f three_read [] first_handle refl).held 2
+    (record { before = []; by = makes_rwl; behind = _; cut = refl; issued = refl; limited = refl }))
   where
     by_holders : OneWriter three_read first_handle ⊎ ReadersAlone three_read first_handle 2 → ⊥
     by_holders (inl x) = apart_seats 0 1 (omega arith) x.writer
@@ -172,7 +180,8 @@ no_write = refl
 refuses_sum : HoldsTheSum usual (written_untold ++ final_first) first_handle 0 → ⊥
 refuses_sum f =
     apart_numbers
-    (f written_untold [] 1 0 nine refl holds_nine (omega arith) no_write (λ A B w t x cut a b. absurd (true_false (sym (some_lock A B w t) ∙ (ap (some_entry is_lock) (sym cut) ∙ no_lock))))
+    (f written_untold [] 1 0 nine refl holds_nine (omega arith) no_write
+    (λ A B w t x cut a b. absurd (true_false (sym (some_lock A B w t) ∙ (ap (some_entry is_lock) (sym cut) ∙ no_lock))))
     ∙ ap (λ (l : List (Listed Task)). sum_of (number_added first_handle 0) l) no_tasks)
   where
     apart_numbers : pos 9 ≡ pos 0 → ⊥

@@ -74,9 +74,6 @@ disabled_deleted e = cc
 failed_miscounted : Failed status.ErrActionFailed ≡ Failed status.ErrArgSize → ⊥
 failed_miscounted e = cc
 
-completed_miscounted : (args : List ℤ) → Completed args ≡ Failed status.ErrArgSize → ⊥
-completed_miscounted args e = cc
-
 three_two : Completed (pos 3 ∷ []) ≡ Completed (pos 2 ∷ []) → ⊥
 three_two e = cc
 

@@ -23,16 +23,19 @@ unmade : ObeysMasks picked_unmade 1 → ⊥
 unmade f = true_false (sym (f (started_here ∷ []) [] 0 (task first_handle) the_action kind.Add (pos 2 ∷ pos 3 ∷ []) refl refl).made)
 
 first_number : number_at (after usual (ended_crosswise ++ given_crosswise)).tasks first_handle ≡ Some 1
-unfolding ended_crosswise number_at after_from live_of issue change listed issued_at retired is_full may_issue has_worker end_each endings is_ready can_take has_better
+unfolding ended_crosswise number_at after_from live_of issue change listed issued_at retired is_full may_issue has_worker end_each endings is_ready can_take
+    has_better
 first_number = refl
 
 next_number : number_at (after usual (ended_crosswise ++ given_crosswise)).tasks next_handle ≡ Some 0
-unfolding ended_crosswise number_at after_from live_of issue change listed issued_at retired is_full may_issue has_worker end_each endings is_ready can_take has_better
+unfolding ended_crosswise number_at after_from live_of issue change listed issued_at retired is_full may_issue has_worker end_each endings is_ready can_take
+    has_better
 next_number = refl
 
 crosswise : GivenInOrder usual (ended_crosswise ++ given_crosswise) first_handle → ⊥
 crosswise f =
-    let x : EndedBefore (after usual (ended_crosswise ++ given_crosswise)) first_handle next_handle = f ended_crosswise [] [] gives_first gives_second first_handle next_handle refl refl refl in
+    let x : EndedBefore (after usual (ended_crosswise ++ given_crosswise)) first_handle next_handle =
+    f ended_crosswise [] [] gives_first gives_second first_handle next_handle refl refl refl in
     let a : x.first ≡ 1 = some_same (sym x.first_end ∙ first_number) in
     let b : x.second ≡ 0 = some_same (sym x.second_end ∙ next_number) in
     let less : x.first < x.second = x.less in
@@ -42,7 +45,9 @@ late : RunsInOrder usual picked_late first_handle → ⊥
 unfolding picked_late two_put
 late f =
     let z : List NodeEntry = main op.Initialize reply.Ok ∷ main makes_action (reply.Handle first_handle) ∷ [] in
-    let x = f z [] [] (cancels_first ∷ []) (picks_late ∷ []) (main (op.QueueCreate 1 1 0 2 true true) (reply.Handle first_handle)) (main puts_one (reply.Handle first_handle)) (main puts_one (reply.Handle next_handle)) picks_next
+    let x = f z [] [] (cancels_first ∷ []) (picks_late
+    ∷ []) (main (op.QueueCreate 1 1 0 2 true true) (reply.Handle first_handle)) (main puts_one (reply.Handle first_handle))
+    (main puts_one (reply.Handle next_handle)) picks_next
     first_handle next_handle refl refl refl refl refl in
     true_false x.never
 
@@ -58,7 +63,8 @@ has_ended : IsSome (end_at (after usual up_to_the_end).tasks first_handle)
 unfolding up_to_the_end end_at after_from live_of issue change listed issued_at retired is_full may_issue has_worker end_each is_ready can_take has_better
 has_ended = refl
 
-shows : (es : List NodeEntry) (x : EndsOnce usual (up_to_the_end ++ es) first_handle) → end_at (after usual (up_to_the_end ++ [])).tasks first_handle ≡ Some x.end
+shows : (es : List NodeEntry) (x : EndsOnce usual (up_to_the_end ++ es) first_handle)
+    → end_at (after usual (up_to_the_end ++ [])).tasks first_handle ≡ Some x.end
 shows es x = x.stays up_to_the_end [] es refl has_ended
 
 first_end : (es : List NodeEntry) (x : EndsOnce usual (up_to_the_end ++ es) first_handle) → x.end ≡ Cancelled

@@ -38,17 +38,24 @@ pub record Gone (k : ObjectKind) (h : ℕ) (l : List (Listed (FieldsOf k))) : Ty
 
 pub listed_move : (k : ObjectKind) (h : ℕ) (s : State) (o : Op) (m : Move) → IsMade s o m → Listed1 k h s → Listed1 k h (apply m s)
 listed_move k h s o m e v =
-    kind_move k s o (λ l. 1 ≤ listed h l) (λ j x b i w. listed_issue_some h j x _ w) (λ l a w. subst (λ (n : ℕ). 1 ≤ n) (sym (listed_ages (SameFields k) h _ l a)) w) m e v
+    kind_move k s o (λ l. 1 ≤ listed h l) (λ j x b i w. listed_issue_some h j x _ w)
+    (λ l a w. subst (λ (n : ℕ). 1 ≤ n) (sym (listed_ages (SameFields k) h _ l a)) w) m e v
 
-gone_move : (k : ObjectKind) (h : ℕ) (s : State) (o : Op) (m : Move) → IsMade s o m → Gone k h ((objects_of k).list s) → Gone k h ((objects_of k).list (apply m s))
+gone_move : (k : ObjectKind) (h : ℕ) (s : State) (o : Op) (m : Move) → IsMade s o m → Gone k h ((objects_of k).list s)
+    → Gone k h ((objects_of k).list (apply m s))
 gone_move k h s o m e v =
     kind_move k s o (Gone k h)
     (λ j x b i w. record { some = listed_issue_some h j x _ w.some; dead = dead_issue h j x _ (fresh_apart k s h j w.some i) w.dead })
-    (λ l a w. record { some = subst (λ (n : ℕ). 1 ≤ n) (sym (listed_ages (SameFields k) h _ l a)) w.some; dead = dead_ages (SameFields k) h _ l a w.dead }) m e v
+    (λ l a w. record {
+      some = subst (λ (n : ℕ). 1 ≤ n) (sym (listed_ages (SameFields k) h _ l a)) w.some;
+      dead =
+          dead_ages (SameFields k) h _ l a w.dead;
+    }) m e v
 
 -- An entry that issues a handle finds it unlisted
 
-fresh_by : (k : ObjectKind) (s : State) (who : ℕ) (o : Op) (h : ℕ) (ms : List Move) → makes_object k o ≡ true → Answers s who o (Handle h) ms → is_fresh (objects_of k) s h ≡ true
+fresh_by : (k : ObjectKind) (s : State) (who : ℕ) (o : Op) (h : ℕ) (ms : List Move) → makes_object k o ≡ true → Answers s who o (Handle h) ms
+    → is_fresh (objects_of k) s h ≡ true
 fresh_by kind.Action s who _ _ _ e (is.creates_action job x cores h f) = f
 fresh_by kind.Task s who _ _ _ e (is.starts job args priority cores detached group h f) = f.fresh
 fresh_by kind.Task s who _ _ _ e (is.enqueues q args cores detached group h x d p f n) = f.fresh
@@ -60,11 +67,14 @@ fresh_by kind.Rwl s who _ _ _ e (is.creates_rwl id limit h n f) = f
 fresh_by kind.Shmem s who _ _ _ e (is.creates_segment id cells h n f) = f
 fresh_by _ s who _ _ _ e _ = true_false e refl
 
-issue_fresh : (k : ObjectKind) (s : State) (who : ℕ) (o : Op) (h : ℕ) → makes_object k o ≡ true → Allows (row s who o (Handle h)) (Handle h) → is_fresh (objects_of k) s h ≡ true
+issue_fresh : (k : ObjectKind) (s : State) (who : ℕ) (o : Op) (h : ℕ) → makes_object k o ≡ true → Allows (row s who o (Handle h)) (Handle h)
+    → is_fresh (objects_of k) s h ≡ true
 issue_fresh k s who o h e a = fresh_by k s who o h _ e (answered s who o (Handle h) a)
 
 -- an entry that issues a handle has the row of this reply, so what holds after that row holds after the entry
-pub issued_as : (k : ObjectKind) (h : ℕ) (s : State) (P : Op → State → Type 0) → ((who : ℕ) (o : Op) → makes_object k o ≡ true → Allows (row s who o (Handle h)) (Handle h) → P o (after_row s (row s who o (Handle h)))) → (e : NodeEntry) → IsNext s e → issues k h e ≡ true → P e.op (next s e)
+pub issued_as : (k : ObjectKind) (h : ℕ) (s : State) (P : Op → State → Type 0)
+    → ((who : ℕ) (o : Op) → makes_object k o ≡ true → Allows (row s who o (Handle h)) (Handle h) → P o (after_row s (row s who o (Handle h)))) → (e : NodeEntry)
+    → IsNext s e → issues k h e ≡ true → P e.op (next s e)
 issued_as k h s P e1 e e2 e3 = grind (arith, nat_tests)
 
 pub issues_fresh : (k : ObjectKind) (s : State) (e : NodeEntry) (h : ℕ) → IsNext s e → issues k h e ≡ true → is_fresh (objects_of k) s h ≡ true
@@ -91,7 +101,8 @@ listed_same k h s e z =
     (λ t m y w. kind_move k t e.op (λ l. listed h l ≡ times k h s) (λ j x b i u. true_false b z) (λ l a u. listed_ages (SameFields k) h _ l a ∙ u) m y w) refl
 
 -- nor does one that answers with another handle, or with none
-beside_issue : (k : ObjectKind) (h : ℕ) (s : State) (who : ℕ) (o : Op) (r : Reply) (ms : List Move) → makes_object k o ≡ true → is_handle h r ≡ false → Answers s who o r ms → times k h (after_moves ms s) ≡ times k h s
+beside_issue : (k : ObjectKind) (h : ℕ) (s : State) (who : ℕ) (o : Op) (r : Reply) (ms : List Move) → makes_object k o ≡ true → is_handle h r ≡ false
+    → Answers s who o r ms → times k h (after_moves ms s) ≡ times k h s
 beside_issue kind.Action h s who _ _ _ e n (is.creates_action job x cores j f) = listed_new h j _ s.actions n
 beside_issue kind.Task h s who _ _ _ e n (is.starts job args priority cores detached group j f) = listed_new h j _ s.tasks n
 beside_issue kind.Task h s who _ _ _ e n (is.enqueues q args cores detached group j x d p f m) = listed_new h j _ s.tasks n
@@ -111,15 +122,19 @@ unissued k h s e i n = on_test (λ b. (b && is_handle h e.reply) ≡ false → t
     (λ m j. beside_issue k h s e.who e.op e.reply _ m j (answered s e.who e.op e.reply i.allowed))
     (λ m j. listed_same k h s e m) n
 
-pub none_listed : (k : ObjectKind) (h : ℕ) (s : State) (L : List NodeEntry) → LegalFrom s L → times k h s ≡ 0 → some_entry (issues k h) L ≡ false → times k h (after_from s L) ≡ 0
+pub none_listed : (k : ObjectKind) (h : ℕ) (s : State) (L : List NodeEntry) → LegalFrom s L → times k h s ≡ 0 → some_entry (issues k h) L ≡ false
+    → times k h (after_from s L) ≡ 0
 none_listed k h s L legal z n = kept_without (issues k h) (λ t. times k h t ≡ 0) (λ t e i m v. unissued k h t e i m ∙ v) s L legal n z
 
-pub was_issued : (k : ObjectKind) (h : ℕ) (terms : Terms) (L : List NodeEntry) → LegalFrom (opening terms) L → 1 ≤ times k h (after terms L) → some_entry (issues k h) L ≡ true
-was_issued k h terms L legal n = true_from_ne_false (some_entry (issues k h) L) (λ i. let z : times k h (after terms L) ≡ 0 = none_listed k h (opening terms) L legal (none_times k h terms) i in omega arith)
+pub was_issued : (k : ObjectKind) (h : ℕ) (terms : Terms) (L : List NodeEntry) → LegalFrom (opening terms) L → 1 ≤ times k h (after terms L)
+    → some_entry (issues k h) L ≡ true
+was_issued k h terms L legal n = true_from_ne_false (some_entry (issues k h) L) (λ i. let z : times k h (after terms L) ≡ 0 =
+    none_listed k h (opening terms) L legal (none_times k h terms) i in omega arith)
 
 -- The law
 
-pub stays_gone : (k : ObjectKind) (h : ℕ) (s : State) (N : List NodeEntry) → LegalFrom s N → Gone k h ((objects_of k).list s) → Gone k h ((objects_of k).list (after_from s N)) × (some_entry (issues k h) N ≡ false)
+pub stays_gone : (k : ObjectKind) (h : ℕ) (s : State) (N : List NodeEntry) → LegalFrom s N → Gone k h ((objects_of k).list s)
+    → Gone k h ((objects_of k).list (after_from s N)) × (some_entry (issues k h) N ≡ false)
 unfolding LegalFrom after_from
 stays_gone k h s [] l v = (v, refl)
 stays_gone k h s (e ∷ es) l v =
@@ -151,31 +166,40 @@ terms_move T s x v = rest_keeps (λ t. t.terms ≡ T) (λ t g q m c r y p. p) x 
 named_move : (T : Terms) (k : ObjectKind) (h : ℕ) (s : State) (o : Op) (m : Move) → IsMade s o m → Named T k h s → Named T k h (apply m s)
 named_move T k h s o m e v = record {
   terms = terms_move T s m v.terms;
-  named = kind_move k s o (λ l. 1 ≤ listed h l → names_kind T.layout (objects_of k).kind h ≡ true) (λ j x b i w. by_new j x i w (j == h) refl) (λ l a w u. w (subst (λ (n : ℕ). 1 ≤ n) (listed_ages (SameFields k) h _ l a) u)) m e v.named;
+  named = kind_move k s o (λ l. 1 ≤ listed h l
+      → names_kind T.layout (objects_of k).kind h
+      ≡ true) (λ j x b i w. by_new j x i w (j == h) refl) (λ l a w u. w (subst (λ (n : ℕ). 1 ≤ n) (listed_ages (SameFields k) h _ l a) u)) m e v.named;
 }
   where
-    by_new : (j : ℕ) (x : FieldsOf k) → is_fresh (objects_of k) s j ≡ true → (1 ≤ times k h s → names_kind T.layout (objects_of k).kind h ≡ true) → (b : Bool) → (j == h) ≡ b
+    by_new : (j : ℕ) (x : FieldsOf k) → is_fresh (objects_of k) s j ≡ true → (1 ≤ times k h s → names_kind T.layout (objects_of k).kind h ≡ true) → (b : Bool)
+        → (j == h) ≡ b
         → 1 ≤ listed h (issue j x ((objects_of k).list s)) → names_kind T.layout (objects_of k).kind h ≡ true
     by_new j x i w true c u =
         let n : names_kind s.terms.layout (objects_of k).kind j ≡ true = fst_true _ (may_issue s.terms.settings.generations j ((objects_of k).list s)) i in
-        subst (λ (t : Terms). names_kind t.layout (objects_of k).kind h ≡ true) v.terms (subst (λ (y : ℕ). names_kind s.terms.layout (objects_of k).kind y ≡ true) (eqb-true j h c) n)
+        subst (λ (t : Terms). names_kind t.layout (objects_of k).kind h
+        ≡ true) v.terms (subst (λ (y : ℕ). names_kind s.terms.layout (objects_of k).kind y ≡ true) (eqb-true j h c) n)
     by_new j x i w false c u = w (subst (λ (n : ℕ). 1 ≤ n) (listed_new h j x _ c) u)
 
-named_after : (terms : Terms) (es : List NodeEntry) (k : ObjectKind) (h : ℕ) → terms.layout ≡ Two → 1 ≤ times k h (after terms es) → named_kind h ≡ object_number k
+named_after : (terms : Terms) (es : List NodeEntry) (k : ObjectKind) (h : ℕ) → terms.layout ≡ Two → 1 ≤ times k h (after terms es)
+    → named_kind h ≡ object_number k
 named_after terms es k h two l =
-    let start : Named terms k h (opening terms) = record { terms = refl; named = λ u. let z : times k h (opening terms) ≡ 0 = none_times k h terms in absurd (omega arith) } in
+    let start : Named terms k h (opening terms) =
+    record { terms = refl; named = λ u. let z : times k h (opening terms) ≡ 0 = none_times k h terms in absurd (omega arith) } in
     let end : Named terms k h (after terms es) = along (Named terms k h) (λ o t m e. named_move terms k h t o m e) (opening terms) es start in
-    let n : names_kind Two k h ≡ true = subst (λ (x : ObjectKind). names_kind Two x h ≡ true) (own_kind k) (subst (λ (x : Layout). names_kind x (objects_of k).kind h ≡ true) two (end.named l)) in
+    let n : names_kind Two k h ≡ true = subst (λ (x : ObjectKind). names_kind Two x h
+    ≡ true) (own_kind k) (subst (λ (x : Layout). names_kind x (objects_of k).kind h ≡ true) two (end.named l)) in
     eqb-true (named_kind h) (object_number k) n
 
-names_two : (T : Terms) (k : ObjectKind) (h : ℕ) (s : State) → s.terms ≡ T → T.layout ≡ Two → is_fresh (objects_of k) s h ≡ true → named_kind h ≡ object_number k
+names_two : (T : Terms) (k : ObjectKind) (h : ℕ) (s : State) → s.terms ≡ T → T.layout ≡ Two → is_fresh (objects_of k) s h ≡ true
+    → named_kind h ≡ object_number k
 names_two T k h s same two e = grind (arith, nat_tests, names_kind, objects_of, fst_true, may_issue, own_kind)
 
 pub terms_next : (T : Terms) (s : State) (e : NodeEntry) → s.terms ≡ T → (next s e).terms ≡ T
 terms_next T s e v = by_moves (λ t. t.terms ≡ T) s e (λ t m y w. terms_move T t m w) v
 
 -- an entry that issues a handle in layout two issues one that names the kind
-issued_names : (T : Terms) (k : ObjectKind) (h : ℕ) (s : State) (L : List NodeEntry) → s.terms ≡ T → T.layout ≡ Two → LegalFrom s L → some_entry (issues k h) L ≡ true → named_kind h ≡ object_number k
+issued_names : (T : Terms) (k : ObjectKind) (h : ℕ) (s : State) (L : List NodeEntry) → s.terms ≡ T → T.layout ≡ Two → LegalFrom s L
+    → some_entry (issues k h) L ≡ true → named_kind h ≡ object_number k
 unfolding LegalFrom
 issued_names T k h s [] same two l i = absurd (cc)
 issued_names T k h s (e ∷ es) same two l i = on_test (λ b. cond b true (some_entry (issues k h) es) ≡ true → named_kind h ≡ object_number k) (issues k h e)
@@ -186,5 +210,6 @@ pub not_in_both : (terms : Terms) (es : List NodeEntry) (a b : ObjectKind) (h : 
 not_in_both terms es a b h legal two apart = record {
   lists = λ la lb. true_false (eq-eqb (object_number a) (object_number b) (sym (named_after terms es a h two la) ∙ named_after terms es b h two lb)) apart;
   entries = λ ia ib.
-      true_false (eq-eqb (object_number a) (object_number b) (sym (issued_names terms a h (opening terms) es refl two legal.from ia) ∙ issued_names terms b h (opening terms) es refl two legal.from ib)) apart;
+      true_false (eq-eqb (object_number a) (object_number b) (sym (issued_names terms a h (opening terms) es refl two legal.from ia)
+      ∙ issued_names terms b h (opening terms) es refl two legal.from ib)) apart;
 }

@@ -39,23 +39,36 @@ module _ (Q : Reply → List Move → Type 0) where
     says_unless (x ∷ xs) w g = (no x.1, λ e. says_unless xs w (λ u. g (e, u)))
 
     module _ (k : Sort) (s : State) (who : ℕ) where
-      pub says_look : (h : ℕ) (last : Bool) (causes : Fields k → List (Bool × MrapiStatus)) (busy : Fields k → Bool) (reply : Fields k → Reply) (f : Fields k → Fields k) → Q (all_of k).invalid [] → Q Pending []
-          → ((x : Fields k) → nat_lt who (workers s) ≡ false → live_object ((all_of k).list s) h ≡ Some x → Unmet (causes x) → busy x ≡ false → Q (reply x) (alters k h f ∷ []))
+      pub says_look : (h : ℕ) (last : Bool) (causes : Fields k → List (Bool × MrapiStatus)) (busy : Fields k → Bool) (reply : Fields k → Reply) (f : Fields k
+          → Fields k) → Q (all_of k).invalid [] → Q Pending []
+          → ((x : Fields k) → nat_lt who (workers s) ≡ false → live_object ((all_of k).list s) h ≡ Some x → Unmet (causes x) → busy x ≡ false
+          → Q (reply x) (alters k h f ∷ []))
           → OfEachReply Q (mrapi s who (looks_one k s h last causes busy reply f))
       says_look h last causes busy reply f i p g = (
         no c.ErrNodeNotinit,
         λ a. (
           no c.ErrParameter,
-          λ b. says_live (live_object ((all_of k).list s) h) _ _ i (λ x e. says_unless (causes x) _ (λ u. says_cond (busy x) _ _ (cond_both last (Mrapi c.Timeout) Pending (λ q. Q q [])
+          λ b. says_live (live_object ((all_of k).list s) h) _ _ i
+              (λ x e. says_unless (causes x) _ (λ u. says_cond (busy x) _ _ (cond_both last (Mrapi c.Timeout) Pending (λ q. Q q [])
               (λ e. no c.Timeout)
               (λ e. p)) (g x b e u))),
         ),
       )
 
       pub says_alter : (h : ℕ) (causes : Fields k → List (Bool × MrapiStatus)) (reply : Fields k → Reply) (f : Fields k → Fields k) → Q (all_of k).invalid []
-          → ((x : Fields k) → nat_lt who (workers s) ≡ false → live_object ((all_of k).list s) h ≡ Some x → Unmet (causes x) → Q (reply x) (alters k h f ∷ [])) → OfEachReply Q (mrapi s who (alters_one k s h causes reply f))
-      says_alter h causes reply f i g = (no c.ErrNodeNotinit, λ a. (no c.ErrParameter, λ b. says_live (live_object ((all_of k).list s) h) _ _ i (λ x e. says_unless (causes x) _ (g x b e))))
+          → ((x : Fields k) → nat_lt who (workers s) ≡ false → live_object ((all_of k).list s) h ≡ Some x → Unmet (causes x) → Q (reply x) (alters k h f ∷ []))
+          → OfEachReply Q (mrapi s who (alters_one k s h causes reply f))
+      says_alter h causes reply f i g = (
+        no c.ErrNodeNotinit,
+        λ a.
+            (no c.ErrParameter, λ b. says_live (live_object ((all_of k).list s) h) _ _ i (λ x e. says_unless (causes x) _ (g x b e))),
+      )
 
       pub says_delete : (h : ℕ) (causes : Fields k → List (Bool × MrapiStatus)) → Q (all_of k).invalid []
-          → ((x : Fields k) → live_object ((all_of k).list s) h ≡ Some x → Unmet (causes x) → Q Ok (removes k h ∷ [])) → OfEachReply Q (mrapi_open s who (deletes k s h causes))
-      says_delete h causes i g = (no c.ErrNodeNotinit, λ a. (no c.ErrParameter, λ b. says_live (live_object ((all_of k).list s) h) _ _ i (λ x e. says_unless (causes x) _ (g x e))))
+          → ((x : Fields k) → live_object ((all_of k).list s) h ≡ Some x → Unmet (causes x) → Q Ok (removes k h ∷ []))
+          → OfEachReply Q (mrapi_open s who (deletes k s h causes))
+      says_delete h causes i g = (
+        no c.ErrNodeNotinit,
+        λ a.
+            (no c.ErrParameter, λ b. says_live (live_object ((all_of k).list s) h) _ _ i (λ x e. says_unless (causes x) _ (g x e))),
+      )

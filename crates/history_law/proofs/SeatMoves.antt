@@ -1,9 +1,9 @@
 -- What the seat and the op of an entry had to know, for each move that they make. A law on what seats leave to one another is shown for each move once.
-use Rattle.history_law.proofs.Names.{nat_tests, arith, ◌≡◌, ℕ, ◌+◌, Bool, true, false, cond, List, [], ◌∷◌, Option, Some, None, ◌⊎◌, inl, inr, refl, ◌∙◌, ap, ◌==◌, ◌&&◌, is_none, ℤ, eq-eqb, Kind, MtapiStatus, Completed, Failed, is_other, is_pure, answer_of, Answered, IsAnswered, Reply, Op, live_object, any_listed, holds, Task, Notes, TallyNotes, TaskState, scheduled, end_of, runner, runs_as, runs_on, kind_number, is_unstarted, is_unended, with_notes, with_waiter, asked_once, watch_end, tally_args, cell_in, added, with_tally, tally_failed, tally_has, tally_read, tally_written, in_no_group, Mutex, Segment, cell_of, State, Move, Mutexes, Segments, phase_is, released, stops, makes_action, withdraws, starts_task, runs_task, ends_task, ends_waiting, notes, leaves, makes, alters, apply, after_moves, moves_of, is_ready, task_end, NodeEntry, IsNext, IsHonest, row_of, next, IsMade, AreMade, fst_true, snd_true, not_false, row_made, at-update, moves_phase, is_release, is_late_end, is_tally_end, cond_both, enables, frees_members, lets_members_go, removes, Answers, gives_up_with, LegalFrom, after_from, some_entry, answered}
+use Rattle.history_law.proofs.Names.{nat_tests, arith, ◌≡◌, ℕ, ◌+◌, Bool, true, false, cond, List, [], ◌∷◌, Option, Some, None, ◌⊎◌, inl, inr, refl, ◌∙◌, ap, ◌==◌, ◌&&◌, is_none, ℤ, eq-eqb, Kind, MtapiStatus, Completed, Failed, is_other, is_pure, answer_of, Answered, IsAnswered, Reply, Op, live_object, any_listed, holds, Task, Notes, TallyNotes, TaskState, scheduled, end_of, runner, runs_as, runs_on, kind_number, is_unstarted, is_unended, with_notes, with_waiter, asked_once, watch_end, tally_args, cell_in, added, with_tally, tally_failed, tally_has, tally_read, tally_written, in_no_group, Mutex, Segment, cell_of, State, Move, Mutexes, Segments, phase_is, released, stops, withdraws, runs_task, ends_task, ends_waiting, notes, leaves, makes, alters, apply, after_moves, moves_of, is_ready, task_end, NodeEntry, IsNext, IsHonest, row_of, next, IsMade, AreMade, fst_true, not_false, row_made, at-update, moves_phase, is_release, is_late_end, is_tally_end, cond_both, Answers, gives_up_with, LegalFrom, after_from, some_entry, answered}
 use Rattle.mtapi_values.specs.declared.kinds.Kind.TheVariants as kind
 use Rattle.mtapi_values.specs.declared.statuses.MtapiStatus.TheVariants as m
 use Rattle.mtapi_machine.specs.declared.ops.Op.TheVariants as op
-use Rattle.history_law.proofs.Answered.{none_first, first_false, true_false}
+use Rattle.history_law.proofs.Answered.{none_first, first_false}
 use Rattle.mtapi_machine.specs.Answers as is
 
 abbrev pub is_tally_lock : Op → Bool
@@ -66,13 +66,15 @@ May s who o released = is_release o ≡ true
 May s who o (stops w) = w ≡ who
 May s who o (withdraws h f c) = is_late_end (Failed c) ≡ false
 May s who o (runs_task h w k) = (t : Task) × (live_object s.tasks h ≡ Some t) × (is_unstarted t ≡ true) × (w ≡ who) × (any_listed (runs_on who) s.tasks ≡ false)
-May s who o (ends_task h e) = (t : Task) × (live_object s.tasks h ≡ Some t) × MayEnd who t × ((is_late_end e ≡ false) ⊎ (e ≡ t.notes.tally.verdict)) × EndsTally h o t
+May s who o (ends_task h e) = (t : Task) × (live_object s.tasks h ≡ Some t) × MayEnd who t × ((is_late_end e ≡ false) ⊎ (e ≡ t.notes.tally.verdict))
+    × EndsTally h o t
 May s who o (ends_waiting p e) = is_late_end e ≡ false
 May s who o (notes h f) = (t : Task) × (live_object s.tasks h ≡ Some t) × Noted who f t × Does o t.notes.tally (f t.notes).tally
 May s who o (makes Mutexes h x) = any_listed (λ y. y.id == x.id) s.mutexes ≡ false
 May s who o (alters Mutexes h f) = (x : Mutex) → (f x).id ≡ x.id
 May s who o (alters Segments h f) = (writes_cells o ≡ true) ⊎ ((x : Segment) → (f x).cells ≡ x.cells)
-May s who o (leaves h) = (t : Task) × (live_object s.tasks h ≡ Some t) × (is_unended t ≡ false) × ((is_any_look o ≡ true) ⊎ (is_other who t.notes.waiter ≡ false))
+May s who o (leaves h) = (t : Task) × (live_object s.tasks h ≡ Some t) × (is_unended t ≡ false)
+    × ((is_any_look o ≡ true) ⊎ (is_other who t.notes.waiter ≡ false))
 May s who o _ = Unit {0}
 
 abbrev pub AreBy : State → ℕ → Op → List Move → Type 0
@@ -85,13 +87,27 @@ pub ready_unstarted : (s : State) (t : Task) → is_ready s t ≡ true → is_un
 unfolding is_ready
 ready_unstarted s t h = fst_true (is_unstarted t) _ h
 
-as_on : (w : ℕ) (k : Kind) (x : TaskState) → holds (λ r. (r.0 == w) && (kind_number r.1 == kind_number k)) (runner x) ≡ true → holds (λ r. r.0 == w) (runner x) ≡ true
+as_on : (w : ℕ) (k : Kind) (x : TaskState) → holds (λ r. (r.0 == w) && (kind_number r.1 == kind_number k)) (runner x) ≡ true
+    → holds (λ r. r.0 == w) (runner x) ≡ true
 as_on w k x e1 = grind (arith, nat_tests)
 
 -- Looking and cancelling
 
-waits : (s : State) (who : ℕ) (o : Op) (h : ℕ) (w : Option ℕ) (t : Task) → live_object s.tasks h ≡ Some t → is_other who t.notes.waiter ≡ false → May s who o (notes h (with_waiter w))
-waits s who o h w t e n = (t, e, record { waiter = inl n; work = inr (record { looks = refl; seen = refl; tally = refl }); detached = refl; group = inl refl; verdict = λ v. v }, stays refl)
+waits : (s : State) (who : ℕ) (o : Op) (h : ℕ) (w : Option ℕ) (t : Task) → live_object s.tasks h ≡ Some t → is_other who t.notes.waiter ≡ false
+    → May s who o (notes h (with_waiter w))
+waits s who o h w t e n = (
+  t,
+  e,
+  record {
+    waiter = inl n;
+    work = inr (record { looks = refl; seen = refl; tally = refl });
+    detached = refl;
+    group =
+        inl refl;
+    verdict = λ v. v;
+  },
+  stays refl,
+)
 
 -- no action and no watch ends a task with TIMEOUT
 
@@ -111,7 +127,8 @@ asked_notes : (who : ℕ) (t : Task) → runs_on who t ≡ true → Noted who as
 asked_notes who t k = grind (arith, nat_tests, cond_both, is_late_end)
 
 asked_tally : (o : Op) (t : Task) → Does o t.notes.tally (asked_once t.notes).tally
-asked_tally o t = stays (cond_both t.notes.requested (record t.notes { seen = true }) (record t.notes { looks = t.notes.looks + 1 }) (λ q. q.tally ≡ t.notes.tally) (λ e. refl) (λ e. refl))
+asked_tally o t = stays (cond_both t.notes.requested (record t.notes { seen = true }) (record t.notes { looks = t.notes.looks + 1 }) (λ q. q.tally
+    ≡ t.notes.tally) (λ e. refl) (λ e. refl))
 
 -- a task that runs with another kind is no tally
 another_kind : (who w : ℕ) (k : Kind) (t : Task) → (kind_number k == 10) ≡ false → runs_as who k t ≡ true → runs_as w kind.Tally t ≡ false
@@ -121,7 +138,8 @@ pure_number : (k : Kind) → is_pure k ≡ true → (kind_number k == 10) ≡ fa
 pure_number k e1 = grind (arith, nat_tests)
 
 -- what a tally does notes nothing else
-does : (who : ℕ) (f : TallyNotes → TallyNotes) (t : Task) → runs_on who t ≡ true → (is_late_end t.notes.tally.verdict ≡ false → is_late_end (f t.notes.tally).verdict ≡ false) → Noted who (with_tally f) t
+does : (who : ℕ) (f : TallyNotes → TallyNotes) (t : Task) → runs_on who t ≡ true
+    → (is_late_end t.notes.tally.verdict ≡ false → is_late_end (f t.notes.tally).verdict ≡ false) → Noted who (with_tally f) t
 does who f t k v = record { waiter = inr refl; work = inl k; detached = refl; group = inl refl; verdict = v }
 
 status_late : (c : MtapiStatus) → gives_up_with c ≡ true → is_late_end (Failed c) ≡ false
@@ -131,81 +149,69 @@ status_late c e1 = grind (arith, nat_tests)
 back_late : (b : Bool) (z : ℤ) → is_late_end (cond b (Failed m.ErrActionFailed) (Completed (z ∷ []))) ≡ false
 back_late b z = grind (arith, nat_tests)
 
--- of these moves nothing is to be known
-abbrev is_free : Move → Bool
-is_free (makes_action h a) = true
-is_free (enables h) = true
-is_free (starts_task h t) = true
-is_free (frees_members g) = true
-is_free (lets_members_go g) = true
-is_free (makes Mutexes h x) = false
-is_free (makes k h x) = true
-is_free (alters Mutexes h f) = false
-is_free (alters Segments h f) = false
-is_free (alters k h f) = true
-is_free (removes k h) = true
-is_free _ = false
-
-free_may : (s : State) (who : ℕ) (o : Op) (x : Move) → is_free x ≡ true → May s who o x
-free_may s who o (phase_is p) e = true_false e refl
-free_may s who o released e = true_false e refl
-free_may s who o (stops w) e = true_false e refl
-free_may s who o (withdraws h f c) e = true_false e refl
-free_may s who o (runs_task h w k) e = true_false e refl
-free_may s who o (ends_task h x) e = true_false e refl
-free_may s who o (ends_waiting p x) e = true_false e refl
-free_may s who o (notes h f) e = true_false e refl
-free_may s who o (leaves h) e = true_false e refl
-free_may s who o (makes Mutexes h x) e = true_false e refl
-free_may s who o (alters Mutexes h f) e = true_false e refl
-free_may s who o (alters Segments h f) e = true_false e refl
-free_may s who o _ e = tt
-
-abbrev are_free : List Move → Bool
-are_free [] = true
-are_free (x ∷ xs) = is_free x && are_free xs
-
-all_may : (s : State) (who : ℕ) (o : Op) (ms : List Move) → are_free ms ≡ true → AreBy s who o ms
-all_may s who o [] e = tt
-all_may s who o (x ∷ xs) e = (free_may s who o x (fst_true (is_free x) _ e), all_may (apply x s) who o xs (snd_true (is_free x) _ e))
-
 by_answer : (s : State) (who : ℕ) (o : Op) (r : Reply) (ms : List Move) → IsHonest o → Answers s who o r ms → AreBy s who o ms
-by_answer s who _ _ _ i (is.opens_node a) = (refl, tt)
-by_answer s who _ _ _ i (is.releases_callers a) = (refl, tt)
-by_answer s who _ _ _ i (is.closes_node a) = (refl, (refl, tt))
-by_answer s who _ _ _ i (is.finals_node a b) = (refl, tt)
-by_answer s who _ _ _ i (is.deletes_action a x e) = (refl, tt)
-by_answer s who _ _ _ i (is.disables_action a x e) = (refl, tt)
 by_answer s who o _ _ i (is.looks_over t last x y n e u d) = ((x, e, ap (λ (z : TaskState). is_none (end_of z)) d, inr u.1.0), tt)
 by_answer s who o _ _ i (is.looks_early t x e u d) = (waits s who o t.0 (Some who) x e u.1.0, tt)
 by_answer s who o _ _ i (is.looks_last t x e u d) = (waits s who o t.0 None x e u.1.0, tt)
-by_answer s who _ _ _ i (is.cancels_waiting t x e d) = ((x, e, inl (ap scheduled d), inl refl, inr (λ w. ap (λ (z : TaskState). holds (λ r. (r.0 == w) && (kind_number r.1 == 10)) (runner z)) d)), tt)
+by_answer s who _ _ _ i (is.cancels_waiting t x e d) =
+    ((x, e, inl (ap scheduled d), inl refl, inr (λ w. ap (λ (z : TaskState). holds (λ r. (r.0 == w) && (kind_number r.1 == 10)) (runner z)) d)), tt)
 by_answer s who _ _ _ i (is.cancels_running t x w k e d) = grind (arith, nat_tests)
 -- a member that has left its group has still ended
 by_answer s who _ _ _ i (is.any_given g last v y ys t z n a b e d) = (
-  (t, e, record { waiter = inr refl; work = inr (record { looks = refl; seen = refl; tally = refl }); detached = refl; group = inr refl; verdict = λ v. v }, stays refl),
+  (
+    t,
+    e,
+    record {
+      waiter = inr refl;
+      work = inr (record { looks = refl; seen = refl; tally = refl });
+      detached = refl;
+      group = inr refl;
+      verdict =
+          λ v. v;
+    },
+    stays refl,
+  ),
   ((with_notes in_no_group t, at-update y.task (with_notes in_no_group) t s.tasks e, ap (λ (z : TaskState). is_none (end_of z)) d, inl refl), tt),
 )
-by_answer s who _ _ _ i (is.disables_queue q x e d) = (tt, (refl, tt))
-by_answer s who _ _ _ i (is.deletes_queue q x e) = (refl, (tt, tt))
-by_answer s who _ _ _ i (is.stops_worker b n e) = (refl, tt)
 by_answer s who _ _ _ i (is.picks t a x y b n e d j k l) = ((x, e, ready_unstarted s x j, refl, n), tt)
-by_answer s who _ _ _ i (is.finishes t f x k u) = ((x, k.found, inr (as_on who f.kind x.state k.runs), inl (done_late f i), inr (λ w. another_kind who w f.kind x (pure_number f.kind i.pure) k.runs)), tt)
+by_answer s who _ _ _ i (is.finishes t f x k u) =
+    ((x, k.found, inr (as_on who f.kind x.state k.runs), inl (done_late f i), inr (λ w. another_kind who w f.kind x (pure_number f.kind i.pure) k.runs)), tt)
 by_answer s who o _ _ i (is.asks t x k u) = ((x, k.found, asked_notes who x (as_on who kind.Watch x.state k.runs), asked_tally o x), tt)
-by_answer s who _ _ _ i (is.ends_watch t x k u) = ((x, k.found, inr (as_on who kind.Watch x.state k.runs), inl (watch_late x), inr (λ w. another_kind who w kind.Watch x refl k.runs)), tt)
-by_answer s who _ _ _ i (is.lock_fails t x c k z v) = ((x, k.found, does who (tally_failed c) x (as_on who kind.Tally x.state k.runs) (λ w. status_late c v), fails c z refl), tt)
-by_answer s who _ _ _ i (is.lock_got t x y a b k z h) = ((λ x. refl), (inr (λ x. refl), ((x, k.found, does who (tally_has a b) x (as_on who kind.Tally x.state k.runs) (λ w. w), has a b refl z refl), tt)))
-by_answer s who _ _ _ i (is.tally_reads t x y k z e) = ((x, k.found, does who (tally_read (cell_of (cell_in (tally_args x.args)) y)) x (as_on who kind.Tally x.state k.runs) (λ w. w), reads _ refl z refl), tt)
-by_answer s who _ _ _ i (is.tally_writes t value x y k z e) = (inl refl, ((x, k.found, does who tally_written x (as_on who kind.Tally x.state k.runs) (λ w. w), writes refl (not_false _ (first_false _ _ z)) refl), tt))
+by_answer s who _ _ _ i (is.ends_watch t x k u) =
+    ((x, k.found, inr (as_on who kind.Watch x.state k.runs), inl (watch_late x), inr (λ w. another_kind who w kind.Watch x refl k.runs)), tt)
+by_answer s who _ _ _ i (is.lock_fails t x c k z v) =
+    ((x, k.found, does who (tally_failed c) x (as_on who kind.Tally x.state k.runs) (λ w. status_late c v), fails c z refl), tt)
+by_answer s who _ _ _ i (is.lock_got t x y a b k z h) =
+    ((λ x. refl), (inr (λ x. refl), ((x, k.found, does who (tally_has a b) x (as_on who kind.Tally x.state k.runs) (λ w. w), has a b refl z refl), tt)))
+by_answer s who _ _ _ i (is.tally_reads t x y k z e) =
+    ((x, k.found, does who (tally_read (cell_of (cell_in (tally_args x.args)) y)) x (as_on who kind.Tally x.state k.runs) (λ w. w), reads _ refl z refl), tt)
+by_answer s who _ _ _ i (is.tally_writes t value x y k z e) =
+    (inl refl, ((x, k.found, does who tally_written x (as_on who kind.Tally x.state k.runs) (λ w. w), writes refl (not_false _ (first_false _ _ z)) refl), tt))
 by_answer s who _ _ _ i (is.tally_ends_failed t x k z) = ((x, k.found, inr (as_on who kind.Tally x.state k.runs), inr refl, inl (eq-eqb t.0 t.0 refl)), tt)
-by_answer s who _ _ _ i (is.tally_ends t x y z k e d f g) = (inr (λ q. refl), ((λ q. refl), ((x, k.found, inr (as_on who kind.Tally x.state k.runs), inl (back_late (x.notes.tally.stage == 2) (added x)), inl (eq-eqb t.0 t.0 refl)), tt)))
+by_answer s who _ _ _ i (is.tally_ends t x y z k e d f g) = (
+  inr (λ q. refl),
+  (
+    (λ q. refl),
+    (
+      (
+        x,
+        k.found,
+        inr (as_on who kind.Tally x.state k.runs),
+        inl (back_late (x.notes.tally.stage == 2) (added x)),
+        inl
+            (eq-eqb t.0 t.0 refl),
+      ),
+      tt,
+    ),
+  ),
+)
 by_answer s who _ _ _ i (is.creates_mutex id recursive h n f) = (n, tt)
 by_answer s who _ _ _ i (is.locks_mutex h last x k b) = ((λ y. refl), tt)
 by_answer s who _ _ _ i (is.unlocks_mutex h key x k) = ((λ y. refl), tt)
 by_answer s who _ _ _ i (is.attaches h x k) = (inr (λ y. refl), tt)
 by_answer s who _ _ _ i (is.detaches h x k) = (inr (λ y. refl), tt)
 by_answer s who _ _ _ i (is.writes_cell h cell value x k) = (inl refl, tt)
-by_answer s who o _ ms i _ = all_may s who o ms refl
+by_answer s who _ _ _ i _ = grind (arith, nat_tests)
 
 -- the answer that a next entry has
 pub answer : (s : State) (e : NodeEntry) → IsNext s e → Answers s e.who e.op e.reply (moves_of (row_of s e))
@@ -215,31 +221,37 @@ row_by : (s : State) (e : NodeEntry) → IsNext s e → AreBy s e.who e.op (move
 row_by s e n = by_answer s e.who e.op e.reply _ n.honest (answer s e n)
 
 -- the tool: what each move of an entry keeps, the entry keeps
-moves_keep : (who : ℕ) (o : Op) (P : State → Type 0) → ((s : State) (m : Move) → May s who o m → P s → P (apply m s)) → (ms : List Move) (s : State) → AreBy s who o ms → P s → P (after_moves ms s)
+moves_keep : (who : ℕ) (o : Op) (P : State → Type 0) → ((s : State) (m : Move) → May s who o m → P s → P (apply m s)) → (ms : List Move) (s : State)
+    → AreBy s who o ms → P s → P (after_moves ms s)
 moves_keep who o P k [] s a p = p
 moves_keep who o P k (m ∷ ms) s a p = moves_keep who o P k ms (apply m s) a.1 (k s m a.0 p)
 
-pub by_moves : (P : State → Type 0) (s : State) (e : NodeEntry) → IsNext s e → ((t : State) (m : Move) → May t e.who e.op m → P t → P (apply m t)) → P s → P (next s e)
+pub by_moves : (P : State → Type 0) (s : State) (e : NodeEntry) → IsNext s e → ((t : State) (m : Move) → May t e.who e.op m → P t → P (apply m t)) → P s
+    → P (next s e)
 by_moves P s e i k p =
     moves_keep e.who e.op P k (moves_of (row_of s e)) s (row_by s e i) p
 
 -- the same, where each move is also made where it may be
-made_keep : (who : ℕ) (o : Op) (P : State → Type 0) → ((s : State) (m : Move) → IsMade s o m → May s who o m → P s → P (apply m s)) → (ms : List Move) (s : State) → AreMade s o ms → AreBy s who o ms → P s → P (after_moves ms s)
+made_keep : (who : ℕ) (o : Op) (P : State → Type 0) → ((s : State) (m : Move) → IsMade s o m → May s who o m → P s → P (apply m s))
+    → (ms : List Move) (s : State) → AreMade s o ms → AreBy s who o ms → P s → P (after_moves ms s)
 made_keep who o P k [] s i a p = p
 made_keep who o P k (m ∷ ms) s i a p = made_keep who o P k ms (apply m s) i.1 a.1 (k s m i.0 a.0 p)
 
-pub by_made_moves : (P : State → Type 0) (s : State) (e : NodeEntry) → IsNext s e → ((t : State) (m : Move) → IsMade t e.op m → May t e.who e.op m → P t → P (apply m t)) → P s → P (next s e)
+pub by_made_moves : (P : State → Type 0) (s : State) (e : NodeEntry) → IsNext s e
+    → ((t : State) (m : Move) → IsMade t e.op m → May t e.who e.op m → P t → P (apply m t)) → P s → P (next s e)
 by_made_moves P s e i k p =
     made_keep e.who e.op P k (moves_of (row_of s e)) s (row_made s e.who e.op e.reply) (row_by s e i) p
 
 -- what each next entry keeps, a legal list keeps
-pub kept_along : (P : State → Type 0) → ((s : State) (e : NodeEntry) → IsNext s e → P s → P (next s e)) → (s : State) (L : List NodeEntry) → LegalFrom s L → P s → P (after_from s L)
+pub kept_along : (P : State → Type 0) → ((s : State) (e : NodeEntry) → IsNext s e → P s → P (next s e)) → (s : State) (L : List NodeEntry) → LegalFrom s L → P s
+    → P (after_from s L)
 unfolding LegalFrom after_from
 kept_along P k s [] l p = p
 kept_along P k s (e ∷ es) l p = kept_along P k (next s e) es l.1 (k s e l.0 p)
 
 -- and what each next entry keeps that doesn't pass, a list of such entries
-pub kept_without : (p : NodeEntry → Bool) (P : State → Type 0) → ((s : State) (e : NodeEntry) → IsNext s e → p e ≡ false → P s → P (next s e)) → (s : State) (L : List NodeEntry) → LegalFrom s L → some_entry p L ≡ false → P s → P (after_from s L)
+pub kept_without : (p : NodeEntry → Bool) (P : State → Type 0) → ((s : State) (e : NodeEntry) → IsNext s e → p e ≡ false → P s → P (next s e))
+    → (s : State) (L : List NodeEntry) → LegalFrom s L → some_entry p L ≡ false → P s → P (after_from s L)
 unfolding LegalFrom after_from
 kept_without p P k s [] l n v = v
 kept_without p P k s (e ∷ es) l n v = let both = none_first (p e) (some_entry p es) n in kept_without p P k (next s e) es l.1 both.1 (k s e l.0 both.0 v)

@@ -8,7 +8,8 @@ abbrev Alike : {T : Type 0} → ℕ → Option T → List (Listed T) → Type 0
 Alike h p l = (1 ≤ listed h l) × (live_object l h ≡ p)
 
 -- what is live under a handle that was issued stays as it is
-pub live_stays : (k : Sort) (s : State) (e : NodeEntry) (h : ℕ) → ((j : ℕ) (f : Fields k → Fields k) → AltersObject k j f e.op → ⊥) → ((j : ℕ) → RemovesObject k j e.op → ⊥) → 1 ≤ listed h ((all_of k).list s)
+pub live_stays : (k : Sort) (s : State) (e : NodeEntry) (h : ℕ) → ((j : ℕ) (f : Fields k → Fields k) → AltersObject k j f e.op → ⊥)
+    → ((j : ℕ) → RemovesObject k j e.op → ⊥) → 1 ≤ listed h ((all_of k).list s)
     → live_object ((all_of k).list (next s e)) h ≡ live_object ((all_of k).list s) h
 live_stays k s e h alter remove l =
     (by_moves (λ t. Alike h (live_object ((all_of k).list s) h) ((all_of k).list t)) s e

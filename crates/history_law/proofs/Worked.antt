@@ -13,7 +13,8 @@ start : NodeEntry
 start = main (add_task 0) (reply.Handle first_handle)
 
 run : List NodeEntry
-run = picks_first ∷ finishes_first ∷ main (op.TaskLook (task first_handle) false) (reply.Ended (Completed (pos 5 ∷ []))) ∷ main op.Close reply.Ok ∷ worker op.Pick reply.Stop ∷ []
+run = picks_first ∷ finishes_first ∷ main (op.TaskLook (task first_handle) false) (reply.Ended (Completed (pos 5 ∷ []))) ∷ main op.Close reply.Ok
+    ∷ worker op.Pick reply.Stop ∷ []
 
 ends_once : EndsOnce usual one_task first_handle
 unfolding one_task opened start run

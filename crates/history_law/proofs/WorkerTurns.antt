@@ -24,7 +24,8 @@ PickedAs s w Stop u = Unit {0}
 PickedAs s w _ u = ⊥
 
 -- a task that begins is the only one of its worker
-begins : (s : State) (w h : ℕ) (t : Task) (k : Kind) (args : List ℤ) → Untouched s → Free s w → live_object s.tasks h ≡ Some t → is_unstarted t ≡ true → args ≡ t.args → Holds (changed tasks h (with_state (Running w k)) s) w h (work_of k args)
+begins : (s : State) (w h : ℕ) (t : Task) (k : Kind) (args : List ℤ) → Untouched s → Free s w → live_object s.tasks h ≡ Some t → is_unstarted t ≡ true
+    → args ≡ t.args → Holds (changed tasks h (with_state (Running w k)) s) w h (work_of k args)
 begins s w h t k args clean free a u e =
     let z = clean h t a u in
     let n = count_changed (runs_on w) h (with_fields (with_state (Running w k))) true s.tasks t a (λ r l i j. l j && (eq-eqb w w refl) j) in
@@ -46,15 +47,18 @@ is_choice _ = false
 picks_said : (s : State) (w : ℕ) (r : Reply) → w < workers s → any_listed (runs_on w) s.tasks ≡ false → Allows (row s w op.Pick r) r → is_choice r ≡ true
 picks_said s w r e1 e2 e3 = grind (arith, nat_tests)
 
-by_answer : (s : State) (w : ℕ) (o : Op) (r : Reply) (ms : List Move) → o ≡ op.Pick → is_choice r ≡ true → Untouched s → Free s w → Answers s w o r ms → PickedAs s w r (after_moves ms s)
+by_answer : (s : State) (w : ℕ) (o : Op) (r : Reply) (ms : List Move) → o ≡ op.Pick → is_choice r ≡ true → Untouched s → Free s w → Answers s w o r ms
+    → PickedAs s w r (after_moves ms s)
 by_answer s w _ _ _ p i clean free (is.idles_in_new a) = refl
 by_answer s w _ _ _ p i clean free (is.idles a) = refl
 by_answer s w _ _ _ p i clean free (is.stops_worker a b c) = tt
 by_answer s w _ _ _ p i clean free (is.picks t a x y b n e d j l k) = begins s w t.0 x y.kind x.args clean free e (ready_unstarted s x j) refl
 by_answer s w _ _ _ p i clean free _ = true_false i refl
 
-pub picked_as : (s : State) (w : ℕ) (r : Reply) → w < workers s → Untouched s → Free s w → IsNext s (entry w op.Pick r) → PickedAs s w r (next s (entry w op.Pick r))
-picked_as s w r l clean free n = by_answer s w op.Pick r _ refl (picks_said s w r l (count_none (runs_on w) s.tasks free) n.allowed) clean free (answer s (entry w op.Pick r) n)
+pub picked_as : (s : State) (w : ℕ) (r : Reply) → w < workers s → Untouched s → Free s w → IsNext s (entry w op.Pick r)
+    → PickedAs s w r (next s (entry w op.Pick r))
+picked_as s w r l clean free n = by_answer s w op.Pick r _ refl (picks_said s w r l (count_none (runs_on w) s.tasks free) n.allowed) clean free
+    (answer s (entry w op.Pick r) n)
 
 -- Ops on the task that the worker has
 
@@ -62,7 +66,8 @@ number_self : (k : Kind) → (kind_number k == kind_number k) ≡ true
 number_self k = eq-eqb (kind_number k) (kind_number k) refl
 
 pub runs_as_its : (w : ℕ) (x : Work) (t : Task) → RunsWith w x t → runs_as w x.kind t ≡ true
-runs_as_its w x t h = ap (λ (y : TaskState). holds (λ r. (r.0 == w) && (kind_number r.1 == kind_number x.kind)) (runner y)) h.state ∙ ((λ i. (eq-eqb w w refl) i && (kind_number x.kind == kind_number x.kind)) ∙ number_self x.kind)
+runs_as_its w x t h = ap (λ (y : TaskState). holds (λ r. (r.0 == w) && (kind_number r.1 == kind_number x.kind)) (runner y)) h.state
+    ∙ ((λ i. (eq-eqb w w refl) i && (kind_number x.kind == kind_number x.kind)) ∙ number_self x.kind)
 
 pub runs_on_its : (w : ℕ) (x : Work) (t : Task) → RunsWith w x t → runs_on w t ≡ true
 runs_on_its w x t h = ap (λ (y : TaskState). holds (λ r. r.0 == w) (runner y)) h.state ∙ eq-eqb w w refl
@@ -86,7 +91,8 @@ found_goes s (Some y) t i r f e a = subst (λ (z : Task). Goes s (f y) r (f z)) 
 found_goes s None t i r f e a = absurd (cc)
 
 -- the row's ways to the live task that the worker has
-pub own_goes : (s : State) (w h : ℕ) (x : Work) (v : Holds s w h x) (r : Reply) (f : Task → Row) → w < workers s → Allows (unless (not (nat_lt w (workers s))) (Mtapi m.ErrParameter) (live (live_object s.tasks h) (says tasks.invalid) f)) r
+pub own_goes : (s : State) (w h : ℕ) (x : Work) (v : Holds s w h x) (r : Reply) (f : Task → Row) → w < workers s
+    → Allows (unless (not (nat_lt w (workers s))) (Mtapi m.ErrParameter) (live (live_object s.tasks h) (says tasks.invalid) f)) r
     → Goes s (unless (not (nat_lt w (workers s))) (Mtapi m.ErrParameter) (live (live_object s.tasks h) (says tasks.invalid) f)) r (f v.task)
 own_goes s w h x v r f l a =
     let g1 = pass (not (nat_lt w (workers s))) (Mtapi m.ErrParameter) r (live (live_object s.tasks h) (says tasks.invalid) f) s (small_not w (workers s) l) a in
@@ -97,19 +103,23 @@ pub record Finished (r : Reply) (w : ℕ) (u : State) : Type 0 where
   pub free : Free u w
 
 -- a finish with the answer to the worker's task is done, and leaves the worker free
-pub finish_said : (s : State) (w h : ℕ) (done : Answered) (t : Task) (r : Reply) → w < workers s → live_object s.tasks h ≡ Some t → runs_as w done.kind t ≡ true → pointwise int_eq t.args done.args ≡ true
+pub finish_said : (s : State) (w h : ℕ) (done : Answered) (t : Task) (r : Reply) → w < workers s → live_object s.tasks h ≡ Some t → runs_as w done.kind t ≡ true
+    → pointwise int_eq t.args done.args ≡ true
     → Allows (row s w (op.Finish (record { 0 = h }) done) r) r → r ≡ Ok
 finish_said s w h done t r e1 e2 e3 e4 e5 = grind (arith, nat_tests)
 
-ends_by : (s : State) (w h : ℕ) (x : Work) (v : Holds s w h x) (done : Answered) (ms : List Move) → Answers s w (op.Finish (record { 0 = h }) done) Ok ms → Free (after_moves ms s) w
+ends_by : (s : State) (w h : ℕ) (x : Work) (v : Holds s w h x) (done : Answered) (ms : List Move) → Answers s w (op.Finish (record { 0 = h }) done) Ok ms
+    → Free (after_moves ms s) w
 ends_by s w _ x v _ _ (is.finishes t done y k u) = ends_free s w t.0 x v (task_end done.end) s.ends
 
-pub finished_as : (s : State) (w h : ℕ) (x : Work) (v : Holds s w h x) (done : Answered) (r : Reply) → w < workers s → done.kind ≡ x.kind → done.args ≡ x.args → IsNext s (entry w (op.Finish (record { 0 = h }) done) r)
+pub finished_as : (s : State) (w h : ℕ) (x : Work) (v : Holds s w h x) (done : Answered) (r : Reply) → w < workers s → done.kind ≡ x.kind → done.args ≡ x.args
+    → IsNext s (entry w (op.Finish (record { 0 = h }) done) r)
     → Finished r w (next s (entry w (op.Finish (record { 0 = h }) done) r))
 finished_as s w h x v done r l k e n =
     let runs : runs_as w done.kind v.task ≡ true = ap (λ (z : Kind). runs_as w z v.task) k ∙ runs_as_its w x v.task v.runs in
     let ok : r ≡ Ok = finish_said s w h done v.task r l v.found runs (same_list v.task.args done.args (e ∙ sym v.runs.arguments)) n.allowed in
     record {
       reply = ok;
-      free = ends_by s w h x v done _ (subst (λ (z : Reply). Answers s w (op.Finish (record { 0 = h }) done) z (moves_of (row s w (op.Finish (record { 0 = h }) done) r))) ok (answer s (entry w (op.Finish (record { 0 = h }) done) r) n));
+      free = ends_by s w h x v done _ (subst (λ (z : Reply). Answers s w (op.Finish (record { 0 = h }) done) z
+          (moves_of (row s w (op.Finish (record { 0 = h }) done) r))) ok (answer s (entry w (op.Finish (record { 0 = h }) done) r) n));
     }

@@ -39,4 +39,5 @@ TasksEndOnce terms es = (P Q : List NodeEntry) (e : NodeEntry) (h : ℕ) → es 
 
 -- in a legal list that ends with the final step, every task that was accepted ends once
 abbrev pub AcceptedTasksEndOnce : Type 0
-AcceptedTasksEndOnce = (terms : Terms) (es before : List NodeEntry) (main : ℕ) → Legal terms es → es ≡ before ++ entry main Final Ok ∷ [] → TasksEndOnce terms es
+AcceptedTasksEndOnce = (terms : Terms) (es before : List NodeEntry) (main : ℕ) → Legal terms es → es ≡ before ++ entry main Final Ok ∷ []
+    → TasksEndOnce terms es

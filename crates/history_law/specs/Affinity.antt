@@ -27,9 +27,11 @@ pub record IsAllowed (before : List NodeEntry) (w t a : ℕ) : Type 0 where
   pub started : some_entry (issues kind.Task t) before ≡ true
   pub made : some_entry (issues kind.Action a) before ≡ true
   pub task : (A B : List NodeEntry) (e : NodeEntry) (m : ℕ) → before ≡ A ++ e ∷ B → issues kind.Task t e ≡ true → task_mask e.op ≡ Some m → in_mask w m ≡ true
-  pub action : (A B : List NodeEntry) (e : NodeEntry) (m : ℕ) → before ≡ A ++ e ∷ B → issues kind.Action a e ≡ true → action_mask e.op ≡ Some m → in_mask w m ≡ true
+  pub action : (A B : List NodeEntry) (e : NodeEntry) (m : ℕ) → before ≡ A ++ e ∷ B → issues kind.Action a e ≡ true → action_mask e.op ≡ Some m
+      → in_mask w m ≡ true
 
 -- a pick at this place, counted from 0, obeys the masks that the entries before it gave
 abbrev pub ObeysMasks : List NodeEntry → ℕ → Type 0
 ObeysMasks es place =
-    (P R : List NodeEntry) (w : ℕ) (t : TaskHandle) (a : ActionHandle) (k : Kind) (args : List ℤ) → es ≡ P ++ entry w Pick (Picked t a k args) ∷ R → length P ≡ place → IsAllowed P w t.0 a.0
+    (P R : List NodeEntry) (w : ℕ) (t : TaskHandle) (a : ActionHandle) (k : Kind) (args : List ℤ) → es ≡ P ++ entry w Pick (Picked t a k args) ∷ R
+    → length P ≡ place → IsAllowed P w t.0 a.0

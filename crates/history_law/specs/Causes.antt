@@ -34,7 +34,8 @@ pub data Cause (s : State) (h : ℕ) (t : Task) : Op → TaskEnd → Type 0 wher
   -- it hasn't begun, and its queue is deleted, or the action is deleted or disabled without which no worker can take it
   by_deleted_queue : (q : QueueHandle) → is_unstarted t ≡ true → is_in q.0 t ≡ true → Cause s h t (QueueDelete q) (Failed ErrQueueDeleted)
   by_deleted_action : (a : ActionHandle) → IsLeft s t (change a.0 gone s.actions) → Cause s h t (ActionDelete a) (Failed ErrActionDeleted)
-  by_disabled_action : (a : ActionHandle) → IsLeft s t (change a.0 (with_fields (with_enabled false)) s.actions) → Cause s h t (ActionDisable a) (Failed ErrActionDisabled)
+  by_disabled_action : (a : ActionHandle) → IsLeft s t (change a.0 (with_fields (with_enabled false)) s.actions)
+      → Cause s h t (ActionDisable a) (Failed ErrActionDisabled)
   -- its action answered so
   by_answer : (x : TaskHandle) (done : Answered) (e : TaskEnd) → x.0 ≡ h → e ≡ task_end done.end → Cause s h t (Finish x done) e
   -- its watch ended: with bad arguments it fails, and it is cancelled exactly where it saw a request

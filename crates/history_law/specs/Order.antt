@@ -45,4 +45,5 @@ pub record EndedBefore (s : State) (a b : ℕ) : Type 0 where
 -- of two tasks that the group gave, the one given first ended first; so no task is given twice
 abbrev pub GivenInOrder : Terms → List NodeEntry → ℕ → Type 0
 GivenInOrder terms es g =
-    (A B C : List NodeEntry) (x y : NodeEntry) (a b : ℕ) → es ≡ A ++ x ∷ (B ++ y ∷ C) → gives g a x ≡ true → gives g b y ≡ true → EndedBefore (after terms es) a b
+    (A B C : List NodeEntry) (x y : NodeEntry) (a b : ℕ) → es ≡ A ++ x ∷ (B ++ y ∷ C) → gives g a x ≡ true → gives g b y ≡ true
+    → EndedBefore (after terms es) a b

@@ -46,5 +46,6 @@ pub record HasRun (terms : Terms) (before behind : List NodeEntry) (h : ℕ) : T
 -- then or later. So what is picked of the two begins in the order in which they were put, and the runs don't overlap.
 abbrev pub RunsInOrder : Terms → List NodeEntry → ℕ → Type 0
 RunsInOrder terms es q =
-    (Z A B C D : List NodeEntry) (o x y z : NodeEntry) (a b : ℕ) → es ≡ (Z ++ o ∷ (A ++ x ∷ (B ++ y ∷ C))) ++ z ∷ D → makes_ordered q o ≡ true → puts q a x ≡ true → puts q b y ≡ true → picks b z ≡ true
+    (Z A B C D : List NodeEntry) (o x y z : NodeEntry) (a b : ℕ) → es ≡ (Z ++ o ∷ (A ++ x ∷ (B ++ y ∷ C))) ++ z ∷ D → makes_ordered q o ≡ true
+    → puts q a x ≡ true → puts q b y ≡ true → picks b z ≡ true
     → HasRun terms (Z ++ o ∷ (A ++ x ∷ (B ++ y ∷ C))) (z ∷ D) a

@@ -39,11 +39,13 @@ makes_action = op.ActionCreate 1 kind.Add every_core
 
 -- the node is finalized though its task hasn't ended
 unfoldable pub too_early : List NodeEntry
-too_early = main op.Initialize reply.Ok ∷ main makes_action (reply.Handle first_handle) ∷ main (add_task 0) (reply.Handle first_handle) ∷ main op.Final reply.Ok ∷ []
+too_early = main op.Initialize reply.Ok ∷ main makes_action (reply.Handle first_handle) ∷ main (add_task 0) (reply.Handle first_handle) ∷ main op.Final reply.Ok
+    ∷ []
 
 -- the handle of a task that has left is issued again
 unfoldable pub up_to_the_end : List NodeEntry
-up_to_the_end = main op.Initialize reply.Ok ∷ main makes_action (reply.Handle first_handle) ∷ main (add_task 0) (reply.Handle first_handle) ∷ main (op.TaskCancel (task first_handle)) reply.Ok ∷ []
+up_to_the_end = main op.Initialize reply.Ok ∷ main makes_action (reply.Handle first_handle) ∷ main (add_task 0) (reply.Handle first_handle)
+    ∷ main (op.TaskCancel (task first_handle)) reply.Ok ∷ []
 
 abbrev pub leaves : List NodeEntry
 leaves = main (op.TaskLook (task first_handle) false) (reply.Ended Cancelled) ∷ []

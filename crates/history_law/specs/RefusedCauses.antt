@@ -41,7 +41,8 @@ begun = with_state (Running 0 kind.Watch) unbegun
 
 -- a tally at this stage, which read 5 and adds 3
 abbrev pub tally_at : ℕ → Task
-tally_at stage = with_notes (λ n. record n { tally = record no_tally { stage = stage; verdict = Failed status.ErrArgSize; kept = pos 5 } }) (record unbegun { args = pos 1 ∷ pos 1 ∷ pos 0 ∷ pos 3 ∷ [] })
+tally_at stage = with_notes (λ n. record n { tally = record no_tally { stage = stage; verdict = Failed status.ErrArgSize; kept = pos 5 } })
+    (record unbegun { args = pos 1 ∷ pos 1 ∷ pos 0 ∷ pos 3 ∷ [] })
 
 -- queues
 abbrev pub queue : ℕ → QueueHandle
@@ -52,7 +53,12 @@ abbrev pub bare : State
 bare = opening usual
 
 abbrev pub the_queue : Bool → Listed Queue
-the_queue enabled = record { handle = next_handle; live = true; fields = record { id = 1; job = 1; priority = 0; limit = 2; ordered = false; retain = true; enabled = enabled } }
+the_queue enabled = record {
+  handle = next_handle;
+  live = true;
+  fields =
+      record { id = 1; job = 1; priority = 0; limit = 2; ordered = false; retain = true; enabled = enabled };
+}
 
 abbrev pub with_queue : Bool → State
 with_queue enabled = record bare { queues = the_queue enabled ∷ [] }

@@ -82,7 +82,8 @@ pub record ClausesRefuse : Type 0 where
   pub kind_lists : NotInBoth Two usual too_early object.Action object.Task first_handle → ⊥
   -- at most one record; and a task that was cancelled stays so, whatever follows
   pub one_record : (terms : Terms) (es : List NodeEntry) (h : ℕ) → OneEnd terms es h → listed h (after terms es).tasks ≤ 1
-  pub stays_ended : (es more : List NodeEntry) → OneEnd usual (up_to_the_end ++ (es ++ more)) first_handle → end_at (after usual (up_to_the_end ++ es)).tasks first_handle ≡ Some Cancelled
+  pub stays_ended : (es more : List NodeEntry) → OneEnd usual (up_to_the_end ++ (es ++ more)) first_handle
+      → end_at (after usual (up_to_the_end ++ es)).tasks first_handle ≡ Some Cancelled
   -- exactly one record; and its end is the one that it had first
   pub just_one : (terms : Terms) (es : List NodeEntry) (h : ℕ) → EndsOnce terms es h → listed h (after terms es).tasks ≡ 1
   pub first_end : (es : List NodeEntry) (x : EndsOnce usual (up_to_the_end ++ es) first_handle) → x.end ≡ Cancelled

@@ -49,4 +49,5 @@ pub record FieldsRefuse : Type 0 where
   -- a worker without a task doesn't get one
   pub free : WorkerKeeps (after usual started) (after usual (started ++ takes)) 0 → ⊥
   -- an object that has gone isn't live after what follows
-  pub dead : (terms : Terms) (before behind : List NodeEntry) (k : ObjectKind) (h : ℕ) → StaysGone terms before behind k h → is_live k h (after terms (before ++ behind)) ≡ false
+  pub dead : (terms : Terms) (before behind : List NodeEntry) (k : ObjectKind) (h : ℕ) → StaysGone terms before behind k h
+      → is_live k h (after terms (before ++ behind)) ≡ false

@@ -16,7 +16,8 @@ pub record StaysGone (terms : Terms) (before N : List NodeEntry) (k : ObjectKind
 -- a handle that was live after P, and isn't any more after the entries M, stays gone over all entries N that follow
 abbrev pub NeverAgain : Terms → List NodeEntry → ObjectKind → ℕ → Type 0
 NeverAgain terms es k h =
-    (P M N R : List NodeEntry) → es ≡ (P ++ M) ++ (N ++ R) → is_live k h (after terms P) ≡ true → is_live k h (after terms (P ++ M)) ≡ false → StaysGone terms (P ++ M) N k h
+    (P M N R : List NodeEntry) → es ≡ (P ++ M) ++ (N ++ R) → is_live k h (after terms P) ≡ true → is_live k h (after terms (P ++ M)) ≡ false
+    → StaysGone terms (P ++ M) N k h
 
 -- in layout two no handle was issued to an object of the one kind and to one of the other: neither do the lists of the state have it in
 -- both, nor did entries issue it to both

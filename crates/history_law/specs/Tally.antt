@@ -60,11 +60,13 @@ writes_to s cell e = is_write s cell e.op && says_ok e.reply
 -- `tally_lock` by which its tally kept it
 abbrev pub NamesOneMutex : Terms → List NodeEntry → ℕ → ℕ → ℕ → Type 0
 NamesOneMutex terms es s cell id =
-    (A B : List NodeEntry) (w : ℕ) (t : TaskHandle) (x : Task) → es ≡ A ++ tally_got w t ∷ B → live_object (after terms (A ++ tally_got w t ∷ [])).tasks t.0 ≡ Some x → adds_to s cell x ≡ true → mutex_in (tally_args x.args) ≡ id
+    (A B : List NodeEntry) (w : ℕ) (t : TaskHandle) (x : Task) → es ≡ A ++ tally_got w t ∷ B
+    → live_object (after terms (A ++ tally_got w t ∷ [])).tasks t.0 ≡ Some x → adds_to s cell x ≡ true → mutex_in (tally_args x.args) ≡ id
 
 -- Where the list has the final step, the segment was issued and has the cell, no caller wrote to the cell, and all tallies of the cell
 -- name one mutex, the cell holds the sum of the numbers that the completed tallies among its tasks add.
 abbrev pub HoldsTheSum : Terms → List NodeEntry → ℕ → ℕ → Type 0
 HoldsTheSum terms es s cell =
-    (A B : List NodeEntry) (main id : ℕ) (x : Segment) → es ≡ A ++ entry main Final Ok ∷ B → record_of (after terms es).segments s ≡ Some x → cell < length x.cells → some_entry (writes_to s cell) es ≡ false → NamesOneMutex terms es s cell id
+    (A B : List NodeEntry) (main id : ℕ) (x : Segment) → es ≡ A ++ entry main Final Ok ∷ B → record_of (after terms es).segments s ≡ Some x
+    → cell < length x.cells → some_entry (writes_to s cell) es ≡ false → NamesOneMutex terms es s cell id
     → cell_of cell x ≡ sum_of (number_added s cell) (after terms es).tasks

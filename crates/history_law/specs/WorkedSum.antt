@@ -32,7 +32,8 @@ gets_both w h = entry w (op.TallyLock (task h)) (reply.Asked true)
 
 abbrev pub adds_up : ℕ → ℕ → ℤ → ℤ → List NodeEntry
 adds_up w h before then =
-    entry w (op.TallyRead (task h)) (reply.Number before) ∷ entry w (op.TallyWrite (task h) then) reply.Ok ∷ entry w (op.TallyEnd (task h)) (reply.Ended (Completed (then ∷ []))) ∷ []
+    entry w (op.TallyRead (task h)) (reply.Number before) ∷ entry w (op.TallyWrite (task h) then) reply.Ok
+    ∷ entry w (op.TallyEnd (task h)) (reply.Ended (Completed (then ∷ []))) ∷ []
 
 -- the node opens, both tallies are started, and each worker takes one
 abbrev pub begins : List NodeEntry

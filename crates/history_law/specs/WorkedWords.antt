@@ -182,8 +182,10 @@ pub record WorkedHandled : Type 0 where
   pub reader_unlock : ops_that (unlocks_rwl 7 false) ≡ op.RwlUnlock (rwl 7) false ∷ []
   pub write : ops_that (is_write 7 25) ≡ op.ShmemWrite (segment 7) 25 (pos 26) ∷ []
   pub other_cell : ops_that (is_write 7 26) ≡ []
-  pub others : map ops_that (looks_for_any 6 ∷ puts_into 6 ∷ looks_at_mutex 6 ∷ unlocks_mutex 6 ∷ is_tally_end 6 ∷ looks_at_sem 6 ∷ unlocks_sem 6 ∷ []) ≡ ([] ∷ [] ∷ [] ∷ [] ∷ [] ∷ [] ∷ [] ∷ [])
-  pub other_locks : map ops_that (looks_at_rwl 6 true ∷ looks_at_rwl 6 false ∷ unlocks_rwl 6 true ∷ unlocks_rwl 6 false ∷ is_write 6 25 ∷ []) ≡ ([] ∷ [] ∷ [] ∷ [] ∷ [] ∷ [])
+  pub others : map ops_that (looks_for_any 6 ∷ puts_into 6 ∷ looks_at_mutex 6 ∷ unlocks_mutex 6 ∷ is_tally_end 6 ∷ looks_at_sem 6 ∷ unlocks_sem 6 ∷ [])
+      ≡ ([] ∷ [] ∷ [] ∷ [] ∷ [] ∷ [] ∷ [] ∷ [])
+  pub other_locks : map ops_that (looks_at_rwl 6 true ∷ looks_at_rwl 6 false ∷ unlocks_rwl 6 true ∷ unlocks_rwl 6 false ∷ is_write 6 25 ∷ [])
+      ≡ ([] ∷ [] ∷ [] ∷ [] ∷ [] ∷ [])
 
 -- an end, and every reply, with what it names
 abbrev pub an_end : TaskEnd
@@ -222,7 +224,8 @@ pub record WorkedReplies : Type 0 where
   pub told : filter_map end_told every_reply ≡ an_end ∷ []
   pub told_of_group : filter_map (given_told 7) every_reply ≡ Cancelled ∷ []
   pub told_when_done : filter_map (done_told Cancelled) every_reply ≡ Cancelled ∷ []
-  pub late : map is_late_end (Failed status.Timeout ∷ Failed status.ErrSpent ∷ Failed status.ErrActionFailed ∷ Cancelled ∷ an_end ∷ []) ≡ (true ∷ true ∷ false ∷ false ∷ false ∷ [])
+  pub late : map is_late_end (Failed status.Timeout ∷ Failed status.ErrSpent ∷ Failed status.ErrActionFailed ∷ Cancelled ∷ an_end ∷ [])
+      ≡ (true ∷ true ∷ false ∷ false ∷ false ∷ [])
   -- the end that each op tells by the replies Ended, Given and Ok
   pub by_ended : filter_map (λ o. told_by 7 o (reply.Ended an_end)) (ops_at 7) ≡ an_end ∷ an_end ∷ an_end ∷ []
   pub by_given : filter_map (λ o. told_by 7 o (reply.Given (task 7) Cancelled)) (ops_at 5) ≡ Cancelled ∷ []
@@ -292,9 +295,11 @@ pub record WorkedLists : Type 0 where
   pub stages : map (λ stage. adds_to 7 25 (notes_at stage)) (0 ∷ 1 ∷ 2 ∷ 3 ∷ 4 ∷ []) ≡ (false ∷ true ∷ true ∷ true ∷ false ∷ [])
   pub got : map (λ stage. got_both (notes_at stage).notes.tally) (0 ∷ 1 ∷ 2 ∷ 3 ∷ 4 ∷ []) ≡ (false ∷ true ∷ true ∷ true ∷ false ∷ [])
   pub other_place : (adds_to 6 25 (notes_at 2) ≡ false) × (adds_to 7 24 (notes_at 2) ≡ false)
-  pub completed : map is_completed (Scheduled ∷ Running 0 kind.Tally ∷ Ended an_end 1 ∷ Ended Cancelled 1 ∷ Ended (Failed status.ErrActionFailed) 1 ∷ []) ≡ (false ∷ false ∷ true ∷ false ∷ false ∷ [])
+  pub completed : map is_completed (Scheduled ∷ Running 0 kind.Tally ∷ Ended an_end 1 ∷ Ended Cancelled 1 ∷ Ended (Failed status.ErrActionFailed) 1 ∷ [])
+      ≡ (false ∷ false ∷ true ∷ false ∷ false ∷ [])
   pub added : map (number_added 7 25) (tallied 2 ∷ notes_at 2 ∷ tallied 4 ∷ []) ≡ (pos 3 ∷ pos 0 ∷ pos 0 ∷ [])
-  pub sum : sum_of (λ t. pos t.priority) (record { handle = 7; live = false; fields = record (tallied 2) { priority = 3 } } ∷ record { handle = 6; live = true; fields = record (notes_at 0) { priority = 4 } } ∷ []) ≡ pos 7
+  pub sum : sum_of (λ t. pos t.priority) (record { handle = 7; live = false; fields = record (tallied 2) { priority = 3 } }
+      ∷ record { handle = 6; live = true; fields = record (notes_at 0) { priority = 4 } } ∷ []) ≡ pos 7
 
 pub record WorkedWords : Type 0 where
   pub ops : WorkedOps

@@ -38,7 +38,8 @@ placed (a ∷ A) x B (c ∷ C) y D e = deeper (same_head a c _ _ e) (placed A x 
 
 -- Lines
 
-pub lines_append : (who : ℕ) (P M : List NodeEntry) (ps ms : List ℕ) → length P ≡ length ps → lines_of who (P ++ M) (ps ++ ms) ≡ lines_of who P ps ++ lines_of who M ms
+pub lines_append : (who : ℕ) (P M : List NodeEntry) (ps ms : List ℕ) → length P ≡ length ps
+    → lines_of who (P ++ M) (ps ++ ms) ≡ lines_of who P ps ++ lines_of who M ms
 unfolding lines_of
 lines_append who [] M [] ms l = refl
 lines_append who (e ∷ P) M (n ∷ ps) ms l = grind (arith, lines_append who P M ps ms (omega arith))
@@ -78,7 +79,19 @@ cut who (e ∷ es) (n ∷ ns) A l B i = by (e.who == who) refl i (cut who es ns)
     }
 
     here : (e.who == who) ≡ true → line e.op e.reply n ≡ l → lines_of who es ns ≡ B → A ≡ [] → Cut who (e ∷ es) (n ∷ ns) A l B
-    here w h r a = record { before = []; behind = es; first = []; rest = ns; is = λ j. entry (eqb-true e.who who w j) (h j).op (h j).reply ∷ es; numbers = λ j. (h j).beside ∷ ns; same = refl; alike = λ k. omega arith; done = sym a; left = r }
+    here w h r a = record {
+      before = [];
+      behind = es;
+      first = [];
+      rest = ns;
+      is = λ j. entry (eqb-true e.who who w j) (h j).op (h j).reply ∷ es;
+      numbers =
+          λ j. (h j).beside ∷ ns;
+      same = refl;
+      alike = λ k. omega arith;
+      done = sym a;
+      left = r;
+    }
 
     by : (b : Bool) → (e.who == who) ≡ b → cond b (line e.op e.reply n ∷ lines_of who es ns) (lines_of who es ns) ≡ A ++ l ∷ B
         → ((C : List Line) (x : Line) (D : List Line) → lines_of who es ns ≡ C ++ x ∷ D → Cut who es ns C x D) → Cut who (e ∷ es) (n ∷ ns) A l B
@@ -87,11 +100,14 @@ cut who (e ∷ es) (n ∷ ns) A l B i = by (e.who == who) refl i (cut who es ns)
       where
         first : (C : List Line) → C ≡ A → line e.op e.reply n ∷ lines_of who es ns ≡ C ++ l ∷ B → Cut who (e ∷ es) (n ∷ ns) A l B
         first [] c g = here w (same_head _ _ _ _ g) (same_tail _ _ _ _ g) (sym c)
-        first (a ∷ C) c g = later C (ap (λ (b : Bool). cond b (line e.op e.reply n ∷ []) [] ++ C) w ∙ (λ j. same_head _ _ _ _ g j ∷ C) ∙ c) (k C l B (same_tail _ _ _ _ g))
+        first (a ∷ C) c g = later C (ap (λ (b : Bool). cond b (line e.op e.reply n ∷ []) [] ++ C) w ∙ (λ j. same_head _ _ _ _ g j ∷ C)
+            ∙ c) (k C l B (same_tail _ _ _ _ g))
 
 -- the lines of any seat in two, and those of its own
-pub cut_split : (who : ℕ) (es : List NodeEntry) (ns : List ℕ) (A : List Line) (l : Line) (B : List Line) (c : Cut who es ns A l B) (v : ℕ) → lines_of v es ns ≡ lines_of v c.before c.first ++ lines_of v (entry who l.op l.reply ∷ c.behind) (l.beside ∷ c.rest)
-cut_split who es ns A l B c v = (λ i. lines_of v (c.is i) (c.numbers i)) ∙ lines_append v c.before (entry who l.op l.reply ∷ c.behind) c.first (l.beside ∷ c.rest) c.same
+pub cut_split : (who : ℕ) (es : List NodeEntry) (ns : List ℕ) (A : List Line) (l : Line) (B : List Line) (c : Cut who es ns A l B) (v : ℕ)
+    → lines_of v es ns ≡ lines_of v c.before c.first ++ lines_of v (entry who l.op l.reply ∷ c.behind) (l.beside ∷ c.rest)
+cut_split who es ns A l B c v = (λ i. lines_of v (c.is i) (c.numbers i))
+    ∙ lines_append v c.before (entry who l.op l.reply ∷ c.behind) c.first (l.beside ∷ c.rest) c.same
 
 -- Statements
 
@@ -115,31 +131,41 @@ get_last : {X : Type 0} (xs : List X) (x y : X) (n : ℕ) → slice_get (xs ++ x
 get_last [] x y zero e = inr (some_same e, refl)
 get_last [] x y (suc n) e = inl e
 get_last (z ∷ xs) x y zero e = inl e
-get_last (z ∷ xs) x y (suc n) e = elim (get_last xs x y n e) as (λ k. (slice_get xs n ≡ Some y) ⊎ ((x ≡ y) × (suc (length xs) ≡ suc n))) [ inl k ↦ inl k | inr k ↦ inr (k.0, ap suc k.1) ]
+get_last (z ∷ xs) x y (suc n) e = elim (get_last xs x y n e) as (λ k. (slice_get xs n ≡ Some y) ⊎ ((x ≡ y) × (suc (length xs) ≡ suc n))) [
+  | inl k ↦
+      inl k
+  | inr k ↦ inr (k.0, ap suc k.1)
+]
 
 -- the handle that a reply binds is that of its place
 bound_here : (rs : List Reply) (r : Reply) (qs : List Reply) (n : ℕ) → length rs ≡ n → handle_at (map handle_of (rs ++ r ∷ qs)) n ≡ handle_of r
-bound_here rs r qs n e = ap (λ (z : List ℕ). handle_at z n) (map-append handle_of rs (r ∷ qs)) ∙ get_or_at (map handle_of rs) (handle_of r) (map handle_of qs) 0 n (length-map rs handle_of ∙ e)
+bound_here rs r qs n e = ap (λ (z : List ℕ). handle_at z n) (map-append handle_of rs (r ∷ qs))
+    ∙ get_or_at (map handle_of rs) (handle_of r) (map handle_of qs) 0 n (length-map rs handle_of ∙ e)
 
 pub handles_front : (rs : List Reply) (qs : List Reply) (n : ℕ) → n < length rs → handle_at (map handle_of (rs ++ qs)) n ≡ handle_at (map handle_of rs) n
-handles_front rs qs n l = ap (λ (z : List ℕ). handle_at z n) (map-append handle_of rs qs) ∙ get_or_append_left (map handle_of rs) (map handle_of qs) 0 n (let m : length (map handle_of rs) ≡ length rs = length-map rs handle_of in omega arith)
+handles_front rs qs n l = ap (λ (z : List ℕ). handle_at z n) (map-append handle_of rs qs)
+    ∙ get_or_append_left (map handle_of rs) (map handle_of qs) 0 n (let m : length (map handle_of rs) ≡ length rs = length-map rs handle_of in omega arith)
 
 -- Carried lists in pieces
 
-pub carried_more : (bound : List ℕ) (ss ts : List Statement) (ls ks : List Line) (rs qs : List Reply) → Carried Made bound ss ls rs → Carried Made (bound ++ map handle_of rs) ts ks qs → Carried Made bound (ss ++ ts) (ls ++ ks) (rs ++ qs)
+pub carried_more : (bound : List ℕ) (ss ts : List Statement) (ls ks : List Line) (rs qs : List Reply) → Carried Made bound ss ls rs
+    → Carried Made (bound ++ map handle_of rs) ts ks qs → Carried Made bound (ss ++ ts) (ls ++ ks) (rs ++ qs)
 unfolding Carried
-carried_more bound [] ts ls ks [] qs a b = subst (λ (x : List Line). Carried Made bound ts (x ++ ks) qs) (sym a) (subst (λ (x : List ℕ). Carried Made x ts ks qs) (append-nil bound) b)
+carried_more bound [] ts ls ks [] qs a b =
+    subst (λ (x : List Line). Carried Made bound ts (x ++ ks) qs) (sym a) (subst (λ (x : List ℕ). Carried Made x ts ks qs) (append-nil bound) b)
 carried_more bound (s ∷ ss) ts ls ks (r ∷ rs) qs a b = (
   a.0,
   a.1 ++ ks,
   (ap (λ (x : List Line). x ++ ks) a.2 ∙ append_assoc a.0 a.1 ks),
   a.3,
-  carried_more (bound ++ handle_of r ∷ []) ss ts a.1 ks rs qs a.4 (subst (λ (x : List ℕ). Carried Made x ts ks qs) (sym (append_assoc bound (handle_of r ∷ []) (map handle_of rs))) b),
+  carried_more (bound ++ handle_of r ∷ []) ss ts a.1 ks rs qs a.4
+      (subst (λ (x : List ℕ). Carried Made x ts ks qs) (sym (append_assoc bound (handle_of r ∷ []) (map handle_of rs))) b),
 )
 carried_more bound _ ts ls ks _ qs a b = absurd a
 
 -- a statement of a part, with its lines and its reply, and what stands before it
-pub record Step (all : List Statement) (ls : List Line) (rs : List Reply) (before : List Statement) (l1 : List Line) (r1 : List Reply) (s : Statement) (front : List Line) (r : Reply) : Type 0 where
+pub record Step (all : List Statement) (ls : List Line) (rs : List Reply) (before : List Statement) (l1 : List Line) (r1 : List Reply) (s : Statement)
+    (front : List Line) (r : Reply) : Type 0 where
   pub rest : List Statement
   pub more : List Line
   pub others : List Reply
@@ -152,18 +178,22 @@ pub record Step (all : List Statement) (ls : List Line) (rs : List Reply) (befor
 
 -- what holds before all statements, and is kept by each, holds behind them
 module _ (all : List Statement) (ls : List Line) (rs : List Reply) (I : List Statement → List Line → List Reply → Type 0)
-    (step : (before : List Statement) (l1 : List Line) (r1 : List Reply) (s : Statement) (front : List Line) (r : Reply) → Step all ls rs before l1 r1 s front r → I before l1 r1 → I (before ++ s ∷ []) (l1 ++ front) (r1 ++ r ∷ [])) where
-  along_from : (before : List Statement) (l1 : List Line) (r1 : List Reply) (ss : List Statement) (ks : List Line) (qs : List Reply) → Carried Made [] before l1 r1 → length r1 ≡ length before → Carried Made (map handle_of r1) ss ks qs → all ≡ before ++ ss → ls ≡ l1 ++ ks → rs ≡ r1 ++ qs
+    (step : (before : List Statement) (l1 : List Line) (r1 : List Reply) (s : Statement) (front : List Line) (r : Reply) → Step all ls rs before l1 r1 s front r
+    → I before l1 r1 → I (before ++ s ∷ []) (l1 ++ front) (r1 ++ r ∷ [])) where
+  along_from : (before : List Statement) (l1 : List Line) (r1 : List Reply) (ss : List Statement) (ks : List Line) (qs : List Reply)
+      → Carried Made [] before l1 r1 → length r1 ≡ length before → Carried Made (map handle_of r1) ss ks qs → all ≡ before ++ ss → ls ≡ l1 ++ ks → rs ≡ r1 ++ qs
       → I before l1 r1 → I all ls rs
   unfolding Carried
   along_from before l1 r1 [] ks [] c1 n c a e t i =
       subst (λ (x : List Statement). I x ls rs) (sym (a ∙ append-nil before))
-      (subst (λ (x : List Line). I before x rs) (sym (e ∙ ap (λ (z : List Line). l1 ++ z) c ∙ append-nil l1)) (subst (λ (x : List Reply). I before l1 x) (sym (t ∙ append-nil r1)) i))
+      (subst (λ (x : List Line). I before x rs) (sym (e ∙ ap (λ (z : List Line). l1 ++ z) c ∙ append-nil l1))
+      (subst (λ (x : List Reply). I before l1 x) (sym (t ∙ append-nil r1)) i))
   along_from before l1 r1 (s ∷ ss) ks (r ∷ qs) c1 n c a e t i =
       let e2 : ls ≡ l1 ++ (c.0 ++ c.1) = e ∙ ap (λ (z : List Line). l1 ++ z) c.2 in
       along_from (before ++ s ∷ []) (l1 ++ c.0) (r1 ++ r ∷ []) ss c.1 qs
       (carried_more [] before (s ∷ []) l1 c.0 r1 (r ∷ []) c1 (c.0, [], sym (append-nil c.0), c.3, refl))
-      (length_push r1 r ∙ ap (λ (k : ℕ). k + 1) n ∙ sym (length_push before s)) (subst (λ (x : List ℕ). Carried Made x ss c.1 qs) (sym (map_push handle_of r1 r)) c.4)
+      (length_push r1 r ∙ ap (λ (k : ℕ). k + 1) n
+      ∙ sym (length_push before s)) (subst (λ (x : List ℕ). Carried Made x ss c.1 qs) (sym (map_push handle_of r1 r)) c.4)
       (a ∙ sym (append_assoc before (s ∷ []) ss)) (e2 ∙ sym (append_assoc l1 c.0 c.1)) (t ∙ sym (append_assoc r1 (r ∷ []) qs))
       (step before l1 r1 s c.0 r (record { rest = ss; more = c.1; others = qs; parted = a; is = e2; told = t; carried = c1; many = n; made = c.3 }) i)
   along_from before l1 r1 _ ks _ c1 n c a e t i = absurd c
@@ -178,40 +208,55 @@ pub are_front : (pre ss ts : List Statement) → AreStatements pre (ss ++ ts) �
 are_front pre [] ts a = tt
 are_front pre (s ∷ ss) ts a = (a.0, are_front (pre ++ s ∷ []) ss ts a.1)
 
-pub statement_at : (pre before : List Statement) (s : Statement) (rest : List Statement) → AreStatements pre (before ++ s ∷ rest) → IsStatement (pre ++ before) s
+pub statement_at : (pre before : List Statement) (s : Statement) (rest : List Statement) → AreStatements pre (before ++ s ∷ rest)
+    → IsStatement (pre ++ before) s
 statement_at pre [] s rest a = subst (λ (x : List Statement). IsStatement x s) (sym (append-nil pre)) a.0
-statement_at pre (t ∷ before) s rest a = subst (λ (x : List Statement). IsStatement x s) (append_assoc pre (t ∷ []) before) (statement_at (pre ++ t ∷ []) before s rest a.1)
+statement_at pre (t ∷ before) s rest a =
+    subst (λ (x : List Statement). IsStatement x s) (append_assoc pre (t ∷ []) before) (statement_at (pre ++ t ∷ []) before s rest a.1)
 
-pub deed_at : (settings : NodeSettings) (known : List Action) (all pre before : List Statement) (s : Statement) (rest : List Statement) → are_settled settings known all pre (before ++ s ∷ rest) ≡ true → is_settled_deed settings (known ++ actions_in (pre ++ before)) (pre ++ before) all s.deed ≡ true
+pub deed_at : (settings : NodeSettings) (known : List Action) (all pre before : List Statement) (s : Statement) (rest : List Statement)
+    → are_settled settings known all pre (before ++ s ∷ rest) ≡ true
+    → is_settled_deed settings (known ++ actions_in (pre ++ before)) (pre ++ before) all s.deed ≡ true
 unfolding are_settled
-deed_at settings known all pre [] s rest e = subst (λ (x : List Statement). is_settled_deed settings (known ++ actions_in x) x all s.deed ≡ true) (sym (append-nil pre)) (fst_true _ (are_settled settings known all (pre ++ s ∷ []) rest) e)
+deed_at settings known all pre [] s rest e =
+    subst (λ (x : List Statement). is_settled_deed settings (known ++ actions_in x) x all s.deed
+    ≡ true) (sym (append-nil pre)) (fst_true _ (are_settled settings known all (pre ++ s ∷ []) rest) e)
 deed_at settings known all pre (t ∷ before) s rest e =
     subst (λ (x : List Statement). is_settled_deed settings (known ++ actions_in x) x all s.deed ≡ true) (append_assoc pre (t ∷ []) before)
     (deed_at settings known all (pre ++ t ∷ []) before s rest (snd_true (is_settled_deed settings (known ++ actions_in pre) pre all t.deed) _ e))
 
 -- and so it is of the statements before a place
-pub deed_in : (settings : NodeSettings) (known : List Action) (all before more : List Statement) → all ≡ before ++ more → are_settled settings known all [] all ≡ true → (b : List Statement) (t : Statement) (rest : List Statement) → before ≡ b ++ t ∷ rest → is_settled_deed settings (known ++ actions_in b) b all t.deed ≡ true
+pub deed_in : (settings : NodeSettings) (known : List Action) (all before more : List Statement) → all ≡ before ++ more
+    → are_settled settings known all [] all ≡ true → (b : List Statement) (t : Statement) (rest : List Statement) → before ≡ b ++ t ∷ rest
+    → is_settled_deed settings (known ++ actions_in b) b all t.deed ≡ true
 deed_in settings known all before more i e b t rest j =
-    deed_at settings known all [] b t (rest ++ more) (subst (λ (z : List Statement). are_settled settings known all [] z ≡ true) (i ∙ ap (λ (z : List Statement). z ++ more) j ∙ append_assoc b (t ∷ rest) more) e)
+    deed_at settings known all [] b t (rest
+    ++ more) (subst (λ (z : List Statement). are_settled settings known all [] z
+    ≡ true) (i ∙ ap (λ (z : List Statement). z ++ more) j ∙ append_assoc b (t ∷ rest) more) e)
 
-pub granted_at : (before : List Statement) (s : Statement) (rest : List Statement) (r1 : List Reply) (r : Reply) (others : List Reply) → length r1 ≡ length before → AllGranted (before ++ s ∷ rest) (r1 ++ r ∷ others) → AllGranted before r1 × GrantedTo s.deed r
+pub granted_at : (before : List Statement) (s : Statement) (rest : List Statement) (r1 : List Reply) (r : Reply) (others : List Reply)
+    → length r1 ≡ length before → AllGranted (before ++ s ∷ rest) (r1 ++ r ∷ others) → AllGranted before r1 × GrantedTo s.deed r
 granted_at [] s rest [] r others n a = (tt, a.0)
 granted_at (t ∷ before) s rest (q ∷ r1) r others n a = let x = granted_at before s rest r1 r others (omega arith) a.1 in ((a.0, x.0), x.1)
 granted_at _ s rest _ r others n a = absurd (omega arith)
 
-pub granted_more : (before : List Statement) (r1 : List Reply) (s : Statement) (r : Reply) → AllGranted before r1 → length r1 ≡ length before → GrantedTo s.deed r → AllGranted (before ++ s ∷ []) (r1 ++ r ∷ [])
+pub granted_more : (before : List Statement) (r1 : List Reply) (s : Statement) (r : Reply) → AllGranted before r1 → length r1 ≡ length before
+    → GrantedTo s.deed r → AllGranted (before ++ s ∷ []) (r1 ++ r ∷ [])
 granted_more [] [] s r a l g = (g, tt)
 granted_more (t ∷ before) (x ∷ r1) s r a l g = (a.0, granted_more before r1 s r a.1 (omega arith) g)
 granted_more _ _ s r a l g = absurd (omega arith)
 
-module _ (all : List Statement) (ls : List Line) (rs : List Reply) (before : List Statement) (l1 : List Line) (r1 : List Reply) (s : Statement) (front : List Line) (r : Reply) (x : Step all ls rs before l1 r1 s front r) where
+module _ (all : List Statement) (ls : List Line) (rs : List Reply) (before : List Statement) (l1 : List Line) (r1 : List Reply) (s : Statement)
+    (front : List Line) (r : Reply) (x : Step all ls rs before l1 r1 s front r) where
   pub step_granted : AllGranted all rs → AllGranted before r1 × GrantedTo s.deed r
-  step_granted g = granted_at before s x.rest r1 r x.others x.many (subst (λ (z : List Statement). AllGranted z (r1 ++ r ∷ x.others)) x.parted (subst (AllGranted all) x.told g))
+  step_granted g = granted_at before s x.rest r1 r x.others x.many
+      (subst (λ (z : List Statement). AllGranted z (r1 ++ r ∷ x.others)) x.parted (subst (AllGranted all) x.told g))
 
   pub step_statement : AreStatements [] all → IsStatement before s
   step_statement a = statement_at [] before s x.rest (subst (AreStatements []) x.parted a)
 
-  pub step_settled : (settings : NodeSettings) (known : List Action) → are_settled settings known all [] all ≡ true → is_settled_deed settings (known ++ actions_in before) before all s.deed ≡ true
+  pub step_settled : (settings : NodeSettings) (known : List Action) → are_settled settings known all [] all ≡ true
+      → is_settled_deed settings (known ++ actions_in before) before all s.deed ≡ true
   step_settled settings known e = deed_in settings known all all [] (sym (append-nil all)) e before s x.rest x.parted
 
 -- The statement that a place stands for
@@ -231,17 +276,26 @@ bound_by t before place b =
     record { statement = x.0; found = x.1; binding = subst (λ (o : Option Statement). IfSome o (λ s. binds t s.deed ≡ true)) x.1 b.1; early = b.0 }
 
 pub bound_longer : (t : Sort) (before more : List Statement) (place : ℕ) → BoundBy t before place → BoundBy t (before ++ more) place
-bound_longer t before more place b = record { statement = b.statement; found = get_front before more place b.early ∙ b.found; binding = b.binding; early = (let k : place < length before = b.early in let n : length (before ++ more) ≡ length before + length more = length-append before more in omega arith) }
+bound_longer t before more place b = record {
+  statement = b.statement;
+  found = get_front before more place b.early ∙ b.found;
+  binding = b.binding;
+  early =
+      (let k : place < length before = b.early in let n : length (before ++ more) ≡ length before + length more = length-append before more in omega arith);
+}
 
 pub bound_shorter : (t : Sort) (before more : List Statement) (place : ℕ) → place < length before → BoundBy t (before ++ more) place → BoundBy t before place
-bound_shorter t before more place l b = record { statement = b.statement; found = sym (get_front before more place l) ∙ b.found; binding = b.binding; early = l }
+bound_shorter t before more place l b =
+    record { statement = b.statement; found = sym (get_front before more place l) ∙ b.found; binding = b.binding; early = l }
 
 -- a place that is bound behind some statements is bound behind all, with the same handle
-pub step_bound : (all : List Statement) (ls : List Line) (rs : List Reply) (before : List Statement) (l1 : List Line) (r1 : List Reply) (s : Statement) (front : List Line) (r : Reply) → Step all ls rs before l1 r1 s front r → (t : Sort) (place : ℕ) → IsBoundAt t before place
+pub step_bound : (all : List Statement) (ls : List Line) (rs : List Reply) (before : List Statement) (l1 : List Line) (r1 : List Reply) (s : Statement)
+    (front : List Line) (r : Reply) → Step all ls rs before l1 r1 s front r → (t : Sort) (place : ℕ) → IsBoundAt t before place
     → BoundBy t all place × (handle_at (map handle_of rs) place ≡ handle_at (map handle_of r1) place)
 step_bound all ls rs before l1 r1 s front r x t place b = (
   subst (λ (z : List Statement). BoundBy t z place) (sym x.parted) (bound_longer t before (s ∷ x.rest) place (bound_by t before place b)),
-  ap (λ (z : List Reply). handle_at (map handle_of z) place) x.told ∙ handles_front r1 (r ∷ x.others) place (let k : place < length before = b.0 in let n : length r1 ≡ length before = x.many in omega arith),
+  ap (λ (z : List Reply). handle_at (map handle_of z) place) x.told
+      ∙ handles_front r1 (r ∷ x.others) place (let k : place < length before = b.0 in let n : length r1 ≡ length before = x.many in omega arith),
 )
 
 pub record Found (all : List Statement) (ls : List Line) (rs : List Reply) (place : ℕ) (s : Statement) : Type 0 where
@@ -253,15 +307,28 @@ pub record Found (all : List Statement) (ls : List Line) (rs : List Reply) (plac
   pub step : Step all ls rs before first replies s front reply
   pub early : length before ≡ place
 
-pub found : (all : List Statement) (ls : List Line) (rs : List Reply) → Carried Made [] all ls rs → (place : ℕ) (s : Statement) → slice_get all place ≡ Some s → Found all ls rs place s
+pub found : (all : List Statement) (ls : List Line) (rs : List Reply) → Carried Made [] all ls rs → (place : ℕ) (s : Statement) → slice_get all place ≡ Some s
+    → Found all ls rs place s
 found all ls rs c =
     along all ls rs (λ b l r. (place : ℕ) (s : Statement) → slice_get b place ≡ Some s → Found all ls rs place s)
-    (λ b l r t front q x i place s e. elim (get_last b t s place e) as (λ k. Found all ls rs place s)
-    [ inl k ↦ i place s k | inr k ↦ record { before = b; first = l; replies = r; front = front; reply = q; step = subst (λ (z : Statement). Step all ls rs b l r z front q) k.0 x; early = k.1 } ]) c (λ place s e. absurd (cc))
+    (λ b l r t front q x i place s e. elim (get_last b t s place e) as (λ k. Found all ls rs place s) [
+      | inl k ↦ i place s k
+      | inr k ↦ record {
+        before = b;
+        first = l;
+        replies = r;
+        front = front;
+        reply = q;
+        step =
+            subst (λ (z : Statement). Step all ls rs b l r z front q) k.0 x;
+        early = k.1;
+      }
+    ]) c (λ place s e. absurd (cc))
 
 module _ (all : List Statement) (ls : List Line) (rs : List Reply) (place : ℕ) (s : Statement) (f : Found all ls rs place s) where
   pub found_bound : handle_at (map handle_of rs) place ≡ handle_of f.reply
-  found_bound = ap (λ (x : List Reply). handle_at (map handle_of x) place) f.step.told ∙ bound_here f.replies f.reply f.step.others place (f.step.many ∙ f.early)
+  found_bound = ap (λ (x : List Reply). handle_at (map handle_of x) place) f.step.told
+      ∙ bound_here f.replies f.reply f.step.others place (f.step.many ∙ f.early)
 
   pub found_granted : AllGranted all rs → GrantedTo s.deed f.reply
   found_granted g = (step_granted all ls rs f.before f.first f.replies s f.front f.reply f.step g).1

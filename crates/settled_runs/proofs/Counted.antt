@@ -21,7 +21,8 @@ module _ {X : Type 0} where
 
   pub many_within : (p q : X → Bool) (xs : List X) → Each (λ x. p x ≡ true → q x ≡ true) xs → how_many p xs ≤ how_many q xs
   many_within p q [] a = omega arith
-  many_within p q (x ∷ xs) a = let k : how_many p xs ≤ how_many q xs = many_within p q xs a.1 in let b : bit (p x) ≤ bit (q x) = bit_within (p x) (q x) a.0 in omega arith
+  many_within p q (x ∷ xs) a = let k : how_many p xs ≤ how_many q xs = many_within p q xs a.1 in let b : bit (p x) ≤ bit (q x) = bit_within (p x) (q x) a.0 in
+      omega arith
 
 pub entries_are : (p : NodeEntry → Bool) (es : List NodeEntry) → entries_that p es ≡ how_many p es
 entries_are p es = grind (arith, nat_tests)
@@ -39,7 +40,8 @@ pub entries_asks : (p : Op → Bool) (q : NodeEntry → Bool) → ((e : NodeEntr
 entries_asks p q f L = omega (arith, many_within q (λ e. p e.op) L (each_of (λ (e : NodeEntry). q e ≡ true → p e.op ≡ true) f L), entries_are q L)
 
 -- the lines of a seat are its entries
-own_asks : (p : Op → Bool) (who : ℕ) (es : List NodeEntry) (ns : List ℕ) → length es ≡ length ns → how_many (λ e. (e.who == who) && p e.op) es ≡ asked p (lines_of who es ns)
+own_asks : (p : Op → Bool) (who : ℕ) (es : List NodeEntry) (ns : List ℕ) → length es ≡ length ns
+    → how_many (λ e. (e.who == who) && p e.op) es ≡ asked p (lines_of who es ns)
 unfolding lines_of
 own_asks p who [] ns l = refl
 own_asks p who (e ∷ es) [] l = absurd (omega arith)
@@ -47,11 +49,23 @@ own_asks p who (e ∷ es) (m ∷ ns) l = grind (arith, own_asks p who es ns (ome
 
 -- so they ask no more often than all entries
 pub seat_asks : (p : Op → Bool) (who : ℕ) (L : List NodeEntry) (ks : List ℕ) → length L ≡ length ks → asked p (lines_of who L ks) ≤ asks p L
-seat_asks p who L ks l = omega (arith, many_within (λ e. (e.who == who) && p e.op) (λ e. p e.op) L (each_of (λ (e : NodeEntry). ((e.who == who) && p e.op) ≡ true → p e.op ≡ true) (λ e i. snd_true (e.who == who) _ i) L), own_asks p who L ks l)
+seat_asks p who L ks l = omega (
+  arith,
+  many_within (λ e. (e.who == who)
+      && p e.op) (λ e. p e.op) L (each_of (λ (e : NodeEntry). ((e.who == who) && p e.op) ≡ true
+      → p e.op ≡ true) (λ e i. snd_true (e.who == who) _ i) L),
+  own_asks p who L ks l,
+)
 
 -- where only this seat asks for it, the entries ask no more often than its lines
 pub only_asks : (who : ℕ) (p : Op → Bool) (L : List NodeEntry) (ks : List ℕ) → length L ≡ length ks → OnlyBy who p L → asks p L ≤ asked p (lines_of who L ks)
-only_asks who p L ks l o = omega (arith, many_within (λ e. p e.op) (λ e. (e.who == who) && p e.op) L (each_map (λ (e : NodeEntry). p e.op ≡ true → e.who ≡ who) (λ (e : NodeEntry). p e.op ≡ true → ((e.who == who) && p e.op) ≡ true) (λ e f i. both_true _ _ (eq-eqb e.who who (f i)) i) L o), own_asks p who L ks l)
+only_asks who p L ks l o = omega (
+  arith,
+  many_within (λ e. p e.op) (λ e. (e.who == who)
+      && p e.op) L (each_map (λ (e : NodeEntry). p e.op ≡ true → e.who ≡ who) (λ (e : NodeEntry). p e.op ≡ true
+      → ((e.who == who) && p e.op) ≡ true) (λ e f i. both_true _ _ (eq-eqb e.who who (f i)) i) L o),
+  own_asks p who L ks l,
+)
 
 -- how often a call may ask for it
 abbrev pub CallAsks : (Op → Bool) → ℕ → Call → Type 0
@@ -71,12 +85,15 @@ module _ (p : Op → Bool) where
 
   -- where each statement of a class asks for it once at most, and no other does
   pub statements_ask : (q : Deed → Bool) (all : List Statement) (ls : List Line) (rs : List Reply) → Carried Made [] all ls rs
-      → ((before : List Statement) (l1 : List Line) (r1 : List Reply) (s : Statement) (front : List Line) (r : Reply) → Step all ls rs before l1 r1 s front r → CallAsks p (bit (q s.deed)) (call_of (map handle_of r1) s.deed)) → asked p ls ≤ how_many (λ s. q s.deed) all
+      → ((before : List Statement) (l1 : List Line) (r1 : List Reply) (s : Statement) (front : List Line) (r : Reply) → Step all ls rs before l1 r1 s front r
+      → CallAsks p (bit (q s.deed)) (call_of (map handle_of r1) s.deed)) → asked p ls ≤ how_many (λ s. q s.deed) all
   statements_ask q all ls rs c per =
       along all ls rs (λ b l r. asked p l ≤ how_many (λ s. q s.deed) b)
-      (λ b l1 r1 s front r x i. more b l1 s front (made_asks (call_of (map handle_of r1) s.deed) (bit (q s.deed)) front r (per b l1 r1 s front r x) x.made) i) c (omega arith)
+      (λ b l1 r1 s front r x i. more b l1 s front (made_asks (call_of (map handle_of r1) s.deed) (bit (q s.deed)) front r (per b l1 r1 s front r x) x.made) i) c
+      (omega arith)
     where
-      more : (b : List Statement) (l1 : List Line) (s : Statement) (front : List Line) → asked p front ≤ bit (q s.deed) → asked p l1 ≤ how_many (λ z. q z.deed) b → asked p (l1 ++ front) ≤ how_many (λ z. q z.deed) (b ++ s ∷ [])
+      more : (b : List Statement) (l1 : List Line) (s : Statement) (front : List Line) → asked p front ≤ bit (q s.deed)
+          → asked p l1 ≤ how_many (λ z. q z.deed) b → asked p (l1 ++ front) ≤ how_many (λ z. q z.deed) (b ++ s ∷ [])
       more b l1 s front i j = omega (arith, i, j, many_append (λ l. p l.op) l1 front, many_append (λ z. q z.deed) b (s ∷ []))
 
 -- but for the ops at the begin and at the end of a seat, only statements of the second class ask for ops of the first, one each
@@ -87,11 +104,14 @@ pub record IsClass (p : Op → Bool) (q : Deed → Bool) : Type 0 where
 module _ (p : Op → Bool) (q : Deed → Bool) (k : IsClass p q) (load : Workload) (es : List NodeEntry) (ns : List ℕ) (same : length es ≡ length ns) where
   seat_class : (w : ℕ) (x : Part) (rs : List Reply) → PartAt load es ns w x rs → asked p (lines_of w es ns) ≤ how_many (λ s. q s.deed) x.statements
   seat_class w x rs y =
-      let none : (ls : List Line) → Each (λ l. is_outside l.op ≡ true) ls → asked p ls ≡ 0 = λ ls a. many_none (λ l. p l.op) ls (each_map (λ (l : Line). is_outside l.op ≡ true) (λ (l : Line). p l.op ≡ false) (λ l e. k.outside l.op e) ls a) in
+      let none : (ls : List Line) → Each (λ l. is_outside l.op ≡ true) ls → asked p ls ≡ 0 =
+      λ ls a. many_none (λ l. p l.op) ls (each_map (λ (l : Line). is_outside l.op ≡ true) (λ (l : Line). p l.op ≡ false) (λ l e. k.outside l.op e) ls a) in
       let a : asked p y.start ≡ 0 = none y.start y.first in
-      let b : asked p y.body ≤ how_many (λ s. q s.deed) x.statements = statements_ask p q x.statements y.body rs y.carried (λ b l1 r1 s front r z. k.calls (map handle_of r1) s.deed) in
+      let b : asked p y.body ≤ how_many (λ s. q s.deed) x.statements =
+      statements_ask p q x.statements y.body rs y.carried (λ b l1 r1 s front r z. k.calls (map handle_of r1) s.deed) in
       let c : asked p y.finish ≡ 0 = none y.finish y.last in
-      let d : asked p (lines_of w es ns) ≡ asked p y.start + asked p (y.body ++ y.finish) = ap (asked p) y.is ∙ many_append (λ l. p l.op) y.start (y.body ++ y.finish) in
+      let d : asked p (lines_of w es ns) ≡ asked p y.start + asked p (y.body ++ y.finish) =
+      ap (asked p) y.is ∙ many_append (λ l. p l.op) y.start (y.body ++ y.finish) in
       let e : asked p (y.body ++ y.finish) ≡ asked p y.body + asked p y.finish = many_append (λ l. p l.op) y.body y.finish in
       omega arith
 
@@ -101,24 +121,47 @@ module _ (p : Op → Bool) (q : Deed → Bool) (k : IsClass p q) (load : Workloa
 
   none_later : (n : ℕ) (L : List NodeEntry) → BySeats n L → Each (λ e. later n e ≡ false) L
   none_later n [] b = tt
-  none_later n (e ∷ es) b = (let a : nat_le n e.who ≡ false = (let c : e.who < n = b.0 in grind (arith, nat_tests)) in ap (λ (c : Bool). c && p e.op) a, none_later n es b.1)
+  none_later n (e ∷ es) b = (
+    let a : nat_le n e.who ≡ false = (let c : e.who < n = b.0 in grind (arith, nat_tests)) in
+        ap (λ (c : Bool). c && p e.op) a,
+    none_later n es b.1,
+  )
 
-  seats_ask : (first : ℕ) (ps : List Part) (rss : List (List Reply)) → AllSeats (PartAt load es ns) first ps rss → BySeats (first + length ps) es → how_many (later first) es ≤ how_many (λ s. q s.deed) (flat_map (λ x. x.statements) ps)
-  seats_ask first [] rss a b = let z : how_many (later first) es ≡ 0 = many_none (later first) es (none_later first es (subst (λ (n : ℕ). BySeats n es) (let e : first + 0 ≡ first = omega arith in e) b)) in omega arith
+  seats_ask : (first : ℕ) (ps : List Part) (rss : List (List Reply)) → AllSeats (PartAt load es ns) first ps rss → BySeats (first + length ps) es
+      → how_many (later first) es ≤ how_many (λ s. q s.deed) (flat_map (λ x. x.statements) ps)
+  seats_ask first [] rss a b = let z : how_many (later first) es ≡ 0 =
+      many_none (later first) es (none_later first es (subst (λ (n : ℕ). BySeats n es) (let e : first + 0 ≡ first = omega arith in e) b)) in omega arith
   seats_ask first (x ∷ ps) [] a b = absurd a
   seats_ask first (x ∷ ps) (rs ∷ rss) a b =
-      let c : how_many (later first) es ≤ how_many (λ e. (e.who == first) && p e.op) es + how_many (later (suc first)) es = many_or (later first) (λ e. (e.who == first) && p e.op) (later (suc first)) es (each_of (λ (e : NodeEntry). later first e ≡ true → (((e.who == first) && p e.op) || later (suc first) e) ≡ true) (λ e i. grind (arith, nat_tests)) es) in
+      let c : how_many (later first) es ≤ how_many (λ e. (e.who == first) && p e.op) es + how_many (later (suc first)) es =
+      many_or (later first) (λ e. (e.who == first)
+      && p e.op) (later (suc first)) es (each_of (λ (e : NodeEntry). later first e ≡ true
+      → (((e.who == first) && p e.op) || later (suc first) e) ≡ true) (λ e i. grind (arith, nat_tests)) es) in
       let d : how_many (λ e. (e.who == first) && p e.op) es ≡ asked p (lines_of first es ns) = own_asks p first es ns same in
       let f : asked p (lines_of first es ns) ≤ how_many (λ s. q s.deed) x.statements = seat_class first x rs a.0 in
-      let g : how_many (later (suc first)) es ≤ how_many (λ s. q s.deed) (flat_map (λ y. y.statements) ps) = seats_ask (suc first) ps rss a.1 (subst (λ (n : ℕ). BySeats n es) (let e : first + suc (length ps) ≡ suc first + length ps = omega arith in e) b) in
-      let h : how_many (λ s. q s.deed) (x.statements ++ flat_map (λ y. y.statements) ps) ≡ how_many (λ s. q s.deed) x.statements + how_many (λ s. q s.deed) (flat_map (λ y. y.statements) ps) = many_append (λ s. q s.deed) x.statements (flat_map (λ y. y.statements) ps) in
+      let g : how_many (later (suc first)) es ≤ how_many (λ s. q s.deed) (flat_map (λ y. y.statements) ps) =
+      seats_ask (suc first) ps rss a.1 (subst (λ (n : ℕ). BySeats n es) (let e : first + suc (length ps) ≡ suc first + length ps = omega arith in e) b) in
+      let h : how_many (λ s. q s.deed) (x.statements ++ flat_map (λ y. y.statements) ps)
+      ≡ how_many (λ s. q s.deed) x.statements + how_many (λ s. q s.deed) (flat_map (λ y. y.statements) ps) =
+      many_append (λ s. q s.deed) x.statements (flat_map (λ y. y.statements) ps) in
       omega arith
 
   -- the entries of a run that ask for it are no more than the statements
-  pub run_asks : RunOf load es ns → BySeats (load.settings.workers + length load.parts) es → is_settled load ≡ true → asks p es ≤ how_many (λ s. q s.deed) (all_statements load)
+  pub run_asks : RunOf load es ns → BySeats (load.settings.workers + length load.parts) es → is_settled load ≡ true
+      → asks p es ≤ how_many (λ s. q s.deed) (all_statements load)
   run_asks run b settled =
-      let seats : AllSeats (PartAt load es ns) load.settings.workers load.parts run.replies = run_parts load es ns same run b (settled_whole load settled).parts in
-      let a : asks p es ≤ how_many (later load.settings.workers) es = many_within (λ e. p e.op) (later load.settings.workers) es (run_each load es ns same run b (λ e. p e.op ≡ true → later load.settings.workers e ≡ true) (λ w o r i j. true_false j (k.outside o (work_outside o i)))
-      (map_seats (PartAt load es ns) (λ w x rs. Each (λ l. p l.op ≡ true → (nat_le load.settings.workers w && p l.op) ≡ true) (lines_of w es ns)) load.settings.workers (λ w x rs i y. each_of (λ (l : Line). p l.op ≡ true → (nat_le load.settings.workers w && p l.op) ≡ true) (λ l j. both_true _ _ (let n : nat_le load.settings.workers w ≡ true = grind (arith, nat_tests) in n) j) (lines_of w es ns)) load.settings.workers load.parts run.replies (omega arith) seats)) in
-      let c : how_many (later load.settings.workers) es ≤ how_many (λ s. q s.deed) (all_statements load) = seats_ask load.settings.workers load.parts run.replies seats b in
+      let seats : AllSeats (PartAt load es ns) load.settings.workers load.parts run.replies =
+      run_parts load es ns same run b (settled_whole load settled).parts in
+      let a : asks p es ≤ how_many (later load.settings.workers) es =
+      many_within (λ e. p e.op) (later load.settings.workers) es
+      (run_each load es ns same run b (λ e. p e.op ≡ true
+      → later load.settings.workers e ≡ true) (λ w o r i j. true_false j (k.outside o (work_outside o i)))
+      (map_seats (PartAt load es ns) (λ w x rs. Each (λ l. p l.op ≡ true
+      → (nat_le load.settings.workers w && p l.op) ≡ true) (lines_of w es ns)) load.settings.workers
+      (λ w x rs i y. each_of (λ (l : Line). p l.op ≡ true
+      → (nat_le load.settings.workers w && p l.op)
+      ≡ true) (λ l j. both_true _ _ (let n : nat_le load.settings.workers w ≡ true = grind (arith, nat_tests) in n) j)
+      (lines_of w es ns)) load.settings.workers load.parts run.replies (omega arith) seats)) in
+      let c : how_many (later load.settings.workers) es ≤ how_many (λ s. q s.deed) (all_statements load) =
+      seats_ask load.settings.workers load.parts run.replies seats b in
       omega arith

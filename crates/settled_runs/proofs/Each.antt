@@ -36,8 +36,10 @@ module _ (P : Op → Type 0) where
 
   -- the lines of statements
   pub statements_each : (all : List Statement) (ls : List Line) (rs : List Reply) → Carried Made [] all ls rs
-      → ((before : List Statement) (l1 : List Line) (r1 : List Reply) (s : Statement) (front : List Line) (r : Reply) → Step all ls rs before l1 r1 s front r → Each (λ l. P l.op) front) → Each (λ l. P l.op) ls
-  statements_each all ls rs c per = along all ls rs (λ b l r. Each (λ k. P k.op) l) (λ b l1 r1 s front r x i. each_both (λ (k : Line). P k.op) l1 front i (per b l1 r1 s front r x)) c tt
+      → ((before : List Statement) (l1 : List Line) (r1 : List Reply) (s : Statement) (front : List Line) (r : Reply) → Step all ls rs before l1 r1 s front r
+      → Each (λ l. P l.op) front) → Each (λ l. P l.op) ls
+  statements_each all ls rs c per = along all ls rs (λ b l r. Each (λ k. P k.op) l)
+      (λ b l1 r1 s front r x i. each_both (λ (k : Line). P k.op) l1 front i (per b l1 r1 s front r x)) c tt
 
 -- a call that keeps no look has one line
 pub one_look : (o : Bool → Op) (t : Timeout) (ls : List Line) (r : Reply) (m : Looked false o t ls r) → ls ≡ line (o m.last) r m.beside ∷ []
@@ -78,18 +80,23 @@ all_at_work [] e = tt
 all_at_work (l ∷ ls) e = (at_work l.op l.reply (fst_true _ (all_work ls) e), all_at_work ls (snd_true (is_work l.op l.reply) _ e))
 
 pub worker_each : (ls : List Line) → WorkerRan ls → Each (λ l. is_at_work l.op ≡ true) ls
-worker_each ls x = subst (Each (λ (l : Line). is_at_work l.op ≡ true)) (sym x.is) (each_both (λ (l : Line). is_at_work l.op ≡ true) x.work (line Op.Pick Reply.Stop x.beside ∷ []) (all_at_work x.work x.works) (refl, tt))
+worker_each ls x = subst (Each (λ (l : Line). is_at_work l.op ≡ true)) (sym x.is)
+    (each_both (λ (l : Line). is_at_work l.op ≡ true) x.work (line Op.Pick Reply.Stop x.beside ∷ []) (all_at_work x.work x.works) (refl, tt))
 
 -- Entries
 
 -- what each seat's lines are, the entries are
-entries_each : (Q : NodeEntry → Type 0) (n : ℕ) (es : List NodeEntry) (ns : List ℕ) → length es ≡ length ns → BySeats n es → ((w : ℕ) → w < n → Each (λ l. Q (entry w l.op l.reply)) (lines_of w es ns)) → Each Q es
+entries_each : (Q : NodeEntry → Type 0) (n : ℕ) (es : List NodeEntry) (ns : List ℕ) → length es ≡ length ns → BySeats n es
+    → ((w : ℕ) → w < n → Each (λ l. Q (entry w l.op l.reply)) (lines_of w es ns)) → Each Q es
 unfolding lines_of
 entries_each Q n [] ns l b k = tt
 entries_each Q n (e ∷ es) [] l b k = absurd (omega arith)
 entries_each Q n (e ∷ es) (m ∷ ns) l b k = (
-  (subst (λ (c : Bool). Each (λ x. Q (entry e.who x.op x.reply)) (cond c (line e.op e.reply m ∷ lines_of e.who es ns) (lines_of e.who es ns))) (eq-eqb e.who e.who refl) (k e.who b.0)).0,
-  entries_each Q n es ns (omega arith) b.1 (λ w i. cond_both (e.who == w) (line e.op e.reply m ∷ lines_of w es ns) (lines_of w es ns) (λ z. Each (λ x. Q (entry w x.op x.reply)) z → Each (λ x. Q (entry w x.op x.reply)) (lines_of w es ns)) (λ j p. p.1) (λ j p. p) (k w i)),
+  (subst (λ (c : Bool). Each (λ x. Q (entry e.who x.op x.reply)) (cond c (line e.op e.reply m ∷ lines_of e.who es ns) (lines_of e.who es ns)))
+      (eq-eqb e.who e.who refl) (k e.who b.0)).0,
+  entries_each Q n es ns (omega arith) b.1
+      (λ w i. cond_both (e.who == w) (line e.op e.reply m ∷ lines_of w es ns) (lines_of w es ns) (λ z. Each (λ x. Q (entry w x.op x.reply)) z
+      → Each (λ x. Q (entry w x.op x.reply)) (lines_of w es ns)) (λ j p. p.1) (λ j p. p) (k w i)),
 )
 
 -- only this seat asks for such an op
@@ -97,13 +104,16 @@ abbrev pub OnlyBy : ℕ → (Op → Bool) → List NodeEntry → Type 0
 OnlyBy who p es = Each (λ e. p e.op ≡ true → e.who ≡ who) es
 
 -- so what its lines are, the entries are, if those are that don't ask for it
-pub own_each : (who : ℕ) (p : Op → Bool) (Q : NodeEntry → Type 0) (L : List NodeEntry) (ks : List ℕ) → length L ≡ length ks → OnlyBy who p L → ((e : NodeEntry) → p e.op ≡ false → Q e) → Each (λ l. Q (entry who l.op l.reply)) (lines_of who L ks) → Each Q L
+pub own_each : (who : ℕ) (p : Op → Bool) (Q : NodeEntry → Type 0) (L : List NodeEntry) (ks : List ℕ) → length L ≡ length ks → OnlyBy who p L
+    → ((e : NodeEntry) → p e.op ≡ false → Q e) → Each (λ l. Q (entry who l.op l.reply)) (lines_of who L ks) → Each Q L
 unfolding lines_of
 own_each who p Q [] ks n o f k = tt
 own_each who p Q (e ∷ es) [] n o f k = absurd (omega arith)
 own_each who p Q (e ∷ es) (m ∷ ks) n o f k = by (e.who == who) refl (p e.op) refl k (own_each who p Q es ks (omega arith) o.1 f)
   where
-    by : (b : Bool) → (e.who == who) ≡ b → (c : Bool) → p e.op ≡ c → Each (λ l. Q (entry who l.op l.reply)) (cond b (line e.op e.reply m ∷ lines_of who es ks) (lines_of who es ks)) → (Each (λ l. Q (entry who l.op l.reply)) (lines_of who es ks) → Each Q es) → Q e × Each Q es
+    by : (b : Bool) → (e.who == who) ≡ b → (c : Bool) → p e.op ≡ c
+        → Each (λ l. Q (entry who l.op l.reply)) (cond b (line e.op e.reply m ∷ lines_of who es ks) (lines_of who es ks))
+        → (Each (λ l. Q (entry who l.op l.reply)) (lines_of who es ks) → Each Q es) → Q e × Each Q es
     by true i c j x r = (subst (λ (w : ℕ). Q (entry w e.op e.reply)) (sym (eqb-true e.who who i)) x.0, r x.1)
     by false i true j x r = true_false (eq-eqb e.who who (o.0 j)) i
     by false i false j x r = (f e j, r x)
@@ -116,24 +126,30 @@ AllSeats R first (p ∷ ps) [] = ⊥
 AllSeats R first (p ∷ ps) (rs ∷ rss) = R first p rs × AllSeats R (suc first) ps rss
 
 -- what holds of no seats, and of one more before others, holds of these
-pub fold_seats : (R : ℕ → Part → List Reply → Type 0) (F : ℕ → List Part → List (List Reply) → Type 0) (base : ℕ) → ((w : ℕ) (rss : List (List Reply)) → F w [] rss)
-    → ((w : ℕ) (p : Part) (rs : List Reply) (ps : List Part) (rss : List (List Reply)) → base ≤ w → R w p rs → F (suc w) ps rss → F w (p ∷ ps) (rs ∷ rss)) → (first : ℕ) (ps : List Part) (rss : List (List Reply)) → base ≤ first → AllSeats R first ps rss → F first ps rss
+pub fold_seats : (R : ℕ → Part → List Reply → Type 0) (F : ℕ → List Part → List (List Reply) → Type 0) (base : ℕ)
+    → ((w : ℕ) (rss : List (List Reply)) → F w [] rss)
+    → ((w : ℕ) (p : Part) (rs : List Reply) (ps : List Part) (rss : List (List Reply)) → base ≤ w → R w p rs → F (suc w) ps rss → F w (p ∷ ps) (rs ∷ rss))
+    → (first : ℕ) (ps : List Part) (rss : List (List Reply)) → base ≤ first → AllSeats R first ps rss → F first ps rss
 fold_seats R F base z f first [] rss l a = z first rss
 fold_seats R F base z f first (p ∷ ps) [] l a = absurd a
 fold_seats R F base z f first (p ∷ ps) (rs ∷ rss) l a = f first p rs ps rss l a.0 (fold_seats R F base z f (suc first) ps rss (omega arith) a.1)
 
-pub map_seats : (R S : ℕ → Part → List Reply → Type 0) (base : ℕ) → ((w : ℕ) (p : Part) (rs : List Reply) → base ≤ w → R w p rs → S w p rs) → (first : ℕ) (ps : List Part) (rss : List (List Reply)) → base ≤ first → AllSeats R first ps rss → AllSeats S first ps rss
+pub map_seats : (R S : ℕ → Part → List Reply → Type 0) (base : ℕ) → ((w : ℕ) (p : Part) (rs : List Reply) → base ≤ w → R w p rs → S w p rs)
+    → (first : ℕ) (ps : List Part) (rss : List (List Reply)) → base ≤ first → AllSeats R first ps rss → AllSeats S first ps rss
 map_seats R S base f = fold_seats R (AllSeats S) base (λ w rss. tt) (λ w p rs ps rss l x a. (f w p rs l x, a))
 
-pub with_each : (R : ℕ → Part → List Reply → Type 0) (P : Part → Type 0) (first : ℕ) (ps : List Part) (rss : List (List Reply)) → AllSeats R first ps rss → Each P ps → AllSeats (λ w p rs. R w p rs × P p) first ps rss
+pub with_each : (R : ℕ → Part → List Reply → Type 0) (P : Part → Type 0) (first : ℕ) (ps : List Part) (rss : List (List Reply)) → AllSeats R first ps rss
+    → Each P ps → AllSeats (λ w p rs. R w p rs × P p) first ps rss
 with_each R P first [] rss a e = tt
 with_each R P first (p ∷ ps) [] a e = absurd a
 with_each R P first (p ∷ ps) (rs ∷ rss) a e = ((a.0, e.0), with_each R P (suc first) ps rss a.1 e.1)
 
-seat_of : (R : ℕ → Type 0) (first : ℕ) (ps : List Part) (rss : List (List Reply)) → AllSeats (λ w p rs. R w) first ps rss → (w : ℕ) → first ≤ w → w < first + length ps → R w
+seat_of : (R : ℕ → Type 0) (first : ℕ) (ps : List Part) (rss : List (List Reply)) → AllSeats (λ w p rs. R w) first ps rss → (w : ℕ) → first ≤ w
+    → w < first + length ps → R w
 seat_of R first [] rss a w l k = absurd (omega arith)
 seat_of R first (p ∷ ps) [] a w l k = absurd a
-seat_of R first (p ∷ ps) (rs ∷ rss) a w l k = elim (cases_eq w first) as (λ z. R w) [ inl i ↦ subst R (sym i) a.0 | inr n ↦ seat_of R (suc first) ps rss a.1 w (omega (arith, n)) (omega arith) ]
+seat_of R first (p ∷ ps) (rs ∷ rss) a w l k =
+    elim (cases_eq w first) as (λ z. R w) [ inl i ↦ subst R (sym i) a.0 | inr n ↦ seat_of R (suc first) ps rss a.1 w (omega (arith, n)) (omega arith) ]
 
 -- each action that passes among the first passes among the second
 abbrev pub Within : List Action → List Action → Type 0
@@ -198,10 +214,28 @@ module _ (load : Workload) (es : List NodeEntry) (ns : List ℕ) where
   pub main_first : (b : Bool) → Each (λ l. is_outside l.op ≡ true) (head_of b)
   main_first b = grind (arith, nat_tests)
 
-  abbrev pub main_at : (p : Part) (rs : List Reply) → MainRan in_lines p.statements (lines_of load.settings.workers es ns) rs → are_settled load.settings [] p.statements [] p.statements ≡ true → Within (actions_in p.statements) (actions_in (all_statements load)) → PartAt load.settings.workers p rs
-  main_at p rs x e w = record { start = head_of (has_begin p.statements); body = x.body; finish = tail_of_main; known = []; is = x.is; carried = x.carried; first = main_first (has_begin p.statements); last = (refl, (refl, tt)); enters = λ k. absurd (omega arith); settled = e; no_set_up = λ k. absurd (omega arith); within = w }
+  abbrev pub main_at : (p : Part) (rs : List Reply) → MainRan in_lines p.statements (lines_of load.settings.workers es ns) rs
+      → are_settled load.settings [] p.statements [] p.statements ≡ true → Within (actions_in p.statements) (actions_in (all_statements load))
+      → PartAt load.settings.workers p rs
+  main_at p rs x e w = record {
+    start = head_of (has_begin p.statements);
+    body = x.body;
+    finish = tail_of_main;
+    known = [];
+    is = x.is;
+    carried =
+        x.carried;
+    first = main_first (has_begin p.statements);
+    last = (refl, (refl, tt));
+    enters = λ k. absurd (omega arith);
+    settled = e;
+    no_set_up =
+        λ k. absurd (omega arith);
+    within = w;
+  }
 
-  abbrev pub caller_at : (known : List Action) (w : ℕ) (p : Part) (rs : List Reply) → CallerRan in_lines p.statements (lines_of w es ns) rs → is_settled_further load.settings known p ≡ true → Within (actions_in p.statements) (actions_in (all_statements load)) → PartAt w p rs
+  abbrev pub caller_at : (known : List Action) (w : ℕ) (p : Part) (rs : List Reply) → CallerRan in_lines p.statements (lines_of w es ns) rs
+      → is_settled_further load.settings known p ≡ true → Within (actions_in p.statements) (actions_in (all_statements load)) → PartAt w p rs
   caller_at known w p rs x e v = record {
     start = line Op.Enter Reply.Ok x.entered.0 ∷ [];
     body = x.body;
@@ -217,47 +251,69 @@ module _ (load : Workload) (es : List NodeEntry) (ns : List ℕ) where
     within = v;
   }
 
-  pub callers_at : (known : List Action) (first : ℕ) (ps : List Part) (rss : List (List Reply)) → CallersRan in_lines (λ who. lines_of who es ns) first ps rss → list_all (is_settled_further load.settings known) ps ≡ true → Within (actions_in (flat_map (λ p. p.statements) ps)) (actions_in (all_statements load)) → AllSeats PartAt first ps rss
+  pub callers_at : (known : List Action) (first : ℕ) (ps : List Part) (rss : List (List Reply)) → CallersRan in_lines (λ who. lines_of who es ns) first ps rss
+      → list_all (is_settled_further load.settings known) ps ≡ true → Within (actions_in (flat_map (λ p. p.statements) ps)) (actions_in (all_statements load))
+      → AllSeats PartAt first ps rss
   unfolding CallersRan
   callers_at known first [] rss c e w = tt
   callers_at known first (p ∷ ps) [] c e w = absurd c
   callers_at known first (p ∷ ps) (rs ∷ rss) c e w = (
-    caller_at known first p rs c.0 (fst_true _ (list_all (is_settled_further load.settings known) ps) e) (within_front p.statements (flat_map (λ q. q.statements) ps) _ w),
-    callers_at known (suc first) ps rss c.1 (snd_true (is_settled_further load.settings known p) _ e) (within_behind p.statements (flat_map (λ q. q.statements) ps) _ w),
+    caller_at known first p rs c.0 (fst_true _ (list_all (is_settled_further load.settings known) ps) e)
+        (within_front p.statements (flat_map (λ q. q.statements) ps) _ w),
+    callers_at known (suc first) ps rss c.1 (snd_true (is_settled_further load.settings known p) _ e)
+        (within_behind p.statements (flat_map (λ q. q.statements) ps) _ w),
   )
 
-  parts_at : (ps : List Part) (rss : List (List Reply)) → PartsRan in_lines (λ who. lines_of who es ns) load.settings.workers ps rss → are_settled_parts load.settings ps ≡ true → Within (actions_in (flat_map (λ p. p.statements) ps)) (actions_in (all_statements load)) → AllSeats PartAt load.settings.workers ps rss
+  parts_at : (ps : List Part) (rss : List (List Reply)) → PartsRan in_lines (λ who. lines_of who es ns) load.settings.workers ps rss
+      → are_settled_parts load.settings ps ≡ true → Within (actions_in (flat_map (λ p. p.statements) ps)) (actions_in (all_statements load))
+      → AllSeats PartAt load.settings.workers ps rss
   parts_at (p ∷ ps) (rs ∷ rss) c e w =
       let x : Parts load.settings p ps = parts_are load.settings p ps e in (
         main_at p rs c.0 x.main (within_front p.statements (flat_map (λ q. q.statements) ps) _ w),
-        callers_at (actions_in p.statements) (suc load.settings.workers) ps rss c.1 x.further (within_behind p.statements (flat_map (λ q. q.statements) ps) _ w),
+        callers_at (actions_in p.statements) (suc load.settings.workers) ps rss c.1 x.further
+            (within_behind p.statements (flat_map (λ q. q.statements) ps) _ w),
       )
   parts_at _ _ c e w = absurd c
 
   -- where the lines of a step stand among the seat's
-  pub step_lines : (w : ℕ) (p : Part) (rs : List Reply) (x : PartAt w p rs) (before : List Statement) (l1 : List Line) (r1 : List Reply) (s : Statement) (front : List Line) (r : Reply) (y : Step p.statements x.body rs before l1 r1 s front r) → lines_of w es ns ≡ (x.start ++ l1) ++ (front ++ (y.more ++ x.finish))
+  pub step_lines : (w : ℕ) (p : Part) (rs : List Reply) (x : PartAt w p rs) (before : List Statement) (l1 : List Line) (r1 : List Reply) (s : Statement)
+      (front : List Line) (r : Reply) (y : Step p.statements x.body rs before l1 r1 s front r)
+      → lines_of w es ns ≡ (x.start ++ l1) ++ (front ++ (y.more ++ x.finish))
   step_lines w p rs x before l1 r1 s front r y =
-      x.is ∙ ap (λ (z : List Line). x.start ++ (z ++ x.finish)) y.is ∙ ap (λ (z : List Line). x.start ++ z) (append_assoc l1 (front ++ y.more) x.finish ∙ ap (λ (z : List Line). l1 ++ z) (append_assoc front y.more x.finish))
+      x.is ∙ ap (λ (z : List Line). x.start ++ (z ++ x.finish)) y.is
+      ∙ ap (λ (z : List Line). x.start ++ z) (append_assoc l1 (front ++ y.more) x.finish
+      ∙ ap (λ (z : List Line). l1 ++ z) (append_assoc front y.more x.finish))
       ∙ sym (append_assoc x.start l1 (front ++ (y.more ++ x.finish)))
 
   -- what holds of the lines outside the statements, and of each statement's, holds of the seat's
   pub seat_each : (P : Op → Type 0) (w : ℕ) (p : Part) (rs : List Reply) (x : PartAt w p rs) → Each (λ l. P l.op) x.start → Each (λ l. P l.op) x.finish
-      → ((before : List Statement) (l1 : List Line) (r1 : List Reply) (s : Statement) (front : List Line) (r : Reply) → Step p.statements x.body rs before l1 r1 s front r → Each (λ l. P l.op) front) → Each (λ l. P l.op) (lines_of w es ns)
+      → ((before : List Statement) (l1 : List Line) (r1 : List Reply) (s : Statement) (front : List Line) (r : Reply)
+      → Step p.statements x.body rs before l1 r1 s front r → Each (λ l. P l.op) front) → Each (λ l. P l.op) (lines_of w es ns)
   seat_each P w p rs x a b per =
       subst (Each (λ (l : Line). P l.op)) (sym x.is)
-      (each_both (λ (l : Line). P l.op) x.start (x.body ++ x.finish) a (each_both (λ (l : Line). P l.op) x.body x.finish (statements_each P p.statements x.body rs x.carried per) b))
+      (each_both (λ (l : Line). P l.op) x.start (x.body
+      ++ x.finish) a (each_both (λ (l : Line). P l.op) x.body x.finish (statements_each P p.statements x.body rs x.carried per) b))
 
   module _ (same : length es ≡ length ns) (run : RunOf load es ns) (b : BySeats (load.settings.workers + length load.parts) es) where
     pub run_parts : are_settled_parts load.settings load.parts ≡ true → AllSeats PartAt load.settings.workers load.parts run.replies
     run_parts e = parts_at load.parts run.replies run.parts e (λ p i. i)
 
-    pub run_each : (Q : NodeEntry → Type 0) → ((w : ℕ) (o : Op) (r : Reply) → is_at_work o ≡ true → Q (entry w o r)) → AllSeats (λ w p rs. Each (λ l. Q (entry w l.op l.reply)) (lines_of w es ns)) load.settings.workers load.parts run.replies → Each Q es
+    pub run_each : (Q : NodeEntry → Type 0) → ((w : ℕ) (o : Op) (r : Reply) → is_at_work o ≡ true → Q (entry w o r))
+        → AllSeats (λ w p rs. Each (λ l. Q (entry w l.op l.reply)) (lines_of w es ns)) load.settings.workers load.parts run.replies → Each Q es
     run_each Q out parts = entries_each Q (load.settings.workers + length load.parts) es ns same b (λ w i. whether (nat_lt w load.settings.workers)
-        (λ j. each_map (λ (l : Line). is_at_work l.op ≡ true) (λ (l : Line). Q (entry w l.op l.reply)) (λ l k. out w l.op l.reply k) (lines_of w es ns) (worker_each (lines_of w es ns) (run.workers w (grind (arith, nat_tests)))))
-        (λ j. seat_of (λ v. Each (λ l. Q (entry v l.op l.reply)) (lines_of v es ns)) load.settings.workers load.parts run.replies parts w (grind (arith, nat_tests)) i))
+        (λ j. each_map (λ (l : Line). is_at_work l.op
+        ≡ true) (λ (l : Line). Q (entry w l.op l.reply)) (λ l k. out w l.op l.reply k) (lines_of w es ns)
+        (worker_each (lines_of w es ns) (run.workers w (grind (arith, nat_tests)))))
+        (λ j. seat_of (λ v. Each (λ l. Q (entry v l.op l.reply)) (lines_of v es ns)) load.settings.workers load.parts run.replies parts w
+        (grind (arith, nat_tests)) i))
 
     -- where no other seat's lines ask for it, only this seat does
-    pub only_by : (who : ℕ) (p : Op → Bool) → ((o : Op) → is_at_work o ≡ true → p o ≡ false) → AllSeats (λ w q rs. (w == who) ≡ false → Each (λ l. p l.op ≡ false) (lines_of w es ns)) load.settings.workers load.parts run.replies → OnlyBy who p es
+    pub only_by : (who : ℕ) (p : Op → Bool) → ((o : Op) → is_at_work o ≡ true → p o ≡ false)
+        → AllSeats (λ w q rs. (w == who) ≡ false → Each (λ l. p l.op ≡ false) (lines_of w es ns)) load.settings.workers load.parts run.replies → OnlyBy who p es
     only_by who p out parts =
         run_each (λ e. p e.op ≡ true → e.who ≡ who) (λ w o r k i. true_false i (out o k))
-        (map_seats (λ w q rs. (w == who) ≡ false → Each (λ l. p l.op ≡ false) (lines_of w es ns)) (λ w q rs. Each (λ l. p l.op ≡ true → w ≡ who) (lines_of w es ns)) 0 (λ w q rs l x. whether (w == who) (λ i. each_of (λ (l : Line). p l.op ≡ true → w ≡ who) (λ l j. eqb-true w who i) (lines_of w es ns)) (λ i. each_map (λ (l : Line). p l.op ≡ false) (λ (l : Line). p l.op ≡ true → w ≡ who) (λ l k j. true_false j k) (lines_of w es ns) (x i))) load.settings.workers load.parts run.replies (omega arith) parts)
+        (map_seats (λ w q rs. (w == who) ≡ false
+        → Each (λ l. p l.op ≡ false) (lines_of w es ns)) (λ w q rs. Each (λ l. p l.op ≡ true → w ≡ who) (lines_of w es ns)) 0
+        (λ w q rs l x. whether (w == who) (λ i. each_of (λ (l : Line). p l.op ≡ true → w ≡ who) (λ l j. eqb-true w who i) (lines_of w es ns))
+        (λ i. each_map (λ (l : Line). p l.op ≡ false) (λ (l : Line). p l.op ≡ true → w ≡ who) (λ l k j. true_false j k) (lines_of w es ns) (x i)))
+        load.settings.workers load.parts run.replies (omega arith) parts)

@@ -44,7 +44,8 @@ abbrev pub made_of : (k : ObjectKind) → (FieldsOf k → Bool) → State → �
 made_of k p s = issued p ((objects_of k).list s)
 
 -- an entry whose op makes no object of the kind makes none that passes
-pub none_made : (k : ObjectKind) (p : FieldsOf k → Bool) → ((x y : FieldsOf k) → SameFields k x y → p y ≡ p x) → (s : State) (e : NodeEntry) → makes_object k e.op ≡ false → made_of k p (next s e) ≡ made_of k p s
+pub none_made : (k : ObjectKind) (p : FieldsOf k → Bool) → ((x y : FieldsOf k) → SameFields k x y → p y ≡ p x) → (s : State) (e : NodeEntry)
+    → makes_object k e.op ≡ false → made_of k p (next s e) ≡ made_of k p s
 none_made k p f s e z =
     by_moves (λ t. made_of k p t ≡ made_of k p s) s e
     (λ t m i. kind_move k t e.op (λ l. issued p l ≡ made_of k p s) (λ h x b j v. true_false b z) (λ l a v. issued_ages p (SameFields k) f _ l a ∙ v) m i) refl
@@ -54,9 +55,11 @@ abbrev Grows : ObjectKind → State → Op → Reply → List Move → Type 0
 Grows k s o r ms = made_of k any (after_moves ms s) ≤ made_of k any s + bit (makes_object k o && is_handle r)
 
 abbrev pub GrowsBy : ObjectKind → Type 0
-GrowsBy k = (s : State) (who : ℕ) (o : Op) (r : Reply) → Allows (row s who o r) r → made_of k any (after_row s (row s who o r)) ≤ made_of k any s + bit (makes_object k o && is_handle r)
+GrowsBy k = (s : State) (who : ℕ) (o : Op) (r : Reply) → Allows (row s who o r) r
+    → made_of k any (after_row s (row s who o r)) ≤ made_of k any s + bit (makes_object k o && is_handle r)
 
-none_more : (k : ObjectKind) (s : State) (who : ℕ) (o : Op) (r : Reply) → makes_object k o ≡ false → made_of k any (after_row s (row s who o r)) ≤ made_of k any s + bit (makes_object k o && is_handle r)
+none_more : (k : ObjectKind) (s : State) (who : ℕ) (o : Op) (r : Reply) → makes_object k o ≡ false
+    → made_of k any (after_row s (row s who o r)) ≤ made_of k any s + bit (makes_object k o && is_handle r)
 none_more k s who o r z = let n : made_of k any (next s (entry who o r)) ≡ made_of k any s = none_made k any (λ x y i. refl) s (entry who o r) z in omega arith
 
 more : {T : Type 0} (h : ℕ) (x : T) (l : List (Listed T)) → issued any (issue h x l) ≤ issued any l + 1
@@ -66,19 +69,24 @@ refused : (k : ObjectKind) (s : State) (o : Op) (r : Reply) → Grows k s o r []
 refused k s o r = omega arith
 
 -- and so it is of the tasks that pass, where the ops that start one are among these
-module _ (p : Task → Bool) (same : (x y : Task) → SameTask x y → p y ≡ p x) (b : Op → Bool) (by : (s : State) (n : NewTask) (k : ℕ) (o : Op) → AskedAs s n o → p (new_task n k) ≡ true → b o ≡ true) where
+module _ (p : Task → Bool) (same : (x y : Task) → SameTask x y → p y ≡ p x) (b : Op → Bool) (by : (s : State) (n : NewTask) (k : ℕ) (o : Op) → AskedAs s n o
+    → p (new_task n k) ≡ true → b o ≡ true) where
   abbrev Gets : State → Op → Reply → List Move → Type 0
   Gets s o r ms = made_of ObjectKind.Task p (after_moves ms s) ≤ made_of ObjectKind.Task p s + bit (b o && is_handle r)
 
   one_gets : (s : State) (o : Op) (h : ℕ) (n : NewTask) → AskedAs s n o → Gets s o (Handle h) (starts_task h n ∷ [])
   one_gets s o h n i =
-      let a : bit (p (new_task n s.starts)) ≤ bit (b o && true) = bit_within (p (new_task n s.starts)) (b o && true) (λ j. both_true (b o) true (by s n s.starts o i j) refl) in
-      let e : made_of ObjectKind.Task p (apply (starts_task h n) s) ≡ made_of ObjectKind.Task p s + bit (p (new_task n s.starts)) = issued_more p h (new_task n s.starts) s.tasks in
+      let a : bit (p (new_task n s.starts)) ≤ bit (b o && true) =
+      bit_within (p (new_task n s.starts)) (b o && true) (λ j. both_true (b o) true (by s n s.starts o i j) refl) in
+      let e : made_of ObjectKind.Task p (apply (starts_task h n) s) ≡ made_of ObjectKind.Task p s + bit (p (new_task n s.starts)) =
+      issued_more p h (new_task n s.starts) s.tasks in
       omega arith
 
-  pub tasks_made : (s : State) (who : ℕ) (o : Op) (r : Reply) → Allows (row s who o r) r → made_of ObjectKind.Task p (after_row s (row s who o r)) ≤ made_of ObjectKind.Task p s + bit (b o && is_handle r)
+  pub tasks_made : (s : State) (who : ℕ) (o : Op) (r : Reply) → Allows (row s who o r) r
+      → made_of ObjectKind.Task p (after_row s (row s who o r)) ≤ made_of ObjectKind.Task p s + bit (b o && is_handle r)
   tasks_made s who o r a = whether (makes_object ObjectKind.Task o) (λ z. on_start (Gets s o) s who r (λ c. omega arith) o z (λ h n i f. one_gets s o h n i) a)
-      (λ z. let n : made_of ObjectKind.Task p (next s (entry who o r)) ≡ made_of ObjectKind.Task p s = none_made ObjectKind.Task p same s (entry who o r) z in omega arith)
+      (λ z. let n : made_of ObjectKind.Task p (next s (entry who o r)) ≡ made_of ObjectKind.Task p s = none_made ObjectKind.Task p same s (entry who o r) z in
+      omega arith)
 
 starts_some : (s : State) (n : NewTask) (k : ℕ) (o : Op) → AskedAs s n o → any (new_task n k) ≡ true → makes_object ObjectKind.Task o ≡ true
 starts_some s n k o e1 e2 = grind (arith, nat_tests)
@@ -88,22 +96,26 @@ tasks_grow = tasks_made any (λ x y i. refl) (makes_object ObjectKind.Task) star
 
 pub actions_grow : GrowsBy ObjectKind.Action
 actions_grow s who (Op.ActionCreate job k cores) r a =
-    given (Grows ObjectKind.Action s (Op.ActionCreate job k cores)) (row s who (Op.ActionCreate job k cores) r) r (refused ObjectKind.Action s (Op.ActionCreate job k cores))
+    given (Grows ObjectKind.Action s (Op.ActionCreate job k cores)) (row s who (Op.ActionCreate job k cores) r) r
+    (refused ObjectKind.Action s (Op.ActionCreate job k cores))
     (λ c0 c1 c2. on_only (Grows ObjectKind.Action s (Op.ActionCreate job k cores)) _ _ _ (λ m. more _ _ s.actions)) a
 actions_grow s who o r a = none_more ObjectKind.Action s who o r refl
 
 pub groups_grow : GrowsBy ObjectKind.Group
-groups_grow s who Op.GroupCreate r a = given (Grows ObjectKind.Group s Op.GroupCreate) (row s who Op.GroupCreate r) r (refused ObjectKind.Group s Op.GroupCreate) (λ c0 c1. on_only (Grows ObjectKind.Group s Op.GroupCreate) _ _ _ (λ m. more _ _ s.groups)) a
+groups_grow s who Op.GroupCreate r a = given (Grows ObjectKind.Group s Op.GroupCreate) (row s who Op.GroupCreate r) r
+    (refused ObjectKind.Group s Op.GroupCreate) (λ c0 c1. on_only (Grows ObjectKind.Group s Op.GroupCreate) _ _ _ (λ m. more _ _ s.groups)) a
 groups_grow s who o r a = none_more ObjectKind.Group s who o r refl
 
 pub queues_grow : GrowsBy ObjectKind.Queue
 queues_grow s who (Op.QueueCreate id job priority limit ordered retain) r a =
-    given (Grows ObjectKind.Queue s (Op.QueueCreate id job priority limit ordered retain)) (row s who (Op.QueueCreate id job priority limit ordered retain) r) r (refused ObjectKind.Queue s (Op.QueueCreate id job priority limit ordered retain))
+    given (Grows ObjectKind.Queue s (Op.QueueCreate id job priority limit ordered retain)) (row s who (Op.QueueCreate id job priority limit ordered retain) r) r
+    (refused ObjectKind.Queue s (Op.QueueCreate id job priority limit ordered retain))
     (λ c0 c1 c2 c3 c4. on_only (Grows ObjectKind.Queue s (Op.QueueCreate id job priority limit ordered retain)) _ _ _ (λ m. more _ _ s.queues)) a
 queues_grow s who o r a = none_more ObjectKind.Queue s who o r refl
 
 -- what grows by an entry that passes and by no other grows by so many
-pub grown_along : (f : State → ℕ) (p : NodeEntry → Bool) → ((s : State) (e : NodeEntry) → IsNext s e → f (next s e) ≤ f s + bit (p e)) → (s : State) (L : List NodeEntry) → LegalFrom s L → f (after_from s L) ≤ f s + entries_that p L
+pub grown_along : (f : State → ℕ) (p : NodeEntry → Bool) → ((s : State) (e : NodeEntry) → IsNext s e → f (next s e) ≤ f s + bit (p e))
+    → (s : State) (L : List NodeEntry) → LegalFrom s L → f (after_from s L) ≤ f s + entries_that p L
 unfolding LegalFrom after_from
 grown_along f p g s [] l = omega arith
 grown_along f p g s (e ∷ es) l = omega (arith, g s e l.0, grown_along f p g (next s e) es l.1)
@@ -113,8 +125,10 @@ nothing_yet ObjectKind.Action terms = refl
 nothing_yet _ terms = refl
 
 -- there is room for another where fewer were made than there may be
-pub has_room : (k : ObjectKind) → GrowsBy k → (terms : Terms) (L : List NodeEntry) → LegalFrom (opening terms) L → HasRoom terms k L → (last : ℕ) → is_full last ((objects_of k).max terms.settings) ((objects_of k).list (after terms L)) ≡ false
-has_room k g terms L l r last = not_full last ((objects_of k).max terms.settings) ((objects_of k).list (after terms L)) (omega (arith, grown_along (made_of k any) (makes_one k) (λ s e i. g s e.who e.op e.reply i.allowed) (opening terms) L l, nothing_yet k terms, r))
+pub has_room : (k : ObjectKind) → GrowsBy k → (terms : Terms) (L : List NodeEntry) → LegalFrom (opening terms) L → HasRoom terms k L → (last : ℕ)
+    → is_full last ((objects_of k).max terms.settings) ((objects_of k).list (after terms L)) ≡ false
+has_room k g terms L l r last = not_full last ((objects_of k).max terms.settings) ((objects_of k).list (after terms L))
+    (omega (arith, grown_along (made_of k any) (makes_one k) (λ s e i. g s e.who e.op e.reply i.allowed) (opening terms) L l, nothing_yet k terms, r))
 
 -- A row whose conditions aren't met
 
@@ -149,14 +163,17 @@ unfolding after_from
 open_along s [] c v = v
 open_along s (e ∷ es) c v = open_along (next s e) es c.1 (by_moves (λ t. is_open t.phase ≡ true) s e (λ t x i u. open_move e.op c.0 t x i u) v)
 
-opens : (s : State) (b : Bool) → Allows (unless b (Mtapi MtapiStatus.ErrNodeInitialized) (gives Ok (phase_is Open ∷ []))) Ok → is_open (after_row s (unless b (Mtapi MtapiStatus.ErrNodeInitialized) (gives Ok (phase_is Open ∷ [])))).phase ≡ true
+opens : (s : State) (b : Bool) → Allows (unless b (Mtapi MtapiStatus.ErrNodeInitialized) (gives Ok (phase_is Open ∷ []))) Ok
+    → is_open (after_row s (unless b (Mtapi MtapiStatus.ErrNodeInitialized) (gives Ok (phase_is Open ∷ [])))).phase ≡ true
 opens s b e1 = grind (arith, nat_tests)
 
 pub opened : (terms : Terms) (L : List NodeEntry) → LegalFrom (opening terms) L → IsOpened L → is_open (after terms L).phase ≡ true
 opened terms L l x =
     let at : LegalFrom (opening terms) (x.before ++ entry x.who Op.Initialize Ok ∷ x.behind) = subst (LegalFrom (opening terms)) x.is l in
-    let n : IsNext (after_from (opening terms) x.before) (entry x.who Op.Initialize Ok) = cut_from (opening terms) x.before x.behind (entry x.who Op.Initialize Ok) at in
-    let o : is_open (next (after_from (opening terms) x.before) (entry x.who Op.Initialize Ok)).phase ≡ true = opens (after_from (opening terms) x.before) _ n.allowed in
+    let n : IsNext (after_from (opening terms) x.before) (entry x.who Op.Initialize Ok) =
+    cut_from (opening terms) x.before x.behind (entry x.who Op.Initialize Ok) at in
+    let o : is_open (next (after_from (opening terms) x.before) (entry x.who Op.Initialize Ok)).phase ≡ true =
+    opens (after_from (opening terms) x.before) _ n.allowed in
     subst (λ (M : List NodeEntry). is_open (after terms M).phase ≡ true) (sym x.is)
     (subst (λ (t : State). is_open t.phase ≡ true) (sym (cut_after (opening terms) x.before x.behind (entry x.who Op.Initialize Ok)))
     (open_along _ x.behind x.unclosed o))
@@ -177,14 +194,16 @@ pub record Serves (s : State) (job cores : ℕ) : Type 0 where
   pub enabled : any_listed (has_enabled_job job) s.actions ≡ true
   pub served : is_served s job cores ≡ true
 
-pub served : (terms : Terms) (L : List NodeEntry) (job cores : ℕ) → Legal terms L → AreQuiet L → (after terms L).terms ≡ terms → IsServed terms L job cores → Serves (after terms L) job cores
+pub served : (terms : Terms) (L : List NodeEntry) (job cores : ℕ) → Legal terms L → AreQuiet L → (after terms L).terms ≡ terms → IsServed terms L job cores
+    → Serves (after terms L) job cores
 unfolding has_worker
 served terms L job cores legal quiet same x =
     let s : State = after terms L in
     let a : Action = new_action job x.kind x.mask.0 in
     let there : live_object s.actions x.handle ≡ Some a = made_objects_stay terms L (Op.ActionCreate job x.kind x.mask) x.handle legal quiet x.made in
     let is_worker : x.worker < workers s = subst (λ (t : Terms). x.worker < t.settings.workers) (sym same) x.is_worker in
-    let eligible : is_eligible (workers s) x.worker job cores a ≡ true = let i : nat_lt x.worker (workers s) ≡ true = grind (arith, nat_tests, is_worker) in λ j. eq-eqb job job refl j && i j && x.in_action j && x.in_task j in
+    let eligible : is_eligible (workers s) x.worker job cores a ≡ true = let i : nat_lt x.worker (workers s) ≡ true = grind (arith, nat_tests, is_worker) in
+    λ j. eq-eqb job job refl j && i j && x.in_action j && x.in_task j in
     record {
       listed = any_found (has_job job) s.actions x.handle a there (eq-eqb job job refl);
       enabled = any_found (has_enabled_job job) s.actions x.handle a there (eq-eqb job job refl);
@@ -194,7 +213,8 @@ served terms L job cores legal quiet same x =
 
 -- The group of a new task
 
-pub group_there : (terms : Terms) (L : List NodeEntry) (group : Option GroupHandle) → Legal terms L → AreQuiet L → GroupIsMade group L → holds (λ g. is_none (live_object (after terms L).groups g)) (number_of group) ≡ false
+pub group_there : (terms : Terms) (L : List NodeEntry) (group : Option GroupHandle) → Legal terms L → AreQuiet L → GroupIsMade group L
+    → holds (λ g. is_none (live_object (after terms L).groups g)) (number_of group) ≡ false
 group_there terms L None legal quiet x = refl
 group_there terms L (Some g) legal quiet x = ap is_none (made_objects_stay terms L Op.GroupCreate g.0 legal quiet x)
 
@@ -219,27 +239,45 @@ module _ (terms : Terms) (L : List NodeEntry) (who : ℕ) (o : Op) (r : Reply) (
       subst (λ (t : Terms). is_full t.settings.generations ((objects_of k).max t.settings) ((objects_of k).list (after terms L)) ≡ false) (sym same_terms)
       (has_room k g terms L before.from h terms.settings.generations)
 
-pub action_granted : (terms : Terms) (L : List NodeEntry) (who : ℕ) (r : Reply) (job : ℕ) (kind : Kind) (cores : Mask) → Asks terms L who (Op.ActionCreate job kind cores) r → is_job job ≡ true → HasRoom terms ObjectKind.Action L → IsGranted r
+pub action_granted : (terms : Terms) (L : List NodeEntry) (who : ℕ) (r : Reply) (job : ℕ) (kind : Kind) (cores : Mask)
+    → Asks terms L who (Op.ActionCreate job kind cores) r → is_job job ≡ true → HasRoom terms ObjectKind.Action L → IsGranted r
 action_granted terms L who r job kind cores x j h =
-    passes (row (after terms L) who (Op.ActionCreate job kind cores) r) r
-    (is_up terms L who (Op.ActionCreate job kind cores) r x, (ap not j, (room terms L who (Op.ActionCreate job kind cores) r x ObjectKind.Action actions_grow h, passes_only _ _ _)))
+    passes (row (after terms L) who (Op.ActionCreate job kind cores) r) r (
+      is_up terms L who (Op.ActionCreate job kind cores) r x,
+      (ap not j, (room terms L who (Op.ActionCreate job kind cores) r x ObjectKind.Action actions_grow h, passes_only _ _ _)),
+    )
     (allowed terms L who (Op.ActionCreate job kind cores) r x)
 
-pub group_granted : (terms : Terms) (L : List NodeEntry) (who : ℕ) (r : Reply) → Asks terms L who Op.GroupCreate r → HasRoom terms ObjectKind.Group L → IsGranted r
+pub group_granted : (terms : Terms) (L : List NodeEntry) (who : ℕ) (r : Reply) → Asks terms L who Op.GroupCreate r → HasRoom terms ObjectKind.Group L
+    → IsGranted r
 group_granted terms L who r x h =
     passes (row (after terms L) who Op.GroupCreate r) r
     (is_up terms L who Op.GroupCreate r x, (room terms L who Op.GroupCreate r x ObjectKind.Group groups_grow h, passes_only _ _ _))
     (allowed terms L who Op.GroupCreate r x)
 
-pub start_granted : (terms : Terms) (L : List NodeEntry) (who : ℕ) (r : Reply) (job : ℕ) (args : List ℤ) (priority : ℕ) (cores : Mask) (group : Option GroupHandle) → Asks terms L who (Op.TaskStart job args priority cores false group) r
+pub start_granted : (terms : Terms) (L : List NodeEntry) (who : ℕ) (r : Reply) (job : ℕ) (args : List ℤ) (priority : ℕ) (cores : Mask)
+    (group : Option GroupHandle) → Asks terms L who (Op.TaskStart job args priority cores false group) r
     → priority < terms.settings.priorities → HasRoom terms ObjectKind.Task L → IsServed terms L job cores.0 → GroupIsMade group L → IsGranted r
 start_granted terms L who r job args priority cores group x p h v g =
     let o : Op = Op.TaskStart job args priority cores false group in
     let serves : Serves (after terms L) job cores.0 = served terms L job cores.0 (before terms L who o r x) x.quiet (same_terms terms L who o r x) v in
-    let low : priority < (after terms L).terms.settings.priorities = subst (λ (t : Terms). priority < t.settings.priorities) (sym (same_terms terms L who o r x)) p in
-    let in_range : (not (nat_lt priority (after terms L).terms.settings.priorities) || (false && is_some group)) ≡ false = let i : nat_lt priority (after terms L).terms.settings.priorities ≡ true = grind (arith, nat_tests, low) in λ j. not (i j) || false in
-    passes (row (after terms L) who (Op.TaskStart job args priority cores false group) r) r
-    (is_up terms L who o r x, (in_range, (ap not serves.listed, (group_there terms L group (before terms L who o r x) x.quiet g, (ap not serves.enabled, (ap not serves.served, (room terms L who o r x ObjectKind.Task tasks_grow h, passes_only _ _ _)))))))
+    let low : priority < (after terms L).terms.settings.priorities =
+    subst (λ (t : Terms). priority < t.settings.priorities) (sym (same_terms terms L who o r x)) p in
+    let in_range : (not (nat_lt priority (after terms L).terms.settings.priorities) || (false && is_some group)) ≡ false =
+    let i : nat_lt priority (after terms L).terms.settings.priorities ≡ true = grind (arith, nat_tests, low) in λ j. not (i j) || false in
+    passes (row (after terms L) who (Op.TaskStart job args priority cores false group) r) r (
+      is_up terms L who o r x,
+      (
+        in_range,
+        (
+          ap not serves.listed,
+          (
+            group_there terms L group (before terms L who o r x) x.quiet g,
+            (ap not serves.enabled, (ap not serves.served, (room terms L who o r x ObjectKind.Task tasks_grow h, passes_only _ _ _))),
+          ),
+        ),
+      ),
+    )
     (allowed terms L who o r x)
 
 -- No queue has an id for which none was made
@@ -255,16 +293,21 @@ Differ id s = Every (Differs id) s.queues
 
 differ_move : (id : ℕ) (o : Op) → makes_of_sort Queues o ≡ false → (s : State) (x : Move) → IsMade s o x → Differ id s → Differ id (apply x s)
 differ_move id o z s x e v =
-    sort_move Queues s o (Every (Differs id)) (λ j y i w. true_false i.by z) (λ j f b w. every_change (Differs id) j (with_fields f) _ (λ r c d. altered_id id j f o b r.fields d) w)
+    sort_move Queues s o (Every (Differs id)) (λ j y i w. true_false i.by z)
+    (λ j f b w. every_change (Differs id) j (with_fields f) _ (λ r c d. altered_id id j f o b r.fields d) w)
     (λ j b w. every_change (Differs id) j gone _ (λ r c d. d) w) x e v
 
-differ_next : (id : ℕ) (s : State) (who : ℕ) (o : Op) (r : Reply) → makes_queue id o ≡ false → Allows (row s who o r) r → Differ id s → Differ id (after_row s (row s who o r))
+differ_next : (id : ℕ) (s : State) (who : ℕ) (o : Op) (r : Reply) → makes_queue id o ≡ false → Allows (row s who o r) r → Differ id s
+    → Differ id (after_row s (row s who o r))
 differ_next id s who (Op.QueueCreate other job priority limit ordered retain) r n a v =
     given (λ x ms. Differ id (after_moves ms s)) (row s who (Op.QueueCreate other job priority limit ordered retain) r) r (λ x. v)
-    (λ c0 c1 c2 c3 c4. on_only (λ x ms. Differ id (after_moves ms s)) (is_fresh queues s (handle_of r)) (Handle (handle_of r)) (makes Queues (handle_of r) (new_queue other job priority limit ordered retain) ∷ []) (λ i. every_issue (Differs id) (handle_of r) (new_queue other job priority limit ordered retain) s.queues n v)) a
+    (λ c0 c1 c2 c3 c4. on_only (λ x ms. Differ id (after_moves ms s)) (is_fresh queues s (handle_of r)) (Handle (handle_of r))
+    (makes Queues (handle_of r) (new_queue other job priority limit ordered retain)
+    ∷ []) (λ i. every_issue (Differs id) (handle_of r) (new_queue other job priority limit ordered retain) s.queues n v)) a
 differ_next id s who o r n a v = by_moves (Differ id) s (entry who o r) (λ t x i u. differ_move id o refl t x i u) v
 
-differ_along : (id : ℕ) (s : State) (L : List NodeEntry) → LegalFrom s L → some_entry (λ e. makes_queue id e.op) L ≡ false → Differ id s → Differ id (after_from s L)
+differ_along : (id : ℕ) (s : State) (L : List NodeEntry) → LegalFrom s L → some_entry (λ e. makes_queue id e.op) L ≡ false → Differ id s
+    → Differ id (after_from s L)
 unfolding LegalFrom after_from
 differ_along id s [] l n v = v
 differ_along id s (e ∷ es) l n v =
@@ -274,18 +317,37 @@ differ_along id s (e ∷ es) l n v =
 none_found : {T : Type 0} (p : T → Bool) (l : List (Listed T)) → Every (λ x. p x ≡ false) l → any_listed p l ≡ false
 unfolding live_of
 none_found p [] v = refl
-none_found p (r ∷ rs) v = let k = none_found p rs v.1 in cond_both r.live ((r.handle, r.fields) ∷ live_of rs) (live_of rs) (λ l. any_live p l ≡ false) (λ i. (λ j. cond (v.0 j) true (k j))) (λ i. k)
+none_found p (r ∷ rs) v = let k = none_found p rs v.1 in
+    cond_both r.live ((r.handle, r.fields) ∷ live_of rs) (live_of rs) (λ l. any_live p l ≡ false) (λ i. (λ j. cond (v.0 j) true (k j))) (λ i. k)
 
-pub queue_granted : (terms : Terms) (L : List NodeEntry) (who : ℕ) (r : Reply) (id job priority limit : ℕ) (ordered retain : Bool) → Asks terms L who (Op.QueueCreate id job priority limit ordered retain) r
-    → priority < terms.settings.priorities → (1 ≤ limit) × (limit ≤ 65536) → HasRoom terms ObjectKind.Queue L → HasAction L job → some_entry (λ e. makes_queue id e.op) L ≡ false → IsGranted r
+pub queue_granted : (terms : Terms) (L : List NodeEntry) (who : ℕ) (r : Reply) (id job priority limit : ℕ) (ordered retain : Bool)
+    → Asks terms L who (Op.QueueCreate id job priority limit ordered retain) r
+    → priority < terms.settings.priorities → (1 ≤ limit) × (limit ≤ 65536) → HasRoom terms ObjectKind.Queue L → HasAction L job
+    → some_entry (λ e. makes_queue id e.op) L ≡ false → IsGranted r
 queue_granted terms L who r id job priority limit ordered retain x p range h v n =
     let o : Op = Op.QueueCreate id job priority limit ordered retain in
     let s : State = after terms L in
-    let has : any_listed (has_job job) s.actions ≡ true = any_found (has_job job) s.actions v.handle (new_action job v.kind v.mask.0) (made_objects_stay terms L (Op.ActionCreate job v.kind v.mask) v.handle (before terms L who o r x) x.quiet v.made) (eq-eqb job job refl) in
+    let has : any_listed (has_job job) s.actions ≡ true =
+    any_found (has_job job) s.actions v.handle (new_action job v.kind v.mask.0)
+    (made_objects_stay terms L (Op.ActionCreate job v.kind v.mask) v.handle (before terms L who o r x) x.quiet v.made) (eq-eqb job job refl) in
     let low : priority < s.terms.settings.priorities = subst (λ (t : Terms). priority < t.settings.priorities) (sym (same_terms terms L who o r x)) p in
-    let in_range : (not (nat_lt priority s.terms.settings.priorities) || not (nat_le 1 limit && nat_le limit 65536)) ≡ false = let i : nat_lt priority s.terms.settings.priorities ≡ true = grind (arith, nat_tests, low) in let a : 1 ≤ limit = range.0 in let b : limit ≤ 65536 = range.1 in let c : nat_le 1 limit ≡ true = grind (arith, nat_tests) in let d : nat_le limit 65536 ≡ true = grind (arith, nat_tests) in λ j. not (i j) || not (c j && d j) in
-    passes (row s who o r) r
-    (is_up terms L who o r x, (in_range, (ap not has, (none_found (λ y. y.id == id) s.queues (differ_along id (opening terms) L (before terms L who o r x).from n tt), (room terms L who o r x ObjectKind.Queue queues_grow h, passes_only _ _ _)))))
+    let in_range : (not (nat_lt priority s.terms.settings.priorities) || not (nat_le 1 limit && nat_le limit 65536)) ≡ false =
+    let i : nat_lt priority s.terms.settings.priorities ≡ true = grind (arith, nat_tests, low) in let a : 1 ≤ limit = range.0 in let b : limit ≤ 65536 =
+    range.1 in let c : nat_le 1 limit ≡ true = grind (arith, nat_tests) in let d : nat_le limit 65536 ≡ true = grind (arith, nat_tests) in
+    λ j. not (i j) || not (c j && d j) in
+    passes (row s who o r) r (
+      is_up terms L who o r x,
+      (
+        in_range,
+        (
+          ap not has,
+          (
+            none_found (λ y. y.id == id) s.queues (differ_along id (opening terms) L (before terms L who o r x).from n tt),
+            (room terms L who o r x ObjectKind.Queue queues_grow h, passes_only _ _ _),
+          ),
+        ),
+      ),
+    )
     (allowed terms L who o r x)
 
 -- How many tasks a queue was given
@@ -310,7 +372,8 @@ unended_given q (r ∷ rs) = grind (arith, unended_given q rs)
 passes_live : (o : Option Queue) (x : Queue) (v : Row) (w : Queue → Row) → o ≡ Some x → Passes (w x) → Passes (live o v w)
 passes_live o x v w e p = subst (λ (y : Option Queue). Passes (live y v w)) (sym e) p
 
-pub enqueue_granted : (terms : Terms) (L : List NodeEntry) (who : ℕ) (r : Reply) (q : QueueHandle) (job priority : ℕ) (args : List ℤ) (cores : Mask) (group : Option GroupHandle) → Asks terms L who (Op.TaskEnqueue q args cores false group) r
+pub enqueue_granted : (terms : Terms) (L : List NodeEntry) (who : ℕ) (r : Reply) (q : QueueHandle) (job priority : ℕ) (args : List ℤ) (cores : Mask)
+    (group : Option GroupHandle) → Asks terms L who (Op.TaskEnqueue q args cores false group) r
     → IsQueued L q.0 job priority → HasRoom terms ObjectKind.Task L → IsServed terms L job cores.0 → GroupIsMade group L → IsGranted r
 enqueue_granted terms L who r q job priority args cores group x k h v g =
     let o : Op = Op.TaskEnqueue q args cores false group in
@@ -318,13 +381,24 @@ enqueue_granted terms L who r q job priority args cores group x k h v g =
     let legal : Legal terms L = before terms L who o r x in
     let made : Queue = new_queue k.id job priority k.limit k.ordered k.retain in
     let serves : Serves s job cores.0 = served terms L job cores.0 legal x.quiet (same_terms terms L who o r x) v in
-    let not_many : (count_listed (is_unended_in q.0) s.tasks == k.limit) ≡ false = let a : count_listed (is_unended_in q.0) s.tasks ≤ given_to q.0 s = unended_given q.0 s.tasks in let b : given_to q.0 s ≤ 0 + entries_that (puts_into q.0) L = gets_along q.0 (opening terms) L legal.from in let c : entries_that (puts_into q.0) L < k.limit = k.few in grind (arith, nat_tests) in
+    let not_many : (count_listed (is_unended_in q.0) s.tasks == k.limit) ≡ false = let a : count_listed (is_unended_in q.0) s.tasks ≤ given_to q.0 s =
+    unended_given q.0 s.tasks in let b : given_to q.0 s ≤ 0 + entries_that (puts_into q.0) L = gets_along q.0 (opening terms) L legal.from in
+    let c : entries_that (puts_into q.0) L < k.limit = k.few in grind (arith, nat_tests) in
     passes (row s who o r) r (
       is_up terms L who o r x,
       (
         refl,
-        passes_live (live_object s.queues q.0) made _ _ (made_objects_stay terms L (Op.QueueCreate k.id job priority k.limit k.ordered k.retain) q.0 legal x.quiet k.made)
-            (refl, (ap not serves.listed, (group_there terms L group legal x.quiet g, (ap not serves.enabled, (ap not serves.served, (not_many, (room terms L who o r x ObjectKind.Task tasks_grow h, passes_only _ _ _))))))),
+        passes_live (live_object s.queues q.0) made _ _
+            (made_objects_stay terms L (Op.QueueCreate k.id job priority k.limit k.ordered k.retain) q.0 legal x.quiet k.made) (
+              refl,
+              (
+                ap not serves.listed,
+                (
+                  group_there terms L group legal x.quiet g,
+                  (ap not serves.enabled, (ap not serves.served, (not_many, (room terms L who o r x ObjectKind.Task tasks_grow h, passes_only _ _ _)))),
+                ),
+              ),
+            ),
       ),
     )
     (allowed terms L who o r x)

@@ -4,8 +4,8 @@ pub use Rattle.handle_pool.specs.Issued.{Listed, any_listed, any_live, count_lis
 pub use Rattle.handle_pool.specs.Slots.{generation_of}
 pub use Rattle.history.specs.Histories.{entries_of, entry}
 pub use Rattle.history_law.proofs.Quiet.{IsCalm, calm_along, calm_next, calm_opening, none_impure, none_withdrawn, quiet_tasks_end_plainly}
-pub use Rattle.history_law.proofs.lists.Every.{Every, always, every_all, every_at, every_change, every_ends, every_issue, every_map}
-pub use Rattle.history_law.proofs.lists.Found.{FoundAs, at_head, at_here, at_past, at_skip, found_all, found_changed, found_ends, found_issued}
+pub use Rattle.history_law.proofs.lists.Every.{Every, always, every_at, every_change, every_issue, every_map}
+pub use Rattle.history_law.proofs.lists.Found.{FoundAs, at_head, at_here, at_past, at_skip, found_changed, found_issued}
 pub use Rattle.history_law.proofs.lists.Objects.{HasObject, StartedAs, cut_after, cut_from, has_behind, has_new, started_as, task_then}
 pub use Rattle.history_law.proofs.{Accepted.accepted_end, Accepted.front_stays, SeatMoves.May, SeatMoves.by_made_moves}
 pub use Rattle.history_law.proofs.{Ages.AgesEach, Ages.SameFields, Ages.SameTask, Ages.Under, Ages.kind_move, Ages.live_listed, Ages.same_task, Bounds.by_seats}
@@ -77,7 +77,16 @@ unfoldable pub use Rattle.run_report.specs.{Replies.decided, Replies.further_tol
 unfoldable pub use Rattle.workload_runs.specs.{Lines.lines_of, Parts.CallersRan, Parts.Carried, Parts.has_begin, RunOf.all_work}
 unfoldable pub use Rattle.settled_runs.specs.Plain.{faults_behind, plain_call_line, plain_calls_from, plain_end, plain_fault, plain_report, task_in}
 unfoldable pub use Rattle.settled_runs.specs.PlainReplies.{ArePlain, IsPlainReply, PartsArePlain}
-unfoldable pub use Rattle.settled_runs.specs.Settled.{are_settled, has_different_ids, has_one_kind_a_job, have_one_fault_a_group, is_settled, is_settled_deed, keep_limits, sets_up_first}
+unfoldable pub use Rattle.settled_runs.specs.Settled.{
+  are_settled,
+  has_different_ids,
+  has_one_kind_a_job,
+  have_one_fault_a_group,
+  is_settled,
+  is_settled_deed,
+  keep_limits,
+  sets_up_first,
+}
 unfoldable pub use Rattle.settled_runs.specs.{PlainSummary.plain_summary, PlainSummary.with_plain_parts, PlainSummary.with_plain_tasks, Verdicts.members_of}
 unfoldable pub use Rattle.std.specs.Fmt.{digits}
 unfoldable pub use Rattle.workload_file.specs.{Deeds.binds, Deeds.deed_spelled, Deeds.is_begin, Table.row as word_row}

@@ -29,17 +29,22 @@ module _ {X : Type 0} (key number : X → ℕ) where
   alike g n m (y ∷ ys) a f = grind (arith, nat_tests, alike g n m ys)
 
   -- where any two agree
-  pub one_number : (F : List X → Bool) → ((x : X) (xs : List X) → F (x ∷ xs) ≡ (agree (key x) (number x) xs && F xs)) → (g c d : ℕ) (xs : List X) → F xs ≡ true → has_number g c xs ≡ true → has_number g d xs ≡ true → c ≡ d
+  pub one_number : (F : List X → Bool) → ((x : X) (xs : List X) → F (x ∷ xs) ≡ (agree (key x) (number x) xs && F xs)) → (g c d : ℕ) (xs : List X) → F xs ≡ true
+      → has_number g c xs ≡ true → has_number g d xs ≡ true → c ≡ d
   one_number F step g c d [] e a b = true_false a refl
-  one_number F step g c d (x ∷ xs) e a b = by (or_cases _ (has_number g c xs) a) (or_cases _ (has_number g d xs) b) (one_number F step g c d xs (snd_true (agree (key x) (number x) xs) _ (sym (step x xs) ∙ e)))
+  one_number F step g c d (x ∷ xs) e a b =
+      by (or_cases _ (has_number g c xs) a) (or_cases _ (has_number g d xs) b)
+      (one_number F step g c d xs (snd_true (agree (key x) (number x) xs) _ (sym (step x xs) ∙ e)))
     where
       same : (z : ℕ) → ((key x == g) && (number x == z)) ≡ true → number x ≡ z
       same z i = eqb-true (number x) z (snd_true (key x == g) _ i)
 
       others : (y z : ℕ) → ((key x == g) && (number x == y)) ≡ true → has_number g z xs ≡ true → y ≡ z
-      others y z i f = sym (same y i) ∙ alike g (number x) z xs (subst (λ (n : ℕ). agree n (number x) xs ≡ true) (eqb-true (key x) g (fst_true _ _ i)) (fst_true _ (F xs) (sym (step x xs) ∙ e))) f
+      others y z i f = sym (same y i) ∙ alike g (number x) z xs
+          (subst (λ (n : ℕ). agree n (number x) xs ≡ true) (eqb-true (key x) g (fst_true _ _ i)) (fst_true _ (F xs) (sym (step x xs) ∙ e))) f
 
-      by : (((key x == g) && (number x == c)) ≡ true) ⊎ (has_number g c xs ≡ true) → (((key x == g) && (number x == d)) ≡ true) ⊎ (has_number g d xs ≡ true) → (has_number g c xs ≡ true → has_number g d xs ≡ true → c ≡ d) → c ≡ d
+      by : (((key x == g) && (number x == c)) ≡ true) ⊎ (has_number g c xs ≡ true) → (((key x == g) && (number x == d)) ≡ true) ⊎ (has_number g d xs ≡ true)
+          → (has_number g c xs ≡ true → has_number g d xs ≡ true → c ≡ d) → c ≡ d
       by (inl i) (inl j) k = sym (same c i) ∙ same d j
       by (inl i) (inr j) k = others c d i j
       by (inr i) (inl j) k = sym (others d c j i)
@@ -50,21 +55,26 @@ abbrev pub has_fault : List (ℕ × MtapiStatus) → ℕ → MtapiStatus → Boo
 has_fault xs g c = has_number (λ x. x.0) (λ x. mtapi_number x.1) g (mtapi_number c) xs
 
 -- where the faults of each group have one status, two have one
-pub one_status : (g : ℕ) (c d : MtapiStatus) (xs : List (ℕ × MtapiStatus)) → have_one_fault_a_group xs ≡ true → has_fault xs g c ≡ true → has_fault xs g d ≡ true → c ≡ d
+pub one_status : (g : ℕ) (c d : MtapiStatus) (xs : List (ℕ × MtapiStatus)) → have_one_fault_a_group xs ≡ true → has_fault xs g c ≡ true
+    → has_fault xs g d ≡ true → c ≡ d
 unfolding have_one_fault_a_group
-one_status g c d xs e a b = same_status c d (one_number (λ x. x.0) (λ x. mtapi_number x.1) have_one_fault_a_group (λ y ys. refl) g (mtapi_number c) (mtapi_number d) xs e a b)
+one_status g c d xs e a b = same_status c d
+    (one_number (λ x. x.0) (λ x. mtapi_number x.1) have_one_fault_a_group (λ y ys. refl) g (mtapi_number c) (mtapi_number d) xs e a b)
 
 -- The fault of a statement's task
 
-in_all : {X Y : Type 0} (p : Y → Bool) (f : X → List Y) (before : List X) (x : X) (behind : List X) → list_any p (f x) ≡ true → list_any p (flat_map f (before ++ x ∷ behind)) ≡ true
+in_all : {X Y : Type 0} (p : Y → Bool) (f : X → List Y) (before : List X) (x : X) (behind : List X) → list_any p (f x) ≡ true
+    → list_any p (flat_map f (before ++ x ∷ behind)) ≡ true
 in_all p f [] x behind e = list_any-append p (f x) (flat_map f behind) ∙ or_left _ _ e
 in_all p f (y ∷ before) x behind e = list_any-append p (f y) (flat_map f (before ++ x ∷ behind)) ∙ or_right _ _ (in_all p f before x behind e)
 
-both_there : (group : Option ℕ) (fault : Option MtapiStatus) (g : ℕ) (c : MtapiStatus) → group ≡ Some g → fault ≡ Some c → has_fault (both group fault) g c ≡ true
+both_there : (group : Option ℕ) (fault : Option MtapiStatus) (g : ℕ) (c : MtapiStatus) → group ≡ Some g → fault ≡ Some c
+    → has_fault (both group fault) g c ≡ true
 both_there group fault g c e1 e2 = grind (arith, nat_tests)
 
 -- where it is in a group, the group has it
-pub fault_there : (actions : List Action) (all before : List Statement) (s : Statement) (behind : List Statement) (t : NewTask) (g : ℕ) (c : MtapiStatus) → task_in all s.deed ≡ Some t → t.group ≡ Some g → plain_fault actions t ≡ Some c
+pub fault_there : (actions : List Action) (all before : List Statement) (s : Statement) (behind : List Statement) (t : NewTask) (g : ℕ) (c : MtapiStatus)
+    → task_in all s.deed ≡ Some t → t.group ≡ Some g → plain_fault actions t ≡ Some c
     → has_fault (flat_map (λ z. fault_in actions (task_in all z.deed)) (before ++ s ∷ behind)) g c ≡ true
 fault_there actions all before s behind t g c e i j =
     in_all (λ x. (x.0 == g) && (mtapi_number x.1 == mtapi_number c)) (λ z. fault_in actions (task_in all z.deed)) before s behind
@@ -81,11 +91,13 @@ module _ (F : ℕ → Option MtapiStatus) where
   pub no_member : Matches F [] None
   no_member = record { none = λ e h b. true_false b refl; some = λ c e. none_some e }
 
-  pub more_member : (h : ℕ) (x : Option MtapiStatus) (hs : List ℕ) (fault : Option MtapiStatus) → F h ≡ x → Matches F hs fault → Matches F (h ∷ hs) (option_or fault x)
+  pub more_member : (h : ℕ) (x : Option MtapiStatus) (hs : List ℕ) (fault : Option MtapiStatus) → F h ≡ x → Matches F hs fault
+      → Matches F (h ∷ hs) (option_or fault x)
   more_member h x hs fault e1 e2 = grind (arith, nat_tests)
 
   -- where the faults of the tasks are one, so are the two
-  pub one_verdict : (s : State) (hs : List ℕ) (r : Reply) (fault : Option MtapiStatus) → IsVerdict s hs r → ((h : ℕ) → has hs h ≡ true → fault_at s h ≡ F h) → Matches F hs fault
+  pub one_verdict : (s : State) (hs : List ℕ) (r : Reply) (fault : Option MtapiStatus) → IsVerdict s hs r → ((h : ℕ) → has hs h ≡ true → fault_at s h ≡ F h)
+      → Matches F hs fault
       → ((h j : ℕ) (c d : MtapiStatus) → has hs h ≡ true → has hs j ≡ true → F h ≡ Some c → F j ≡ Some d → c ≡ d) → r ≡ verdict fault
   one_verdict s hs r fault v same m one = v.is ∙ ap verdict (by v.fault refl fault refl)
     where

@@ -8,7 +8,9 @@ use Rattle.settled_runs.proofs.Counted.{asks, asked, many_append, many_none, onl
 -- Which ops close, and which release
 
 -- what a call may ask for: no op that closes, and one that makes an action, a group, a queue or a task only where its statement makes one
-calls_ask : (bound : List ℕ) (d : Deed) → CallAsks closes (bit false) (call_of bound d) × CallAsks (makes ObjectKind.Action) (bit (makes_action d)) (call_of bound d) × CallAsks (makes ObjectKind.Group) (bit (makes_group d)) (call_of bound d)
+calls_ask : (bound : List ℕ) (d : Deed)
+    → CallAsks closes (bit false) (call_of bound d) × CallAsks (makes ObjectKind.Action) (bit (makes_action d)) (call_of bound d)
+    × CallAsks (makes ObjectKind.Group) (bit (makes_group d)) (call_of bound d)
     × CallAsks (makes ObjectKind.Queue) (bit (is_some (queue_in d))) (call_of bound d) × CallAsks (makes ObjectKind.Task) (bit (makes_task d)) (call_of bound d)
 calls_ask bound d = grind (arith, nat_tests)
 
@@ -28,8 +30,10 @@ no_close (e ∷ es) k = (no_bit (closes e.op) (omega arith), no_close es (omega 
 
 -- an entry of the seat stands in no list without any
 none_of_seat : (who : ℕ) (X Y : List NodeEntry) (e : NodeEntry) → e.who ≡ who → entries_of who (X ++ e ∷ Y) ≡ [] → ⊥
-none_of_seat who [] Y e w i = let z : e ∷ entries_of who Y ≡ [] = sym (ap (λ (b : Bool). cond b (e ∷ entries_of who Y) (entries_of who Y)) (eq-eqb e.who who w)) ∙ i in cc
-none_of_seat who (x ∷ X) Y e w i = cond_both (x.who == who) (x ∷ entries_of who (X ++ e ∷ Y)) (entries_of who (X ++ e ∷ Y)) (λ l. l ≡ [] → ⊥) (λ j k. cc) (λ j k. none_of_seat who X Y e w k) i
+none_of_seat who [] Y e w i = let z : e ∷ entries_of who Y ≡ [] =
+    sym (ap (λ (b : Bool). cond b (e ∷ entries_of who Y) (entries_of who Y)) (eq-eqb e.who who w)) ∙ i in cc
+none_of_seat who (x ∷ X) Y e w i = cond_both (x.who == who) (x ∷ entries_of who (X ++ e ∷ Y)) (entries_of who (X ++ e ∷ Y)) (λ l. l ≡ []
+    → ⊥) (λ j k. cc) (λ j k. none_of_seat who X Y e w k) i
 
 -- Main's part, and the others
 
@@ -73,19 +77,24 @@ module _ (layout : Layout) (load : Workload) (es : List NodeEntry) (ns : List �
   pub all_at : AllSeats (PartAt load es ns) main (first_of.part ∷ first_of.others) (first_of.replies ∷ first_of.further)
   all_at =
       subst (AllSeats (PartAt load es ns) main (first_of.part ∷ first_of.others)) first_of.told
-      (subst (λ (ps : List Part). AllSeats (PartAt load es ns) main ps u.run.replies) first_of.are (run_parts load es ns u.same u.run seats_are (settled_whole load u.settled).parts))
+      (subst (λ (ps : List Part). AllSeats (PartAt load es ns) main ps u.run.replies) first_of.are
+      (run_parts load es ns u.same u.run seats_are (settled_whole load u.settled).parts))
 
   further_are : Each IsFurther first_of.others
   further_are = (subst MainFirst first_of.are u.formed.main).1
 
   -- what no statement of a further caller asks for, main alone asks for
-  pub only_main : (p : Op → Bool) (q : Deed → Bool) → ((bound : List ℕ) (d : Deed) → CallAsks p (bit (q d)) (call_of bound d)) → ((o : Op) → is_at_work o ≡ true → p o ≡ false) → p Op.Enter ≡ false
-      → ((w : ℕ) (x : Part) (rs : List Reply) → main < w → PartAt load es ns w x rs × IsFurther x → (b : List Statement) (s : Statement) (rest : List Statement) → x.statements ≡ b ++ s ∷ rest → q s.deed ≡ false) → OnlyBy main p es
+  pub only_main : (p : Op → Bool) (q : Deed → Bool) → ((bound : List ℕ) (d : Deed) → CallAsks p (bit (q d)) (call_of bound d))
+      → ((o : Op) → is_at_work o ≡ true → p o ≡ false) → p Op.Enter ≡ false
+      → ((w : ℕ) (x : Part) (rs : List Reply) → main < w → PartAt load es ns w x rs × IsFurther x → (b : List Statement) (s : Statement) (rest : List Statement)
+      → x.statements ≡ b ++ s ∷ rest → q s.deed ≡ false) → OnlyBy main p es
   only_main p q calls work enter further =
       only_by load es ns u.same u.run seats_are main p work
-      (subst (λ (ps : List Part). AllSeats Others main ps u.run.replies) (sym first_of.are) (subst (AllSeats Others main (first_of.part ∷ first_of.others)) (sym first_of.told) (
+      (subst (λ (ps : List Part). AllSeats Others main ps u.run.replies) (sym first_of.are)
+      (subst (AllSeats Others main (first_of.part ∷ first_of.others)) (sym first_of.told) (
         (λ i. true_false (eq-eqb main main refl) i),
-        map_seats (λ w x rs. PartAt load es ns w x rs × IsFurther x) Others (suc main) (λ w x rs l y i. each w x rs l y) (suc main) first_of.others first_of.further (omega arith)
+        map_seats (λ w x rs. PartAt load es ns w x rs
+            × IsFurther x) Others (suc main) (λ w x rs l y i. each w x rs l y) (suc main) first_of.others first_of.further (omega arith)
             (with_each (PartAt load es ns) IsFurther (suc main) first_of.others first_of.further all_at.1 further_are),
       )))
     where
@@ -94,9 +103,13 @@ module _ (layout : Layout) (load : Workload) (es : List NodeEntry) (ns : List �
 
       each : (w : ℕ) (x : Part) (rs : List Reply) → main < w → PartAt load es ns w x rs × IsFurther x → Each (λ l. p l.op ≡ false) (lines_of w es ns)
       each w x rs l y =
-          let ends : Each (λ k. p k.op ≡ false) (y.0.start ++ y.0.finish) = each_map (λ (k : Line). k.op ≡ Op.Enter) (λ (k : Line). p k.op ≡ false) (λ k e. ap p e ∙ enter) (y.0.start ++ y.0.finish) (y.0.enters l) in
-          seat_each load es ns (λ o. p o ≡ false) w x rs y.0 (each_front (λ (k : Line). p k.op ≡ false) y.0.start y.0.finish ends) (each_behind (λ (k : Line). p k.op ≡ false) y.0.start y.0.finish ends)
-          (λ b l1 r1 s front r z. made_each (λ o. p o ≡ false) (call_of (map handle_of r1) s.deed) front r (calls_none p (call_of (map handle_of r1) s.deed) (q s.deed) (calls (map handle_of r1) s.deed) (further w x rs l y b s z.rest z.parted)) z.made)
+          let ends : Each (λ k. p k.op ≡ false) (y.0.start ++ y.0.finish) =
+          each_map (λ (k : Line). k.op ≡ Op.Enter) (λ (k : Line). p k.op ≡ false) (λ k e. ap p e ∙ enter) (y.0.start ++ y.0.finish) (y.0.enters l) in
+          seat_each load es ns (λ o. p o ≡ false) w x rs y.0 (each_front (λ (k : Line). p k.op ≡ false) y.0.start y.0.finish ends)
+          (each_behind (λ (k : Line). p k.op ≡ false) y.0.start y.0.finish ends)
+          (λ b l1 r1 s front r z. made_each (λ o. p o
+          ≡ false) (call_of (map handle_of r1) s.deed) front r
+          (calls_none p (call_of (map handle_of r1) s.deed) (q s.deed) (calls (map handle_of r1) s.deed) (further w x rs l y b s z.rest z.parted)) z.made)
 
   pub releases_main : OnlyBy main is_release es
   releases_main = only_main is_release is_begin release_calls release_work refl (λ w x rs l y b s rest e. begin_none b s rest (ap begins (sym e) ∙ y.1.begin))
@@ -104,11 +117,20 @@ module _ (layout : Layout) (load : Workload) (es : List NodeEntry) (ns : List �
   -- no statement closes, and main closes twice
   closed_twice : asks closes es ≤ 2
   closed_twice =
-      let a : asks closes es ≤ asked closes (lines_of main es ns) = only_asks main closes es ns u.same (only_main closes (λ d. false) (λ bound d. (calls_ask bound d).0) close_work refl (λ w x rs l y b s rest e. refl)) in
-      let b : asked closes (lines_of main es ns) ≡ asked closes (head_of (has_begin first_of.part.statements)) + asked closes (first_of.ran.body ++ tail_of_main) = ap (asked closes) first_of.ran.is ∙ many_append (λ l. closes l.op) (head_of (has_begin first_of.part.statements)) (first_of.ran.body ++ tail_of_main) in
-      let c : asked closes (first_of.ran.body ++ tail_of_main) ≡ asked closes first_of.ran.body + 2 = many_append (λ l. closes l.op) first_of.ran.body tail_of_main in
-      let d : asked closes first_of.ran.body ≤ how_many (λ s. false) first_of.part.statements = statements_ask closes (λ d. false) first_of.part.statements first_of.ran.body first_of.replies first_of.ran.carried (λ b l1 r1 s front r z. (calls_ask (map handle_of r1) s.deed).0) in
-      let e : how_many (λ s. false) first_of.part.statements ≡ 0 = many_none (λ s. false) first_of.part.statements (each_of (λ s. false ≡ false) (λ s. refl) first_of.part.statements) in
+      let a : asks closes es ≤ asked closes (lines_of main es ns) =
+      only_asks main closes es ns u.same (only_main closes (λ d. false) (λ bound d. (calls_ask bound d).0) close_work refl
+      (λ w x rs l y b s rest e. refl)) in
+      let b : asked closes (lines_of main es ns)
+      ≡ asked closes (head_of (has_begin first_of.part.statements)) + asked closes (first_of.ran.body ++ tail_of_main) =
+      ap (asked closes) first_of.ran.is ∙ many_append (λ l. closes l.op) (head_of (has_begin first_of.part.statements)) (first_of.ran.body
+      ++ tail_of_main) in
+      let c : asked closes (first_of.ran.body ++ tail_of_main) ≡ asked closes first_of.ran.body + 2 =
+      many_append (λ l. closes l.op) first_of.ran.body tail_of_main in
+      let d : asked closes first_of.ran.body ≤ how_many (λ s. false) first_of.part.statements =
+      statements_ask closes (λ d. false) first_of.part.statements first_of.ran.body first_of.replies first_of.ran.carried
+      (λ b l1 r1 s front r z. (calls_ask (map handle_of r1) s.deed).0) in
+      let e : how_many (λ s. false) first_of.part.statements ≡ 0 =
+      many_none (λ s. false) first_of.part.statements (each_of (λ s. false ≡ false) (λ s. refl) first_of.part.statements) in
       let f : asked closes (head_of (has_begin first_of.part.statements)) ≡ 0 = none (has_begin first_of.part.statements) in
       omega arith
     where
@@ -121,7 +143,8 @@ module _ (layout : Layout) (load : Workload) (es : List NodeEntry) (ns : List �
     this = entry who l.op l.reply
 
     pub legal_here : Legal (run_terms layout load) (c.before ++ this ∷ [])
-    legal_here = Legal-prefix (run_terms layout load) (c.before ++ this ∷ []) c.behind (subst (Legal (run_terms layout load)) (c.is ∙ sym (append_assoc c.before (this ∷ []) c.behind)) u.legal)
+    legal_here = Legal-prefix (run_terms layout load) (c.before ++ this
+        ∷ []) c.behind (subst (Legal (run_terms layout load)) (c.is ∙ sym (append_assoc c.before (this ∷ []) c.behind)) u.legal)
 
     pub legal_before : Legal (run_terms layout load) c.before
     legal_before = Legal-prefix (run_terms layout load) c.before (this ∷ []) legal_here
@@ -132,7 +155,8 @@ module _ (layout : Layout) (load : Workload) (es : List NodeEntry) (ns : List �
     -- where two entries behind it close, none before it does
     unclosed : 2 ≤ asks closes c.behind → asks closes c.before ≡ 0
     unclosed k =
-        let a : asks closes es ≡ asks closes c.before + (bit (closes l.op) + asks closes c.behind) = ap (asks closes) c.is ∙ many_append (λ e. closes e.op) c.before (this ∷ c.behind) in
+        let a : asks closes es ≡ asks closes c.before + (bit (closes l.op) + asks closes c.behind) =
+        ap (asks closes) c.is ∙ many_append (λ e. closes e.op) c.before (this ∷ c.behind) in
         let b : asks closes es ≤ 2 = closed_twice in
         omega arith
 
@@ -140,7 +164,8 @@ module _ (layout : Layout) (load : Workload) (es : List NodeEntry) (ns : List �
     pub main_unclosed : (C : List Line) → B ≡ C ++ tail_of_main → asks closes c.before ≡ 0
     main_unclosed C i =
         let a : asked closes (lines_of who c.behind c.rest) ≤ asks closes c.behind = seat_asks closes who c.behind c.rest (c.alike u.same) in
-        let b : asked closes (lines_of who c.behind c.rest) ≡ asked closes C + 2 = ap (asked closes) (c.left ∙ i) ∙ many_append (λ k. closes k.op) C tail_of_main in
+        let b : asked closes (lines_of who c.behind c.rest) ≡ asked closes C + 2 =
+        ap (asked closes) (c.left ∙ i) ∙ many_append (λ k. closes k.op) C tail_of_main in
         unclosed (omega arith)
 
     -- and each of a further caller's
@@ -166,18 +191,22 @@ module _ (layout : Layout) (load : Workload) (es : List NodeEntry) (ns : List �
 
         by : Placed c.before this c.behind u.run.ends.before close last → asks closes c.before ≡ 0
         by (inl p) =
-            let a : asks closes c.behind ≡ asks closes p.between + (1 + asks closes last) = ap (asks closes) p.back ∙ many_append (λ e. closes e.op) p.between (close ∷ last) in
-            let b : asks closes last ≡ asks closes u.run.ends.behind + (1 + 0) = many_append (λ e. closes e.op) u.run.ends.behind (entry main Op.Final Reply.Ok ∷ []) in
+            let a : asks closes c.behind ≡ asks closes p.between + (1 + asks closes last) =
+            ap (asks closes) p.back ∙ many_append (λ e. closes e.op) p.between (close ∷ last) in
+            let b : asks closes last ≡ asks closes u.run.ends.behind + (1 + 0) =
+            many_append (λ e. closes e.op) u.run.ends.behind (entry main Op.Final Reply.Ok ∷ []) in
             unclosed (omega arith)
         by (inr (inl p)) = absurd (other (ap (λ (e : NodeEntry). e.who) p.here))
         by (inr (inr p)) = absurd (late p.between p.back)
 
 -- An opened node
 
-pub is_opened : (who : ℕ) (L : List NodeEntry) (ks : List ℕ) (R : List Line) → lines_of who L ks ≡ line Op.Initialize Reply.Ok 0 ∷ R → asks closes L ≡ 0 → IsOpened L
+pub is_opened : (who : ℕ) (L : List NodeEntry) (ks : List ℕ) (R : List Line) → lines_of who L ks ≡ line Op.Initialize Reply.Ok 0 ∷ R → asks closes L ≡ 0
+    → IsOpened L
 is_opened who L ks R i k =
     let d : Cut who L ks [] (line Op.Initialize Reply.Ok 0) R = cut who L ks [] (line Op.Initialize Reply.Ok 0) R i in
-    let a : asks closes L ≡ asks closes d.before + (0 + asks closes d.behind) = ap (asks closes) d.is ∙ many_append (λ e. closes e.op) d.before (entry who Op.Initialize Reply.Ok ∷ d.behind) in
+    let a : asks closes L ≡ asks closes d.before + (0 + asks closes d.behind) =
+    ap (asks closes) d.is ∙ many_append (λ e. closes e.op) d.before (entry who Op.Initialize Reply.Ok ∷ d.behind) in
     record { before = d.before; who = who; behind = d.behind; is = d.is; unclosed = no_close d.behind (let z : asks closes L ≡ 0 = k in omega arith) }
 
 -- The ops that make objects, and the statements that do
@@ -199,11 +228,16 @@ pub record Room (settings : NodeSettings) (ss : List Statement) (k : ObjectKind)
   calls : (bound : List ℕ) (d : Deed) → CallAsks (makes k) (bit (q d)) (call_of bound d)
   few : how_many (λ s. q s.deed) ss ≤ (objects_of k).max settings
 
-pub rooms : (load : Workload) → is_settled load ≡ true → Room load.settings (all_statements load) ObjectKind.Action × Room load.settings (all_statements load) ObjectKind.Group × Room load.settings (all_statements load) ObjectKind.Queue × Room load.settings (all_statements load) ObjectKind.Task
+pub rooms : (load : Workload) → is_settled load ≡ true
+    → Room load.settings (all_statements load) ObjectKind.Action × Room load.settings (all_statements load) ObjectKind.Group
+    × Room load.settings (all_statements load) ObjectKind.Queue × Room load.settings (all_statements load) ObjectKind.Task
 rooms load settled =
     let ss : List Statement = all_statements load in
-    let a = and_parts (nat_le (how_many (λ s. makes_action s.deed) ss) load.settings.actions && nat_le (how_many (λ s. makes_group s.deed) ss) load.settings.groups && nat_le (how_many (λ s. is_some (queue_in s.deed)) ss) load.settings.queues) _ (settled_whole load settled).room in
-    let b = and_parts (nat_le (how_many (λ s. makes_action s.deed) ss) load.settings.actions && nat_le (how_many (λ s. makes_group s.deed) ss) load.settings.groups) _ a.0 in
+    let a = and_parts (nat_le (how_many (λ s. makes_action s.deed) ss) load.settings.actions
+    && nat_le (how_many (λ s. makes_group s.deed) ss) load.settings.groups
+    && nat_le (how_many (λ s. is_some (queue_in s.deed)) ss) load.settings.queues) _ (settled_whole load settled).room in
+    let b = and_parts (nat_le (how_many (λ s. makes_action s.deed) ss) load.settings.actions
+    && nat_le (how_many (λ s. makes_group s.deed) ss) load.settings.groups) _ a.0 in
     let c = and_parts (nat_le (how_many (λ s. makes_action s.deed) ss) load.settings.actions) _ b.0 in (
       record { q = makes_action; calls = λ bound d. (calls_ask bound d).1; few = leb-true _ _ c.0 },
       record { q = makes_group; calls = λ bound d. (calls_ask bound d).2; few = leb-true _ _ c.1 },
@@ -221,10 +255,13 @@ one_id id (s ∷ ss) e = by (queue_in s.deed) (fst_true (has_new_id (queue_in s.
     none [] i = tt
     none (t ∷ ts) i = let x = or_parts (has_id id t.deed) _ i in (x.0, none ts x.1)
 
-    by : (q : Option Queue) → has_new_id q ss ≡ true → how_many (λ z. has_id id z.deed) ss ≤ 1 → bit (holds (λ y. y.id == id) q) + how_many (λ z. has_id id z.deed) ss ≤ 1
+    by : (q : Option Queue) → has_new_id q ss ≡ true → how_many (λ z. has_id id z.deed) ss ≤ 1
+        → bit (holds (λ y. y.id == id) q) + how_many (λ z. has_id id z.deed) ss ≤ 1
     by None i k = omega arith
     by (Some x) i k = elim (cases_Bool (x.id == id)) as (λ z. bit (x.id == id) + how_many (λ z. has_id id z.deed) ss ≤ 1) [
-      | inl j ↦ (let n : how_many (λ z. has_id id z.deed) ss ≡ 0 = many_none (λ z. has_id id z.deed) ss (none ss (subst (λ (n : ℕ). list_any (λ z. has_id n z.deed) ss ≡ false) (eqb-true x.id id j) (not_true _ i))) in let b : bit (x.id == id) ≡ 1 = ap bit j in omega arith)
+      | inl j ↦ (let n : how_many (λ z. has_id id z.deed) ss ≡ 0 =
+          many_none (λ z. has_id id z.deed) ss (none ss (subst (λ (n : ℕ). list_any (λ z. has_id n z.deed) ss ≡ false) (eqb-true x.id id j) (not_true _ i))) in
+          let b : bit (x.id == id) ≡ 1 = ap bit j in omega arith)
       | inr j ↦ (let b : bit (x.id == id) ≡ 0 = ap bit j in omega arith)
     ]
 
@@ -232,20 +269,26 @@ no_entry : (p : Op → Bool) (L : List NodeEntry) → asks p L ≡ 0 → some_en
 no_entry p [] i = refl
 no_entry p (e ∷ es) i = grind (arith, no_entry p es)
 
-module _ (layout : Layout) (load : Workload) (es : List NodeEntry) (ns : List ℕ) (u : SettledRun layout load es ns) (who : ℕ) (A : List Line) (l : Line) (B : List Line) (c : Cut who es ns A l B) where
+module _ (layout : Layout) (load : Workload) (es : List NodeEntry) (ns : List ℕ) (u : SettledRun layout load es ns) (who : ℕ) (A : List Line) (l : Line)
+    (B : List Line) (c : Cut who es ns A l B) where
   -- fewer stand before it
-  fewer_before : (p : Op → Bool) (q : Deed → Bool) (n : ℕ) → IsClass p q → how_many (λ s. q s.deed) (all_statements load) ≤ n → p l.op ≡ true → asks p c.before < n
+  fewer_before : (p : Op → Bool) (q : Deed → Bool) (n : ℕ) → IsClass p q → how_many (λ s. q s.deed) (all_statements load) ≤ n → p l.op ≡ true
+      → asks p c.before < n
   fewer_before p q n k h m =
       let a : asks p es ≤ how_many (λ s. q s.deed) (all_statements load) = run_asks p q k load es ns u.same u.run (seats_are layout load es ns u) u.settled in
-      let b : asks p es ≡ asks p c.before + (bit (p l.op) + asks p c.behind) = ap (asks p) c.is ∙ many_append (λ e. p e.op) c.before (entry who l.op l.reply ∷ c.behind) in
+      let b : asks p es ≡ asks p c.before + (bit (p l.op) + asks p c.behind) =
+      ap (asks p) c.is ∙ many_append (λ e. p e.op) c.before (entry who l.op l.reply ∷ c.behind) in
       let f : bit (p l.op) ≡ 1 = ap bit m in
       omega arith
 
   pub room : (k : ObjectKind) → Room load.settings (all_statements load) k → makes k l.op ≡ true → HasRoom (run_terms layout load) k c.before
   room k x m =
-      let a : asks (makes k) c.before < (objects_of k).max load.settings = fewer_before (makes k) x.q ((objects_of k).max load.settings) (record { calls = x.calls; outside = makes_outside k }) x.few m in
-      let b : entries_that (makes_one k) c.before ≤ asks (makes k) c.before = entries_asks (makes k) (makes_one k) (λ e i. fst_true (makes k e.op) _ i) c.before in
+      let a : asks (makes k) c.before < (objects_of k).max load.settings =
+      fewer_before (makes k) x.q ((objects_of k).max load.settings) (record { calls = x.calls; outside = makes_outside k }) x.few m in
+      let b : entries_that (makes_one k) c.before ≤ asks (makes k) c.before =
+      entries_asks (makes k) (makes_one k) (λ e i. fst_true (makes k e.op) _ i) c.before in
       omega arith
 
   pub new_id : (id : ℕ) → makes_queue id l.op ≡ true → some_entry (λ e. makes_queue id e.op) c.before ≡ false
-  new_id id m = no_entry (makes_queue id) c.before (let a : asks (makes_queue id) c.before < 1 = fewer_before (makes_queue id) (has_id id) 1 (ids_class id) (one_id id (all_statements load) (settled_whole load u.settled).ids) m in omega arith)
+  new_id id m = no_entry (makes_queue id) c.before (let a : asks (makes_queue id) c.before < 1 =
+      fewer_before (makes_queue id) (has_id id) 1 (ids_class id) (one_id id (all_statements load) (settled_whole load u.settled).ids) m in omega arith)

@@ -6,8 +6,10 @@ use Rattle.settled_runs.proofs.Each.{CallEach, OnlyBy, each_map, is_outside, mad
 use Rattle.settled_runs.proofs.Places.{Gave, gave_in, one_seat, tasks_list, Binds, IsListedKind, binds_group, binds_task, bound_gave, groups_list}
 
 -- where a statement asks for an op of the class only with a handle that its own part bound, only the seat that was given the handle does
-module _ (layout : Layout) (load : Workload) (es : List NodeEntry) (ns : List ℕ) (u : SettledRun layout load es ns) (who h : ℕ) (k : ObjectKind) (t : Sort) (y : Binds k t) (listed : IsListedKind k) (mine : Gave k h (lines_of who es ns)) (p : Op → Bool) (outside : (o : Op) → is_outside o ≡ true → p o ≡ false)
-    (calls : (before : List Statement) (s : Statement) (bound : List ℕ) → IsStatement before s → ((place : ℕ) → IsBoundAt t before place → handle_at bound place ≡ h → ⊥) → CallEach (λ o. p o ≡ false) (call_of bound s.deed)) where
+module _ (layout : Layout) (load : Workload) (es : List NodeEntry) (ns : List ℕ) (u : SettledRun layout load es ns) (who h : ℕ) (k : ObjectKind) (t : Sort)
+    (y : Binds k t) (listed : IsListedKind k) (mine : Gave k h (lines_of who es ns)) (p : Op → Bool) (outside : (o : Op) → is_outside o ≡ true → p o ≡ false)
+    (calls : (before : List Statement) (s : Statement) (bound : List ℕ) → IsStatement before s
+    → ((place : ℕ) → IsBoundAt t before place → handle_at bound place ≡ h → ⊥) → CallEach (λ o. p o ≡ false) (call_of bound s.deed)) where
   others : (w : ℕ) (q : Part) (rs : List Reply) → Seat layout load es ns w q rs → (w == who) ≡ false → Each (λ l. p l.op ≡ false) (lines_of w es ns)
   others w q rs x d =
       seat_each load es ns (λ o. p o ≡ false) w q rs x.at (out x.at.start x.at.first) (out x.at.finish x.at.last)
@@ -20,26 +22,33 @@ module _ (layout : Layout) (load : Workload) (es : List NodeEntry) (ns : List �
       out ls a = each_map (λ (l : Line). is_outside l.op ≡ true) (λ (l : Line). p l.op ≡ false) (λ l e. outside l.op e) ls a
 
       twice : Gave k h x.at.body → ⊥
-      twice g = true_false (eq-eqb w who (one_seat k h listed (run_terms layout load) es ns u.legal w who (gave_in k h (lines_of w es ns) x.at.start x.at.body x.at.finish (x.at.is ∙ sym (append_assoc x.at.start x.at.body x.at.finish)) g) mine)) d
+      twice g = true_false (eq-eqb w who (one_seat k h listed (run_terms layout load) es ns u.legal w who
+          (gave_in k h (lines_of w es ns) x.at.start x.at.body x.at.finish (x.at.is ∙ sym (append_assoc x.at.start x.at.body x.at.finish)) g) mine)) d
 
   one_user : OnlyBy who p es
   one_user =
       only_by load es ns u.same u.run (seats_are layout load es ns u) who p (λ o i. outside o (work_outside o i))
-      (map_seats (Seat layout load es ns) (λ w q rs. (w == who) ≡ false → Each (λ l. p l.op ≡ false) (lines_of w es ns)) 0 (λ w q rs l x d. others w q rs x d) load.settings.workers load.parts u.run.replies (omega arith) (seats layout load es ns u))
+      (map_seats (Seat layout load es ns) (λ w q rs. (w == who) ≡ false
+      → Each (λ l. p l.op ≡ false) (lines_of w es ns)) 0 (λ w q rs l x d. others w q rs x d) load.settings.workers load.parts u.run.replies (omega arith)
+      (seats layout load es ns u))
 
 -- The looks at a task
 
 pub looks_outside : (h : ℕ) (o : Op) → is_outside o ≡ true → looks_at h o ≡ false
 looks_outside h o e1 = grind (arith, nat_tests)
 
-pub looks_call : (h : ℕ) (before : List Statement) (s : Statement) (bound : List ℕ) → IsStatement before s → ((place : ℕ) → waits_for place s.deed ≡ true → IsBoundAt Sort.Task before place → handle_at bound place ≡ h → ⊥) → CallEach (λ o. looks_at h o ≡ false) (call_of bound s.deed)
+pub looks_call : (h : ℕ) (before : List Statement) (s : Statement) (bound : List ℕ) → IsStatement before s
+    → ((place : ℕ) → waits_for place s.deed ≡ true → IsBoundAt Sort.Task before place → handle_at bound place ≡ h → ⊥)
+    → CallEach (λ o. looks_at h o ≡ false) (call_of bound s.deed)
 unfolding row deed_spelled
 looks_call h before s bound e1 e2 = grind (arith, nat_tests)
 
 -- only its own seat looks at a task
-pub one_looks : (layout : Layout) (load : Workload) (es : List NodeEntry) (ns : List ℕ) (u : SettledRun layout load es ns) (who h : ℕ) → Gave ObjectKind.Task h (lines_of who es ns) → OnlyBy who (looks_at h) es
+pub one_looks : (layout : Layout) (load : Workload) (es : List NodeEntry) (ns : List ℕ) (u : SettledRun layout load es ns) (who h : ℕ)
+    → Gave ObjectKind.Task h (lines_of who es ns) → OnlyBy who (looks_at h) es
 one_looks layout load es ns u who h mine =
-    one_user layout load es ns u who h ObjectKind.Task Sort.Task binds_task tasks_list mine (looks_at h) (looks_outside h) (λ b s bound st a. looks_call h b s bound st (λ place w o e. a place o e))
+    one_user layout load es ns u who h ObjectKind.Task Sort.Task binds_task tasks_list mine (looks_at h) (looks_outside h)
+    (λ b s bound st a. looks_call h b s bound st (λ place w o e. a place o e))
 
 -- the op puts a task into the group, or looks at the whole of it
 abbrev pub uses : ℕ → Op → Bool
@@ -48,13 +57,16 @@ uses g o = starts_member g o || looks_at_all g o
 uses_outside : (h : ℕ) (o : Op) → is_outside o ≡ true → uses h o ≡ false
 uses_outside h o e1 = grind (arith, nat_tests)
 
-pub uses_call : (h : ℕ) (before : List Statement) (s : Statement) (bound : List ℕ) → IsStatement before s → ((place : ℕ) → IsBoundAt Sort.Group before place → handle_at bound place ≡ h → ⊥) → CallEach (λ o. uses h o ≡ false) (call_of bound s.deed)
+pub uses_call : (h : ℕ) (before : List Statement) (s : Statement) (bound : List ℕ) → IsStatement before s
+    → ((place : ℕ) → IsBoundAt Sort.Group before place → handle_at bound place ≡ h → ⊥) → CallEach (λ o. uses h o ≡ false) (call_of bound s.deed)
 unfolding row deed_spelled
 uses_call h before s bound e1 e2 = grind (arith, nat_tests)
 
 -- only its own seat uses a group
-pub one_uses : (layout : Layout) (load : Workload) (es : List NodeEntry) (ns : List ℕ) (u : SettledRun layout load es ns) (who h : ℕ) → Gave ObjectKind.Group h (lines_of who es ns) → OnlyBy who (uses h) es
-one_uses layout load es ns u who h mine = one_user layout load es ns u who h ObjectKind.Group Sort.Group binds_group groups_list mine (uses h) (uses_outside h) (uses_call h)
+pub one_uses : (layout : Layout) (load : Workload) (es : List NodeEntry) (ns : List ℕ) (u : SettledRun layout load es ns) (who h : ℕ)
+    → Gave ObjectKind.Group h (lines_of who es ns) → OnlyBy who (uses h) es
+one_uses layout load es ns u who h mine =
+    one_user layout load es ns u who h ObjectKind.Group Sort.Group binds_group groups_list mine (uses h) (uses_outside h) (uses_call h)
 
 -- Which tasks were put into a group is told by the lines of its own seat
 
@@ -76,8 +88,18 @@ unused_lines g hs [] a = refl
 unused_lines g hs (l ∷ ls) a = ap (λ (x : List ℕ). members_in g x ls) (unused g hs (entry 0 l.op l.reply) a.0) ∙ unused_lines g hs ls a.1
 
 -- where no other seat uses the group
-pub members_lines : (who g : ℕ) (hs : List ℕ) (L : List NodeEntry) (ks : List ℕ) → length L ≡ length ks → OnlyBy who (uses g) L → members_of g hs L ≡ members_in g hs (lines_of who L ks)
+pub members_lines : (who g : ℕ) (hs : List ℕ) (L : List NodeEntry) (ks : List ℕ) → length L ≡ length ks → OnlyBy who (uses g) L
+    → members_of g hs L ≡ members_in g hs (lines_of who L ks)
 unfolding lines_of members_of
 members_lines who g hs [] ks l o = refl
 members_lines who g hs (e ∷ es) [] l o = absurd (omega arith)
-members_lines who g hs (e ∷ es) (k ∷ ks) l o = grind (arith, nat_tests, o.0, unused g hs e, members_lines who g hs es ks (omega arith) o.1, members_lines who g (members_behind g hs e) es ks (omega arith) o.1)
+members_lines who g hs (e ∷ es) (k ∷ ks) l o =
+    grind (
+      arith,
+      nat_tests,
+      o.0,
+      unused g hs e,
+      members_lines who g hs es ks (omega arith) o.1,
+      members_lines who g (members_behind g hs e) es ks
+          (omega arith) o.1,
+    )

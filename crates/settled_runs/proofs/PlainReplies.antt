@@ -4,7 +4,8 @@ use Rattle.settled_runs.proofs.Names.{arith, nat_tests, ◌≡◌, ℕ, false, c
 module _ (actions : List Action) (all : List Statement) (ends : ℕ → Option TaskEnd) (part : List ℕ) where
   -- Lines of tasks
 
-  task_shown : (faults : Faults) (s : Statement) (d : Deed) (r : Reply) → IsPlainReply actions all ends faults d r → cond (is_task (shown_of d)) (task_line part ends s r) [] ≡ plain_task_line actions part s (task_in all d)
+  task_shown : (faults : Faults) (s : Statement) (d : Deed) (r : Reply) → IsPlainReply actions all ends faults d r
+      → cond (is_task (shown_of d)) (task_line part ends s r) [] ≡ plain_task_line actions part s (task_in all d)
   unfolding IsPlainReply shown_of task_in
   task_shown faults s d r e1 = grind (arith, nat_tests)
 
@@ -29,7 +30,8 @@ module _ (actions : List Action) (all : List Statement) (ends : ℕ → Option T
   unrefused : (line : ℕ) (r : Reply) → is_status r ≡ false → marked_line 33 part line (status_of r) ++ [] ≡ []
   unrefused line r e = append-nil (marked_line 33 part line (status_of r)) ∙ ap (marked_line 33 part line) (no_status r e)
 
-  call_shown : (faults : Faults) (name : ℕ → List ℕ) (s : Statement) (d : Deed) (r : Reply) → IsPlainReply actions all ends faults d r → call_line part name s.line (shown_of d) r ≡ plain_call_line part faults s d
+  call_shown : (faults : Faults) (name : ℕ → List ℕ) (s : Statement) (d : Deed) (r : Reply) → IsPlainReply actions all ends faults d r
+      → call_line part name s.line (shown_of d) r ≡ plain_call_line part faults s d
   unfolding IsPlainReply shown_of plain_call_line
   call_shown faults name s (Deed.Start job args priority cores detached group) r p = refl
   call_shown faults name s (Deed.Enqueue queue args cores detached group) r p = refl
@@ -54,7 +56,9 @@ module _ (actions : List Action) (ends : ℕ → Option TaskEnd) where
       λ i. b i ++ c i
 
   -- where each part's lines are the plain ones, all are
-  all_parts : (f : Told → List ℕ) (g : Part → List ℕ) → ((p : Part) (t : Told) → t.name ≡ p.name → t.statements ≡ p.statements → ArePlain actions p.statements ends no_faults p.statements t.replies → f t ≡ g p)
+  all_parts : (f : Told → List ℕ) (g : Part → List ℕ)
+      → ((p : Part) (t : Told) → t.name ≡ p.name → t.statements ≡ p.statements → ArePlain actions p.statements ends no_faults p.statements t.replies
+      → f t ≡ g p)
       → (ps : List Part) (ts : List Told) → PartsArePlain actions ends ps ts → flat_map f ts ≡ flat_map g ps
   unfolding PartsArePlain
   all_parts f g k [] [] a = refl
@@ -65,7 +69,9 @@ pub plain_replies : PlainRepliesShowPlainReport
 unfolding plain_report
 plain_replies load ends told a =
     let actions : List Action = actions_in (all_statements load) in
-    let b = all_parts actions ends (task_lines ends) (plain_task_lines actions) (λ p t n s e. (λ i. task_lines_of (n i) ends (s i) t.replies) ∙ tasks_shown actions p.statements ends p.name no_faults p.statements t.replies e) load.parts told a in
+    let b = all_parts actions ends (task_lines ends) (plain_task_lines actions) (λ p t n s e. (λ i. task_lines_of (n i) ends (s i) t.replies)
+    ∙ tasks_shown actions p.statements ends p.name no_faults p.statements t.replies e) load.parts told a in
     let c = all_parts actions ends call_lines (plain_call_lines actions)
-    (λ p t n s e. (λ i. call_lines_of (n i) (task_name t.statements t.replies) (s i) t.replies) ∙ calls_shown actions ends p (task_name t.statements t.replies) no_faults p.statements t.replies e) load.parts told a in
+    (λ p t n s e. (λ i. call_lines_of (n i) (task_name t.statements t.replies) (s i) t.replies)
+    ∙ calls_shown actions ends p (task_name t.statements t.replies) no_faults p.statements t.replies e) load.parts told a in
     λ i. b i ++ c i

@@ -3,11 +3,13 @@ use Rattle.settled_runs.proofs.Names.{arith, nat_tests, ◌≡◌, ℕ, cond, Li
 use Rattle.settled_runs.proofs.RunReport.{told_plainly}
 
 module _ (actions : List Action) (ends : ℕ → Option TaskEnd) where
-  task_counted : (all : List Statement) (faults : Faults) (t : Totals) (d : Deed) (r : Reply) → IsPlainReply actions all ends faults d r → cond (is_task (shown_of d)) (with_task ends t r) t ≡ with_plain_task actions t (task_in all d)
+  task_counted : (all : List Statement) (faults : Faults) (t : Totals) (d : Deed) (r : Reply) → IsPlainReply actions all ends faults d r
+      → cond (is_task (shown_of d)) (with_task ends t r) t ≡ with_plain_task actions t (task_in all d)
   unfolding IsPlainReply shown_of task_in
   task_counted all faults t d r e1 = grind (arith, nat_tests)
 
-  tasks_counted : (all : List Statement) (faults : Faults) (t : Totals) (ss : List Statement) (rs : List Reply) → ArePlain actions all ends faults ss rs → with_tasks ends t ss rs ≡ with_plain_tasks actions all t ss
+  tasks_counted : (all : List Statement) (faults : Faults) (t : Totals) (ss : List Statement) (rs : List Reply) → ArePlain actions all ends faults ss rs
+      → with_tasks ends t ss rs ≡ with_plain_tasks actions all t ss
   unfolding ArePlain with_tasks with_plain_tasks
   tasks_counted all faults t [] rs p = refl
   tasks_counted all faults t (s ∷ ss) [] p = absurd p
@@ -19,11 +21,13 @@ module _ (actions : List Action) (ends : ℕ → Option TaskEnd) where
   unfolding PartsArePlain with_parts with_plain_parts
   parts_counted t [] [] a = refl
   parts_counted t (p ∷ ps) (x ∷ ts) a =
-      ap (λ (y : Totals). with_parts ends y ts) (ap (λ (ss : List Statement). with_tasks ends t ss x.replies) a.1 ∙ tasks_counted p.statements no_faults t p.statements x.replies a.2)
+      ap (λ (y : Totals). with_parts ends y ts) (ap (λ (ss : List Statement). with_tasks ends t ss x.replies) a.1
+      ∙ tasks_counted p.statements no_faults t p.statements x.replies a.2)
       ∙ parts_counted (with_plain_tasks actions p.statements t p.statements) ps ts a.3
   parts_counted t _ _ a = absurd a
 
 pub settled_summaries_are_plain : SettledSummariesArePlain
 unfolding totals plain_summary
 settled_summaries_are_plain layout load es ns u =
-    ap totals_text (parts_counted (actions_in (all_statements load)) (end_at (after (run_terms layout load) es).tasks) no_totals load.parts (parts_told load es) (told_plainly layout load es ns u))
+    ap totals_text (parts_counted (actions_in (all_statements load)) (end_at (after (run_terms layout load) es).tasks) no_totals load.parts (parts_told load es)
+    (told_plainly layout load es ns u))

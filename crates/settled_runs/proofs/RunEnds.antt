@@ -18,7 +18,8 @@ ArePlanned actions es = Each (λ e. is_planned actions e.op ≡ true) es
 
 -- Calls, and what workers and the phases ask for
 
-deed_planned : (settings : NodeSettings) (known : List Action) (before all : List Statement) (actions : List Action) (bound : List ℕ) (d : Deed) (front : List Line) (r : Reply) → Within (action_in d) actions → is_settled_deed settings known before all d ≡ true → Made (call_of bound d) front r
+deed_planned : (settings : NodeSettings) (known : List Action) (before all : List Statement) (actions : List Action) (bound : List ℕ) (d : Deed)
+    (front : List Line) (r : Reply) → Within (action_in d) actions → is_settled_deed settings known before all d ≡ true → Made (call_of bound d) front r
     → Each (λ l. is_planned actions l.op ≡ true) front
 unfolding is_settled_deed
 deed_planned settings known before all actions bound d front r e1 e2 e3 = grind (arith, nat_tests)
@@ -26,10 +27,13 @@ deed_planned settings known before all actions bound d front r e1 e2 e3 = grind 
 outside_planned : (actions : List Action) (o : Op) → is_outside o ≡ true → is_planned actions o ≡ true
 outside_planned actions o e1 = grind (arith, nat_tests)
 
-seat_planned : (load : Workload) (es : List NodeEntry) (ns : List ℕ) (w : ℕ) (p : Part) (rs : List Reply) → PartAt load es ns w p rs → Each (λ l. is_planned (actions_in (all_statements load)) l.op ≡ true) (lines_of w es ns)
+seat_planned : (load : Workload) (es : List NodeEntry) (ns : List ℕ) (w : ℕ) (p : Part) (rs : List Reply) → PartAt load es ns w p rs
+    → Each (λ l. is_planned (actions_in (all_statements load)) l.op ≡ true) (lines_of w es ns)
 seat_planned load es ns w p rs x =
     seat_each load es ns (λ o. is_planned actions o ≡ true) w p rs x (outside x.start x.first) (outside x.finish x.last)
-    (λ b l1 r1 s front r y. deed_planned load.settings (x.known ++ actions_in b) b p.statements actions (map handle_of r1) s.deed front r (within b s y.rest y.parted) (step_settled p.statements x.body rs b l1 r1 s front r y load.settings x.known x.settled) y.made)
+    (λ b l1 r1 s front r y. deed_planned load.settings (x.known
+    ++ actions_in b) b p.statements actions (map handle_of r1) s.deed front r (within b s y.rest y.parted)
+    (step_settled p.statements x.body rs b l1 r1 s front r y load.settings x.known x.settled) y.made)
   where
     actions : List Action
     actions = actions_in (all_statements load)
@@ -38,12 +42,17 @@ seat_planned load es ns w p rs x =
     outside ls a = each_map (λ (l : Line). is_outside l.op ≡ true) (λ (l : Line). is_planned actions l.op ≡ true) (λ l e. outside_planned actions l.op e) ls a
 
     within : (b : List Statement) (s : Statement) (rest : List Statement) → p.statements ≡ b ++ s ∷ rest → Within (action_in s.deed) actions
-    within b s rest e q i = within_behind b (s ∷ rest) actions (subst (λ (z : List Statement). Within (actions_in z) actions) e x.within) q (any_left q (action_in s.deed) (actions_in rest) i)
+    within b s rest e q i = within_behind b (s
+        ∷ rest) actions (subst (λ (z : List Statement). Within (actions_in z) actions) e x.within) q (any_left q (action_in s.deed) (actions_in rest) i)
 
-pub run_planned : (load : Workload) (es : List NodeEntry) (ns : List ℕ) → is_settled load ≡ true → length es ≡ length ns → RunOf load es ns → BySeats (load.settings.workers + length load.parts) es → ArePlanned (actions_in (all_statements load)) es
+pub run_planned : (load : Workload) (es : List NodeEntry) (ns : List ℕ) → is_settled load ≡ true → length es ≡ length ns → RunOf load es ns
+    → BySeats (load.settings.workers + length load.parts) es → ArePlanned (actions_in (all_statements load)) es
 run_planned load es ns e l run b =
-    run_each load es ns l run b (λ x. is_planned (actions_in (all_statements load)) x.op ≡ true) (λ w o r k. outside_planned (actions_in (all_statements load)) o (work_outside o k))
-    (map_seats (PartAt load es ns) (λ w p rs. Each (λ l. is_planned (actions_in (all_statements load)) l.op ≡ true) (lines_of w es ns)) 0 (λ w p rs i x. seat_planned load es ns w p rs x) load.settings.workers load.parts run.replies (omega arith) (run_parts load es ns l run b (settled_whole load e).parts))
+    run_each load es ns l run b (λ x. is_planned (actions_in (all_statements load)) x.op
+    ≡ true) (λ w o r k. outside_planned (actions_in (all_statements load)) o (work_outside o k))
+    (map_seats (PartAt load es ns) (λ w p rs. Each (λ l. is_planned (actions_in (all_statements load)) l.op ≡ true) (lines_of w es ns)) 0
+    (λ w p rs i x. seat_planned load es ns w p rs x) load.settings.workers load.parts run.replies (omega arith)
+    (run_parts load es ns l run b (settled_whole load e).parts))
 
 -- What is planned is quiet, and each action is one of those of the workload
 
@@ -72,7 +81,8 @@ made_listed actions a o e1 e2 = grind (arith, nat_tests)
 abbrev AreListed : List Action → State → Type 0
 AreListed actions s = Every (IsListed actions) s.actions
 
-listed_move : (actions : List Action) (o : Op) → is_planned actions o ≡ true → (s : State) (x : Move) → IsMade s o x → AreListed actions s → AreListed actions (apply x s)
+listed_move : (actions : List Action) (o : Op) → is_planned actions o ≡ true → (s : State) (x : Move) → IsMade s o x → AreListed actions s
+    → AreListed actions (apply x s)
 listed_move actions o p s (makes_action h a) e v = every_issue (IsListed actions) h a s.actions (made_listed actions a o p e.by) v
 listed_move actions o p s (enables h) e v = every_change (IsListed actions) h (with_fields (with_enabled true)) s.actions (λ r d y. y) v
 listed_move actions o p s (withdraws h f c) e v = absurd (none_withdrawn h f o (planned_quiet actions o p) e.by)
@@ -84,41 +94,53 @@ listed_move actions o p s _ e v = v
 listed_along : (actions : List Action) (s : State) (es : List NodeEntry) → ArePlanned actions es → AreListed actions s → AreListed actions (after_from s es)
 unfolding after_from
 listed_along actions s [] a v = v
-listed_along actions s (e ∷ es) a v = listed_along actions (next s e) es a.1 (by_moves (AreListed actions) s e (λ t x y u. listed_move actions e.op a.0 t x y u) v)
+listed_along actions s (e ∷ es) a v = listed_along actions (next s e) es a.1
+    (by_moves (AreListed actions) s e (λ t x y u. listed_move actions e.op a.0 t x y u) v)
 
 -- the first action of a job is one of them
-first_of_job : (actions : List Action) (job : ℕ) (kind : Kind) → is_listed actions job kind ≡ true → (a : Action) × (find (has_job job) actions ≡ Some a) × (is_listed actions job a.kind ≡ true)
+first_of_job : (actions : List Action) (job : ℕ) (kind : Kind) → is_listed actions job kind ≡ true
+    → (a : Action) × (find (has_job job) actions ≡ Some a) × (is_listed actions job a.kind ≡ true)
 first_of_job [] job kind i = true_false i refl
-first_of_job (a ∷ rest) job kind i = cond_both (a.job == job) (Some a) (find (has_job job) rest) (λ o. (x : Action) × (o ≡ Some x) × (is_listed (a ∷ rest) job x.kind ≡ true))
+first_of_job (a ∷ rest) job kind i = cond_both (a.job == job) (Some a) (find (has_job job) rest) (λ o. (x : Action) × (o ≡ Some x)
+    × (is_listed (a ∷ rest) job x.kind ≡ true))
     (λ j. (a, refl, or_left _ _ (both_true _ _ j (eq-eqb (kind_number a.kind) (kind_number a.kind) refl))))
-    (λ j. let x = first_of_job rest job kind (sym (ap (λ (b : Bool). (b && (kind_number a.kind == kind_number kind)) || is_listed rest job kind) j) ∙ i) in (x.0, x.1, or_right _ _ x.2))
+    (λ j. let x = first_of_job rest job kind (sym (ap (λ (b : Bool). (b && (kind_number a.kind == kind_number kind)) || is_listed rest job kind) j) ∙ i) in
+    (x.0, x.1, or_right _ _ x.2))
 
-kind_found : (actions : List Action) (job : ℕ) (kind : Kind) (args : List ℤ) → has_one_kind_a_job actions ≡ true → is_listed actions job kind ≡ true → option_map (λ a. task_end (answer_of a.kind args)) (find (has_job job) actions) ≡ Some (task_end (answer_of kind args))
+kind_found : (actions : List Action) (job : ℕ) (kind : Kind) (args : List ℤ) → has_one_kind_a_job actions ≡ true → is_listed actions job kind ≡ true
+    → option_map (λ a. task_end (answer_of a.kind args)) (find (has_job job) actions) ≡ Some (task_end (answer_of kind args))
 unfolding has_one_kind_a_job
 kind_found actions job kind args h i =
     let x = first_of_job actions job kind i in
     ap (option_map (λ a. task_end (answer_of a.kind args))) x.1
-    ∙ ap (λ (z : Kind). Some (task_end (answer_of z args))) (same_kind x.0.kind kind (one_number (λ a. a.job) (λ a. kind_number a.kind) has_one_kind_a_job (λ a as1. refl) job (kind_number x.0.kind) (kind_number kind) actions h x.2 i))
+    ∙ ap (λ (z : Kind). Some (task_end (answer_of z args)))
+    (same_kind x.0.kind kind (one_number (λ a. a.job) (λ a. kind_number a.kind) has_one_kind_a_job (λ a as1. refl) job (kind_number x.0.kind)
+    (kind_number kind) actions h x.2 i))
 
 -- The record of a task that has ended
 
 end_task_at : (l : List (Listed Task)) (h : ℕ) (end : TaskEnd) → end_at l h ≡ Some end → (t : Task) × (task_at l h ≡ Some t) × (end_in t.state ≡ Some end)
 unfolding end_at task_at
 end_task_at [] h end e = absurd (cc)
-end_task_at (r ∷ rs) h end e = cond_both (r.handle == h) (end_in r.fields.state) (end_at rs h) (λ o. o ≡ Some end → (t : Task) × (cond (r.handle == h) (Some r.fields) (task_at rs h) ≡ Some t) × (end_in t.state ≡ Some end))
-    (λ j d. (r.fields, cond-true (r.handle == h) (Some r.fields) (task_at rs h) j, d)) (λ j d. let x = end_task_at rs h end d in (x.0, cond-false (r.handle == h) (Some r.fields) (task_at rs h) j ∙ x.1, x.2)) e
+end_task_at (r ∷ rs) h end e = cond_both (r.handle == h) (end_in r.fields.state) (end_at rs h) (λ o. o ≡ Some end
+    → (t : Task) × (cond (r.handle == h) (Some r.fields) (task_at rs h) ≡ Some t) × (end_in t.state ≡ Some end))
+    (λ j d. (r.fields, cond-true (r.handle == h) (Some r.fields) (task_at rs h) j, d)) (λ j d. let x = end_task_at rs h end d in
+    (x.0, cond-false (r.handle == h) (Some r.fields) (task_at rs h) j ∙ x.1, x.2)) e
 
 under_task : (F : Task → Type 0) (l : List (Listed Task)) (h : ℕ) (t : Task) → Under h F l → task_at l h ≡ Some t → F t
 unfolding task_at
 under_task F [] h t u e = absurd (cc)
-under_task F (r ∷ rs) h t u e = cond_both (r.handle == h) (Some r.fields) (task_at rs h) (λ o. o ≡ Some t → F t) (λ j d. subst F (some_same d) (u.0 j)) (λ j d. under_task F rs h t u.1 d) e
+under_task F (r ∷ rs) h t u e = cond_both (r.handle == h) (Some r.fields) (task_at rs h) (λ o. o ≡ Some t
+    → F t) (λ j d. subst F (some_same d) (u.0 j)) (λ j d. under_task F rs h t u.1 d) e
 
 accepted_issues : (o : Op) (r : Reply) (h : ℕ) → accepted_by o r ≡ Some h → (makes_object ObjectKind.Task o && is_handle h r) ≡ true
 accepted_issues o r h e1 = grind (arith, nat_tests)
 
 -- A task that was accepted as this one ends as the kind of its job answers
 
-module _ (layout : Layout) (load : Workload) (es : List NodeEntry) (ns : List ℕ) (settled : is_settled load ≡ true) (legal : Legal (run_terms layout load) es) (l : length es ≡ length ns) (run : RunOf load es ns) (before behind : List NodeEntry) (e : NodeEntry) (h : ℕ)
+module _ (layout : Layout) (load : Workload) (es : List NodeEntry) (ns : List ℕ) (settled : is_settled load
+    ≡ true) (legal : Legal (run_terms layout load) es) (l : length es
+    ≡ length ns) (run : RunOf load es ns) (before behind : List NodeEntry) (e : NodeEntry) (h : ℕ)
     (is : es ≡ before ++ e ∷ behind) (acc : accepted e ≡ Some h) where
   abbrev actions : List Action
   actions = actions_in (all_statements load)
@@ -137,21 +159,41 @@ module _ (layout : Layout) (load : Workload) (es : List NodeEntry) (ns : List �
 
   pub ended_once : EndsOnce terms es h
   ended_once =
-      let last : es ≡ (run.ends.before ++ entry load.settings.workers Op.Close Reply.Ok ∷ run.ends.behind) ++ entry load.settings.workers Op.Final Reply.Ok ∷ [] = run.ends.closes ∙ sym (append_assoc run.ends.before (entry load.settings.workers Op.Close Reply.Ok ∷ run.ends.behind) (entry load.settings.workers Op.Final Reply.Ok ∷ [])) in
-      accepted_end terms es (run.ends.before ++ entry load.settings.workers Op.Close Reply.Ok ∷ run.ends.behind) load.settings.workers legal last before behind e h is acc
+      let last : es ≡ (run.ends.before ++ entry load.settings.workers Op.Close Reply.Ok ∷ run.ends.behind) ++ entry load.settings.workers Op.Final Reply.Ok
+      ∷ [] = run.ends.closes ∙ sym (append_assoc run.ends.before (entry load.settings.workers Op.Close Reply.Ok
+      ∷ run.ends.behind) (entry load.settings.workers Op.Final Reply.Ok ∷ [])) in
+      accepted_end terms es (run.ends.before ++ entry load.settings.workers Op.Close Reply.Ok
+      ∷ run.ends.behind) load.settings.workers legal last before behind e h is acc
 
   module _ (n : NewTask) (k : ℕ) (new : HasObject ObjectKind.Task h (SameTask (new_task n k)) (next (after_from (opening terms) before) e)) where
     pub ends_as_asked : end_at s.tasks h ≡ plain_end actions n
     unfolding plain_end
     ends_as_asked =
-        let has : HasObject ObjectKind.Task h (SameTask (new_task n k)) s = subst (λ (M : List NodeEntry). HasObject ObjectKind.Task h (SameTask (new_task n k)) (after terms M)) (sym is) (has_behind ObjectKind.Task h (SameTask (new_task n k)) (task_then (new_task n k)) (opening terms) before behind e new) in
-        let record_of : (t : Task) × (task_at s.tasks h ≡ Some t) × (end_in t.state ≡ Some ended_once.end) = end_task_at s.tasks h ended_once.end ended_once.ended in
+        let has : HasObject ObjectKind.Task h (SameTask (new_task n k)) s =
+        subst (λ (M : List NodeEntry). HasObject ObjectKind.Task h (SameTask (new_task n k)) (after terms M)) (sym is)
+        (has_behind ObjectKind.Task h (SameTask (new_task n k)) (task_then (new_task n k)) (opening terms) before behind e new) in
+        let record_of : (t : Task) × (task_at s.tasks h ≡ Some t) × (end_in t.state ≡ Some ended_once.end) =
+        end_task_at s.tasks h ended_once.end ended_once.ended in
         let same : SameTask (new_task n k) record_of.0 = under_task (SameTask (new_task n k)) s.tasks h record_of.0 has.under record_of.1 in
-        let plain : IsPlain s.actions record_of.0.job record_of.0.args ended_once.end = quiet_tasks_end_plainly terms es h legal (all_quiet actions es planned) record_of.0 ended_once.end record_of.1 record_of.2 in
-        let listed_kind : is_listed actions n.job plain.0 ≡ true = let i : is_listed actions plain.1.action.job plain.1.action.kind ≡ true = every_at (IsListed actions) s.actions plain.1.handle plain.1.action (listed_along actions (opening terms) es planned tt) plain.1.found in subst (λ (j : ℕ). is_listed actions j plain.0 ≡ true) (plain.1.of_job ∙ same.job) (subst (λ (x : Kind). is_listed actions plain.1.action.job x ≡ true) plain.1.of_kind i) in
-        ended_once.ended ∙ (ap Some (plain.2 ∙ ap (λ (z : List ℤ). task_end (answer_of plain.0 z)) same.args) ∙ sym (kind_found actions n.job plain.0 n.args (settled_whole load settled).kinds listed_kind))
+        let plain : IsPlain s.actions record_of.0.job record_of.0.args ended_once.end =
+        quiet_tasks_end_plainly terms es h legal (all_quiet actions es planned) record_of.0 ended_once.end record_of.1 record_of.2 in
+        let listed_kind : is_listed actions n.job plain.0 ≡ true = let i : is_listed actions plain.1.action.job plain.1.action.kind ≡ true =
+        every_at (IsListed actions) s.actions plain.1.handle plain.1.action (listed_along actions (opening terms) es planned tt) plain.1.found in
+        subst (λ (j : ℕ). is_listed actions j plain.0
+        ≡ true) (plain.1.of_job ∙ same.job) (subst (λ (x : Kind). is_listed actions plain.1.action.job x ≡ true) plain.1.of_kind i) in
+        ended_once.ended ∙ (ap Some (plain.2 ∙ ap (λ (z : List ℤ). task_end (answer_of plain.0 z)) same.args)
+        ∙ sym (kind_found actions n.job plain.0 n.args (settled_whole load settled).kinds listed_kind))
 
 pub settled_tasks_end_as_planned : SettledTasksEndAsPlanned
 settled_tasks_end_as_planned layout load es ns settled legal l run before behind e h is acc =
-    let started : StartedAs (after_from (opening (run_terms layout load)) before) e.op h (next (after_from (opening (run_terms layout load)) before) e) = started_as (after_from (opening (run_terms layout load)) before) e h (cut_from (opening (run_terms layout load)) before behind e (at_entry layout load es ns settled legal l run before behind e h is acc)) (accepted_issues e.op e.reply h acc) in
-    record { task = started.0; asked = started.1; ends = ends_as_asked layout load es ns settled legal l run before behind e h is acc started.0 (after_from (opening (run_terms layout load)) before).starts started.2 }
+    let started : StartedAs (after_from (opening (run_terms layout load)) before) e.op h (next (after_from (opening (run_terms layout load)) before) e) =
+    started_as (after_from (opening (run_terms layout load)) before) e h
+    (cut_from (opening (run_terms layout load)) before behind e (at_entry layout load es ns settled legal l run before behind e h is acc))
+    (accepted_issues e.op e.reply h acc) in
+    record {
+      task = started.0;
+      asked = started.1;
+      ends =
+          ends_as_asked layout load es ns settled legal l run before behind e h is acc started.0
+          (after_from (opening (run_terms layout load)) before).starts started.2;
+    }

@@ -20,11 +20,13 @@ puts_calls : (h : ℕ) (bound : List ℕ) (d : Deed) → CallAsks (puts h) (bit 
 puts_calls h bound d = grind (arith, nat_tests)
 
 -- where a part sets nothing up, it puts no task into a queue
-not_put : (settings : NodeSettings) (known : List Action) (before all : List Statement) (d : Deed) → set_up all ≡ false → is_settled_deed settings known before all d ≡ true → is_put d ≡ false
+not_put : (settings : NodeSettings) (known : List Action) (before all : List Statement) (d : Deed) → set_up all ≡ false
+    → is_settled_deed settings known before all d ≡ true → is_put d ≡ false
 unfolding is_settled_deed task_in
 not_put settings known before all (Deed.Enqueue queue args cores detached group) n e = by_queue (slice_get all queue) refl (queue_at all queue) refl _ e
   where
-    by_queue : (o : Option Statement) → slice_get all queue ≡ o → (q : Option Queue) → option_and_then (λ z. queue_in z.deed) o ≡ q → (f : Queue → _) → is_startable settings known (option_map f q) ≡ true → true ≡ false
+    by_queue : (o : Option Statement) → slice_get all queue ≡ o → (q : Option Queue) → option_and_then (λ z. queue_in z.deed) o ≡ q → (f : Queue → _)
+        → is_startable settings known (option_map f q) ≡ true → true ≡ false
     by_queue o i None j f k = true_false k refl
     by_queue None i (Some x) j f k = none_some j
     by_queue (Some z) i (Some x) j f k = true_false (sets_all all queue z x i j) n
@@ -44,7 +46,8 @@ pub record SetUp (ss : List Statement) : Type 0 where
 pub set_up_split : (ss : List Statement) → sets_up_first ss ≡ true → SetUp ss
 unfolding sets_up_first
 set_up_split [] e = true_false e refl
-set_up_split (s ∷ ss) e = cond_both (is_begin s.deed) (not (set_up ss)) (sets_up_first ss) (λ b. b ≡ true → SetUp (s ∷ ss)) (λ i f. record { before = []; begin = s; behind = ss; is = refl; starts = i; none = not_true _ f; first = refl })
+set_up_split (s ∷ ss) e = cond_both (is_begin s.deed) (not (set_up ss)) (sets_up_first ss) (λ b. b ≡ true
+    → SetUp (s ∷ ss)) (λ i f. record { before = []; begin = s; behind = ss; is = refl; starts = i; none = not_true _ f; first = refl })
     (λ i f.
     let x = set_up_split ss f in
     let z : bit (is_begin s.deed) ≡ 0 = ap bit i in
@@ -67,7 +70,8 @@ begin_acts d e1 = grind (arith, nat_tests)
 pub first_actions : (ss : List Statement) (x : SetUp ss) → actions_in ss ≡ actions_in x.before
 first_actions ss x =
     ap actions_in x.is ∙ actions_append x.before (x.begin ∷ x.behind)
-    ∙ ap (λ (z : List Action). actions_in x.before ++ z) ((λ i. begin_acts x.begin.deed x.starts i ++ actions_in x.behind) ∙ no_actions x.behind x.none) ∙ append-nil (actions_in x.before)
+    ∙ ap (λ (z : List Action). actions_in x.before ++ z) ((λ i. begin_acts x.begin.deed x.starts i ++ actions_in x.behind) ∙ no_actions x.behind x.none)
+    ∙ append-nil (actions_in x.before)
 
 pub has_one_begin : (before : List Statement) (s : Statement) (behind : List Statement) → is_begin s.deed ≡ true → has_begin (before ++ s ∷ behind) ≡ true
 unfolding has_begin
@@ -89,13 +93,16 @@ pub record Began (ss : List Statement) (x : SetUp ss) (M : List Line) : Type 0 w
   pub granted : AllGranted x.before replies
   pub none : Each (λ l. is_release l.op ≡ false) first
 
-begin_released : (d : Deed) (bound : List ℕ) (front : List Line) (r : Reply) → is_begin d ≡ true → Made (call_of bound d) front r → front ≡ line Op.Release r 0 ∷ []
+begin_released : (d : Deed) (bound : List ℕ) (front : List Line) (r : Reply) → is_begin d ≡ true → Made (call_of bound d) front r
+    → front ≡ line Op.Release r 0 ∷ []
 unfolding is_begin
 begin_released d bound front r e1 e2 = grind (arith, nat_tests)
 
-began : (ss : List Statement) (x : SetUp ss) (M body : List Line) (rs : List Reply) → M ≡ head_of (has_begin ss) ++ (body ++ tail_of_main) → Carried Made [] ss body rs → AllGranted ss rs → Began ss x M
+began : (ss : List Statement) (x : SetUp ss) (M body : List Line) (rs : List Reply) → M ≡ head_of (has_begin ss) ++ (body ++ tail_of_main)
+    → Carried Made [] ss body rs → AllGranted ss rs → Began ss x M
 began ss x M body rs i c g =
-    let f : Found ss body rs (length x.before) x.begin = found ss body rs c (length x.before) x.begin (ap (λ (z : List Statement). slice_get z (length x.before)) x.is ∙ get_at x.before x.begin x.behind) in
+    let f : Found ss body rs (length x.before) x.begin =
+    found ss body rs c (length x.before) x.begin (ap (λ (z : List Statement). slice_get z (length x.before)) x.is ∙ get_at x.before x.begin x.behind) in
     let same : f.before ≡ x.before = same_front f.before x.begin f.step.rest x.before x.begin x.behind (sym f.step.parted ∙ x.is) f.early in
     let carried : Carried Made [] x.before f.first f.replies = subst (λ (z : List Statement). Carried Made [] z f.first f.replies) same f.step.carried in
     record {
@@ -103,13 +110,17 @@ began ss x M body rs i c g =
       replies = f.replies;
       release = line Op.Release f.reply 0;
       rest = f.step.more ++ tail_of_main;
-      is = i ∙ (λ j. head_of ((ap has_begin x.is ∙ has_one_begin x.before x.begin x.behind x.starts) j) ++ ((f.step.is ∙ ap (λ (z : List Line). f.first ++ (z ++ f.step.more)) (begin_released x.begin.deed (map handle_of f.replies) f.front f.reply x.starts f.step.made)) j ++ tail_of_main))
+      is = i ∙ (λ j. head_of ((ap has_begin x.is ∙ has_one_begin x.before x.begin x.behind x.starts) j)
+          ++ ((f.step.is ∙ ap (λ (z : List Line). f.first
+          ++ (z ++ f.step.more)) (begin_released x.begin.deed (map handle_of f.replies) f.front f.reply x.starts f.step.made)) j ++ tail_of_main))
           ∙ ap (λ (z : List Line). opening_line ∷ z) (append_assoc f.first (line Op.Release f.reply 0 ∷ f.step.more) tail_of_main);
       carried = carried;
-      granted = subst (λ (z : List Statement). AllGranted z f.replies) same (step_granted ss body rs f.before f.first f.replies x.begin f.front f.reply f.step g).0;
+      granted = subst (λ (z : List Statement). AllGranted z f.replies) same
+          (step_granted ss body rs f.before f.first f.replies x.begin f.front f.reply f.step g).0;
       none = statements_each (λ o. is_release o ≡ false) x.before f.first f.replies carried
           (λ b l1 r1 s front r y. made_each (λ o. is_release o ≡ false) (call_of (map handle_of r1) s.deed) front r
-          (calls_none is_release (call_of (map handle_of r1) s.deed) (is_begin s.deed) (release_calls (map handle_of r1) s.deed) (begin_none b s y.rest (ap begins (sym y.parted) ∙ x.first))) y.made);
+          (calls_none is_release (call_of (map handle_of r1) s.deed) (is_begin s.deed) (release_calls (map handle_of r1) s.deed)
+          (begin_none b s y.rest (ap begins (sym y.parted) ∙ x.first))) y.made);
     }
 
 -- Lines of which one passes go past those of which none does
@@ -122,7 +133,8 @@ past p (l ∷ A) (x ∷ X) Y R a e i =
     (z.0, λ j. h j ∷ z.1 j)
 
 -- where only this seat asks for it and some entry does, some line of the seat does
-some_line : (who : ℕ) (p : Op → Bool) (q : NodeEntry → Bool) → ((e : NodeEntry) → q e ≡ true → p e.op ≡ true) → (L : List NodeEntry) (ks : List ℕ) → length L ≡ length ks → OnlyBy who p L → some_entry q L ≡ true → list_any (λ l. p l.op) (lines_of who L ks) ≡ true
+some_line : (who : ℕ) (p : Op → Bool) (q : NodeEntry → Bool) → ((e : NodeEntry) → q e ≡ true → p e.op ≡ true) → (L : List NodeEntry) (ks : List ℕ)
+    → length L ≡ length ks → OnlyBy who p L → some_entry q L ≡ true → list_any (λ l. p l.op) (lines_of who L ks) ≡ true
 unfolding lines_of
 some_line who p q f [] ks n o e = true_false e refl
 some_line who p q f (e ∷ es) [] n o k = absurd (omega arith)
@@ -141,21 +153,26 @@ module _ (layout : Layout) (load : Workload) (es : List NodeEntry) (ns : List �
   others = (first_of layout load es ns u).others
 
   pub settled_parts : Parts load.settings (first_of layout load es ns u).part (first_of layout load es ns u).others
-  settled_parts = parts_are load.settings part others (subst (λ (x : List Part). are_settled_parts load.settings x ≡ true) (first_of layout load es ns u).are (settled_whole load u.settled).parts)
+  settled_parts = parts_are load.settings part others
+      (subst (λ (x : List Part). are_settled_parts load.settings x ≡ true) (first_of layout load es ns u).are (settled_whole load u.settled).parts)
 
   pub all_parts : Each IsPart (part ∷ others)
   all_parts = subst (Each IsPart) (first_of layout load es ns u).are u.formed.parts
 
   pub all_limits : list_all (λ p. keep_limits p.statements 0 p.statements) (part ∷ others) ≡ true
-  all_limits = subst (λ (x : List Part). list_all (λ p. keep_limits p.statements 0 p.statements) x ≡ true) (first_of layout load es ns u).are (settled_whole load u.settled).limits
+  all_limits = subst (λ (x : List Part). list_all (λ p. keep_limits p.statements 0 p.statements) x
+      ≡ true) (first_of layout load es ns u).are (settled_whole load u.settled).limits
 
   puts_main : (h : ℕ) → OnlyBy main (puts h) es
   puts_main h =
       only_main layout load es ns u (puts h) is_put (puts_calls h) (λ o k. puts_outside h o (work_outside o k)) refl
-      (λ w x rs l y b s rest e. not_put load.settings (y.0.known ++ actions_in b) b x.statements s.deed (y.0.no_set_up l) (deed_in load.settings y.0.known x.statements x.statements [] (sym (append-nil x.statements)) y.0.settled b s rest e))
+      (λ w x rs l y b s rest e. not_put load.settings (y.0.known
+      ++ actions_in b) b x.statements s.deed (y.0.no_set_up l)
+      (deed_in load.settings y.0.known x.statements x.statements [] (sym (append-nil x.statements)) y.0.settled b s rest e))
 
   abbrev main_part : PartAt load es ns main part (first_of layout load es ns u).replies
-  main_part = main_at load es ns part (first_of layout load es ns u).replies (first_of layout load es ns u).ran settled_parts.main (all_at layout load es ns u).0.within
+  main_part = main_at load es ns part (first_of layout load es ns u).replies (first_of layout load es ns u).ran settled_parts.main
+      (all_at layout load es ns u).0.within
 
   pub main_seat : Seat layout load es ns main part (first_of layout load es ns u).replies
   main_seat = record {
@@ -163,7 +180,8 @@ module _ (layout : Layout) (load : Workload) (es : List NodeEntry) (ns : List �
     finds = record {
       opened = λ A l B c.
           let x = first_head (has_begin part.statements) A in
-          is_opened main c.before c.first x.0 (c.done ∙ x.1) (main_unclosed layout load es ns u main (head_of (has_begin part.statements) ++ A) l (B ++ tail_of_main) c B refl);
+          is_opened main c.before c.first x.0 (c.done
+          ∙ x.1) (main_unclosed layout load es ns u main (head_of (has_begin part.statements) ++ A) l (B ++ tail_of_main) c B refl);
       unclosed = λ A l B c. main_unclosed layout load es ns u main (head_of (has_begin part.statements) ++ A) l (B ++ tail_of_main) c B refl;
       outside = main_part.first;
       acts = λ A l B c p e. true_false e refl;
@@ -179,7 +197,8 @@ module _ (layout : Layout) (load : Workload) (es : List NodeEntry) (ns : List �
   -- The others
 
   pub main_began : (x : SetUp part.statements) → Began part.statements x (lines_of main es ns)
-  main_began x = began part.statements x (lines_of main es ns) (first_of layout load es ns u).ran.body (first_of layout load es ns u).replies (first_of layout load es ns u).ran.is (first_of layout load es ns u).ran.carried main_granted
+  main_began x = began part.statements x (lines_of main es ns) (first_of layout load es ns u).ran.body (first_of layout load es ns u).replies
+      (first_of layout load es ns u).ran.is (first_of layout load es ns u).ran.carried main_granted
 
   module _ (x : SetUp part.statements) (who : ℕ) (late : main < who) (looks : ℕ) where
     abbrev entrance : List Line
@@ -195,51 +214,76 @@ module _ (layout : Layout) (load : Workload) (es : List NodeEntry) (ns : List �
       only_main_released : OnlyBy main is_release entered.before
       only_main_released =
           each_front (λ (e : NodeEntry). is_release e.op ≡ true → e.who ≡ main) entered.before (entry who Op.Enter Reply.Ok ∷ entered.behind)
-          (subst (OnlyBy main is_release) entered.is (each_front (λ (e : NodeEntry). is_release e.op ≡ true → e.who ≡ main) c.before (entry who l.op l.reply ∷ c.behind) (subst (OnlyBy main is_release) c.is (releases_main layout load es ns u))))
+          (subst (OnlyBy main is_release) entered.is
+          (each_front (λ (e : NodeEntry). is_release e.op ≡ true
+          → e.who ≡ main) c.before (entry who l.op l.reply ∷ c.behind) (subst (OnlyBy main is_release) c.is (releases_main layout load es ns u))))
 
       abbrev later : List Line
       later = lines_of main (entry who Op.Enter Reply.Ok ∷ entered.behind) (looks ∷ entered.rest)
 
       -- main's lines before the caller entered
       seen : (Z : List Line) × (lines_of main entered.before entered.first ≡ (opening_line ∷ (main_began x).first) ++ Z)
-      seen = past (λ l. is_release l.op) (opening_line ∷ (main_began x).first) (lines_of main entered.before entered.first) (later ++ lines_of main (entry who l.op l.reply ∷ c.behind) (l.beside ∷ c.rest)) ((main_began x).release ∷ (main_began x).rest) (refl, (main_began x).none)
-          (some_line main is_release is_released (λ e i. fst_true (is_release e.op) _ i) entered.before entered.first entered.same only_main_released (enter_behind (run_terms layout load) entered.before entered.behind who legal_cut))
-          (sym (append_assoc (lines_of main entered.before entered.first) later _) ∙ ap (λ (z : List Line). z ++ lines_of main (entry who l.op l.reply ∷ c.behind) (l.beside ∷ c.rest)) (sym (cut_split who c.before c.first [] (line Op.Enter Reply.Ok looks) A entered main)) ∙ sym (cut_split who es ns (entrance ++ A) l (B ++ []) c main) ∙ (main_began x).is)
+      seen = past (λ l. is_release l.op) (opening_line ∷ (main_began x).first) (lines_of main entered.before entered.first) (later
+          ++ lines_of main (entry who l.op l.reply ∷ c.behind) (l.beside ∷ c.rest)) ((main_began x).release ∷ (main_began x).rest) (refl, (main_began x).none)
+          (some_line main is_release is_released (λ e i. fst_true (is_release e.op) _ i) entered.before entered.first entered.same only_main_released
+          (enter_behind (run_terms layout load) entered.before entered.behind who legal_cut))
+          (sym (append_assoc (lines_of main entered.before entered.first) later _)
+          ∙ ap (λ (z : List Line). z ++ lines_of main (entry who l.op l.reply ∷ c.behind) (l.beside ∷ c.rest))
+          (sym (cut_split who c.before c.first [] (line Op.Enter Reply.Ok looks) A entered main))
+          ∙ sym (cut_split who es ns (entrance ++ A) l (B ++ []) c main) ∙ (main_began x).is)
 
       -- and before the line
       all_seen : lines_of main c.before c.first ≡ (opening_line ∷ (main_began x).first) ++ (seen.0 ++ later)
-      all_seen = cut_split who c.before c.first [] (line Op.Enter Reply.Ok looks) A entered main ∙ ap (λ (z : List Line). z ++ later) seen.1 ∙ append_assoc (opening_line ∷ (main_began x).first) seen.0 later
+      all_seen = cut_split who c.before c.first [] (line Op.Enter Reply.Ok looks) A entered main ∙ ap (λ (z : List Line). z ++ later) seen.1
+          ∙ append_assoc (opening_line ∷ (main_began x).first) seen.0 later
 
       pub opened_late : IsOpened c.before
-      opened_late = is_opened main c.before c.first ((main_began x).first ++ (seen.0 ++ later)) all_seen (further_unclosed layout load es ns u who (entrance ++ A) l (B ++ []) c late)
+      opened_late = is_opened main c.before c.first ((main_began x).first
+          ++ (seen.0 ++ later)) all_seen (further_unclosed layout load es ns u who (entrance ++ A) l (B ++ []) c late)
 
       pub made_late : (p : Action → Bool) → list_any p (actions_in part.statements) ≡ true → MadeAction c.before p
       made_late p e =
-          let y : HasAction (main_began x).first p = action_has x.before (main_began x).first (main_began x).replies p (main_began x).carried (main_began x).granted (subst (λ (z : List Action). list_any p z ≡ true) (first_actions part.statements x) e) in
+          let y : HasAction (main_began x).first p =
+          action_has x.before (main_began x).first (main_began x).replies p (main_began x).carried (main_began x).granted
+          (subst (λ (z : List Action). list_any p z ≡ true) (first_actions part.statements x) e) in
           action_map (Has (main_began x).first) (λ o h. MadeBy o h c.before) p (λ o h v.
-          let z : Has (lines_of main c.before c.first) o h = subst (λ (ls : List Line). Has ls o h) (sym all_seen) (has_more (opening_line ∷ []) (main_began x).first (seen.0 ++ later) o h v) in
+          let z : Has (lines_of main c.before c.first) o h =
+          subst (λ (ls : List Line). Has ls o h) (sym all_seen) (has_more (opening_line ∷ []) (main_began x).first (seen.0 ++ later) o h v) in
           let d = cut main c.before c.first z.before (line o (Reply.Handle h) z.beside) z.behind z.is in
           record { before = d.before; who = main; behind = d.behind; is = d.is }) y
 
     pub further_finds : (all : List Statement) → set_up all ≡ false → Finds layout load es ns who entrance [] all (actions_in part.statements)
-    further_finds all n = record { opened = λ A l B c. opened_late A l B c; unclosed = λ A l B c. further_unclosed layout load es ns u who (entrance ++ A) l (B ++ []) c late; outside = (refl, tt); acts = λ A l B c p e. made_late A l B c p e; alone = inl n }
+    further_finds all n = record {
+      opened = λ A l B c. opened_late A l B c;
+      unclosed =
+          λ A l B c. further_unclosed layout load es ns u who (entrance ++ A) l (B ++ []) c late;
+      outside = (refl, tt);
+      acts =
+          λ A l B c p e. made_late A l B c p e;
+      alone = inl n;
+    }
 
   -- The further callers
 
-  callers_seats : (x : SetUp part.statements) (first : ℕ) → main < first → (ps : List Part) (rss : List (List Reply)) → CallersRan in_lines (λ who. lines_of who es ns) first ps rss → list_all (is_settled_further load.settings (actions_in part.statements)) ps ≡ true
-      → list_all (λ p. keep_limits p.statements 0 p.statements) ps ≡ true → Each IsPart ps → Within (actions_in (flat_map (λ p. p.statements) ps)) (actions_in (all_statements load)) → AllSeats (Seat layout load es ns) first ps rss
+  callers_seats : (x : SetUp part.statements) (first : ℕ) → main < first → (ps : List Part) (rss : List (List Reply))
+      → CallersRan in_lines (λ who. lines_of who es ns) first ps rss → list_all (is_settled_further load.settings (actions_in part.statements)) ps ≡ true
+      → list_all (λ p. keep_limits p.statements 0 p.statements) ps ≡ true → Each IsPart ps
+      → Within (actions_in (flat_map (λ p. p.statements) ps)) (actions_in (all_statements load)) → AllSeats (Seat layout load es ns) first ps rss
   unfolding CallersRan
   callers_seats x first late [] rss c e l a w = tt
   callers_seats x first late (p ∷ ps) [] c e l a w = absurd c
   callers_seats x first late (p ∷ ps) (rs ∷ rss) c e l a w =
-      let here : is_settled_further load.settings (actions_in part.statements) p ≡ true = fst_true _ (list_all (is_settled_further load.settings (actions_in part.statements)) ps) e in (
+      let here : is_settled_further load.settings (actions_in part.statements) p ≡ true =
+      fst_true _ (list_all (is_settled_further load.settings (actions_in part.statements)) ps) e in (
         record {
           at = caller_at load es ns (actions_in part.statements) first p rs c.0 here (within_front p.statements (flat_map (λ q. q.statements) ps) _ w);
-          finds = further_finds x first late c.0.entered.0 p.statements (not_true _ (fst_true _ (is_settled_part load.settings (actions_in part.statements) p) here));
+          finds = further_finds x first late c.0.entered.0 p.statements
+              (not_true _ (fst_true _ (is_settled_part load.settings (actions_in part.statements) p) here));
           limits = fst_true _ (list_all (λ y. keep_limits y.statements 0 y.statements) ps) l;
           are = a.0.statements;
         },
-        callers_seats x (suc first) (omega arith) ps rss c.1 (snd_true (is_settled_further load.settings (actions_in part.statements) p) _ e) (snd_true (keep_limits p.statements 0 p.statements) _ l) a.1 (within_behind p.statements (flat_map (λ q. q.statements) ps) _ w),
+        callers_seats x (suc first) (omega arith) ps rss c.1 (snd_true (is_settled_further load.settings (actions_in part.statements) p) _ e)
+            (snd_true (keep_limits p.statements 0 p.statements) _ l) a.1 (within_behind p.statements (flat_map (λ q. q.statements) ps) _ w),
       )
 
   seats_of_parts : AllSeats (Seat layout load es ns) main (part ∷ others) ((first_of layout load es ns u).replies ∷ (first_of layout load es ns u).further)
@@ -248,9 +292,11 @@ module _ (layout : Layout) (load : Workload) (es : List NodeEntry) (ns : List �
       by : (ps : List Part) → others ≡ ps → AllSeats (Seat layout load es ns) (suc main) others (first_of layout load es ns u).further
       by [] i = subst (λ (z : List Part). AllSeats (Seat layout load es ns) (suc main) z (first_of layout load es ns u).further) (sym i) tt
       by (p ∷ ps) i =
-          callers_seats (set_up_split part.statements (settled_parts.first p ps i)) (suc main) (omega arith) others (first_of layout load es ns u).further (first_of layout load es ns u).callers
+          callers_seats (set_up_split part.statements (settled_parts.first p ps i)) (suc main) (omega arith) others (first_of layout load es ns u).further
+          (first_of layout load es ns u).callers
           settled_parts.further (snd_true (keep_limits part.statements 0 part.statements) _ all_limits) all_parts.1
-          (within_behind part.statements (flat_map (λ q. q.statements) others) _ (λ q k. subst (λ (z : List Part). list_any q (actions_in (flat_map (λ v. v.statements) z)) ≡ true) (sym (first_of layout load es ns u).are) k))
+          (within_behind part.statements (flat_map (λ q. q.statements) others) _
+          (λ q k. subst (λ (z : List Part). list_any q (actions_in (flat_map (λ v. v.statements) z)) ≡ true) (sym (first_of layout load es ns u).are) k))
 
   pub seats : AllSeats (Seat layout load es ns) main load.parts u.run.replies
   seats =
@@ -259,4 +305,6 @@ module _ (layout : Layout) (load : Workload) (es : List NodeEntry) (ns : List �
 
 pub settled_statements_are_granted : SettledStatementsAreGranted
 settled_statements_are_granted layout load es ns u =
-    fold_seats (Seat layout load es ns) (λ w ps rss. PartsGranted ps rss) 0 (λ w rss. tt) (λ w p rs ps rss l x a. (seat_granted layout load es ns u w p rs x, a)) load.settings.workers load.parts u.run.replies (omega arith) (seats layout load es ns u)
+    fold_seats (Seat layout load es ns) (λ w ps rss. PartsGranted ps rss) 0 (λ w rss. tt)
+    (λ w p rs ps rss l x a. (seat_granted layout load es ns u w p rs x, a)) load.settings.workers load.parts u.run.replies (omega arith)
+    (seats layout load es ns u)

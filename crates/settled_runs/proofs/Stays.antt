@@ -8,25 +8,33 @@ pub made_there : (s : State) (o : Op) (who h : ℕ) → IsNext s (entry who o (H
 made_there s (Op.ActionCreate job k cores) who h n =
     granted (λ ms. IsThere (Op.ActionCreate job k cores) h (after_moves ms s)) (row s who (Op.ActionCreate job k cores) (Handle h)) h
     (refl, (refl, (refl, refuses_only _ _ _)))
-    (λ c0 c1 c2. on_only (λ x ms. Handle h ≡ x → IsThere (Op.ActionCreate job k cores) h (after_moves ms s)) _ (Handle h) (makes_action h (new_action job k cores.0) ∷ [])
+    (λ c0 c1 c2. on_only (λ x ms. Handle h ≡ x
+    → IsThere (Op.ActionCreate job k cores) h (after_moves ms s)) _ (Handle h) (makes_action h (new_action job k cores.0) ∷ [])
     (λ e i. at_issue_here h (new_action job k cores.0) s.actions (fresh_unlisted ObjectKind.Action s h e))) n.allowed
 made_there s (Op.QueueCreate id job priority limit ordered retain) who h n =
-    granted (λ ms. IsThere (Op.QueueCreate id job priority limit ordered retain) h (after_moves ms s)) (row s who (Op.QueueCreate id job priority limit ordered retain) (Handle h)) h
+    granted (λ ms. IsThere (Op.QueueCreate id job priority limit ordered retain) h (after_moves ms s))
+    (row s who (Op.QueueCreate id job priority limit ordered retain) (Handle h)) h
     (refl, (refl, (refl, (refl, (refl, refuses_only _ _ _)))))
-    (λ c0 c1 c2 c3 c4. on_only (λ x ms. Handle h ≡ x → IsThere (Op.QueueCreate id job priority limit ordered retain) h (after_moves ms s)) _ (Handle h) (makes Queues h (new_queue id job priority limit ordered retain) ∷ [])
+    (λ c0 c1 c2 c3 c4. on_only (λ x ms. Handle h ≡ x
+    → IsThere (Op.QueueCreate id job priority limit ordered retain) h (after_moves ms s)) _ (Handle h)
+    (makes Queues h (new_queue id job priority limit ordered retain) ∷ [])
     (λ e i. at_issue_here h (new_queue id job priority limit ordered retain) s.queues (fresh_unlisted ObjectKind.Queue s h e))) n.allowed
 made_there s Op.GroupCreate who h n =
     granted (λ ms. IsThere Op.GroupCreate h (after_moves ms s)) (row s who Op.GroupCreate (Handle h)) h
     (refl, (refl, refuses_only _ _ _))
-    (λ c0 c1. on_only (λ x ms. Handle h ≡ x → IsThere Op.GroupCreate h (after_moves ms s)) _ (Handle h) (makes Groups h new_group ∷ []) (λ e i. at_issue_here h new_group s.groups (fresh_unlisted ObjectKind.Group s h e))) n.allowed
+    (λ c0 c1. on_only (λ x ms. Handle h ≡ x
+    → IsThere Op.GroupCreate h (after_moves ms s)) _ (Handle h) (makes Groups h new_group
+    ∷ []) (λ e i. at_issue_here h new_group s.groups (fresh_unlisted ObjectKind.Group s h e))) n.allowed
 made_there s _ who h n = tt
 
 -- The task that an entry starts
 
 -- this is the task that the op asks for, where the queue of an enqueue is as it is here
 abbrev pub AskedAs : State → NewTask → Op → Type 0
-AskedAs s n (Op.TaskStart job args priority cores detached group) = (asked_for job args priority cores detached group ≡ n) × (is_detached_member detached group ≡ false)
-AskedAs s n (Op.TaskEnqueue q args cores detached group) = (x : Queue) × (live_object s.queues q.0 ≡ Some x) × (asked_of q.0 x args cores detached group ≡ n) × (is_detached_member detached group ≡ false)
+AskedAs s n (Op.TaskStart job args priority cores detached group) =
+    (asked_for job args priority cores detached group ≡ n) × (is_detached_member detached group ≡ false)
+AskedAs s n (Op.TaskEnqueue q args cores detached group) =
+    (x : Queue) × (live_object s.queues q.0 ≡ Some x) × (asked_of q.0 x args cores detached group ≡ n) × (is_detached_member detached group ≡ false)
 AskedAs s n _ = ⊥
 
 -- K of each reply and the moves that come with it, where it holds of each refusal and of the start of a fresh task
@@ -34,17 +42,55 @@ module _ (K : Reply → List Move → Type 0) (s : State) (who : ℕ) (r : Reply
   says_queue : (x : Option Queue) (w : Queue → Row) → ((y : Queue) → x ≡ Some y → OfEachReply K (w y)) → OfEachReply K (live x (gives queues.invalid []) w)
   says_queue x w e1 = grind (arith, nat_tests)
 
-  pub on_start : (o : Op) → makes_object ObjectKind.Task o ≡ true → ((h : ℕ) (n : NewTask) → AskedAs s n o → is_fresh tasks s h ≡ true → K (Handle h) (starts_task h n ∷ [])) → Allows (row s who o r) r → K r (moves_of (row s who o r))
+  pub on_start : (o : Op) → makes_object ObjectKind.Task o ≡ true
+      → ((h : ℕ) (n : NewTask) → AskedAs s n o → is_fresh tasks s h ≡ true → K (Handle h) (starts_task h n ∷ [])) → Allows (row s who o r) r
+      → K r (moves_of (row s who o r))
   on_start (Op.TaskStart job args priority cores detached group) z k a =
-      said K (row s who (Op.TaskStart job args priority cores detached group) r) r
-      (refused _, λ c0. (refused _, λ c1. (refused _, λ c2. (refused _, λ c3. (refused _, λ c4. (refused _, λ c5. (refused _, λ c6. says_only K _ _ _ (k (handle_of r) (asked_for job args priority cores detached group) (refl, second_false _ _ c1))))))))) a
+      said K (row s who (Op.TaskStart job args priority cores detached group) r) r (
+        refused _,
+        λ c0. (
+          refused _,
+          λ c1. (
+            refused _,
+            λ c2. (
+              refused _,
+              λ c3. (
+                refused _,
+                λ c4. (
+                  refused _,
+                  λ c5.
+                      (refused _, λ c6. says_only K _ _ _ (k (handle_of r) (asked_for job args priority cores detached group) (refl, second_false _ _ c1))),
+                ),
+              ),
+            ),
+          ),
+        ),
+      ) a
   on_start (Op.TaskEnqueue q args cores detached group) z k a =
       said K (row s who (Op.TaskEnqueue q args cores detached group) r) r (
         refused _,
         λ c. (
           refused _,
-          λ d. says_queue (live_object s.queues q.0) _ (λ x e.
-              (refused _, λ c0. (refused _, λ c1. (refused _, λ c2. (refused _, λ c3. (refused _, λ c4. (refused _, λ c5. (refused _, λ c6. says_only K _ _ _ (k (handle_of r) (asked_of q.0 x args cores detached group) (x, e, refl, d)))))))))),
+          λ d. says_queue (live_object s.queues q.0) _ (λ x e. (
+            refused _,
+            λ c0. (
+              refused _,
+              λ c1. (
+                refused _,
+                λ c2. (
+                  refused _,
+                  λ c3. (
+                    refused _,
+                    λ c4. (
+                      refused _,
+                      λ c5.
+                          (refused _, λ c6. says_only K _ _ _ (k (handle_of r) (asked_of q.0 x args cores detached group) (x, e, refl, d))),
+                    ),
+                  ),
+                ),
+              ),
+            ),
+          )),
         ),
       ) a
   on_start _ z k a = true_false z refl
@@ -58,7 +104,8 @@ abbrev Same : ℕ → Action → State → Type 0
 Same h x s = live_object s.actions h ≡ Some x
 
 action_stays : (h : ℕ) (x : Action) (o : Op) → is_quiet o ≡ true → (s : State) (m : Move) → IsMade s o m → Same h x s → Same h x (apply m s)
-action_stays h x o q s (makes_action j a) e v = at_issue_other j h a s.actions (fresh_apart ObjectKind.Action s h j (live_listed h s.actions (ap is_some v)) e.may) ∙ v
+action_stays h x o q s (makes_action j a) e v =
+    at_issue_other j h a s.actions (fresh_apart ObjectKind.Action s h j (live_listed h s.actions (ap is_some v)) e.may) ∙ v
 action_stays h x o q s (enables j) e v = absurd (no_enabling j o q e.by)
 action_stays h x o q s (withdraws j f c) e v = absurd (none_withdrawn j f o q e.by)
 action_stays h x o q s (makes k j y) e v = sorts_keep (Same h x) (λ t g u n c r z p. p) k _ s v
@@ -79,10 +126,12 @@ no_group_goes : (j : ℕ) (o : Op) → is_quiet o ≡ true → RemovesObject Gro
 no_group_goes j o e1 e2 = grind (arith, nat_tests)
 
 pub there_next : (s : State) (e : NodeEntry) (o : Op) (h : ℕ) → is_quiet e.op ≡ true → IsThere o h s → IsThere o h (next s e)
-there_next s e (Op.ActionCreate job k cores) h q v = by_moves (Same h (new_action job k cores.0)) s e (λ t m i u. action_stays h (new_action job k cores.0) e.op q t m i u) v
+there_next s e (Op.ActionCreate job k cores) h q v =
+    by_moves (Same h (new_action job k cores.0)) s e (λ t m i u. action_stays h (new_action job k cores.0) e.op q t m i u) v
 there_next s e (Op.QueueCreate id job priority limit ordered retain) h q v =
     live_stays Queues s e h (λ j f z. no_queue_alters j f e.op q z) (λ j z. no_queue_goes j e.op q z) (live_listed h s.queues (ap is_some v)) ∙ v
-there_next s e Op.GroupCreate h q v = live_stays Groups s e h (λ j f z. no_group_alters j f e.op z) (λ j z. no_group_goes j e.op q z) (live_listed h s.groups (ap is_some v)) ∙ v
+there_next s e Op.GroupCreate h q v = live_stays Groups s e h (λ j f z. no_group_alters j f e.op z) (λ j z. no_group_goes j e.op q z)
+    (live_listed h s.groups (ap is_some v)) ∙ v
 there_next s e _ h q v = tt
 
 there_along : (s : State) (L : List NodeEntry) (o : Op) (h : ℕ) → AreQuiet L → IsThere o h s → IsThere o h (after_from s L)
@@ -101,7 +150,10 @@ quiet_front (e ∷ A) B q = (q.0, quiet_front A B q.1)
 pub made_objects_stay : MadeObjectsStay
 made_objects_stay terms L o h legal quiet x =
     let at : LegalFrom (opening terms) (x.before ++ entry x.who o (Handle h) ∷ x.behind) = subst (LegalFrom (opening terms)) x.is legal.from in
-    let here : IsThere o h (next (after_from (opening terms) x.before) (entry x.who o (Handle h))) = made_there (after_from (opening terms) x.before) o x.who h (cut_from (opening terms) x.before x.behind (entry x.who o (Handle h)) at) in
+    let here : IsThere o h (next (after_from (opening terms) x.before) (entry x.who o (Handle h))) =
+    made_there (after_from (opening terms) x.before) o x.who h (cut_from (opening terms) x.before x.behind (entry x.who o (Handle h)) at) in
     let behind : AreQuiet (entry x.who o (Handle h) ∷ x.behind) = quiet_rest x.before (entry x.who o (Handle h) ∷ x.behind) (subst AreQuiet x.is quiet) in
-    let there : IsThere o h (after_from (next (after_from (opening terms) x.before) (entry x.who o (Handle h))) x.behind) = there_along _ x.behind o h behind.1 here in
-    subst (λ (M : List NodeEntry). IsThere o h (after terms M)) (sym x.is) (subst (IsThere o h) (sym (cut_after (opening terms) x.before x.behind (entry x.who o (Handle h)))) there)
+    let there : IsThere o h (after_from (next (after_from (opening terms) x.before) (entry x.who o (Handle h))) x.behind) =
+    there_along _ x.behind o h behind.1 here in
+    subst (λ (M : List NodeEntry). IsThere o h (after terms M)) (sym x.is)
+    (subst (IsThere o h) (sym (cut_after (opening terms) x.before x.behind (entry x.who o (Handle h)))) there)

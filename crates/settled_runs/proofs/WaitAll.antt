@@ -21,13 +21,17 @@ module _ (actions : List Action) (all : List Statement) where
   after_both faults (s ∷ ss) ts = after_both (faults_behind actions all faults s.deed) ss ts
 
   -- plain replies, with one more, and the one of a place
-  pub plain_more : (ends : ℕ → Option TaskEnd) (faults : Faults) (ss : List Statement) (rs : List Reply) (s : Statement) (r : Reply) → length rs ≡ length ss → ArePlain actions all ends faults ss rs → IsPlainReply actions all ends (faults_after faults ss) s.deed r → ArePlain actions all ends faults (ss ++ s ∷ []) (rs ++ r ∷ [])
+  pub plain_more : (ends : ℕ → Option TaskEnd) (faults : Faults) (ss : List Statement) (rs : List Reply) (s : Statement) (r : Reply) → length rs ≡ length ss
+      → ArePlain actions all ends faults ss rs → IsPlainReply actions all ends (faults_after faults ss) s.deed r
+      → ArePlain actions all ends faults (ss ++ s ∷ []) (rs ++ r ∷ [])
   unfolding ArePlain
   plain_more ends faults [] [] s r l a x = (x, tt)
   plain_more ends faults (t ∷ ss) (q ∷ rs) s r l a x = (a.0, plain_more ends (faults_behind actions all faults t.deed) ss rs s r (omega arith) a.1 x)
   plain_more ends faults _ _ s r l a x = absurd (omega arith)
 
-  plain_at : (ends : ℕ → Option TaskEnd) (faults : Faults) (ss : List Statement) (s : Statement) (ts : List Statement) (rs : List Reply) (r : Reply) (qs : List Reply) → length rs ≡ length ss → ArePlain actions all ends faults (ss ++ s ∷ ts) (rs ++ r ∷ qs) → IsPlainReply actions all ends (faults_after faults ss) s.deed r
+  plain_at : (ends : ℕ → Option TaskEnd) (faults : Faults) (ss : List Statement) (s : Statement) (ts : List Statement) (rs : List Reply) (r : Reply)
+      (qs : List Reply) → length rs ≡ length ss → ArePlain actions all ends faults (ss ++ s ∷ ts) (rs ++ r ∷ qs)
+      → IsPlainReply actions all ends (faults_after faults ss) s.deed r
   unfolding ArePlain
   plain_at ends faults [] s ts [] r qs l a = a.0
   plain_at ends faults (t ∷ ss) s ts (q ∷ rs) r qs l a = plain_at ends (faults_behind actions all faults t.deed) ss s ts rs r qs (omega arith) a.1
@@ -38,7 +42,8 @@ abbrev pub faults_of : List Action → List Statement → List (ℕ × MtapiStat
 faults_of actions all = flat_map (λ z. fault_in actions (task_in all z.deed)) all
 
 -- these tasks of a group have the fault, and each fault of one is one of the part
-pub record Fit (actions : List Action) (all : List Statement) (fault_of_task : ℕ → Option MtapiStatus) (place : ℕ) (hs : List ℕ) (fault : Option MtapiStatus) : Type 0 where
+pub record Fit (actions : List Action) (all : List Statement) (fault_of_task : ℕ
+    → Option MtapiStatus) (place : ℕ) (hs : List ℕ) (fault : Option MtapiStatus) : Type 0 where
   pub matches : Matches fault_of_task hs fault
   pub among : (j : ℕ) (c : MtapiStatus) → has hs j ≡ true → fault_of_task j ≡ Some c → has_fault (faults_of actions all) place c ≡ true
 
@@ -53,13 +58,24 @@ module _ (actions : List Action) (all : List Statement) (ends : ℕ → Option T
   Fits hs fault = Fit actions all F place hs fault
 
   choose : (a b : Bool) → a ≡ b → (X Y : List ℕ) (U V : Option MtapiStatus) → (b ≡ true → Fits X U) → Fits Y V → Fits (cond a X Y) (cond b U V)
-  choose a b e X Y U V t f = subst (λ (c : Bool). Fits (cond c X Y) (cond b U V)) (sym e) ((elim b as (λ c. b ≡ c → Fits (cond c X Y) (cond c U V)) [ true ↦ λ i. t i | false ↦ λ i. f ]) refl)
+  choose a b e X Y U V t f = subst (λ (c : Bool). Fits (cond c X Y) (cond b U V)) (sym e)
+      ((elim b as (λ c. b ≡ c → Fits (cond c X Y) (cond c U V)) [ true ↦ λ i. t i | false ↦ λ i. f ]) refl)
 
   -- one more task of the group
-  more_fits : (j : ℕ) (x : Option MtapiStatus) (hs : List ℕ) (fault : Option MtapiStatus) → F j ≡ x → ((c : MtapiStatus) → x ≡ Some c → has_fault (faults_of actions all) place c ≡ true) → Fits hs fault → Fits (j ∷ hs) (option_or fault x)
-  more_fits j x hs fault e there f = record { matches = more_member F j x hs fault e f.matches; among = λ k c i y. elim (or_cases (j == k) (has hs k) i) as (λ z. has_fault (faults_of actions all) place c ≡ true) [ inl m ↦ there c (sym e ∙ ap F (eqb-true j k m) ∙ y) | inr m ↦ f.among k c m y ] }
+  more_fits : (j : ℕ) (x : Option MtapiStatus) (hs : List ℕ) (fault : Option MtapiStatus) → F j ≡ x
+      → ((c : MtapiStatus) → x ≡ Some c → has_fault (faults_of actions all) place c ≡ true) → Fits hs fault → Fits (j ∷ hs) (option_or fault x)
+  more_fits j x hs fault e there f = record {
+    matches = more_member F j x hs fault e f.matches;
+    among =
+        λ k c i y. elim (or_cases (j == k) (has hs k) i) as (λ z. has_fault (faults_of actions all) place c ≡ true) [
+          | inl m ↦
+              there c (sym e ∙ ap F (eqb-true j k m) ∙ y)
+          | inr m ↦ f.among k c m y
+        ];
+  }
 
-  module _ (before rest : List Statement) (s : Statement) (bound : List ℕ) (within : all ≡ before ++ s ∷ rest) (same : (g : ℕ) → IsBoundAt Sort.Group before g → (handle_at bound g == h) ≡ (place == g)) (faults : Faults) (hs : List ℕ) (f : Fits hs (faults place)) where
+  module _ (before rest : List Statement) (s : Statement) (bound : List ℕ) (within : all ≡ before ++ s ∷ rest) (same : (g : ℕ) → IsBoundAt Sort.Group before g
+      → (handle_at bound g == h) ≡ (place == g)) (faults : Faults) (hs : List ℕ) (f : Fits hs (faults place)) where
     -- a task of the statement
     task_fits : (t : NewTask) (j : ℕ) → task_in all s.deed ≡ Some t → ends j ≡ plain_end actions t → IfSome t.group (IsBoundAt Sort.Group before)
         → Fits (cond (holds (λ x. x.0 == h) (option_map (group_at bound) t.group)) (j ∷ hs) hs) (with_member t.group (plain_fault actions t) faults place)
@@ -69,56 +85,101 @@ module _ (actions : List Action) (all : List Statement) (ends : ℕ → Option T
         fault_is : F j ≡ plain_fault actions t
         fault_is = ap (option_and_then fault_of) k
 
-        by : (group : Option ℕ) → t.group ≡ group → IfSome group (IsBoundAt Sort.Group before) → Fits (cond (holds (λ x. x.0 == h) (option_map (group_at bound) group)) (j ∷ hs) hs) (with_member group (plain_fault actions t) faults place)
+        by : (group : Option ℕ) → t.group ≡ group → IfSome group (IsBoundAt Sort.Group before)
+            → Fits (cond (holds (λ x. x.0 == h) (option_map (group_at bound) group)) (j ∷ hs) hs) (with_member group (plain_fault actions t) faults place)
         by None i o = f
         by (Some g) i o =
             choose (handle_at bound g == h) (place == g) (same g o) (j ∷ hs) hs (option_or (faults g) (plain_fault actions t)) (faults place)
             (λ y. let q : place ≡ g = eqb-true place g y in
             more_fits j (plain_fault actions t) hs (faults g) fault_is
-            (λ c z. subst (λ (w : List Statement). has_fault (flat_map (λ v. fault_in actions (task_in all v.deed)) w) place c ≡ true) (sym within) (fault_there actions all before s rest t place c e (i ∙ ap Some (sym q)) z))
+            (λ c z. subst (λ (w : List Statement). has_fault (flat_map (λ v. fault_in actions (task_in all v.deed)) w) place c
+            ≡ true) (sym within) (fault_there actions all before s rest t place c e (i ∙ ap Some (sym q)) z))
             (subst (λ (n : ℕ). Fits hs (faults n)) q f))
             f
 
     -- a wait for all tasks of a group
-    wait_fits : (g : ℕ) (t : Timeout) (front : List Line) (r : Reply) → IsBoundAt Sort.Group before g → Looked false (λ last. Op.AllLook (record { 0 = handle_at bound g }) last) t front r → Fits (members_in h hs front) (cond (place == g) None (faults place))
+    wait_fits : (g : ℕ) (t : Timeout) (front : List Line) (r : Reply) → IsBoundAt Sort.Group before g
+        → Looked false (λ last. Op.AllLook (record { 0 = handle_at bound g }) last) t front r
+        → Fits (members_in h hs front) (cond (place == g) None (faults place))
     wait_fits g t front r o m =
-        let told : members_in h hs front ≡ cond (handle_at bound g == h) [] hs = ap (members_in h hs) (one_look (λ last. Op.AllLook (record { 0 = handle_at bound g }) last) t front r m) ∙ ap (λ (b : Bool). cond (handle_at bound g == h) (cond b hs []) hs) m.decides in
-        subst (λ (x : List ℕ). Fits x (cond (place == g) None (faults place))) (sym told) (choose (handle_at bound g == h) (place == g) (same g o) [] hs None (faults place) (λ y. fit_none actions all F place) f)
+        let told : members_in h hs front ≡ cond (handle_at bound g == h) [] hs =
+        ap (members_in h hs) (one_look (λ last. Op.AllLook (record { 0 = handle_at bound g }) last) t front r m)
+        ∙ ap (λ (b : Bool). cond (handle_at bound g == h) (cond b hs []) hs) m.decides in
+        subst (λ (x : List ℕ). Fits x (cond (place == g) None (faults place))) (sym told)
+        (choose (handle_at bound g == h) (place == g) (same g o) [] hs None (faults place) (λ y. fit_none actions all F place) f)
 
     -- a statement that doesn't use the group
     kept : (c : Call) (front : List Line) (r : Reply) → Made c front r → CallEach (λ o. uses h o ≡ false) c → Fits (members_in h hs front) (faults place)
     kept c front r m u = subst (λ (x : List ℕ). Fits x (faults place)) (sym (unused_lines h hs front (made_each (λ o. uses h o ≡ false) c front r u m))) f
 
     -- a statement that asks for a task
-    asked_fits : (o : Op) (front : List Line) (r : Reply) (t u : NewTask) → task_in all s.deed ≡ Some u → t ≡ u → (j : ℕ) → r ≡ Reply.Handle j → ends j ≡ plain_end actions u → IfSome t.group (IsBoundAt Sort.Group before) → front ≡ line o r 0 ∷ []
-        → members_behind h hs (entry 0 o (Reply.Handle j)) ≡ cond (holds (λ x. x.0 == h) (option_map (group_at bound) t.group)) (j ∷ hs) hs → Fits (members_in h hs front) (with_member t.group (plain_fault actions t) faults place)
+    asked_fits : (o : Op) (front : List Line) (r : Reply) (t u : NewTask) → task_in all s.deed ≡ Some u → t ≡ u → (j : ℕ) → r ≡ Reply.Handle j
+        → ends j ≡ plain_end actions u → IfSome t.group (IsBoundAt Sort.Group before) → front ≡ line o r 0 ∷ []
+        → members_behind h hs (entry 0 o (Reply.Handle j)) ≡ cond (holds (λ x. x.0 == h) (option_map (group_at bound) t.group)) (j ∷ hs) hs
+        → Fits (members_in h hs front) (with_member t.group (plain_fault actions t) faults place)
     asked_fits o front r t u e q j k n b i a =
         subst (λ (y : List Line). Fits (members_in h hs y) (with_member t.group (plain_fault actions t) faults place)) (sym i)
         (subst (λ (y : Reply). Fits (members_behind h hs (entry 0 o y)) (with_member t.group (plain_fault actions t) faults place)) (sym k)
         (subst (λ (x : List ℕ). Fits x (with_member t.group (plain_fault actions t) faults place)) (sym a)
-        (subst (λ (x : NewTask). Fits (cond (holds (λ v. v.0 == h) (option_map (group_at bound) x.group)) (j ∷ hs) hs) (with_member x.group (plain_fault actions x) faults place)) (sym q)
+        (subst (λ (x : NewTask). Fits (cond (holds (λ v. v.0 == h) (option_map (group_at bound) x.group)) (j ∷ hs) hs)
+        (with_member x.group (plain_fault actions x) faults place)) (sym q)
         (task_fits u j e n (subst (λ (x : NewTask). IfSome x.group (IsBoundAt Sort.Group before)) q b)))))
 
     -- the statement keeps the group fit
-    pub statement_fits : (front : List Line) (r : Reply) → IsStatement before s → Made (call_of bound s.deed) front r → IsPlainReply actions all ends faults s.deed r → Fits (members_in h hs front) (faults_behind actions all faults s.deed place)
+    pub statement_fits : (front : List Line) (r : Reply) → IsStatement before s → Made (call_of bound s.deed) front r
+        → IsPlainReply actions all ends faults s.deed r → Fits (members_in h hs front) (faults_behind actions all faults s.deed place)
     unfolding IsPlainReply faults_behind task_in row deed_spelled
     statement_fits front r st m p = by s.deed refl st.options st.uses m p
       where
-        by_queue : (queue : ℕ) (args : List ℤ) (cores : Mask) (detached : Bool) (group : Option ℕ) (q : Option Queue) → IfSome group (IsBoundAt Sort.Group before)
-            → task_in all s.deed ≡ option_map (λ x. record { job = x.job; args = args; priority = x.priority; cores = cores.0; detached = detached; group = group; queue = Some queue }) q
-            → IsPlainTask actions ends (option_map (λ x. record { job = x.job; args = args; priority = x.priority; cores = cores.0; detached = detached; group = group; queue = Some queue }) q) r
+        by_queue : (queue : ℕ) (args : List ℤ) (cores : Mask) (detached : Bool) (group : Option ℕ) (q : Option Queue)
+            → IfSome group (IsBoundAt Sort.Group before)
+            → task_in all s.deed ≡ option_map (λ x. record {
+              job = x.job;
+              args = args;
+              priority = x.priority;
+              cores = cores.0;
+              detached = detached;
+              group =
+                  group;
+              queue = Some queue;
+            }) q
+            → IsPlainTask actions ends (option_map (λ x. record {
+              job = x.job;
+              args = args;
+              priority = x.priority;
+              cores = cores.0;
+              detached = detached;
+              group =
+                  group;
+              queue = Some queue;
+            }) q) r
             → front ≡ line (Op.TaskEnqueue (record { 0 = handle_at bound queue }) args cores detached (option_map (group_at bound) group)) r 0 ∷ []
-            → Fits (members_in h hs front) (with_task actions (option_map (λ x. record { job = x.job; args = args; priority = x.priority; cores = cores.0; detached = detached; group = group; queue = Some queue }) q) faults place)
+            → Fits (members_in h hs front) (with_task actions
+            (option_map (λ x. record {
+              job = x.job;
+              args = args;
+              priority = x.priority;
+              cores = cores.0;
+              detached = detached;
+              group = group;
+              queue =
+                  Some queue;
+            }) q) faults place)
         by_queue queue args cores detached group None o i w n = none_some w.1
         by_queue queue args cores detached group (Some x) o i w n =
             asked_fits (Op.TaskEnqueue (record { 0 = handle_at bound queue }) args cores detached (option_map (group_at bound) group)) front r
-            (record { job = x.job; args = args; priority = x.priority; cores = cores.0; detached = detached; group = group; queue = Some queue }) w.0 (i ∙ w.1) (some_same w.1) w.2 w.3 w.4 o n refl
+            (record { job = x.job; args = args; priority = x.priority; cores = cores.0; detached = detached; group = group; queue = Some queue }) w.0 (i
+            ∙ w.1) (some_same w.1) w.2 w.3 w.4 o n refl
 
-        by : (d : Deed) → s.deed ≡ d → AllFit before (fields (word_for d)) (values d) → IfSome (place_used d) (λ v. IsBoundAt v.0 before v.1) → Made (call_of bound d) front r → IsPlainReply actions all ends faults d r → Fits (members_in h hs front) (faults_behind actions all faults d place)
+        by : (d : Deed) → s.deed ≡ d → AllFit before (fields (word_for d)) (values d) → IfSome (place_used d) (λ v. IsBoundAt v.0 before v.1)
+            → Made (call_of bound d) front r → IsPlainReply actions all ends faults d r
+            → Fits (members_in h hs front) (faults_behind actions all faults d place)
         by (Deed.Start job args priority cores detached group) i o v n w =
             asked_fits (Op.TaskStart job args priority cores detached (option_map (group_at bound) group)) front r
-            (record { job = job; args = args; priority = priority; cores = cores.0; detached = detached; group = group; queue = None }) w.0 (ap (task_in all) i ∙ w.1) (some_same w.1) w.2 w.3 w.4 o.1.1.1.1.1.0 n.0 refl
-        by (Deed.Enqueue queue args cores detached group) i o v n w = by_queue queue args cores detached group (queue_at all queue) o.1.1.1.1.0 (ap (task_in all) i) w n.0
+            (record { job = job; args = args; priority = priority; cores = cores.0; detached = detached; group = group; queue = None }) w.0 (ap (task_in all) i
+            ∙ w.1) (some_same w.1) w.2 w.3 w.4 o.1.1.1.1.1.0 n.0 refl
+        by (Deed.Enqueue queue args cores detached group) i o v n w =
+            by_queue queue args cores detached group (queue_at all queue) o.1.1.1.1.0 (ap (task_in all) i) w n.0
         by Deed.Begin i o v n w = kept (call_of bound Deed.Begin) front r n refl
         by (Deed.Action job kind cores) i o v n w = kept (call_of bound (Deed.Action job kind cores)) front r n refl
         by Deed.Group i o v n w = kept (call_of bound Deed.Group) front r n refl
@@ -127,7 +188,9 @@ module _ (actions : List Action) (all : List Statement) (ends : ℕ → Option T
         by (Deed.WaitAll g t) i o v n w = wait_fits g t front r v n
         by _ i o v n w = absurd w
 
-  pub fits_along : (ss : List Statement) (ls : List Line) (rs : List Reply) → Carried Made [] ss ls rs → AreStatements [] ss → (rest : List Statement) → all ≡ ss ++ rest → handle_at (map handle_of rs) place ≡ h → ((other : ℕ) → BoundBy Sort.Group ss other → handle_at (map handle_of rs) other ≡ h → other ≡ place)
+  pub fits_along : (ss : List Statement) (ls : List Line) (rs : List Reply) → Carried Made [] ss ls rs → AreStatements [] ss → (rest : List Statement)
+      → all ≡ ss ++ rest → handle_at (map handle_of rs) place ≡ h
+      → ((other : ℕ) → BoundBy Sort.Group ss other → handle_at (map handle_of rs) other ≡ h → other ≡ place)
       → ArePlain actions all ends no_faults ss rs → Fits (members_in h [] ls) (faults_after actions all no_faults ss place)
   fits_along ss ls rs c a rest within own only p =
       along ss ls rs (λ b l r. Fits (members_in h [] l) (faults_after actions all no_faults b place))
@@ -136,14 +199,18 @@ module _ (actions : List Action) (all : List Statement) (ends : ℕ → Option T
       (subst (λ (y : Faults). Fits (members_in h (members_in h [] l1) front) (y place)) (sym (after_both actions all no_faults b (s ∷ [])))
       (statement_fits b (x.rest ++ rest) s (map handle_of r1) (within ∙ ap (λ (z : List Statement). z ++ rest) x.parted ∙ append_assoc b (s ∷ x.rest) rest)
       (λ g o. let v = step_bound ss ls rs b l1 r1 s front r x Sort.Group g o in
-      both_ways (handle_at (map handle_of r1) g == h) (place == g) (λ e. eq-eqb place g (sym (only g v.0 (v.1 ∙ eqb-true (handle_at (map handle_of r1) g) h e))))
+      both_ways (handle_at (map handle_of r1) g == h) (place == g)
+      (λ e. eq-eqb place g (sym (only g v.0 (v.1 ∙ eqb-true (handle_at (map handle_of r1) g) h e))))
       (λ e. eq-eqb (handle_at (map handle_of r1) g) h (sym v.1 ∙ ap (handle_at (map handle_of rs)) (sym (eqb-true place g e)) ∙ own)))
       (faults_after actions all no_faults b) (members_in h [] l1) i front r (step_statement ss ls rs b l1 r1 s front r x a) x.made
-      (plain_at actions all ends no_faults b s x.rest r1 r x.others x.many (subst (λ (z : List Statement). ArePlain actions all ends no_faults z (r1 ++ r ∷ x.others)) x.parted (subst (λ (z : List Reply). ArePlain actions all ends no_faults ss z) x.told p)))))) c (fit_none actions all F place)
+      (plain_at actions all ends no_faults b s x.rest r1 r x.others x.many
+      (subst (λ (z : List Statement). ArePlain actions all ends no_faults z (r1 ++ r ∷ x.others)) x.parted
+      (subst (λ (z : List Reply). ArePlain actions all ends no_faults ss z) x.told p)))))) c (fit_none actions all F place)
 
 -- The wait for all of them
 
-module _ (layout : Layout) (load : Workload) (es : List NodeEntry) (ns : List ℕ) (u : SettledRun layout load es ns) (who : ℕ) (start finish : List Line) (all : List Statement) (known : List Action) (f : Finds layout load es ns who start finish all known)
+module _ (layout : Layout) (load : Workload) (es : List NodeEntry) (ns : List ℕ) (u : SettledRun layout load es ns) (who : ℕ) (start finish : List Line)
+    (all : List Statement) (known : List Action) (f : Finds layout load es ns who start finish all known)
     (whole : are_settled load.settings known all [] all ≡ true) (one : have_one_fault_a_group (faults_of (actions_in (all_statements load)) all) ≡ true)
     (before : List Statement) (l1 : List Line) (r1 : List Reply) (c1 : Carried Made [] before l1 r1) (g1 : AllGranted before r1) (are : AreStatements [] before)
     (more : List Statement) (split : all ≡ before ++ more) (place : ℕ) (bound : IsBoundAt Sort.Group before place) where
@@ -163,40 +230,81 @@ module _ (layout : Layout) (load : Workload) (es : List NodeEntry) (ns : List �
   h = handle_at (map handle_of r1) place
 
   module _ (X : List Line) (at1 : lines_of who es ns ≡ (start ++ l1) ++ X) (p1 : ArePlain actions all ends no_faults before r1) where
-    module _ (n : ℕ) (r : Reply) (B : List Line) (at : lines_of who es ns ≡ (start ++ l1) ++ line (Op.AllLook (record { 0 = h }) false) r n ∷ (B ++ finish)) where
+    module _ (n : ℕ) (r : Reply) (B : List Line) (at : lines_of who es ns
+        ≡ (start ++ l1) ++ line (Op.AllLook (record { 0 = h }) false) r n ∷ (B ++ finish)) where
       pub group_told : is_pending r ≡ false → r ≡ verdict (faults_after actions all no_faults before place)
       group_told decides =
           let b : BoundBy Sort.Group before place = bound_by Sort.Group before place bound in
           let here : Found before l1 r1 place b.statement = at_group before l1 r1 c1 g1 place b in
           let made_line : Line = line Op.GroupCreate (Reply.Handle h) 0 in
-          let lines_are : l1 ≡ here.first ++ made_line ∷ here.step.more = here.step.is ∙ ap (λ (z : List Line). here.first ++ (z ++ here.step.more)) (group_front before l1 r1 c1 g1 place b) in
-          let only : (other : ℕ) → BoundBy Sort.Group before other → handle_at (map handle_of r1) other ≡ h → other ≡ place = λ other y e. one_bound ObjectKind.Group Sort.Group binds_group groups_list terms es ns u.legal who start before l1 r1 X at1 c1 g1 other place y b e in
-          let early : (g : ℕ) → BoundBy Sort.Group here.before g → handle_at (map handle_of here.replies) g ≡ h → ⊥ = λ g y e. let l : g < length here.before = y.early in let n : length here.replies ≡ length here.before = here.step.many in let m : length here.before ≡ place = here.early in let same : g ≡ place = only g (subst (λ (z : List Statement). BoundBy Sort.Group z g) (sym here.step.parted) (bound_longer Sort.Group here.before (b.statement ∷ here.step.rest) g y)) (ap (λ (z : List Reply). handle_at (map handle_of z) g) here.step.told ∙ handles_front here.replies (here.reply ∷ here.step.others) g (omega arith) ∙ e) in absurd (omega arith) in
-          let first_unused : Each (λ l. uses h l.op ≡ false) here.first = statements_each (λ o. uses h o ≡ false) here.before here.first here.replies here.step.carried (λ pre k1 q1 t front r z. made_each (λ o. uses h o ≡ false) (call_of (map handle_of q1) t.deed) front r (uses_call h pre t (map handle_of q1) (step_statement here.before here.first here.replies pre k1 q1 t front r z (are_front [] here.before (b.statement ∷ here.step.rest) (subst (AreStatements []) here.step.parted are))) (λ g o e. let v = step_bound here.before here.first here.replies pre k1 q1 t front r z Sort.Group g o in early g v.0 (v.1 ∙ e))) z.made) in
-          let fits : Fit actions all fault_told place (members_in h [] here.step.more) (faults_after actions all no_faults before place) = subst (λ (x : List ℕ). Fit actions all fault_told place x (faults_after actions all no_faults before place)) (ap (members_in h []) lines_are ∙ members_append h [] here.first (made_line ∷ here.step.more) ∙ ap (λ (x : List ℕ). members_in h x here.step.more) (unused_lines h [] here.first first_unused)) (fits_along actions all ends place h before l1 r1 c1 are more split refl only p1) in
+          let lines_are : l1 ≡ here.first ++ made_line ∷ here.step.more =
+          here.step.is ∙ ap (λ (z : List Line). here.first ++ (z ++ here.step.more)) (group_front before l1 r1 c1 g1 place b) in
+          let only : (other : ℕ) → BoundBy Sort.Group before other → handle_at (map handle_of r1) other ≡ h → other ≡ place =
+          λ other y e. one_bound ObjectKind.Group Sort.Group binds_group groups_list terms es ns u.legal who start before l1 r1 X at1 c1 g1 other place y b
+          e in
+          let early : (g : ℕ) → BoundBy Sort.Group here.before g → handle_at (map handle_of here.replies) g ≡ h → ⊥ = λ g y e. let l : g < length here.before =
+          y.early in let n : length here.replies ≡ length here.before = here.step.many in let m : length here.before ≡ place = here.early in
+          let same : g ≡ place = only g (subst (λ (z : List Statement). BoundBy Sort.Group z g) (sym here.step.parted)
+          (bound_longer Sort.Group here.before (b.statement ∷ here.step.rest) g y)) (ap (λ (z : List Reply). handle_at (map handle_of z) g) here.step.told
+          ∙ handles_front here.replies (here.reply ∷ here.step.others) g (omega arith) ∙ e) in absurd (omega arith) in
+          let first_unused : Each (λ l. uses h l.op ≡ false) here.first =
+          statements_each (λ o. uses h o ≡ false) here.before here.first here.replies here.step.carried
+          (λ pre k1 q1 t front r z. made_each (λ o. uses h o
+          ≡ false) (call_of (map handle_of q1) t.deed) front r
+          (uses_call h pre t (map handle_of q1) (step_statement here.before here.first here.replies pre k1 q1 t front r z
+          (are_front [] here.before (b.statement ∷ here.step.rest) (subst (AreStatements []) here.step.parted are))) (λ g o e. let v =
+          step_bound here.before here.first here.replies pre k1 q1 t front r z Sort.Group g o in early g v.0 (v.1 ∙ e))) z.made) in
+          let fits : Fit actions all fault_told place (members_in h [] here.step.more) (faults_after actions all no_faults before place) =
+          subst (λ (x : List ℕ). Fit actions all fault_told place x (faults_after actions all no_faults before place)) (ap (members_in h []) lines_are
+          ∙ members_append h [] here.first (made_line ∷ here.step.more)
+          ∙ ap (λ (x : List ℕ). members_in h x here.step.more) (unused_lines h [] here.first first_unused))
+          (fits_along actions all ends place h before l1 r1 c1 are more split refl only p1) in
           let look : Line = line (Op.AllLook (record { 0 = h }) false) r n in
           let e1 : NodeEntry = entry who (Op.AllLook (record { 0 = h }) false) r in
           let e0 : NodeEntry = entry who Op.GroupCreate (Reply.Handle h) in
           let c : Cut who es ns (start ++ l1) look (B ++ finish) = cut who es ns (start ++ l1) look (B ++ finish) at in
-          let inner : lines_of who c.before c.first ≡ (start ++ here.first) ++ made_line ∷ here.step.more = c.done ∙ ap (λ (z : List Line). start ++ z) lines_are ∙ sym (append_assoc start here.first (made_line ∷ here.step.more)) in
-          let d : Cut who c.before c.first (start ++ here.first) made_line here.step.more = cut who c.before c.first (start ++ here.first) made_line here.step.more inner in
-          let legal : Legal terms (d.before ++ e0 ∷ (d.behind ++ e1 ∷ [])) = subst (Legal terms) (ap (λ (z : List NodeEntry). z ++ e1 ∷ []) d.is ∙ append_assoc d.before (e0 ∷ d.behind) (e1 ∷ [])) (legal_here layout load es ns u who (start ++ l1) look (B ++ finish) c) in
+          let inner : lines_of who c.before c.first ≡ (start ++ here.first) ++ made_line ∷ here.step.more =
+          c.done ∙ ap (λ (z : List Line). start ++ z) lines_are ∙ sym (append_assoc start here.first (made_line ∷ here.step.more)) in
+          let d : Cut who c.before c.first (start ++ here.first) made_line here.step.more =
+          cut who c.before c.first (start ++ here.first) made_line here.step.more inner in
+          let legal : Legal terms (d.before ++ e0 ∷ (d.behind ++ e1 ∷ [])) =
+          subst (Legal terms) (ap (λ (z : List NodeEntry). z ++ e1 ∷ []) d.is
+          ∙ append_assoc d.before (e0 ∷ d.behind) (e1 ∷ [])) (legal_here layout load es ns u who (start ++ l1) look (B ++ finish) c) in
           let quiet : AreQuiet (d.before ++ e0 ∷ d.behind) = subst AreQuiet d.is (quiet_before layout load es ns u who (start ++ l1) look (B ++ finish) c) in
           let quiet_behind : AreQuiet d.behind = (quiet_rest d.before (e0 ∷ d.behind) quiet).1 in
           let by_who : NodeEntry → Type 0 = λ e. uses h e.op ≡ true → e.who ≡ who in
-          let mine : OnlyBy who (uses h) d.behind = (each_behind by_who d.before (e0 ∷ d.behind) (subst (OnlyBy who (uses h)) d.is (each_front by_who c.before (e1 ∷ c.behind) (subst (OnlyBy who (uses h)) c.is (one_uses layout load es ns u who h (gave_in ObjectKind.Group h (lines_of who es ns) start l1 X at1 (bound_gave ObjectKind.Group Sort.Group binds_group before l1 r1 c1 g1 place b h refl))))))).1 in
+          let mine : OnlyBy who (uses h) d.behind =
+          (each_behind by_who d.before (e0 ∷ d.behind)
+          (subst (OnlyBy who (uses h)) d.is (each_front by_who c.before (e1
+          ∷ c.behind) (subst (OnlyBy who (uses h)) c.is
+          (one_uses layout load es ns u who h (gave_in ObjectKind.Group h (lines_of who es ns) start l1 X at1
+          (bound_gave ObjectKind.Group Sort.Group binds_group before l1 r1 c1 g1 place b h refl))))))).1 in
           let same : length d.behind ≡ length d.rest = d.alike c.same in
-          let members : members_of h [] d.behind ≡ members_in h [] here.step.more = members_lines who h [] d.behind d.rest same mine ∙ ap (members_in h []) d.left in
-          let unclosed : NoClose d.behind = let a : asks closes c.before ≡ 0 = f.unclosed l1 look B c in let x : asks closes c.before ≡ asks closes d.before + (0 + asks closes d.behind) = ap (asks closes) d.is ∙ many_append (λ e. closes e.op) d.before (e0 ∷ d.behind) in no_close d.behind (omega arith) in
+          let members : members_of h [] d.behind ≡ members_in h [] here.step.more =
+          members_lines who h [] d.behind d.rest same mine ∙ ap (members_in h []) d.left in
+          let unclosed : NoClose d.behind = let a : asks closes c.before ≡ 0 = f.unclosed l1 look B c in
+          let x : asks closes c.before ≡ asks closes d.before + (0 + asks closes d.behind) =
+          ap (asks closes) d.is ∙ many_append (λ e. closes e.op) d.before (e0 ∷ d.behind) in no_close d.behind (omega arith) in
           let is_one : NodeEntry → Type 0 = λ e. is_planned actions e.op ≡ true in
-          let going : GoOn h d.behind = go_on actions h d.behind (each_behind is_one d.before (e0 ∷ d.behind) (subst (ArePlanned actions) d.is (each_front is_one c.before (e1 ∷ c.behind) (subst (ArePlanned actions) c.is (planned layout load es ns u))))).1 unclosed in
-          let told : (r ≡ Reply.Pending) ⊎ IsVerdict (after terms (d.before ++ e0 ∷ d.behind)) (members_of h [] d.behind) r = quiet_verdicts terms d.before d.behind who who (record { 0 = h }) r legal (quiet_front d.before (e0 ∷ d.behind) quiet) quiet_behind going in
-          let parted_here : es ≡ (d.before ++ e0 ∷ d.behind) ++ ((e1 ∷ c.behind) ++ []) = c.is ∙ ap (λ (z : List NodeEntry). z ++ e1 ∷ c.behind) d.is ∙ ap (λ (z : List NodeEntry). (d.before ++ e0 ∷ d.behind) ++ z) (sym (append-nil (e1 ∷ c.behind))) in
-          let stays : (j : ℕ) (e : TaskEnd) → end_at (after terms (d.before ++ e0 ∷ d.behind)).tasks j ≡ Some e → ends j ≡ Some e = λ j e i. ap (λ (L : List NodeEntry). end_at (after terms L).tasks j) (parted_here ∙ ap (λ (z : List NodeEntry). (d.before ++ e0 ∷ d.behind) ++ z) (append-nil (e1 ∷ c.behind))) ∙ front_stays terms es (d.before ++ e0 ∷ d.behind) (e1 ∷ c.behind) [] j e u.legal parted_here i in
+          let going : GoOn h d.behind = go_on actions h d.behind
+          (each_behind is_one d.before (e0 ∷ d.behind)
+          (subst (ArePlanned actions) d.is (each_front is_one c.before (e1 ∷ c.behind) (subst (ArePlanned actions) c.is (planned layout load es ns u))))).1
+          unclosed in
+          let told : (r ≡ Reply.Pending) ⊎ IsVerdict (after terms (d.before ++ e0 ∷ d.behind)) (members_of h [] d.behind) r =
+          quiet_verdicts terms d.before d.behind who who (record { 0 = h }) r legal (quiet_front d.before (e0 ∷ d.behind) quiet) quiet_behind going in
+          let parted_here : es ≡ (d.before ++ e0 ∷ d.behind) ++ ((e1 ∷ c.behind) ++ []) =
+          c.is ∙ ap (λ (z : List NodeEntry). z ++ e1 ∷ c.behind) d.is
+          ∙ ap (λ (z : List NodeEntry). (d.before ++ e0 ∷ d.behind) ++ z) (sym (append-nil (e1 ∷ c.behind))) in
+          let stays : (j : ℕ) (e : TaskEnd) → end_at (after terms (d.before ++ e0 ∷ d.behind)).tasks j ≡ Some e → ends j ≡ Some e =
+          λ j e i. ap (λ (L : List NodeEntry). end_at (after terms L).tasks j) (parted_here
+          ∙ ap (λ (z : List NodeEntry). (d.before ++ e0 ∷ d.behind) ++ z) (append-nil (e1 ∷ c.behind)))
+          ∙ front_stays terms es (d.before ++ e0 ∷ d.behind) (e1 ∷ c.behind) [] j e u.legal parted_here i in
           elim told as (λ z. r ≡ verdict (faults_after actions all no_faults before place)) [
             | inl i ↦ true_false (ap is_pending i) decides
-            | inr v ↦ one_verdict fault_told (after terms (d.before ++ e0 ∷ d.behind)) (members_of h [] d.behind) r (faults_after actions all no_faults before place) v
+            | inr v ↦ one_verdict fault_told (after terms (d.before ++ e0 ∷ d.behind)) (members_of h [] d.behind) r
+                (faults_after actions all no_faults before place) v
                 (λ j k. let x = v.ended j k in ap (option_and_then fault_of) (x.1 ∙ sym (stays j x.0 x.1)))
                 (subst (λ (x : List ℕ). Fit actions all fault_told place x (faults_after actions all no_faults before place)) (sym members) fits).matches
-                (λ j k x y m o p q. one_status place x y (faults_of actions all) one (fits.among j x (subst (λ (z : List ℕ). has z j ≡ true) members m) p) (fits.among k y (subst (λ (z : List ℕ). has z k ≡ true) members o) q))
+                (λ j k x y m o p q. one_status place x y (faults_of actions all) one (fits.among j x (subst (λ (z : List ℕ). has z j ≡ true) members m) p)
+                (fits.among k y (subst (λ (z : List ℕ). has z k ≡ true) members o) q))
           ]

@@ -122,13 +122,17 @@ pub record IsQueued (L : List NodeEntry) (q job priority : ℕ) : Type 0 where
 
 -- an action, a group, a task and a queue are made where there is room for them and all that they need was made before
 pub record CallsAreGranted (terms : Terms) (L : List NodeEntry) (who : ℕ) (r : Reply) : Type 0 where
-  pub action : (job : ℕ) (kind : Kind) (cores : Mask) → Asks terms L who (ActionCreate job kind cores) r → is_job job ≡ true → HasRoom terms kinds.Action L → IsGranted r
+  pub action : (job : ℕ) (kind : Kind) (cores : Mask) → Asks terms L who (ActionCreate job kind cores) r → is_job job ≡ true → HasRoom terms kinds.Action L
+      → IsGranted r
   pub group : Asks terms L who GroupCreate r → HasRoom terms kinds.Group L → IsGranted r
-  pub start : (job : ℕ) (args : List ℤ) (priority : ℕ) (cores : Mask) (group : Option GroupHandle) → Asks terms L who (TaskStart job args priority cores false group) r
+  pub start : (job : ℕ) (args : List ℤ) (priority : ℕ) (cores : Mask) (group : Option GroupHandle)
+      → Asks terms L who (TaskStart job args priority cores false group) r
       → priority < terms.settings.priorities → HasRoom terms kinds.Task L → IsServed terms L job cores.0 → GroupIsMade group L → IsGranted r
   pub queue : (id job priority limit : ℕ) (ordered retain : Bool) → Asks terms L who (QueueCreate id job priority limit ordered retain) r
-      → priority < terms.settings.priorities → (1 ≤ limit) × (limit ≤ 65536) → HasRoom terms kinds.Queue L → HasAction L job → some_entry (λ e. makes_queue id e.op) L ≡ false → IsGranted r
-  pub enqueue : (q : QueueHandle) (job priority : ℕ) (args : List ℤ) (cores : Mask) (group : Option GroupHandle) → Asks terms L who (TaskEnqueue q args cores false group) r
+      → priority < terms.settings.priorities → (1 ≤ limit) × (limit ≤ 65536) → HasRoom terms kinds.Queue L → HasAction L job
+      → some_entry (λ e. makes_queue id e.op) L ≡ false → IsGranted r
+  pub enqueue : (q : QueueHandle) (job priority : ℕ) (args : List ℤ) (cores : Mask) (group : Option GroupHandle)
+      → Asks terms L who (TaskEnqueue q args cores false group) r
       → IsQueued L q.0 job priority → HasRoom terms kinds.Task L → IsServed terms L job cores.0 → GroupIsMade group L → IsGranted r
 
 abbrev pub QuietCallsAreGranted : Type 0

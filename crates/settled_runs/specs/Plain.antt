@@ -50,7 +50,8 @@ unfoldable pub task_in : List Statement → Deed → Option NewTask
 task_in ss (deed.Start job args priority cores detached group) =
     Some (record { job = job; args = args; priority = priority; cores = cores.0; detached = detached; group = group; queue = None })
 task_in ss (deed.Enqueue queue args cores detached group) =
-    option_map (λ q. record { job = q.job; args = args; priority = q.priority; cores = cores.0; detached = detached; group = group; queue = Some queue }) (queue_at ss queue)
+    option_map (λ q. record { job = q.job; args = args; priority = q.priority; cores = cores.0; detached = detached; group = group; queue = Some queue })
+    (queue_at ss queue)
 task_in ss _ = None
 
 -- the end of a task where nothing but its action ends it: the answer of the kind of its job's first action
@@ -108,7 +109,8 @@ plain_call_line part faults s _ = []
 -- the lines of these statements of a part, behind those that left these faults
 unfoldable pub plain_calls_from : List Action → Part → Faults → List Statement → List ℕ
 plain_calls_from actions p faults [] = []
-plain_calls_from actions p faults (s ∷ ss) = plain_call_line p.name faults s s.deed ++ plain_calls_from actions p (faults_behind actions p.statements faults s.deed) ss
+plain_calls_from actions p faults (s ∷ ss) =
+    plain_call_line p.name faults s s.deed ++ plain_calls_from actions p (faults_behind actions p.statements faults s.deed) ss
 
 -- the lines of the calls of a part
 abbrev pub plain_call_lines : List Action → Part → List ℕ

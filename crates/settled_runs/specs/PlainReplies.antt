@@ -25,8 +25,10 @@ IsPlainTask actions ends asked r = (t : NewTask) × (asked ≡ Some t) × (h : �
 unfoldable pub IsPlainReply : List Action → List Statement → (ℕ → Option TaskEnd) → Faults → Deed → Reply → Type 0
 IsPlainReply actions all ends faults deed.Begin r = is_status r ≡ false
 IsPlainReply actions all ends faults (deed.Action job kind cores) r = is_status r ≡ false
-IsPlainReply actions all ends faults (deed.Start job args priority cores detached group) r = IsPlainTask actions ends (task_in all (deed.Start job args priority cores detached group)) r
-IsPlainReply actions all ends faults (deed.Enqueue queue args cores detached group) r = IsPlainTask actions ends (task_in all (deed.Enqueue queue args cores detached group)) r
+IsPlainReply actions all ends faults (deed.Start job args priority cores detached group) r =
+    IsPlainTask actions ends (task_in all (deed.Start job args priority cores detached group)) r
+IsPlainReply actions all ends faults (deed.Enqueue queue args cores detached group) r =
+    IsPlainTask actions ends (task_in all (deed.Enqueue queue args cores detached group)) r
 IsPlainReply actions all ends faults (deed.Wait place timeout) r = is_status r ≡ false
 IsPlainReply actions all ends faults deed.Group r = is_status r ≡ false
 IsPlainReply actions all ends faults (deed.WaitAll group timeout) r = r ≡ verdict (faults group)
@@ -37,7 +39,8 @@ IsPlainReply actions all ends faults _ r = ⊥
 unfoldable pub ArePlain : List Action → List Statement → (ℕ → Option TaskEnd) → Faults → List Statement → List Reply → Type 0
 ArePlain actions all ends faults [] rs = Unit {0}
 ArePlain actions all ends faults (s ∷ ss) [] = ⊥
-ArePlain actions all ends faults (s ∷ ss) (r ∷ rs) = IsPlainReply actions all ends faults s.deed r × ArePlain actions all ends (faults_behind actions all faults s.deed) ss rs
+ArePlain actions all ends faults (s ∷ ss) (r ∷ rs) =
+    IsPlainReply actions all ends faults s.deed r × ArePlain actions all ends (faults_behind actions all faults s.deed) ss rs
 
 -- each part is told with such replies
 unfoldable pub PartsArePlain : List Action → (ℕ → Option TaskEnd) → List Part → List Told → Type 0
@@ -50,4 +53,5 @@ PartsArePlain actions ends (p ∷ ps) (t ∷ ts) =
 -- the report of such replies is the plain one
 abbrev pub PlainRepliesShowPlainReport : Type 0
 PlainRepliesShowPlainReport =
-    (load : Workload) (ends : ℕ → Option TaskEnd) (told : List Told) → PartsArePlain (actions_in (all_statements load)) ends load.parts told → report_by ends told ≡ plain_report load
+    (load : Workload) (ends : ℕ → Option TaskEnd) (told : List Told) → PartsArePlain (actions_in (all_statements load)) ends load.parts told
+    → report_by ends told ≡ plain_report load

@@ -33,4 +33,5 @@ plain_summary load = totals_text (with_plain_parts (actions_in (all_statements l
 
 -- the summary of a run of a settled workload is the plain one, whatever the number of workers and in whichever order the calls came
 abbrev pub SettledSummariesArePlain : Type 0
-SettledSummariesArePlain = (layout : Layout) (load : Workload) (es : List NodeEntry) (ns : List ℕ) → SettledRun layout load es ns → summary layout load es ≡ plain_summary load
+SettledSummariesArePlain = (layout : Layout) (load : Workload) (es : List NodeEntry) (ns : List ℕ) → SettledRun layout load es ns
+    → summary layout load es ≡ plain_summary load

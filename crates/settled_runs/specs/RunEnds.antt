@@ -21,5 +21,6 @@ pub record EndsAsPlanned (layout : Layout) (load : Workload) (es : List NodeEntr
 -- in a run of a settled workload each task that was accepted does, in whatever order its entries came
 abbrev pub SettledTasksEndAsPlanned : Type 0
 SettledTasksEndAsPlanned =
-    (layout : Layout) (load : Workload) (es : List NodeEntry) (ns : List ℕ) → is_settled load ≡ true → Legal (run_terms layout load) es → length es ≡ length ns → RunOf load es ns
+    (layout : Layout) (load : Workload) (es : List NodeEntry) (ns : List ℕ) → is_settled load ≡ true → Legal (run_terms layout load) es → length es ≡ length ns
+    → RunOf load es ns
     → (before behind : List NodeEntry) (e : NodeEntry) (h : ℕ) → es ≡ before ++ e ∷ behind → accepted e ≡ Some h → EndsAsPlanned layout load es e h

@@ -47,4 +47,5 @@ pub record SettledRun (layout : Layout) (load : Workload) (es : List NodeEntry) 
 
 -- in such a run each statement that makes an object is given its handle
 abbrev pub SettledStatementsAreGranted : Type 0
-SettledStatementsAreGranted = (layout : Layout) (load : Workload) (es : List NodeEntry) (ns : List ℕ) → (u : SettledRun layout load es ns) → PartsGranted load.parts u.run.replies
+SettledStatementsAreGranted = (layout : Layout) (load : Workload) (es : List NodeEntry) (ns : List ℕ) → (u : SettledRun layout load es ns)
+    → PartsGranted load.parts u.run.replies

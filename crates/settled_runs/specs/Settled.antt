@@ -49,9 +49,12 @@ unfoldable pub is_settled_deed : NodeSettings → List Action → List Statement
 is_settled_deed settings actions before all deed.Begin = true
 is_settled_deed settings actions before all (deed.Action job kind cores) = is_pure kind
 is_settled_deed settings actions before all deed.Group = true
-is_settled_deed settings actions before all (deed.Queue id job priority limit ordered retain) = nat_lt priority settings.priorities && list_any (has_job job) actions
-is_settled_deed settings actions before all (deed.Start job args priority cores detached group) = is_startable settings actions (task_in all (deed.Start job args priority cores detached group))
-is_settled_deed settings actions before all (deed.Enqueue queue args cores detached group) = is_startable settings actions (task_in all (deed.Enqueue queue args cores detached group))
+is_settled_deed settings actions before all (deed.Queue id job priority limit ordered retain) =
+    nat_lt priority settings.priorities && list_any (has_job job) actions
+is_settled_deed settings actions before all (deed.Start job args priority cores detached group) =
+    is_startable settings actions (task_in all (deed.Start job args priority cores detached group))
+is_settled_deed settings actions before all (deed.Enqueue queue args cores detached group) =
+    is_startable settings actions (task_in all (deed.Enqueue queue args cores detached group))
 is_settled_deed settings actions before all (deed.Wait place timeout) =
     is_infinite timeout && is_alone (option_and_then (λ s. task_in all s.deed) (slice_get all place)) && not (list_any (λ s. waits_for place s.deed) before)
 is_settled_deed settings actions before all (deed.WaitAll group timeout) = is_infinite timeout
@@ -62,7 +65,8 @@ is_settled_deed settings actions before all _ = false
 -- each of these statements is one, behind those before it, where these actions stand before the part
 unfoldable pub are_settled : NodeSettings → List Action → List Statement → List Statement → List Statement → Bool
 are_settled settings actions all before [] = true
-are_settled settings actions all before (s ∷ ss) = is_settled_deed settings (actions ++ actions_in before) before all s.deed && are_settled settings actions all (before ++ s ∷ []) ss
+are_settled settings actions all before (s ∷ ss) =
+    is_settled_deed settings (actions ++ actions_in before) before all s.deed && are_settled settings actions all (before ++ s ∷ []) ss
 
 abbrev pub is_settled_part : NodeSettings → List Action → Part → Bool
 is_settled_part settings actions p = are_settled settings actions p.statements [] p.statements
@@ -89,7 +93,8 @@ is_settled_further settings actions p = not (set_up p.statements) && is_settled_
 abbrev pub are_settled_parts : NodeSettings → List Part → Bool
 are_settled_parts settings [] = false
 are_settled_parts settings (p ∷ []) = is_settled_part settings [] p
-are_settled_parts settings (p ∷ ps) = sets_up_first p.statements && is_settled_part settings [] p && list_all (is_settled_further settings (actions_in p.statements)) ps
+are_settled_parts settings (p ∷ ps) = sets_up_first p.statements && is_settled_part settings [] p
+    && list_all (is_settled_further settings (actions_in p.statements)) ps
 
 -- The whole workload
 
@@ -140,7 +145,8 @@ puts_into place _ = false
 -- of these statements of a part, the first at this place, no queue gets more tasks than its limit
 unfoldable pub keep_limits : List Statement → ℕ → List Statement → Bool
 keep_limits all place [] = true
-keep_limits all place (s ∷ ss) = not (holds (λ q. nat_lt q.limit (how_many (λ e. puts_into place e.deed) all)) (queue_in s.deed)) && keep_limits all (place + 1) ss
+keep_limits all place (s ∷ ss) = not (holds (λ q. nat_lt q.limit (how_many (λ e. puts_into place e.deed) all)) (queue_in s.deed))
+    && keep_limits all (place + 1) ss
 
 -- a group and a fault, where there are both
 abbrev pub both : Option ℕ → Option MtapiStatus → List (ℕ × MtapiStatus)

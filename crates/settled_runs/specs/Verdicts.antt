@@ -71,5 +71,6 @@ GoOn g (e ∷ es) = (goes_on g e.op ≡ true) × GoOn g es
 abbrev pub QuietVerdicts : Type 0
 QuietVerdicts =
     (terms : Terms) (before behind : List NodeEntry) (maker who : ℕ) (g : GroupHandle) (r : Reply)
-    → Legal terms (before ++ entry maker GroupCreate (Handle g.0) ∷ (behind ++ entry who (AllLook g false) r ∷ [])) → AreQuiet before → AreQuiet behind → GoOn g.0 behind
+    → Legal terms (before ++ entry maker GroupCreate (Handle g.0) ∷ (behind ++ entry who (AllLook g false) r ∷ [])) → AreQuiet before → AreQuiet behind
+    → GoOn g.0 behind
     → (r ≡ Pending) ⊎ IsVerdict (after terms (before ++ entry maker GroupCreate (Handle g.0) ∷ behind)) (members_of g.0 [] behind) r

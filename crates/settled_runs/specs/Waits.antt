@@ -39,4 +39,5 @@ pub record IsLeft (who h : ℕ) (L : List NodeEntry) : Type 0 where
 
 -- a look by this seat, which isn't its last, is told the end or that there is none yet
 abbrev pub QuietLooksAreAnswered : Type 0
-QuietLooksAreAnswered = (terms : Terms) (L : List NodeEntry) (who : ℕ) (t : TaskHandle) (r : Reply) → Asks terms L who (TaskLook t false) r → IsLeft who t.0 L → (r ≡ Pending) ⊎ ((end : TaskEnd) × (r ≡ Ended end))
+QuietLooksAreAnswered = (terms : Terms) (L : List NodeEntry) (who : ℕ) (t : TaskHandle) (r : Reply) → Asks terms L who (TaskLook t false) r → IsLeft who t.0 L
+    → (r ≡ Pending) ⊎ ((end : TaskEnd) × (r ≡ Ended end))

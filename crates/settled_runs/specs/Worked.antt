@@ -81,7 +81,8 @@ lines texts = flat_map (λ text. text ++ 10 ∷ []) texts
 
 -- a task that is waited for, and a group with a member that fails, whose second wait finds none
 abbrev pub failing : Workload
-failing = load_of (main (action 1 kind.Triangle ∷ start (pos 4 ∷ []) None ∷ wait 1 ∷ deed.Group ∷ start (pos 3 ∷ []) (Some 3) ∷ start [] (Some 3) ∷ wait_all 3 ∷ wait_all 3 ∷ []) ∷ [])
+failing = load_of (main (action 1 kind.Triangle ∷ start (pos 4 ∷ []) None ∷ wait 1 ∷ deed.Group ∷ start (pos 3 ∷ []) (Some 3) ∷ start [] (Some 3) ∷ wait_all 3
+    ∷ wait_all 3 ∷ []) ∷ [])
 
 -- a queue of main's, and a further caller
 abbrev pub shared : Workload
@@ -89,7 +90,8 @@ shared = load_of (main (action 1 kind.Echo ∷ queue 5 ∷ deed.Begin ∷ put 1 
 
 pub record WorkedSettled : Type 0 where
   pub failing_settled : is_settled failing ≡ true
-  pub failing_report : plain_report failing ≡ lines (codes "main.x completed 10" ∷ codes "main.x completed 6" ∷ codes "main.x error MTAPI_ERR_ARG_SIZE" ∷ codes "! main 8 MTAPI_ERR_ARG_SIZE" ∷ [])
+  pub failing_report : plain_report failing
+      ≡ lines (codes "main.x completed 10" ∷ codes "main.x completed 6" ∷ codes "main.x error MTAPI_ERR_ARG_SIZE" ∷ codes "! main 8 MTAPI_ERR_ARG_SIZE" ∷ [])
   pub failing_summary : plain_summary failing ≡ lines (codes "tasks 3 completed 2 cancelled 0 error 1 refused 0 sum 16" ∷ [])
   pub shared_settled : is_settled shared ≡ true
   pub shared_report : plain_report shared ≡ lines (codes "main.x completed" ∷ codes "c.x completed 7" ∷ [])
@@ -99,9 +101,11 @@ pub record WorkedSettled : Type 0 where
   pub sum_summary : summary One sum_load one_task ≡ plain_summary sum_load
   pub two_actions : alone (action 1 kind.Add ∷ action 1 kind.Add ∷ action 2 kind.Mul ∷ start [] None ∷ []) ≡ true
   -- a priority above 0, of a task and of a queue
-  pub priority_one : alone (action 1 kind.Add ∷ deed.Start 1 [] 1 every_core false None ∷ deed.Queue 1 1 1 1 true false ∷ deed.Enqueue 2 [] every_core false None ∷ []) ≡ true
+  pub priority_one : alone (action 1 kind.Add ∷ deed.Start 1 [] 1 every_core false None ∷ deed.Queue 1 1 1 1 true false
+      ∷ deed.Enqueue 2 [] every_core false None ∷ []) ≡ true
   -- as many actions, groups, queues and tasks as there is room for, and as many tasks of a queue as its limit
-  pub all_room : alone (action 1 kind.Add ∷ action 2 kind.Add ∷ action 3 kind.Add ∷ deed.Group ∷ deed.Group ∷ queue 1 ∷ queue 2 ∷ put 5 ∷ put 5 ∷ start [] None ∷ []) ≡ true
+  pub all_room : alone (action 1 kind.Add ∷ action 2 kind.Add ∷ action 3 kind.Add ∷ deed.Group ∷ deed.Group ∷ queue 1 ∷ queue 2 ∷ put 5 ∷ put 5 ∷ start [] None
+      ∷ []) ≡ true
   -- a wait for a task of a queue, and a wait for each of two
   pub two_waits : alone (action 1 kind.Add ∷ queue 1 ∷ put 1 ∷ start [] None ∷ wait 3 ∷ wait 2 ∷ []) ≡ true
   pub begin_alone : alone (deed.Begin ∷ action 1 kind.Add ∷ start [] None ∷ []) ≡ true
@@ -152,4 +156,5 @@ pub record WorkedUnsettled : Type 0 where
   pub cancelled_report : report One cancelled_load cancelled_run ≡ lines (codes "main.t cancelled" ∷ [])
   pub full_unsettled : is_settled full_load ≡ false
   pub full_plain : plain_report full_load ≡ lines (codes "main.t completed 5" ∷ codes "main.u completed 5" ∷ [])
-  pub full_report : report One full_load full_run ≡ lines (codes "main.t completed 5" ∷ codes "main.u refused MTAPI_ERR_TASK_LIMIT" ∷ codes "! main 4 MTAPI_ERR_TASK_INVALID" ∷ [])
+  pub full_report : report One full_load full_run
+      ≡ lines (codes "main.t completed 5" ∷ codes "main.u refused MTAPI_ERR_TASK_LIMIT" ∷ codes "! main 4 MTAPI_ERR_TASK_INVALID" ∷ [])

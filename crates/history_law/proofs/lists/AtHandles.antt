@@ -5,7 +5,8 @@ use Rattle.history_law.proofs.lists.Found.{at_skip, at_here}
 use Rattle.history_law.proofs.lists.Handles.{OnceIn, head_apart}
 
 module _ {T : Type 0} where
-  pub at_change_other : (x h : ℕ) (f : Listed T → Listed T) (l : List (Listed T)) → ((r : Listed T) → (f r).handle ≡ r.handle) → (x == h) ≡ false → live_object (change x f l) h ≡ live_object l h
+  pub at_change_other : (x h : ℕ) (f : Listed T → Listed T) (l : List (Listed T)) → ((r : Listed T) → (f r).handle ≡ r.handle) → (x == h) ≡ false
+      → live_object (change x f l) h ≡ live_object l h
   unfolding change live_of
   at_change_other x h f [] k n = refl
   at_change_other x h f (r ∷ rs) k n = grind (arith, nat_tests, k r, at_change_other x h f rs k n)
@@ -32,12 +33,15 @@ module _ {T : Type 0} where
 
   -- P of the object of the handle j before and after a change of that of the handle h, and of whether it is the same one
   module _ (P : Bool → Option T → Option T → Type 0) (h j : ℕ) (l : List (Listed T)) (stays : (o : Option T) → P false o o) where
-    where_same : (m : List (Listed T)) (o p : Option T) → live_object l h ≡ o → live_object m h ≡ p → P true o p → ((h == j) ≡ false → live_object m j ≡ live_object l j) → P (h == j) (live_object l j) (live_object m j)
+    where_same : (m : List (Listed T)) (o p : Option T) → live_object l h ≡ o → live_object m h ≡ p → P true o p
+        → ((h == j) ≡ false → live_object m j ≡ live_object l j) → P (h == j) (live_object l j) (live_object m j)
     where_same m o p a b x k = on_test (λ c. P c (live_object l j) (live_object m j)) (h == j)
-        (λ i. subst (λ (z : ℕ). P true (live_object l z) (live_object m z)) (eqb-true h j i) (subst (λ (q : Option T). P true q (live_object m h)) (sym a) (subst (P true o) (sym b) x)))
+        (λ i. subst (λ (z : ℕ). P true (live_object l z) (live_object m z)) (eqb-true h j i)
+        (subst (λ (q : Option T). P true q (live_object m h)) (sym a) (subst (P true o) (sym b) x)))
         (λ i. subst (P false (live_object l j)) (sym (k i)) (stays (live_object l j)))
 
-    pub where_changed : (f : T → T) (v : T) → live_object l h ≡ Some v → P true (Some v) (Some (f v)) → P (h == j) (live_object l j) (live_object (change h (with_fields f) l) j)
+    pub where_changed : (f : T → T) (v : T) → live_object l h ≡ Some v → P true (Some v) (Some (f v))
+        → P (h == j) (live_object l j) (live_object (change h (with_fields f) l) j)
     where_changed f v e x = where_same _ (Some v) (Some (f v)) e (at-update h f v l e) x (at_change_other h j (with_fields f) l (λ r. refl))
 
     pub where_retired : (v : T) → OnceIn l → live_object l h ≡ Some v → P true (Some v) None → P (h == j) (live_object l j) (live_object (change h gone l) j)

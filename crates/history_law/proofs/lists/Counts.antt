@@ -6,7 +6,8 @@ abbrev pub one_if : Bool → ℕ
 one_if b = cond b 1 0
 
 -- where each entry that passes x adds one to the number, and each that passes y takes one
-pub counts_along : (V : State → ℕ) (x y : NodeEntry → Bool) (G : State → Type 0) → ((s : State) (e : NodeEntry) → IsNext s e → G s → G (next s e) × (V (next s e) + one_if (y e) ≡ V s + one_if (x e)))
+pub counts_along : (V : State → ℕ) (x y : NodeEntry → Bool) (G : State → Type 0)
+    → ((s : State) (e : NodeEntry) → IsNext s e → G s → G (next s e) × (V (next s e) + one_if (y e) ≡ V s + one_if (x e)))
     → (s : State) (L : List NodeEntry) → LegalFrom s L → G s → G (after_from s L) × (entries_that y L + V (after_from s L) ≡ V s + entries_that x L)
 unfolding LegalFrom after_from
 counts_along V x y G k s [] l g = (g, omega arith)
@@ -18,7 +19,8 @@ counts_along V x y G k s (e ∷ es) l g =
     (r.0, omega arith)
 
 -- entries behind those of which none passes are counted alone
-pub counts_behind : (p : NodeEntry → Bool) (A B : List NodeEntry) (e : NodeEntry) → entries_that p A ≡ 0 → p e ≡ false → entries_that p (A ++ e ∷ B) ≡ entries_that p B
+pub counts_behind : (p : NodeEntry → Bool) (A B : List NodeEntry) (e : NodeEntry) → entries_that p A ≡ 0 → p e ≡ false
+    → entries_that p (A ++ e ∷ B) ≡ entries_that p B
 counts_behind p [] B e n i = let z : one_if (p e) ≡ 0 = ap one_if i in omega arith
 counts_behind p (x ∷ A) B e n i = let k : entries_that p (A ++ e ∷ B) ≡ entries_that p B = counts_behind p A B e (omega arith) i in omega arith
 
@@ -34,4 +36,11 @@ pub passes : (p : NodeEntry → Bool) (L : List NodeEntry) → some_entry p L �
 passes p [] i = absurd (cc)
 passes p (e ∷ es) i = on_test (λ b. cond b true (some_entry p es) ≡ true → Passes p (e ∷ es)) (p e)
     (λ j c. record { before = []; by = e; behind = es; cut = refl; is = j })
-    (λ j c. let r = passes p es c in record { before = e ∷ r.before; by = r.by; behind = r.behind; cut = ap (λ (l : List NodeEntry). e ∷ l) r.cut; is = r.is }) i
+    (λ j c. let r = passes p es c in record {
+      before = e ∷ r.before;
+      by = r.by;
+      behind = r.behind;
+      cut = ap (λ (l : List NodeEntry). e ∷ l) r.cut;
+      is =
+          r.is;
+    }) i

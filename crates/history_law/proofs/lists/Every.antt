@@ -1,5 +1,5 @@
 -- What holds of every task that was ever issued, after a change of the list.
-use Rattle.history_law.proofs.Names.{arith, nat_tests, ◌≡◌, ℕ, ◌+◌, Bool, true, false, List, [], ◌∷◌, Some, refl, sym, ◌∙◌, subst, ◌&&◌, cond_both, Listed, live_of, live_object, change, change_all, issue, TaskEnd, Task, Ended, with_state, end_each, some_same, fst_true, snd_true}
+use Rattle.history_law.proofs.Names.{arith, nat_tests, ◌≡◌, ℕ, Bool, true, false, List, [], ◌∷◌, Some, refl, sym, ◌∙◌, subst, cond_both, Listed, live_of, live_object, change, issue, some_same, fst_true, snd_true}
 use Rattle.history_law.proofs.lists.Found.{at_head, at_here, at_past}
 
 module _ {T : Type 0} where
@@ -13,15 +13,11 @@ module _ {T : Type 0} where
   every_issue P j t [] k a = (k, tt)
   every_issue P j t (r ∷ rs) k a = (a.0, every_issue P j t rs k a.1)
 
-  pub every_change : (P : T → Type 0) (j : ℕ) (f : Listed T → Listed T) (l : List (Listed T)) → ((r : Listed T) → live_object l j ≡ Some r.fields → P r.fields → P (f r).fields) → Every P l → Every P (change j f l)
+  pub every_change : (P : T → Type 0) (j : ℕ) (f : Listed T → Listed T) (l : List (Listed T))
+      → ((r : Listed T) → live_object l j ≡ Some r.fields → P r.fields → P (f r).fields) → Every P l → Every P (change j f l)
   unfolding change
   every_change P j f [] g a = tt
   every_change P j f (r ∷ rs) g a = grind (arith, nat_tests, every_change P j f rs, cond_both, at_here, fst_true, snd_true, at_past)
-
-  pub every_all : (P : T → Type 0) (p : T → Bool) (f : Listed T → Listed T) (l : List (Listed T)) → ((r : Listed T) → P r.fields → P (f r).fields) → Every P l → Every P (change_all p f l)
-  unfolding change_all
-  every_all P p f [] g a = tt
-  every_all P p f (r ∷ rs) g a = (cond_both (r.live && p r.fields) (f r) r (λ q. P q.fields) (λ e. g r a.0) (λ e. a.0), every_all P p f rs g a.1)
 
   -- what holds of each object, and what follows
   pub every_map : (P R Q : T → Type 0) (l : List (Listed T)) → ((t : T) → P t → R t → Q t) → Every P l → Every R l → Every Q l
@@ -31,23 +27,12 @@ module _ {T : Type 0} where
   pub every_at : (P : T → Type 0) (l : List (Listed T)) (h : ℕ) (t : T) → Every P l → live_object l h ≡ Some t → P t
   unfolding live_of
   every_at P [] h t a i = absurd (cc)
-  every_at P (r ∷ rs) h t a i = at_head r h (λ b c. subst P (some_same (sym (at_here r rs h b c) ∙ i)) a.0) (λ n. every_at P rs h t a.1 (sym (at_past r rs h n) ∙ i))
-
--- the tasks that pass end; the proof for one may read what holds of all before
-pub every_both : (R P : Task → Type 0) (p : Task → Bool) (e : TaskEnd) (n : ℕ) (l : List (Listed Task)) → ((t : Task) (k : ℕ) → p t ≡ true → R t → P t → P (with_state (Ended e k) t)) → Every R l → Every P l → Every P (end_each p e n l)
-unfolding end_each
-every_both R P p e n [] g b a = tt
-every_both R P p e n (r ∷ rs) g b a = grind (arith, nat_tests, every_both R P p e (n + 1) rs g b.1 a.1, every_both R P p e n rs g b.1 a.1, cond_both, end_each, snd_true)
+  every_at P (r ∷ rs) h t a i = at_head r h (λ b c. subst P (some_same (sym (at_here r rs h b c) ∙ i)) a.0)
+      (λ n. every_at P rs h t a.1 (sym (at_past r rs h n) ∙ i))
 
 pub always : {T : Type 0} (l : List (Listed T)) → Every (λ (t : T). Unit {0}) l
 always [] = tt
 always (r ∷ rs) = (tt, always rs)
-
-pub every_passing : (P : Task → Type 0) (p : Task → Bool) (e : TaskEnd) (n : ℕ) (l : List (Listed Task)) → ((t : Task) (k : ℕ) → p t ≡ true → P t → P (with_state (Ended e k) t)) → Every P l → Every P (end_each p e n l)
-every_passing P p e n l g a = every_both (λ t. Unit {0}) P p e n l (λ t k q u i. g t k q i) (always l) a
-
-pub every_ends : (P : Task → Type 0) (p : Task → Bool) (e : TaskEnd) (n : ℕ) (l : List (Listed Task)) → ((t : Task) (k : ℕ) → P t → P (with_state (Ended e k) t)) → Every P l → Every P (end_each p e n l)
-every_ends P p e n l g a = every_passing P p e n l (λ t k q i. g t k i) a
 
 -- what follows of each
 pub every_part : {T : Type 0} (P Q : T → Type 0) (l : List (Listed T)) → ((t : T) → P t → Q t) → Every P l → Every Q l

@@ -25,7 +25,8 @@ module _ {T : Type 0} where
       (λ a f. by_pass a (p r.fields) refl f (λ i j. first_at p rs h x (once_rest r rs o) i j))
       (λ a f. first_at p rs h x (once_rest r rs o) f (sym (at_dead r rs h a) ∙ e)) f
     where
-      by_pass : r.live ≡ true → (b : Bool) → p r.fields ≡ b → cond b (Some r.handle) (first_handle p (live_of rs)) ≡ Some h → (first_handle p (live_of rs) ≡ Some h → live_object rs h ≡ Some x → p x ≡ true) → p x ≡ true
+      by_pass : r.live ≡ true → (b : Bool) → p r.fields ≡ b → cond b (Some r.handle) (first_handle p (live_of rs)) ≡ Some h
+          → (first_handle p (live_of rs) ≡ Some h → live_object rs h ≡ Some x → p x ≡ true) → p x ≡ true
       by_pass a true i f k =
           let here : live_object (r ∷ rs) h ≡ Some r.fields = at_here r rs h a (eq-eqb r.handle h (some_same f)) in
           subst (λ (y : T). p y ≡ true) (some_same (sym here ∙ e)) i
@@ -38,7 +39,8 @@ module _ {T : Type 0} where
   found_count p (r ∷ rs) h x e i = grind (arith, nat_tests, found_count p rs h x, at_head, some_same, at_here, at_past)
 
   -- where at most one passes, two that do are one
-  pub one_passes : (p : T → Bool) (l : List (Listed T)) (h k : ℕ) (x y : T) → count_listed p l ≤ 1 → live_object l h ≡ Some x → live_object l k ≡ Some y → p x ≡ true → p y ≡ true → x ≡ y
+  pub one_passes : (p : T → Bool) (l : List (Listed T)) (h k : ℕ) (x y : T) → count_listed p l ≤ 1 → live_object l h ≡ Some x → live_object l k ≡ Some y
+      → p x ≡ true → p y ≡ true → x ≡ y
   unfolding live_of
   one_passes p [] h k x y c e f i j = absurd (cc)
   one_passes p (r ∷ rs) h k x y c e f i j = whether r.live
@@ -49,7 +51,8 @@ module _ {T : Type 0} where
       less b d = omega arith
 
       -- the head passes, so that it is both
-      is_head : (g : ℕ) (z : T) → r.live ≡ true → p r.fields ≡ true → live_object (r ∷ rs) g ≡ Some z → p z ≡ true → cond {A = ℕ} (r.live && p r.fields) 1 0 + count_listed p rs ≤ 1 → r.fields ≡ z
+      is_head : (g : ℕ) (z : T) → r.live ≡ true → p r.fields ≡ true → live_object (r ∷ rs) g ≡ Some z → p z ≡ true
+          → cond {A = ℕ} (r.live && p r.fields) 1 0 + count_listed p rs ≤ 1 → r.fields ≡ z
       is_head g z a b q t d = at_head r g (λ i u. some_same (sym (at_here r rs g i u) ∙ q))
           (λ u.
           let n : 1 ≤ count_listed p rs = found_count p rs g z (sym (at_past r rs g u) ∙ q) t in
@@ -58,8 +61,10 @@ module _ {T : Type 0} where
 
       -- it doesn't, so that both are behind it
       behind : (g : ℕ) (z : T) → r.live ≡ true → p r.fields ≡ false → live_object (r ∷ rs) g ≡ Some z → p z ≡ true → live_object rs g ≡ Some z
-      behind g z a b q t = at_head r g (λ i u. true_false t (subst (λ (w : T). p w ≡ false) (some_same (sym (at_here r rs g i u) ∙ q)) b)) (λ u. sym (at_past r rs g u) ∙ q)
+      behind g z a b q t = at_head r g (λ i u. true_false t (subst (λ (w : T). p w ≡ false) (some_same (sym (at_here r rs g i u) ∙ q)) b))
+          (λ u. sym (at_past r rs g u) ∙ q)
 
-      by_pass : r.live ≡ true → (b : Bool) → p r.fields ≡ b → cond {A = ℕ} (r.live && p r.fields) 1 0 + count_listed p rs ≤ 1 → (count_listed p rs ≤ 1 → live_object rs h ≡ Some x → live_object rs k ≡ Some y → x ≡ y) → x ≡ y
+      by_pass : r.live ≡ true → (b : Bool) → p r.fields ≡ b → cond {A = ℕ} (r.live && p r.fields) 1 0 + count_listed p rs ≤ 1
+          → (count_listed p rs ≤ 1 → live_object rs h ≡ Some x → live_object rs k ≡ Some y → x ≡ y) → x ≡ y
       by_pass a true b d g = sym (is_head h x a b e i d) ∙ is_head k y a b f j d
       by_pass a false b d g = g (less _ d) (behind h x a b e i) (behind k y a b f j)

@@ -1,16 +1,12 @@
 -- How often a handle is listed, after a change of the list.
-use Rattle.history_law.proofs.Names.{◌≡◌, ℕ, ◌+◌, ◌≤◌, Bool, false, cond, List, [], ◌∷◌, refl, sym, ap, subst, arith, ◌==◌, eq-eqb, Listed, change, change_all, issue, listed, TaskEnd, Task, end_each, listed-issue, nat_tests}
+use Rattle.history_law.proofs.Names.{◌≡◌, ℕ, ◌≤◌, Bool, false, cond, List, [], ◌∷◌, refl, sym, ap, subst, arith, ◌==◌, eq-eqb, Listed, change, issue, listed, listed-issue, nat_tests}
 
 module _ {T : Type 0} where
-  pub listed_change : (j h : ℕ) (f : Listed T → Listed T) (l : List (Listed T)) → ((r : Listed T) → (f r).handle ≡ r.handle) → listed j (change h f l) ≡ listed j l
+  pub listed_change : (j h : ℕ) (f : Listed T → Listed T) (l : List (Listed T)) → ((r : Listed T) → (f r).handle ≡ r.handle)
+      → listed j (change h f l) ≡ listed j l
   unfolding change listed
   listed_change j h f [] k = refl
   listed_change j h f (r ∷ rs) k = grind (arith, k r, listed_change j h f rs k)
-
-  pub listed_all : (j : ℕ) (p : T → Bool) (f : Listed T → Listed T) (l : List (Listed T)) → ((r : Listed T) → (f r).handle ≡ r.handle) → listed j (change_all p f l) ≡ listed j l
-  unfolding change_all listed
-  listed_all j p f [] k = refl
-  listed_all j p f (r ∷ rs) k = grind (arith, k r, listed_all j p f rs k)
 
   -- where a handle isn't listed, the head has another one
   pub head_apart : (h : ℕ) (r : Listed T) (rs : List (Listed T)) → listed h (r ∷ rs) ≡ 0 → ((r.handle == h) ≡ false) × (listed h rs ≡ 0)
@@ -19,7 +15,8 @@ module _ {T : Type 0} where
 
   -- an issued handle is listed
   pub some_issued : (h : ℕ) (x : T) (l : List (Listed T)) → 1 ≤ listed h (issue h x l)
-  some_issued h x l = let e = listed-issue h h x l in let k : cond {A = ℕ} (h == h) 1 0 ≡ 1 = ap (λ (b : Bool). cond {A = ℕ} b 1 0) (eq-eqb h h refl) in omega arith
+  some_issued h x l = let e = listed-issue h h x l in let k : cond {A = ℕ} (h == h) 1 0 ≡ 1 = ap (λ (b : Bool). cond {A = ℕ} b 1 0) (eq-eqb h h refl) in
+      omega arith
 
   -- each handle is listed at most once
   abbrev pub OnceIn : List (Listed T) → Type 0
@@ -34,8 +31,3 @@ module _ {T : Type 0} where
 
   pub once_more : (h : ℕ) (v : T) (l : List (Listed T)) → listed h l ≡ 0 → OnceIn l → OnceIn (issue h v l)
   once_more h v l n o j = grind (arith, nat_tests, listed-issue j h v l, o j)
-
-pub listed_ends : (j : ℕ) (p : Task → Bool) (e : TaskEnd) (n : ℕ) (l : List (Listed Task)) → listed j (end_each p e n l) ≡ listed j l
-unfolding end_each listed
-listed_ends j p e n [] = refl
-listed_ends j p e n (r ∷ rs) = grind (arith, listed_ends j p e (n + 1) rs, listed_ends j p e n rs)

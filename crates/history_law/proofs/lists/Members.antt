@@ -27,7 +27,8 @@ pub all_endings : (g : ℕ) (l : List (Listed Task)) → ((h : ℕ) → listed h
 unfolding endings live_of listed
 all_endings g [] o = tt
 all_endings g (r ∷ rs) o = cond_both r.live ((r.handle, r.fields) ∷ live_of rs) (live_of rs) (λ q. AllOf (IsEnding g (r ∷ rs)) (endings g q))
-    (λ a. by_member a (is_member g r.fields) refl (all_more (IsEnding g rs) (IsEnding g (r ∷ rs)) (endings g (live_of rs)) later (all_endings g rs (once_rest r rs o))))
+    (λ a. by_member a (is_member g r.fields) refl
+    (all_more (IsEnding g rs) (IsEnding g (r ∷ rs)) (endings g (live_of rs)) later (all_endings g rs (once_rest r rs o))))
     (λ a. (all_more (IsEnding g rs) (IsEnding g (r ∷ rs)) (endings g (live_of rs)) later (all_endings g rs (once_rest r rs o))))
   where
     later : (e : Ending) → IsEnding g rs e → IsEnding g (r ∷ rs) e
@@ -41,7 +42,8 @@ all_endings g (r ∷ rs) o = cond_both r.live ((r.handle, r.fields) ∷ live_of 
           ended = λ x a. i.ended x (sym (at_skip r rs e.task c) ∙ a);
         }
 
-    here : r.live ≡ true → is_member g r.fields ≡ true → (x : Option (TaskEnd × ℕ)) → end_of r.fields.state ≡ x → AllOf (IsEnding g (r ∷ rs)) (endings g (live_of rs)) → AllOf (IsEnding g (r ∷ rs)) (insert_ended r.handle x (endings g (live_of rs)))
+    here : r.live ≡ true → is_member g r.fields ≡ true → (x : Option (TaskEnd × ℕ)) → end_of r.fields.state ≡ x
+        → AllOf (IsEnding g (r ∷ rs)) (endings g (live_of rs)) → AllOf (IsEnding g (r ∷ rs)) (insert_ended r.handle x (endings g (live_of rs)))
     here a m None e k = k
     here a m (Some y) e k =
         let c : (r.handle == r.handle) ≡ true = eq-eqb r.handle r.handle refl in
@@ -53,6 +55,7 @@ all_endings g (r ∷ rs) o = cond_both r.live ((r.handle, r.fields) ∷ live_of 
           ended = λ x i. subst (λ (t : Task). end_of t.state ≡ Some (y.0, y.1)) (some_same (sym f ∙ i)) e;
         }) k
 
-    by_member : r.live ≡ true → (b : Bool) → is_member g r.fields ≡ b → AllOf (IsEnding g (r ∷ rs)) (endings g (live_of rs)) → AllOf (IsEnding g (r ∷ rs)) (cond b (insert_ended r.handle (end_of r.fields.state) (endings g (live_of rs))) (endings g (live_of rs)))
+    by_member : r.live ≡ true → (b : Bool) → is_member g r.fields ≡ b → AllOf (IsEnding g (r ∷ rs)) (endings g (live_of rs))
+        → AllOf (IsEnding g (r ∷ rs)) (cond b (insert_ended r.handle (end_of r.fields.state) (endings g (live_of rs))) (endings g (live_of rs)))
     by_member a true m k = here a m (end_of r.fields.state) refl k
     by_member a false m k = k

@@ -5,7 +5,8 @@ use Rattle.history_law.proofs.Ages.{live_listed}
 use Rattle.history_law.proofs.lists.Found.{at_here, change_here, change_past, at_head, at_past}
 use Rattle.history_law.proofs.lists.Handles.{OnceIn, once_rest}
 
-module _ {T A : Type 0} (h : ℕ) (at : List (Listed T) → A) (of : T → A) (next : (r : Listed T) (rs : List (Listed T)) → at (r ∷ rs) ≡ cond (r.handle == h) (of r.fields) (at rs)) where
+module _ {T A : Type 0} (h : ℕ) (at : List (Listed T) → A) (of : T → A) (next : (r : Listed T) (rs : List (Listed T))
+    → at (r ∷ rs) ≡ cond (r.handle == h) (of r.fields) (at rs)) where
   -- a record that isn't live isn't the one of a live object
   no_dead : (r : Listed T) (rs : List (Listed T)) (t : T) → OnceIn (r ∷ rs) → live_object rs h ≡ Some t → (r.handle == h) ≡ true → ⊥
   unfolding listed
@@ -15,17 +16,23 @@ module _ {T A : Type 0} (h : ℕ) (at : List (Listed T) → A) (of : T → A) (n
   pub read_found : (l : List (Listed T)) (t : T) → OnceIn l → live_object l h ≡ Some t → at l ≡ of t
   unfolding live_of
   read_found [] t o e = absurd (cc)
-  read_found (r ∷ rs) t o e = at_head r h (λ a i. next r rs ∙ (ap (λ (b : Bool). cond b (of r.fields) (at rs)) i ∙ ap of (some_same (sym (at_here r rs h a i) ∙ e))))
+  read_found (r ∷ rs) t o e = at_head r h (λ a i. next r rs
+      ∙ (ap (λ (b : Bool). cond b (of r.fields) (at rs)) i ∙ ap of (some_same (sym (at_here r rs h a i) ∙ e))))
       (λ n.
       let behind : live_object rs h ≡ Some t = sym (at_past r rs h n) ∙ e in
-      next r rs ∙ (ap (λ (b : Bool). cond b (of r.fields) (at rs)) (false_from_ne_true (r.handle == h) (no_dead r rs t o behind)) ∙ read_found rs t (once_rest r rs o) behind))
+      next r rs ∙ (ap (λ (b : Bool). cond b (of r.fields) (at rs)) (false_from_ne_true (r.handle == h) (no_dead r rs t o behind))
+      ∙ read_found rs t (once_rest r rs o) behind))
 
   -- and where the object has changed, it is what the change brings
-  pub read_changed : (f : Listed T → Listed T) (a : A) → ((r : Listed T) → (f r).handle ≡ r.handle) → ((r : Listed T) → of (f r).fields ≡ a) → (l : List (Listed T)) (t : T) → OnceIn l → live_object l h ≡ Some t → at (change h f l) ≡ a
+  pub read_changed : (f : Listed T → Listed T) (a : A) → ((r : Listed T) → (f r).handle ≡ r.handle) → ((r : Listed T) → of (f r).fields ≡ a)
+      → (l : List (Listed T)) (t : T) → OnceIn l → live_object l h ≡ Some t → at (change h f l) ≡ a
   unfolding live_of
   read_changed f a k g [] t o e = absurd (cc)
   read_changed f a k g (r ∷ rs) t o e = whether (r.live && (r.handle == h))
-      (λ d. ap at (change_here h f r rs d) ∙ (next (f r) rs ∙ (ap (λ (b : Bool). cond b (of (f r).fields) (at rs)) (ap (λ (n : ℕ). n == h) (k r) ∙ snd_true r.live _ d) ∙ g r)))
+      (λ d. ap at (change_here h f r rs d) ∙ (next (f r) rs
+      ∙ (ap (λ (b : Bool). cond b (of (f r).fields) (at rs)) (ap (λ (n : ℕ). n == h) (k r) ∙ snd_true r.live _ d) ∙ g r)))
       (λ c.
       let behind : live_object rs h ≡ Some t = sym (at_past r rs h c) ∙ e in
-      ap at (change_past h f r rs c) ∙ (next r (change h f rs) ∙ (ap (λ (b : Bool). cond b (of r.fields) (at (change h f rs))) (false_from_ne_true (r.handle == h) (no_dead r rs t o behind)) ∙ read_changed f a k g rs t (once_rest r rs o) behind)))
+      ap at (change_past h f r rs c) ∙ (next r (change h f rs)
+      ∙ (ap (λ (b : Bool). cond b (of r.fields) (at (change h f rs))) (false_from_ne_true (r.handle == h) (no_dead r rs t o behind))
+      ∙ read_changed f a k g rs t (once_rest r rs o) behind)))

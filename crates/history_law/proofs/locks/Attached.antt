@@ -71,22 +71,27 @@ attached_step who n w b _ _ (turned c y k) l i = grind (arith, nat_tests, true_f
 attached_step who n w b _ _ (written cell value y) l i = inl i
 attached_step who n w b _ _ (gone y f) l i = absurd (true_false (some_mark y.attached w i) f)
 attached_step who n w b _ _ (got y) l i = inl (more_marks y.attached who w i)
-attached_step who n w b _ _ (back y f) l i = whether (who == w) (λ a. inr (f, sym (eqb-true who w a))) (λ a. inl (other_mark y.attached who w false (apart a) ∙ i))
+attached_step who n w b _ _ (back y f) l i =
+    whether (who == w) (λ a. inr (f, sym (eqb-true who w a))) (λ a. inl (other_mark y.attached who w false (apart a) ∙ i))
 
 -- The answers that change segments
 
 module _ (n : ℕ) (s : State) (who j : ℕ) (w : workers s ≡ n) (o : OnceIn s.segments) where
   -- the segment of a handle changes; where it is another one, this one stays
-  hit : (b : Bool) (h : ℕ) (f : Segment → Segment) (y : Segment) → live_object s.segments h ≡ Some y → Step who n b (Some y) (Some (f y)) → Step who n b (live_object s.segments j) (live_object (change h (with_fields f) s.segments) j)
+  hit : (b : Bool) (h : ℕ) (f : Segment → Segment) (y : Segment) → live_object s.segments h ≡ Some y → Step who n b (Some y) (Some (f y))
+      → Step who n b (live_object s.segments j) (live_object (change h (with_fields f) s.segments) j)
   hit b h f y e k = where_changed (λ c. Step who n b) h j s.segments stays f y e k
 
-  pub segment_by : (o : Op) (r : Reply) (ms : List Move) → Answers s who o r ms → Step who n (is_ending o r) (live_object s.segments j) (live_object (after_moves ms s).segments j)
+  pub segment_by : (o : Op) (r : Reply) (ms : List Move) → Answers s who o r ms
+      → Step who n (is_ending o r) (live_object s.segments j) (live_object (after_moves ms s).segments j)
   segment_by _ _ _ (is.lock_got t x y a b k z h) = hit false b (with_attached who true) h.segment h.found_segment (got h.segment)
   segment_by _ _ _ (is.tally_writes t value x y k z e) = hit false x.notes.tally.segment (with_cell _ value) y e (written _ value y)
   segment_by _ _ _ (is.tally_ends t x y z k e d f g) = hit true x.notes.tally.segment (with_attached who false) y f (back y refl)
-  segment_by _ _ _ (is.creates_segment id cells h e f) = where_issued (λ c. Step who n false) h j s.segments stays (new_segment id cells) (fresh_unlisted kind.Shmem s h f) (made id cells)
+  segment_by _ _ _ (is.creates_segment id cells h e f) =
+      where_issued (λ c. Step who n false) h j s.segments stays (new_segment id cells) (fresh_unlisted kind.Shmem s h f) (made id cells)
   segment_by _ _ _ (is.deletes_segment h x k) = where_retired (λ c. Step who n false) h.0 j s.segments stays x o k.found (gone x k.unmet.0)
   segment_by _ _ _ (is.attaches h x k) = hit false h.0 (with_attached who true) x k.found (turned true x (subst (λ (z : ℕ). nat_lt who z ≡ false) w k.outside))
-  segment_by _ _ _ (is.detaches h x k) = hit false h.0 (with_attached who false) x k.found (turned false x (subst (λ (z : ℕ). nat_lt who z ≡ false) w k.outside))
+  segment_by _ _ _ (is.detaches h x k) = hit false h.0 (with_attached who false) x k.found
+      (turned false x (subst (λ (z : ℕ). nat_lt who z ≡ false) w k.outside))
   segment_by _ _ _ (is.writes_cell h cell value x k) = hit false h.0 (with_cell cell value) x k.found (written cell value x)
   segment_by _ _ _ _ = stays _

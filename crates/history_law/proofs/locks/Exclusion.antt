@@ -43,10 +43,12 @@ pub record Fit (top : ℕ) (x : Sem) : Type 0 where
 abbrev sem_lock : ℕ → Lock (Unit {0}) Sem
 sem_lock top = record { Fit = Fit top; count = λ m x. total x.holdings; has = λ m w x. slice_index x.holdings w }
 
-taken : (top who : ℕ) (x : Sem) → who < 25 → sem_busy x ≡ false → Fit top x → LockStep (sem_lock top) who (Some x) (Some (sem_taken who x)) (λ m. true) (λ m. false)
+taken : (top who : ℕ) (x : Sem) → who < 25 → sem_busy x ≡ false → Fit top x
+    → LockStep (sem_lock top) who (Some x) (Some (sem_taken who x)) (λ m. true) (λ m. false)
 taken top who x e1 e2 e3 = grind (arith, nat_tests, length-set, set_read, total_more)
 
-given_back : (top who : ℕ) (x : Sem) → who < 25 → (slice_index x.holdings who == 0) ≡ false → Fit top x → LockStep (sem_lock top) who (Some x) (Some (sem_given who x)) (λ m. false) (λ m. true)
+given_back : (top who : ℕ) (x : Sem) → who < 25 → (slice_index x.holdings who == 0) ≡ false → Fit top x
+    → LockStep (sem_lock top) who (Some x) (Some (sem_given who x)) (λ m. false) (λ m. true)
 given_back top who x e1 e2 e3 = grind (arith, nat_tests, length-set, set_read, total_less)
 
 left : (top who : ℕ) (x : Sem) → nat_lt 0 (total x.holdings) ≡ false → LockStep (sem_lock top) who (Some x) None (λ m. false) (λ m. false)
@@ -60,9 +62,11 @@ one_mode b = grind (arith, nat_tests)
 
 -- The answers on semaphores
 
-module _ (top h : ℕ) (s : State) (who : ℕ) (k : who < 25) (o : OnceIn s.sems) (l : 1 ≤ listed h s.sems) (fit : FitIn (sem_lock top) (live_object s.sems h)) where
+module _ (top h : ℕ) (s : State) (who : ℕ) (k : who < 25) (o : OnceIn s.sems) (l : 1
+    ≤ listed h s.sems) (fit : FitIn (sem_lock top) (live_object s.sems h)) where
   sem_step : (p : Op) (r : Reply) (ms : List Move) → Answers s who p r ms
-      → LockStep (sem_lock top) who (live_object s.sems h) (live_object (after_moves ms s).sems h) (λ m. looks_at_sem h p && says_ok r) (λ m. unlocks_sem h p && says_ok r)
+      → LockStep (sem_lock top) who (live_object s.sems h) (live_object (after_moves ms s).sems h) (λ m. looks_at_sem h p && says_ok r) (λ m. unlocks_sem h p
+      && says_ok r)
   sem_step _ _ _ (is.refuses p x e) = step_quiet (sem_lock top) who _ (λ m. looks_at_sem h p) (λ m. unlocks_sem h p) fit
   sem_step _ _ _ (is.refuses_caller p x e) = step_quiet (sem_lock top) who _ (λ m. looks_at_sem h p) (λ m. unlocks_sem h p) fit
   sem_step _ _ _ (is.creates_sem id limit j e f) = step_beside (sem_lock top) who h j s.sems (new_sem id limit) (fresh_apart kind.Sem s h j l f) fit
@@ -70,17 +74,22 @@ module _ (top h : ℕ) (s : State) (who : ℕ) (k : who < 25) (o : OnceIn s.sems
   sem_step _ _ _ (is.sem_early x v c b) = step_quiet (sem_lock top) who _ (λ m. x.0 == h) (λ m. false) fit
   sem_step _ _ _ (is.sem_late x) = step_quiet (sem_lock top) who _ (λ m. x.0 == h) (λ m. false) fit
   sem_step _ _ _ (is.takes_sem x last v c b) =
-      as_step (sem_lock top) who _ _ _ _ _ _ (λ m. one_mode (x.0 == h)) (λ m. refl) (step_gets (sem_lock top) who h x.0 s.sems v c.found fit (λ m. true) (sem_taken who) (taken top who v k b))
+      as_step (sem_lock top) who _ _ _ _ _ _ (λ m. one_mode (x.0 == h)) (λ m. refl)
+      (step_gets (sem_lock top) who h x.0 s.sems v c.found fit (λ m. true) (sem_taken who) (taken top who v k b))
   sem_step _ _ _ (is.gives_sem x v c) =
-      as_step (sem_lock top) who _ _ _ _ _ _ (λ m. refl) (λ m. one_mode (x.0 == h)) (step_gives (sem_lock top) who h x.0 s.sems v c.found fit (λ m. true) (sem_given who) (given_back top who v k c.unmet.0))
+      as_step (sem_lock top) who _ _ _ _ _ _ (λ m. refl) (λ m. one_mode (x.0 == h))
+      (step_gives (sem_lock top) who h x.0 s.sems v c.found fit (λ m. true) (sem_given who) (given_back top who v k c.unmet.0))
   sem_step _ _ _ _ = step_same (sem_lock top) who _ fit
 
-sem_misses : (h : ℕ) (s : State) (who : ℕ) (o : Op) (r : Reply) (ms : List Move) → live_object s.sems h ≡ None → Answers s who o r ms → ((looks_at_sem h o && says_ok r) ≡ false) × ((unlocks_sem h o && says_ok r) ≡ false)
+sem_misses : (h : ℕ) (s : State) (who : ℕ) (o : Op) (r : Reply) (ms : List Move) → live_object s.sems h ≡ None → Answers s who o r ms
+    → ((looks_at_sem h o && says_ok r) ≡ false) × ((unlocks_sem h o && says_ok r) ≡ false)
 sem_misses h s who o r ms e1 e2 = grind (arith, nat_tests)
 
-make_sem : (top h : ℕ) (s : State) (who : ℕ) (o : Op) (ms : List Move) → makes_object kind.Sem o ≡ true → Answers s who o (Handle h) ms → limit_of o ≡ Some top → New (sem_lock top) h (after_moves ms s).sems
+make_sem : (top h : ℕ) (s : State) (who : ℕ) (o : Op) (ms : List Move) → makes_object kind.Sem o ≡ true → Answers s who o (Handle h) ms → limit_of o ≡ Some top
+    → New (sem_lock top) h (after_moves ms s).sems
 make_sem top h s who _ _ e (is.creates_sem id limit j n f) i =
-    new_lock (sem_lock top) h (new_sem id limit) s.sems (fresh_unlisted kind.Sem s h f) (record { limit = some_same i; size = refl; most = omega arith }) (λ m. refl) (λ m w. none_held 25 w)
+    new_lock (sem_lock top) h (new_sem id limit) s.sems (fresh_unlisted kind.Sem s h f) (record { limit = some_same i; size = refl; most = omega arith })
+    (λ m. refl) (λ m w. none_held 25 w)
 make_sem top h s who _ _ e _ i = true_false e refl
 
 sem_limited : (o : Op) → makes_object kind.Sem o ≡ true → (n : ℕ) × (limit_of o ≡ Some n)
@@ -100,7 +109,8 @@ sem_kind h = record {
 pub sems_keep_to : (terms : Terms) (es : List NodeEntry) → Legal terms es → SemsKeepTo es
 sems_keep_to terms es legal L R h cut = record {
   each = λ w. let k = counts_any kind.Sem sem_lock (λ m. gets_sem h) (λ m. gives_sem h) h (sem_kind h) terms L front in
-      let e : entries_that (by_seat w (gives_sem h)) L + has_in (sem_lock k.0) tt w k.1 ≡ entries_that (by_seat w (gets_sem h)) L = k.2.each tt w in omega arith;
+      let e : entries_that (by_seat w (gives_sem h)) L + has_in (sem_lock k.0) tt w k.1 ≡ entries_that (by_seat w (gets_sem h)) L = k.2.each tt w in
+      omega arith;
   unmade = λ n. none_got kind.Sem sem_lock (λ m. gets_sem h) (λ m. gives_sem h) h (sem_kind h) terms L front n tt;
   most = λ limit d. let k = counts_with kind.Sem sem_lock (λ m. gets_sem h) (λ m. gives_sem h) h (sem_kind h) terms L limit front d in
       let m = in_bounds limit k.0 k.1.fit in

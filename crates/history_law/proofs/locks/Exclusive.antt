@@ -40,19 +40,22 @@ pub record Good (n : ℕ) (s : State) : Type 0 where
 -- The ties after an entry
 
 -- a tally's mutex and segment after a step of another seat, or of a seat on which the task doesn't run
-tied_step : (n who : ℕ) (b : Bool) (l k : List (Listed Mutex)) (p q : List (Listed Segment)) (x y : ℕ → Bool) → ((j : ℕ) → Step who n b (live_object l j) (live_object k j) (x j) (y j)) → ((j : ℕ) → SegmentStep who n b (live_object p j) (live_object q j))
+tied_step : (n who : ℕ) (b : Bool) (l k : List (Listed Mutex)) (p q : List (Listed Segment)) (x y : ℕ → Bool)
+    → ((j : ℕ) → Step who n b (live_object l j) (live_object k j) (x j) (y j)) → ((j : ℕ) → SegmentStep who n b (live_object p j) (live_object q j))
     → (t : Task) → ((b ≡ true) → runs_on who t ≡ false) → Tied n l p t → Tied n k q t
 tied_step n who b l k p q x y f g t a i = grind (arith, nat_tests, owns_step, id_in, attached_step, runs_on, true_false)
 
 -- after an end of a tally no task runs on its worker
-none_then : (s : State) (who t : ℕ) (x : Task) (e : TaskEnd) → AtMostOne who s → HasTask s who t x kinds.Tally → count_listed (runs_on who) (change t (ended e s.ends) s.tasks) ≡ 0
+none_then : (s : State) (who t : ℕ) (x : Task) (e : TaskEnd) → AtMostOne who s → HasTask s who t x kinds.Tally
+    → count_listed (runs_on who) (change t (ended e s.ends) s.tasks) ≡ 0
 none_then s who t x e one k =
     let c = count_changed (runs_on who) t (ended e s.ends) false s.tasks x k.found (λ r a g. and-false _) in
     let b : cond {A = ℕ} (runs_on who x) 1 0 ≡ 1 = ap one_if (as_on who x.state k.runs) in
     let m : count_listed (runs_on who) s.tasks ≤ 1 = one in
     omega arith
 
-end_counts : (s : State) (who : ℕ) (o : Op) (r : Reply) (ms : List Move) → AtMostOne who s → is_ending o r ≡ true → Answers s who o r ms → count_listed (runs_on who) (after_moves ms s).tasks ≡ 0
+end_counts : (s : State) (who : ℕ) (o : Op) (r : Reply) (ms : List Move) → AtMostOne who s → is_ending o r ≡ true → Answers s who o r ms
+    → count_listed (runs_on who) (after_moves ms s).tasks ≡ 0
 end_counts s who _ _ _ one i (is.tally_ends_failed t x k f) = none_then s who t.0 x _ one k
 end_counts s who _ _ _ one i (is.tally_ends t x y z k f d a b) = none_then s who t.0 x _ one k
 end_counts s who _ _ _ one i _ = true_false i refl
@@ -74,7 +77,9 @@ module _ (n : ℕ) (s : State) (who : ℕ) (g : Good n s) where
       every_change (Tied n mutexes segments) t.0 (with_fields (with_notes (with_tally (tally_has a b)))) s.tasks
       (λ r c i. subst (λ (u : Task). Tied n mutexes segments (with_notes (with_tally (tally_has a b)) u)) (some_same (sym k.found ∙ c)) here)
       (every_map (Tied n s.mutexes s.segments) (λ u. Unit {0}) (Tied n mutexes segments) s.tasks
-      (λ u i q. tied_step n who false s.mutexes mutexes s.segments segments (λ j. false) (λ j. false) (λ j. mutex_by n s who j g.workers g.once g.ties _ _ _ (is.lock_got t x y a b k z h)) (λ j. segment_by n s who j g.workers g.once_segments _ _ _ (is.lock_got t x y a b k z h)) u (λ p. true_false p refl) i) g.ties (always s.tasks))
+      (λ u i q. tied_step n who false s.mutexes mutexes s.segments segments (λ j. false) (λ j. false)
+      (λ j. mutex_by n s who j g.workers g.once g.ties _ _ _ (is.lock_got t x y a b k z h))
+      (λ j. segment_by n s who j g.workers g.once_segments _ _ _ (is.lock_got t x y a b k z h)) u (λ p. true_false p refl) i) g.ties (always s.tasks))
     where
       mutexes : List (Listed Mutex)
       mutexes = change a (with_fields (locked_by who)) s.mutexes
@@ -91,14 +96,21 @@ module _ (n : ℕ) (s : State) (who : ℕ) (g : Good n s) where
       owns : Owns who (id_in x) (live_object mutexes a)
       owns =
           let d : h.mutex.depth ≡ 0 = subst Free h.found_mutex (g.free a) h.free in
-          let i : h.mutex.id ≡ y.mutex = eqb-true h.mutex.id y.mutex (first_at (λ (u : Mutex). u.id == y.mutex) s.mutexes a h.mutex g.once h.first_mutex h.found_mutex) in
-          subst (Owns who (id_in x)) (sym (at-update a (locked_by who) h.mutex s.mutexes h.found_mutex)) (refl, ap (λ (d : ℕ). d + 1) d, i ∙ ap mutex_in (sym h.names))
+          let i : h.mutex.id ≡ y.mutex = eqb-true h.mutex.id y.mutex
+          (first_at (λ (u : Mutex). u.id == y.mutex) s.mutexes a h.mutex g.once h.first_mutex h.found_mutex) in
+          subst (Owns who (id_in x)) (sym (at-update a (locked_by who) h.mutex s.mutexes h.found_mutex)) (
+            refl,
+            ap (λ (d : ℕ). d + 1) d,
+            i
+                ∙ ap mutex_in (sym h.names),
+          )
 
       room : length h.segment.attached ≡ 25 → who < length h.segment.attached
       room z = let q : who < n = less in let p : n ≤ 16 = g.few in omega arith
 
       attached : IsAttached who (live_object segments b)
-      attached = subst (IsAttached who) (sym (at-update b (with_attached who true) h.segment s.segments h.found_segment)) (mark_here h.segment.attached who true (room (subst HasMarks h.found_segment (g.marks b))))
+      attached = subst (IsAttached who) (sym (at-update b (with_attached who true) h.segment s.segments h.found_segment))
+          (mark_here h.segment.attached who true (room (subst HasMarks h.found_segment (g.marks b))))
 
       here : Tied n mutexes segments (with_notes (with_tally (tally_has a b)) x)
       here = record {
@@ -122,18 +134,24 @@ held_next : (s : State) (e : NodeEntry) → Held s.phase s.stopped s.tasks → H
 unfolding after_from
 held_next s e h = (after_stands s.terms s (e ∷ []) (refl, h)).1
 
-step_next : (n : ℕ) (s : State) (e : NodeEntry) (j : ℕ) → IsNext s e → Good n s → Step e.who n (is_ending e.op e.reply) (live_object s.mutexes j) (live_object (next s e).mutexes j) (gets_mutex j e) (gives_mutex j e)
+step_next : (n : ℕ) (s : State) (e : NodeEntry) (j : ℕ) → IsNext s e → Good n s
+    → Step e.who n (is_ending e.op e.reply) (live_object s.mutexes j) (live_object (next s e).mutexes j) (gets_mutex j e) (gives_mutex j e)
 step_next n s e j i g = mutex_by n s e.who j g.workers g.once g.ties e.op e.reply _ (answer s e i)
 
-segment_next : (n : ℕ) (s : State) (e : NodeEntry) (j : ℕ) → IsNext s e → Good n s → SegmentStep e.who n (is_ending e.op e.reply) (live_object s.segments j) (live_object (next s e).segments j)
+segment_next : (n : ℕ) (s : State) (e : NodeEntry) (j : ℕ) → IsNext s e → Good n s
+    → SegmentStep e.who n (is_ending e.op e.reply) (live_object s.segments j) (live_object (next s e).segments j)
 segment_next n s e j i g = segment_by n s e.who j g.workers g.once_segments e.op e.reply _ (answer s e i)
 
 ties_next : (n : ℕ) (s : State) (e : NodeEntry) → IsNext s e → Good n s → Ties n (next s e).mutexes (next s e).segments (next s e)
 ties_next n s e i g = whether (is_tally_lock e.op) (λ l. lock_ties n s e.who g e.op e.reply _ l (answer s e i))
-    (λ l. every_map (Tied n s.mutexes s.segments) (λ t. (is_ending e.op e.reply ≡ true) → runs_on e.who t ≡ false) (Tied n (next s e).mutexes (next s e).segments) (next s e).tasks
-    (λ t v a. tied_step n e.who (is_ending e.op e.reply) _ _ _ _ (λ j. gets_mutex j e) (λ j. gives_mutex j e) (λ j. step_next n s e j i g) (λ j. segment_next n s e j i g) t a v)
+    (λ l. every_map (Tied n s.mutexes s.segments) (λ t. (is_ending e.op e.reply ≡ true)
+    → runs_on e.who t ≡ false) (Tied n (next s e).mutexes (next s e).segments) (next s e).tasks
+    (λ t v a. tied_step n e.who (is_ending e.op e.reply) _ _ _ _ (λ j. gets_mutex j e) (λ j. gives_mutex j e) (λ j. step_next n s e j i g)
+    (λ j. segment_next n s e j i g) t a v)
     (by_moves (Ties n s.mutexes s.segments) s e i (every_moved (Tied n s.mutexes s.segments) e.who e.op (ties_kept n s.mutexes s.segments e.who e.op l)) g.ties)
-    (every_if (is_ending e.op e.reply) (λ t. runs_on e.who t ≡ false) (next s e).tasks (λ k. none_runs e.who (next s e).tasks (held_next s e g.held).dead (end_counts s e.who e.op e.reply _ (g.one e.who) k (answer s e i)))))
+    (every_if (is_ending e.op e.reply) (λ t. runs_on e.who t
+    ≡ false) (next s e).tasks (λ k. none_runs e.who (next s e).tasks (held_next s e g.held).dead
+    (end_counts s e.who e.op e.reply _ (g.one e.who) k (answer s e i)))))
 
 pub good_next : (n : ℕ) (s : State) (e : NodeEntry) → IsNext s e → Good n s → Good n (next s e)
 good_next n s e i g = record {
@@ -156,18 +174,22 @@ pub good_opening : (terms : Terms) → terms.settings.workers ≤ 16 → Good te
 good_opening terms few = grind (arith, nat_tests, opening_stands, once_none, none_at)
 
 pub good_after : (terms : Terms) (L : List NodeEntry) → Legal terms L → Good terms.settings.workers (after terms L)
-good_after terms L l = kept_along (Good terms.settings.workers) (good_next terms.settings.workers) (opening terms) L l.from (good_opening terms l.fits.settings.workers.1)
+good_after terms L l = kept_along (Good terms.settings.workers) (good_next terms.settings.workers) (opening terms) L l.from
+    (good_opening terms l.fits.settings.workers.1)
 
 -- A seat that holds a mutex owns it
 
 abbrev OwnedBy : State → ℕ → ℕ → Type 0
 OwnedBy s h w = (x : Mutex) × (live_object s.mutexes h ≡ Some x) × (x.owner ≡ Some w)
 
-counted : (terms : Terms) (h w : ℕ) (L : List NodeEntry) → Legal terms L → entries_that (by_seat w (gives_mutex h)) L + share terms.settings.workers w (live_object (after terms L).mutexes h) ≡ entries_that (by_seat w (gets_mutex h)) L
+counted : (terms : Terms) (h w : ℕ) (L : List NodeEntry) → Legal terms L
+    → entries_that (by_seat w (gives_mutex h)) L + share terms.settings.workers w (live_object (after terms L).mutexes h)
+    ≡ entries_that (by_seat w (gets_mutex h)) L
 counted terms h w L l =
     let n : ℕ = terms.settings.workers in
     let c = (counts_along (λ t. share n w (live_object t.mutexes h)) (by_seat w (gets_mutex h)) (by_seat w (gives_mutex h)) (Good n)
-    (λ t e i k. (good_next n t e i k, share_step e.who n w (is_ending e.op e.reply) _ _ _ _ (k.free h) (step_next n t e h i k))) (opening terms) L l.from (good_opening terms l.fits.settings.workers.1)).1 in
+    (λ t e i k. (good_next n t e i k, share_step e.who n w (is_ending e.op e.reply) _ _ _ _ (k.free h) (step_next n t e h i k))) (opening terms) L l.from
+    (good_opening terms l.fits.settings.workers.1)).1 in
     let z : share n w (live_object (opening terms).mutexes h) ≡ 0 = ap (share n w) (none_at h) in
     omega arith
 
@@ -176,11 +198,25 @@ by_looks terms h w L l k = let c = counted terms h w L l in share_owner terms.se
 
 -- by a tally
 
-lock_got : (s : State) (who : ℕ) (t : TaskHandle) (ms : List Move) → Answers s who (op.TallyLock t) (reply.Asked true) ms → (a : ℕ) × OnAt who a t.0 (after_moves ms s)
-lock_got s who _ _ (is.lock_got t x y a b k z h) = (a, (with_notes (with_tally (tally_has a b)) x, at-update t.0 (with_notes (with_tally (tally_has a b))) x s.tasks k.found, record { runs = k.runs; both = refl; mutex = refl }))
+lock_got : (s : State) (who : ℕ) (t : TaskHandle) (ms : List Move) → Answers s who (op.TallyLock t) (reply.Asked true) ms
+    → (a : ℕ) × OnAt who a t.0 (after_moves ms s)
+lock_got s who _ _ (is.lock_got t x y a b k z h) = (
+  a,
+  (
+    with_notes (with_tally (tally_has a b)) x,
+    at-update t.0 (with_notes (with_tally (tally_has a b))) x s.tasks k.found,
+    record {
+      runs = k.runs;
+      both =
+          refl;
+      mutex = refl;
+    },
+  ),
+)
 
 -- an answer that isn't an end leaves it
-unended : (w h i : ℕ) (s : State) (who : ℕ) (o : Op) (r : Reply) (ms : List Move) → is_tally_end i o ≡ true → says_end r ≡ false → OnAt w h i s → Answers s who o r ms → OnAt w h i (after_moves ms s)
+unended : (w h i : ℕ) (s : State) (who : ℕ) (o : Op) (r : Reply) (ms : List Move) → is_tally_end i o ≡ true → says_end r ≡ false → OnAt w h i s
+    → Answers s who o r ms → OnAt w h i (after_moves ms s)
 unended w h i s who _ _ _ d k v (is.refuses o x e) = v
 unended w h i s who _ _ _ d k v (is.refuses_caller o x e) = v
 unended w h i s who _ _ _ d k v (is.tally_ends_failed t x y f) = true_false refl k
@@ -201,12 +237,19 @@ same_mutex s w t h m o = grind (arith, nat_tests, some_same)
 by_tally : (terms : Terms) (h w : ℕ) (L : List NodeEntry) → Legal terms L → HoldsByTally terms L h w → OwnedBy (after terms L) h w
 unfolding LegalFrom after_from
 by_tally terms h w L l k =
-    let here : LegalFrom (opening terms) (k.before ++ tally_got w k.task ∷ k.since) = subst (λ (z : List NodeEntry). LegalFrom (opening terms) z) k.cut l.from in
+    let here : LegalFrom (opening terms) (k.before ++ tally_got w k.task ∷ k.since) =
+    subst (λ (z : List NodeEntry). LegalFrom (opening terms) z) k.cut l.from in
     let rest : LegalFrom (after terms k.before) (tally_got w k.task ∷ k.since) = Legal-rest (opening terms) k.before (tally_got w k.task ∷ k.since) here in
-    let now : after terms (k.before ++ tally_got w k.task ∷ []) ≡ next (after terms k.before) (tally_got w k.task) = after-one (opening terms) k.before (tally_got w k.task) in
-    let on : OnAt w h k.task.0 (next (after terms k.before) (tally_got w k.task)) = same_mutex (next (after terms k.before) (tally_got w k.task)) w k.task.0 h (subst (λ (z : State). HasMutex z k.task.0 h) now k.got) (lock_got (after terms k.before) w k.task _ (answer (after terms k.before) (tally_got w k.task) rest.0)) in
-    let later : OnAt w h k.task.0 (after_from (after terms k.before) (tally_got w k.task ∷ k.since)) = kept_without (ends_tally k.task.0) (OnAt w h k.task.0) (stays_on w h k.task.0) (next (after terms k.before) (tally_got w k.task)) k.since rest.1 k.unended on in
-    let same : after terms L ≡ after_from (after terms k.before) (tally_got w k.task ∷ k.since) = ap (λ (z : List NodeEntry). after terms z) k.cut ∙ after-append (opening terms) k.before (tally_got w k.task ∷ k.since) in
+    let now : after terms (k.before ++ tally_got w k.task ∷ []) ≡ next (after terms k.before) (tally_got w k.task) =
+    after-one (opening terms) k.before (tally_got w k.task) in
+    let on : OnAt w h k.task.0 (next (after terms k.before) (tally_got w k.task)) =
+    same_mutex (next (after terms k.before) (tally_got w k.task)) w k.task.0 h (subst (λ (z : State). HasMutex z k.task.0 h) now k.got)
+    (lock_got (after terms k.before) w k.task _ (answer (after terms k.before) (tally_got w k.task) rest.0)) in
+    let later : OnAt w h k.task.0 (after_from (after terms k.before) (tally_got w k.task ∷ k.since)) =
+    kept_without (ends_tally k.task.0) (OnAt w h k.task.0) (stays_on w h k.task.0)
+    (next (after terms k.before) (tally_got w k.task)) k.since rest.1 k.unended on in
+    let same : after terms L ≡ after_from (after terms k.before) (tally_got w k.task ∷ k.since) =
+    ap (λ (z : List NodeEntry). after terms z) k.cut ∙ after-append (opening terms) k.before (tally_got w k.task ∷ k.since) in
     owned terms.settings.workers w h k.task.0 (after terms L) (good_after terms L l) (subst (OnAt w h k.task.0) (sym same) later)
 
 holder : (terms : Terms) (h w : ℕ) (L : List NodeEntry) → Legal terms L → HoldsMutex terms L h w → OwnedBy (after terms L) h w

@@ -47,22 +47,27 @@ module _ {M T : Type 0} (K : Lock M T) where
 
   -- the lock of the handle j changes, where it was v, or leaves: another one stays
   module _ (who h j : ℕ) (l : List (Listed T)) (v : T) (e : live_object l j ≡ Some v) (fit : FitIn (live_object l h)) where
-    pub step_gets : (x : M → Bool) (f : T → T) → (K.Fit v → LockStep who (Some v) (Some (f v)) x (λ m. false)) → LockStep who (live_object l h) (live_object (change j (with_fields f) l) h) (λ m. ((j == h) && x m) && true) (λ m. false)
+    pub step_gets : (x : M → Bool) (f : T → T) → (K.Fit v → LockStep who (Some v) (Some (f v)) x (λ m. false))
+        → LockStep who (live_object l h) (live_object (change j (with_fields f) l) h) (λ m. ((j == h) && x m) && true) (λ m. false)
     step_gets x f g =
         where_changed (λ c o p. FitIn o → LockStep who o p (λ m. (c && x m) && true) (λ m. false)) j h l (step_same who) f v e
         (λ t. as_step who _ _ _ _ x (λ m. false) (λ m. sym (and-true (x m))) (λ m. refl) (g t)) fit
 
-    pub step_gives : (y : M → Bool) (f : T → T) → (K.Fit v → LockStep who (Some v) (Some (f v)) (λ m. false) y) → LockStep who (live_object l h) (live_object (change j (with_fields f) l) h) (λ m. false) (λ m. ((j == h) && y m) && true)
+    pub step_gives : (y : M → Bool) (f : T → T) → (K.Fit v → LockStep who (Some v) (Some (f v)) (λ m. false) y)
+        → LockStep who (live_object l h) (live_object (change j (with_fields f) l) h) (λ m. false) (λ m. ((j == h) && y m) && true)
     step_gives y f g =
         where_changed (λ c o p. FitIn o → LockStep who o p (λ m. false) (λ m. (c && y m) && true)) j h l (step_same who) f v e
         (λ t. as_step who _ _ _ _ (λ m. false) y (λ m. refl) (λ m. sym (and-true (y m))) (g t)) fit
 
-    pub step_leaves : OnceIn l → LockStep who (Some v) None (λ m. false) (λ m. false) → LockStep who (live_object l h) (live_object (change j gone l) h) (λ m. false) (λ m. false)
+    pub step_leaves : OnceIn l → LockStep who (Some v) None (λ m. false) (λ m. false)
+        → LockStep who (live_object l h) (live_object (change j gone l) h) (λ m. false) (λ m. false)
     step_leaves o g = where_retired (λ c o p. FitIn o → LockStep who o p (λ m. false) (λ m. false)) j h l (step_same who) v o e (λ t. g) fit
 
   -- a new lock beside it
-  pub step_beside : (who h j : ℕ) (l : List (Listed T)) (v : T) → (j == h) ≡ false → FitIn (live_object l h) → LockStep who (live_object l h) (live_object (issue j v l) h) (λ m. false) (λ m. false)
-  step_beside who h j l v n f = subst (λ (q : Option T). LockStep who (live_object l h) q (λ m. false) (λ m. false)) (sym (at_issue_other j h v l n)) (step_same who (live_object l h) f)
+  pub step_beside : (who h j : ℕ) (l : List (Listed T)) (v : T) → (j == h) ≡ false → FitIn (live_object l h)
+      → LockStep who (live_object l h) (live_object (issue j v l) h) (λ m. false) (λ m. false)
+  step_beside who h j l v n f = subst (λ (q : Option T). LockStep who (live_object l h) q (λ m. false) (λ m. false)) (sym (at_issue_other j h v l n))
+      (step_same who (live_object l h) f)
 
 off : (b c : Bool) → c ≡ false → false ≡ (b && c)
 off b c e1 = grind (arith, nat_tests)
@@ -95,7 +100,8 @@ module _ {M T : Type 0} (K : Lock M T) where
     pub each : (m : M) (w : ℕ) → entries_that (by_seat w (gives m)) L + has_in K m w p ≡ entries_that (by_seat w (gets m)) L
 
   -- under a handle that was fresh
-  pub new_lock : (h : ℕ) (x : T) (l : List (Listed T)) → listed h l ≡ 0 → K.Fit x → ((m : M) → K.count m x ≡ 0) → ((m : M) (w : ℕ) → K.has m w x ≡ 0) → New h (issue h x l)
+  pub new_lock : (h : ℕ) (x : T) (l : List (Listed T)) → listed h l ≡ 0 → K.Fit x → ((m : M) → K.count m x ≡ 0) → ((m : M) (w : ℕ) → K.has m w x ≡ 0)
+      → New h (issue h x l)
   new_lock h x l u f n z = grind (arith, nat_tests, live_object, at_issue_here, some_issued)
 
 module _ (k : ObjectKind) {M : Type 0} (K : ℕ → Lock M (FieldsOf k)) (gets gives : M → NodeEntry → Bool) (h : ℕ) where
@@ -106,7 +112,8 @@ module _ (k : ObjectKind) {M : Type 0} (K : ℕ → Lock M (FieldsOf k)) (gets g
   pub record Kind : Type 0 where
     pub step : (top : ℕ) (s : State) (e : NodeEntry) → IsNext s e → e.who < 25 → OnceIn (l s) → 1 ≤ listed h (l s) → FitIn (K top) (live_object (l s) h)
         → LockStep (K top) e.who (live_object (l s) h) (live_object (l (next s e)) h) (λ m. gets m e) (λ m. gives m e)
-    pub make : (top : ℕ) (s : State) (who : ℕ) (o : Op) (ms : List Move) → makes_object k o ≡ true → Answers s who o (Handle h) ms → limit_of o ≡ Some top → New (K top) h (l (after_moves ms s))
+    pub make : (top : ℕ) (s : State) (who : ℕ) (o : Op) (ms : List Move) → makes_object k o ≡ true → Answers s who o (Handle h) ms → limit_of o ≡ Some top
+        → New (K top) h (l (after_moves ms s))
     pub quiet : (s : State) (e : NodeEntry) → IsNext s e → live_object (l s) h ≡ None → (m : M) → (gets m e ≡ false) × (gives m e ≡ false)
     pub limited : (o : Op) → makes_object k o ≡ true → (n : ℕ) × (limit_of o ≡ Some n)
 
@@ -117,20 +124,28 @@ module _ (k : ObjectKind) {M : Type 0} (K : ℕ → Lock M (FieldsOf k)) (gets g
       some : 1 ≤ listed h (l s)
       fit : FitIn (K top) (live_object (l s) h)
 
-    good_step : (top : ℕ) (s : State) (e : NodeEntry) → IsNext s e → Good top s → LockStep (K top) e.who (live_object (l s) h) (live_object (l (next s e)) h) (λ m. gets m e) (λ m. gives m e)
+    good_step : (top : ℕ) (s : State) (e : NodeEntry) → IsNext s e → Good top s
+        → LockStep (K top) e.who (live_object (l s) h) (live_object (l (next s e)) h) (λ m. gets m e) (λ m. gives m e)
     good_step top s e i g =
         let less : e.who < seats s = i.seat in
         let room : seats s ≤ 25 = g.seats in
         c.step top s e i (omega arith) g.once g.some g.fit
 
     good_next : (top : ℕ) (s : State) (e : NodeEntry) → IsNext s e → Good top s → Good top (next s e)
-    good_next top s e i g = record { seats = seats_next s e g.seats; once = once_next k s e g.once; some = listed_next k s e h g.some; fit = (good_step top s e i g).fit }
+    good_next top s e i g = record {
+      seats = seats_next s e g.seats;
+      once = once_next k s e g.once;
+      some = listed_next k s e h g.some;
+      fit =
+          (good_step top s e i g).fit;
+    }
 
     -- no entry passes that needs the lock, where that isn't listed in the end
     abbrev Needs : (NodeEntry → Bool) → Type 0
     Needs p = (s : State) (e : NodeEntry) → IsNext s e → live_object (l s) h ≡ None → p e ≡ false
 
-    none_counted : (p : NodeEntry → Bool) → Needs p → (s : State) (L : List NodeEntry) → LegalFrom s L → listed h (l (after_from s L)) ≡ 0 → entries_that p L ≡ 0
+    none_counted : (p : NodeEntry → Bool) → Needs p → (s : State) (L : List NodeEntry) → LegalFrom s L → listed h (l (after_from s L)) ≡ 0
+        → entries_that p L ≡ 0
     unfolding LegalFrom after_from
     none_counted p q s [] legal z = refl
     none_counted p q s (e ∷ es) legal z =
@@ -157,14 +172,25 @@ module _ (k : ObjectKind) {M : Type 0} (K : ℕ → Lock M (FieldsOf k)) (gets g
     counts_made terms A B e top legal i limit =
         let rest : LegalFrom (after terms A) (e ∷ B) = Legal-rest (opening terms) A (e ∷ B) legal.from in
         let now : State = next (after terms A) e in
-        let made : New (K top) h (l now) = issued_as k h (after terms A) (λ o t. limit_of o ≡ Some top → New (K top) h (l t)) (λ who o y a. c.make top (after terms A) who o _ y (answered (after terms A) who o (Handle h) a)) e rest.0 i limit in
+        let made : New (K top) h (l now) = issued_as k h (after terms A) (λ o t. limit_of o ≡ Some top
+        → New (K top) h (l t)) (λ who o y a. c.make top (after terms A) who o _ y (answered (after terms A) who o (Handle h) a)) e rest.0 i limit in
         let front : LegalFrom (opening terms) A = Legal-front (opening terms) A (e ∷ B) legal.from in
         let zero_there : listed h (l (after terms A)) ≡ 0 = fresh_unlisted k (after terms A) h (issues_fresh k (after terms A) e h rest.0 i) in
-        let once : OnceIn (l (after terms A)) = along (λ t. OnceIn (l t)) (once_move k) (opening terms) A (λ j. let z : listed j (l (opening terms)) ≡ 0 = none_times k j terms in omega arith) in
-        let good : Good top now = record { seats = seats_next (after terms A) e (seats_after terms A (record { fits = legal.fits; from = front })); once = once_next k (after terms A) e once; some = made.some; fit = made.fit } in
+        let once : OnceIn (l (after terms A)) =
+        along (λ t. OnceIn (l t)) (once_move k) (opening terms) A (λ j. let z : listed j (l (opening terms)) ≡ 0 = none_times k j terms in omega arith) in
+        let good : Good top now = record {
+          seats = seats_next (after terms A) e (seats_after terms A (record { fits = legal.fits; from = front }));
+          once =
+              once_next k (after terms A) e once;
+          some = made.some;
+          fit = made.fit;
+        } in
         let before : (p : NodeEntry → Bool) → Needs p → entries_that p (A ++ e ∷ B) ≡ entries_that p B =
-        λ p q. counts_behind p A B e (none_counted p q (opening terms) A front zero_there) (q (after terms A) e rest.0 (at_unlisted h (l (after terms A)) zero_there)) in
-        let behind : (V : State → ℕ) (x y : NodeEntry → Bool) → ((t : State) (f : NodeEntry) → IsNext t f → Good top t → V (next t f) + one_if (y f) ≡ V t + one_if (x f)) → Good top (after_from now B) × (entries_that y B + V (after_from now B) ≡ V now + entries_that x B) =
+        λ p q. counts_behind p A B e (none_counted p q (opening terms) A front zero_there)
+        (q (after terms A) e rest.0 (at_unlisted h (l (after terms A)) zero_there)) in
+        let behind : (V : State → ℕ) (x y : NodeEntry → Bool)
+        → ((t : State) (f : NodeEntry) → IsNext t f → Good top t → V (next t f) + one_if (y f) ≡ V t + one_if (x f))
+        → Good top (after_from now B) × (entries_that y B + V (after_from now B) ≡ V now + entries_that x B) =
         λ V x y d. counts_along V x y (Good top) (λ t f j g. (good_next top t f j g, d t f j g)) now B rest.1 good in record {
           fit = (behind (λ t. 0) (λ f. false) (λ f. false) (λ t f j g. refl)).0.fit;
           all = λ m.
@@ -175,17 +201,24 @@ module _ (k : ObjectKind) {M : Type 0} (K : ℕ → Lock M (FieldsOf k)) (gets g
               omega arith;
           each = λ m w.
               let z : has_in (K top) m w (live_object (l now) h) ≡ 0 = made.free m w in
-              let x : entries_that (by_seat w (gets m)) (A ++ e ∷ B) ≡ entries_that (by_seat w (gets m)) B = before (by_seat w (gets m)) (λ s f j v. sym (off (f.who == w) _ (c.quiet s f j v m).0)) in
-              let y : entries_that (by_seat w (gives m)) (A ++ e ∷ B) ≡ entries_that (by_seat w (gives m)) B = before (by_seat w (gives m)) (λ s f j v. sym (off (f.who == w) _ (c.quiet s f j v m).1)) in
-              let d = (behind (λ t. has_in (K top) m w (live_object (l t) h)) (by_seat w (gets m)) (by_seat w (gives m)) (λ t f j g. (good_step top t f j g).each m w)).1 in
+              let x : entries_that (by_seat w (gets m)) (A ++ e ∷ B) ≡ entries_that (by_seat w (gets m)) B =
+              before (by_seat w (gets m)) (λ s f j v. sym (off (f.who == w) _ (c.quiet s f j v m).0)) in
+              let y : entries_that (by_seat w (gives m)) (A ++ e ∷ B) ≡ entries_that (by_seat w (gives m)) B =
+              before (by_seat w (gives m)) (λ s f j v. sym (off (f.who == w) _ (c.quiet s f j v m).1)) in
+              let d = (behind (λ t. has_in (K top) m w (live_object (l t) h)) (by_seat w (gets m)) (by_seat w (gives m))
+              (λ t f j g. (good_step top t f j g).each m w)).1 in
               omega arith;
         }
 
     -- what is counted of a lock that was made with this limit, and of any
-    pub counts_with : (terms : Terms) (L : List NodeEntry) (top : ℕ) → Legal terms L → MadeWith k L h top → (p : Option (FieldsOf k)) × Counts (K top) gets gives L p
+    pub counts_with : (terms : Terms) (L : List NodeEntry) (top : ℕ) → Legal terms L → MadeWith k L h top
+        → (p : Option (FieldsOf k)) × Counts (K top) gets gives L p
     counts_with terms L top legal d =
-        let whole : Legal terms (d.before ++ d.by ∷ d.behind) = subst (Legal terms) d.cut legal in
-        (_, subst (λ (P : List NodeEntry). Counts (K top) gets gives P (live_object (l (after_from (next (after terms d.before) d.by) d.behind)) h)) (sym d.cut) (counts_made terms d.before d.behind d.by top whole d.issued d.limited))
+        let whole : Legal terms (d.before ++ d.by ∷ d.behind) = subst (Legal terms) d.cut legal in (
+          _,
+          subst (λ (P : List NodeEntry). Counts (K top) gets gives P (live_object (l (after_from (next (after terms d.before) d.by) d.behind)) h)) (sym d.cut)
+              (counts_made terms d.before d.behind d.by top whole d.issued d.limited),
+        )
 
     pub counts_any : (terms : Terms) (L : List NodeEntry) → Legal terms L → (top : ℕ) × (p : Option (FieldsOf k)) × Counts (K top) gets gives L p
     counts_any terms L legal = by_made (some_entry (issues k h) L) refl
@@ -206,8 +239,10 @@ module _ (k : ObjectKind) {M : Type 0} (K : ℕ → Lock M (FieldsOf k)) (gets g
                 let y : entries_that (gives m) L ≡ 0 = unmade terms L legal i (gives m) (λ s f j v. (c.quiet s f j v m).1) in
                 omega arith;
             each = λ m w.
-                let x : entries_that (by_seat w (gets m)) L ≡ 0 = unmade terms L legal i (by_seat w (gets m)) (λ s f j v. sym (off (f.who == w) _ (c.quiet s f j v m).0)) in
-                let y : entries_that (by_seat w (gives m)) L ≡ 0 = unmade terms L legal i (by_seat w (gives m)) (λ s f j v. sym (off (f.who == w) _ (c.quiet s f j v m).1)) in
+                let x : entries_that (by_seat w (gets m)) L ≡ 0 =
+                unmade terms L legal i (by_seat w (gets m)) (λ s f j v. sym (off (f.who == w) _ (c.quiet s f j v m).0)) in
+                let y : entries_that (by_seat w (gives m)) L ≡ 0 =
+                unmade terms L legal i (by_seat w (gives m)) (λ s f j v. sym (off (f.who == w) _ (c.quiet s f j v m).1)) in
                 omega arith;
           },
         )

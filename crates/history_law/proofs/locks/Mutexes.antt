@@ -23,7 +23,8 @@ pub free_step : (who n : ℕ) (b : Bool) (o p : Option Mutex) (x y : Bool) → S
 free_step who n b o p x y e1 e2 = grind (arith, nat_tests)
 
 -- a worker that owns the mutex goes on owning it, unless it ends its tally
-pub owns_step : (who n w id : ℕ) (b : Bool) (o p : Option Mutex) (x y : Bool) → Step who n b o p x y → w < n → Owns w id o → Owns w id p ⊎ ((b ≡ true) × (w ≡ who))
+pub owns_step : (who n w id : ℕ) (b : Bool) (o p : Option Mutex) (x y : Bool) → Step who n b o p x y → w < n → Owns w id o
+    → Owns w id p ⊎ ((b ≡ true) × (w ≡ who))
 owns_step who n w id b o p x y e1 e2 e3 = grind (arith, nat_tests)
 
 -- How often a caller holds it
@@ -36,10 +37,8 @@ abbrev pub share : ℕ → ℕ → Option Mutex → ℕ
 share n w None = 0
 share n w (Some m) = share_of n w m
 
-seat_owner : (who : ℕ) (q : Option ℕ) → is_seat who q ≡ true → q ≡ Some who
-seat_owner who q e1 = grind (arith, nat_tests)
-
-pub share_step : (who n w : ℕ) (b : Bool) (o p : Option Mutex) (x y : Bool) → Free o → Step who n b o p x y → share n w p + one_if ((who == w) && y) ≡ share n w o + one_if ((who == w) && x)
+pub share_step : (who n w : ℕ) (b : Bool) (o p : Option Mutex) (x y : Bool) → Free o → Step who n b o p x y
+    → share n w p + one_if ((who == w) && y) ≡ share n w o + one_if ((who == w) && x)
 share_step who n w b _ _ _ _ f (stays o) = refl
 share_step who n w b _ _ _ _ f (made id r) = refl
 share_step who n w b _ _ _ _ f (taken m c l) = grind (arith, nat_tests)

@@ -66,20 +66,24 @@ abbrev pub no_mode : Bool → Bool
 no_mode m = false
 
 -- a writer gets it
-write_step : (top who : ℕ) (x : Rwl) → Fit top x → rwl_held x ≡ false → LockStep (rwl_lock top) who (Some x) (Some (rwl_taken who true x)) (λ m. in_mode m true) no_mode
+write_step : (top who : ℕ) (x : Rwl) → Fit top x → rwl_held x ≡ false
+    → LockStep (rwl_lock top) who (Some x) (Some (rwl_taken who true x)) (λ m. in_mode m true) no_mode
 write_step top who x e1 e2 = grind (arith, nat_tests, no_mark, second_false)
 
 -- a reader gets it
-read_step : (top who : ℕ) (x : Rwl) → Fit top x → who < 25 → marked who x.readers ≡ false → rwl_busy false x ≡ false → LockStep (rwl_lock top) who (Some x) (Some (rwl_taken who false x)) (λ m. in_mode m false) no_mode
+read_step : (top who : ℕ) (x : Rwl) → Fit top x → who < 25 → marked who x.readers ≡ false → rwl_busy false x ≡ false
+    → LockStep (rwl_lock top) who (Some x) (Some (rwl_taken who false x)) (λ m. in_mode m false) no_mode
 read_step top who x e1 e2 e3 e4 = grind (arith, nat_tests, length-set, true_false, first_false, set_read, marks_more, second_false)
 
-pub get_step : (top who : ℕ) (writer : Bool) (x : Rwl) → Fit top x → who < 25 → (is_seat who x.writer || marked who x.readers) ≡ false → rwl_busy writer x ≡ false
+pub get_step : (top who : ℕ) (writer : Bool) (x : Rwl) → Fit top x → who < 25 → (is_seat who x.writer || marked who x.readers) ≡ false
+    → rwl_busy writer x ≡ false
     → LockStep (rwl_lock top) who (Some x) (Some (rwl_taken who writer x)) (λ m. in_mode m writer) no_mode
 get_step top who true x f l n b = write_step top who x f b
 get_step top who false x f l n b = read_step top who x f l (second_false (is_seat who x.writer) _ n) b
 
 -- it is given back
-pub give_step : (top who : ℕ) (writer : Bool) (x : Rwl) → Fit top x → cond writer (is_seat who x.writer) (marked who x.readers) ≡ true → LockStep (rwl_lock top) who (Some x) (Some (rwl_given who writer x)) no_mode (λ m. in_mode m writer)
+pub give_step : (top who : ℕ) (writer : Bool) (x : Rwl) → Fit top x → cond writer (is_seat who x.writer) (marked who x.readers) ≡ true
+    → LockStep (rwl_lock top) who (Some x) (Some (rwl_given who writer x)) no_mode (λ m. in_mode m writer)
 give_step top who writer x e1 e2 = grind (arith, nat_tests, true_false, length-set, unset_read, marks_less)
 
 -- it stops being live

@@ -1,10 +1,12 @@
 -- What each move leaves of the tallies of a cell: what they wrote, what they read, the mutex that they name, and how they ended.
-use Rattle.history_law.proofs.Names.{arith, nat_tests, ◌≡◌, ℕ, Bool, true, false, cond, List, Option, ◌⊎◌, inl, inr, refl, ◌∙◌, ap, subst, ◌==◌, ◌&&◌, not, ℤ, pos, option_map, Failed, Op, Listed, with_fields, gone, is_member, freed, let_go, Mutex, Segment, Task, Notes, TallyNotes, Running, is_unended, with_state, with_notes, ended, new_task, tally_args, cell_in, number_in, State, Move, Segments, starts_task, runs_task, ends_task, ends_waiting, withdraws, notes, leaves, frees_members, lets_members_go, makes, alters, removes, apply, IsMade, makes_of_sort, fst_true, rest_keeps, is_tally_end, record_of, is_completed, sum_of}
+use Rattle.history_law.proofs.Names.{arith, nat_tests, ◌≡◌, ℕ, Bool, true, false, cond, List, Option, ◌⊎◌, inl, inr, refl, sym, some_same, ◌∙◌, ap, subst, ◌==◌, ◌&&◌, not, ℤ, pos, option_map, Op, Listed, with_fields, gone, Mutex, Segment, Task, Notes, TallyNotes, is_unended, with_notes, tally_args, cell_in, number_in, State, Move, Segments, makes, alters, removes, apply, IsMade, makes_of_sort, fst_true, is_tally_end, record_of, is_completed, sum_of}
 use Rattle.history_law.proofs.Answered.{true_false}
 use Rattle.history_law.proofs.SeatMoves.{May, MayEnd, Noted, Does, is_tally_lock, is_tally_read, is_tally_write, writes_cells, EndsTally}
-use Rattle.history_law.proofs.TaskMoves.{IsKept, same_found}
+use Rattle.history_law.proofs.TaskMoves.{IsKept}
 use Rattle.history_law.proofs.tallies.Ties.{has_both, Tied, ties_kept}
-use Rattle.history_law.proofs.lists.Sums.{sum_issue, sum_change, sum_all, sum_ends, record_view}
+use Rattle.history_law.proofs.lists.Sums.{record_view}
+use Rattle.history_law.proofs.TaskSteps as step
+use Rattle.history_law.proofs.TaskSteps.{Step, tasks_go, sum_steps}
 
 and_off : (b c : Bool) → c ≡ false → (b && c) ≡ false
 and_off b c e1 = grind (arith, nat_tests)
@@ -43,19 +45,14 @@ module _ (S C : ℕ) where
   does_weigh : (o : Op) (x y : TallyNotes) (args : List ℤ) → is_tally_write o ≡ false → Does o x y → weigh y args ≡ weigh x args
   does_weigh o x y args e1 e2 = grind (arith, nat_tests)
 
+  step_weighs : (who : ℕ) (o : Op) → is_tally_write o ≡ false → (s : State) (r : Listed Task) (m : Move) (q : Listed Task) → Step s r m q → May s who o m
+      → weight q.fields ≡ weight r.fields
+  step_weighs who o n s r _ _ (step.noted j f a i e) k =
+      does_weigh o _ _ r.fields.args n (subst (λ (t : Task). Does o t.notes.tally (f t.notes).tally) (some_same (sym k.1 ∙ e)) k.3)
+  step_weighs who o n s r _ _ _ k = refl
+
   pub written_move : (v : ℤ) (who : ℕ) (o : Op) → is_tally_write o ≡ false → (s : State) (x : Move) → May s who o x → written s ≡ v → written (apply x s) ≡ v
-  written_move v who o n s (starts_task j t) k e = sum_issue weight j (new_task t s.starts) s.tasks refl ∙ e
-  written_move v who o n s (runs_task j y z) k e = sum_change weight j (with_fields (with_state (Running y z))) s.tasks (λ r a. refl) ∙ e
-  written_move v who o n s (ends_task j x) k e = sum_change weight j (ended x s.ends) s.tasks (λ r a. refl) ∙ e
-  written_move v who o n s (ends_waiting p x) k e = sum_ends weight _ x s.ends s.tasks (λ t m. refl) ∙ e
-  written_move v who o n s (withdraws j f c) k e = sum_ends weight _ (Failed c) s.ends s.tasks (λ t m. refl) ∙ e
-  written_move v who o n s (notes j f) k e =
-      sum_change weight j (with_fields (with_notes f)) s.tasks
-      (λ r a. does_weigh o _ _ r.fields.args n (subst (λ (t : Task). Does o t.notes.tally (f t.notes).tally) (same_found s j j refl k.0 r.fields k.1 a) k.3)) ∙ e
-  written_move v who o n s (leaves j) k e = sum_change weight j gone s.tasks (λ r a. refl) ∙ e
-  written_move v who o n s (frees_members g) k e = sum_all weight _ freed s.tasks (λ r. refl) ∙ e
-  written_move v who o n s (lets_members_go g) k e = sum_all weight (is_member g) let_go s.tasks (λ r. refl) ∙ e
-  written_move v who o n s x k e = rest_keeps (λ t. written t ≡ v) (λ t g q m c r y p. p) x s e
+  written_move v who o n s x k e = sum_steps weight s x s.tasks _ (λ t m. refl) (λ r q y. step_weighs who o n s r x q y k) (tasks_go s x) ∙ e
 
   -- What holds of the arguments of each task that adds to the cell
 
@@ -79,7 +76,8 @@ module _ (S C : ℕ) where
   EndsRight t = is_unended t ≡ false → adds t.notes.tally t.args ≡ true → past_read t.notes.tally ≡ is_completed t.state
 
   -- a task that an op other than its `tally_end` ends adds nothing
-  adds_nothing : (n : ℕ) (ms : List (Listed Mutex)) (ss : List (Listed Segment)) (who h : ℕ) (o : Op) (t : Task) → is_tally_end h o ≡ false → Tied n ms ss t → MayEnd who t → EndsTally h o t → adds t.notes.tally t.args ≡ true → ⊥
+  adds_nothing : (n : ℕ) (ms : List (Listed Mutex)) (ss : List (Listed Segment)) (who h : ℕ) (o : Op) (t : Task) → is_tally_end h o ≡ false → Tied n ms ss t
+      → MayEnd who t → EndsTally h o t → adds t.notes.tally t.args ≡ true → ⊥
   adds_nothing n ms ss who h o t e1 e2 e3 e4 e5 = grind (arith, nat_tests)
 
   -- where some `tally_end` is no end of this list's tasks
@@ -93,7 +91,8 @@ module _ (S C : ℕ) where
   abbrev pub RightTied : (n : ℕ) (ms : List (Listed Mutex)) (ss : List (Listed Segment)) → Task → Type 0
   RightTied n ms ss t = Tied n ms ss t × EndsRight t
 
-  pub right_kept : (n : ℕ) (ms : List (Listed Mutex)) (ss : List (Listed Segment)) (who : ℕ) (o : Op) → NoTallyEnd o → is_tally_lock o ≡ false → IsKept (RightTied n ms ss) who o
+  pub right_kept : (n : ℕ) (ms : List (Listed Mutex)) (ss : List (Listed Segment)) (who : ℕ) (o : Op) → NoTallyEnd o → is_tally_lock o ≡ false
+      → IsKept (RightTied n ms ss) who o
   right_kept n ms ss who o f l = let tied : IsKept (Tied n ms ss) who o = ties_kept n ms ss who o l in record {
     new = λ t k. (tied.new t k, λ u a. true_false refl u);
     takes = λ w k t u i. (tied.takes w k t u i.0, λ a b. true_false refl a);
@@ -107,7 +106,8 @@ module _ (S C : ℕ) where
   abbrev pub cells_of : List (Listed Segment) → Option (List ℤ)
   cells_of l = option_map (λ (x : Segment). x.cells) (record_of l S)
 
-  pub cells_move : (v : Option (List ℤ)) (who : ℕ) (o : Op) → makes_of_sort Segments o ≡ false → writes_cells o ≡ false → (s : State) (x : Move) → IsMade s o x → May s who o x → cells_of s.segments ≡ v → cells_of (apply x s).segments ≡ v
+  pub cells_move : (v : Option (List ℤ)) (who : ℕ) (o : Op) → makes_of_sort Segments o ≡ false → writes_cells o ≡ false → (s : State) (x : Move) → IsMade s o x
+      → May s who o x → cells_of s.segments ≡ v → cells_of (apply x s).segments ≡ v
   cells_move v who o m n s (makes Segments j x) i k e = true_false i.by m
   cells_move v who o m n s (alters Segments j f) i k e = by_cells k
     where

@@ -38,43 +38,52 @@ module _ (S C id n : ℕ) where
   -- the entry writes to no cell of the law, but by a tally, and a tally that gets the segment for the cell names the mutex
   pub record KeepsPremises (s : State) (e : NodeEntry) : Type 0 where
     pub write : writes_to S C e ≡ false
-    pub lock : (w : ℕ) (t : TaskHandle) (x : Task) → e ≡ tally_got w t → live_object (next s e).tasks t.0 ≡ Some x → adds_to S C x ≡ true → mutex_in (tally_args x.args) ≡ id
+    pub lock : (w : ℕ) (t : TaskHandle) (x : Task) → e ≡ tally_got w t → live_object (next s e).tasks t.0 ≡ Some x → adds_to S C x ≡ true
+        → mutex_in (tally_args x.args) ≡ id
 
   module _ (s : State) (who : ℕ) (v : SumHolds s) where
     -- the tasks that add to the cell
 
     live_known : (u : Task) (y : Segment) → live_object s.segments u.notes.tally.segment ≡ Some y → adds_to S C u ≡ true → 1 ≤ listed S s.segments
     live_known u y e a =
-        let same : u.notes.tally.segment ≡ S = eqb-true u.notes.tally.segment S (fst_true (u.notes.tally.segment == S) _ (snd_true (has_both u.notes.tally) _ a)) in
+        let same : u.notes.tally.segment ≡ S = eqb-true u.notes.tally.segment S
+        (fst_true (u.notes.tally.segment == S) _ (snd_true (has_both u.notes.tally) _ a)) in
         live_listed S s.segments (ap is_some (subst (λ (j : ℕ). live_object s.segments j ≡ Some y) same e))
 
     -- what holds of their arguments
     each_next : (R : List ℤ → Type 0) (o : Op) (r : Reply) → IsNext s (entry who o r) → Every (Each S C R) s.tasks
-        → ((t : TaskHandle) (u : Task) (v : Segment) → o ≡ op.TallyLock t → r ≡ reply.Asked true → live_object (after_row s (row s who o r)).tasks t.0 ≡ Some u → live_object s.segments u.notes.tally.segment ≡ Some v → adds_to S C u ≡ true → R u.args)
+        → ((t : TaskHandle) (u : Task) (v : Segment) → o ≡ op.TallyLock t → r ≡ reply.Asked true → live_object (after_row s (row s who o r)).tasks t.0 ≡ Some u
+        → live_object s.segments u.notes.tally.segment ≡ Some v → adds_to S C u ≡ true → R u.args)
         → Every (Each S C R) (after_row s (row s who o r)).tasks
-    each_next R o r i base h = whether (is_tally_lock o) (λ l. lock_each S C R s who o r _ base l h (answer s (entry who o r) i)) (λ l. by_moves (λ t. Every (Each S C R) t.tasks) s (entry who o r) i (every_moved (Each S C R) who o (each_kept S C R who o l)) base)
+    each_next R o r i base h = whether (is_tally_lock o) (λ l. lock_each S C R s who o r _ base l h (answer s (entry who o r) i))
+        (λ l. by_moves (λ t. Every (Each S C R) t.tasks) s (entry who o r) i (every_moved (Each S C R) who o (each_kept S C R who o l)) base)
 
     -- how tallies end
 
-    ends_right : (t : ℕ) (x : Task) (e : TaskEnd) → live_object s.tasks t ≡ Some x → (adds S C x.notes.tally x.args ≡ true → past_read S C x.notes.tally ≡ completed_in e) → Every (EndsRight S C) (change t (ended e s.ends) s.tasks)
+    ends_right : (t : ℕ) (x : Task) (e : TaskEnd) → live_object s.tasks t ≡ Some x
+        → (adds S C x.notes.tally x.args ≡ true → past_read S C x.notes.tally ≡ completed_in e) → Every (EndsRight S C) (change t (ended e s.ends) s.tasks)
     ends_right t x e f k =
         every_change (EndsRight S C) t (ended e s.ends) s.tasks
         (λ r a q u b.
         let same : x ≡ r.fields = some_same (sym f ∙ a) in
-        subst (λ (z : Task). past_read S C z.notes.tally ≡ completed_in e) same (k (subst (λ (z : Task). adds S C z.notes.tally z.args ≡ true) (sym same) b))) v.right
+        subst (λ (z : Task). past_read S C z.notes.tally
+        ≡ completed_in e) same (k (subst (λ (z : Task). adds S C z.notes.tally z.args ≡ true) (sym same) b))) v.right
 
     failed_adds : (x : Task) → (x.notes.tally.stage == 4) ≡ true → adds S C x.notes.tally x.args ≡ true → ⊥
     failed_adds x e1 e2 = grind (arith, nat_tests)
 
-    back_right : (x : Task) (z : ℤ) (c : Bool) → (nat_lt x.notes.tally.stage 2 || c) ≡ false → past_read S C x.notes.tally ≡ completed_in (cond (x.notes.tally.stage == 2) (Failed m.ErrActionFailed) (Completed (z ∷ [])))
+    back_right : (x : Task) (z : ℤ) (c : Bool) → (nat_lt x.notes.tally.stage 2 || c) ≡ false
+        → past_read S C x.notes.tally ≡ completed_in (cond (x.notes.tally.stage == 2) (Failed m.ErrActionFailed) (Completed (z ∷ [])))
     back_right x z c e1 = grind (arith, nat_tests)
 
     noted_runs : (t : ℕ) (x : Task) (f : Notes → Notes) → HasTask s who t x kinds.Tally → Every (EndsRight S C) (change t (with_fields (with_notes f)) s.tasks)
     noted_runs t x f k =
         every_change (EndsRight S C) t (with_fields (with_notes f)) s.tasks
-        (λ r a q u b. true_false (subst (λ (z : Task). runs_on who z ≡ true) (some_same (sym k.found ∙ a)) (as_on who x.state k.runs)) (runs_over who r.fields u)) v.right
+        (λ r a q u b. true_false (subst (λ (z : Task). runs_on who z ≡ true) (some_same (sym k.found ∙ a)) (as_on who x.state k.runs))
+        (runs_over who r.fields u)) v.right
 
-    right_by : (o : Op) (r : Reply) (ms : List Move) → is_end_op o || is_tally_lock o ≡ true → Answers s who o r ms → Every (EndsRight S C) (after_moves ms s).tasks
+    right_by : (o : Op) (r : Reply) (ms : List Move) → is_end_op o || is_tally_lock o ≡ true → Answers s who o r ms
+        → Every (EndsRight S C) (after_moves ms s).tasks
     right_by _ _ _ l (is.refuses o x e) = v.right
     right_by _ _ _ l (is.refuses_caller o x e) = v.right
     right_by _ _ _ l (is.lock_early t x k z) = v.right
@@ -88,7 +97,8 @@ module _ (S C id n : ℕ) where
     right_row (op.TallyEnd t) r i = right_by (op.TallyEnd t) r _ refl (answer s (entry who (op.TallyEnd t) r) i)
     right_row (op.TallyLock t) r i = right_by (op.TallyLock t) r _ refl (answer s (entry who (op.TallyLock t) r) i)
     right_row o r i = every_part (RightTied S C n s.mutexes s.segments) (EndsRight S C) _ (λ t x. x.1)
-        (by_moves (λ t. Every (RightTied S C n s.mutexes s.segments) t.tasks) s (entry who o r) i (every_moved (RightTied S C n s.mutexes s.segments) who o (right_kept S C n s.mutexes s.segments who o (λ h. refl) refl))
+        (by_moves (λ t. Every (RightTied S C n s.mutexes s.segments) t.tasks) s (entry who o r) i
+        (every_moved (RightTied S C n s.mutexes s.segments) who o (right_kept S C n s.mutexes s.segments who o (λ h. refl) refl))
         (every_map (Tied n s.mutexes s.segments) (EndsRight S C) (RightTied S C n s.mutexes s.segments) s.tasks (λ t a b. (a, b)) v.good.ties v.right))
 
     -- the sum
@@ -103,13 +113,15 @@ module _ (S C id n : ℕ) where
     cell_same : (x : Task) → adds S C x.notes.tally x.args ≡ true → cell_in (tally_args x.args) ≡ C
     cell_same x a = eqb-true (cell_in (tally_args x.args)) C (snd_true (x.notes.tally.segment == S) _ (snd_true (has_both x.notes.tally) _ a))
 
-    cells_here : (x : Task) (y : Segment) → adds S C x.notes.tally x.args ≡ true → live_object s.segments x.notes.tally.segment ≡ Some y → cells_of S C s.segments ≡ Some y.cells
+    cells_here : (x : Task) (y : Segment) → adds S C x.notes.tally x.args ≡ true → live_object s.segments x.notes.tally.segment ≡ Some y
+        → cells_of S C s.segments ≡ Some y.cells
     cells_here x y a e =
         ap (λ (q : Option Segment). option_map (λ (z : Segment). z.cells) q)
         (subst (λ (j : ℕ). record_of s.segments j ≡ Some y) (seg_same x a) (record_at x.notes.tally.segment y s.segments v.good.once_segments e))
 
     -- a tally reads the cell
-    read_sum : (t : ℕ) (x : Task) (y : Segment) → live_object s.tasks t ≡ Some x → (x.notes.tally.stage == 1) ≡ true → live_object s.segments x.notes.tally.segment ≡ Some y
+    read_sum : (t : ℕ) (x : Task) (y : Segment) → live_object s.tasks t ≡ Some x → (x.notes.tally.stage == 1) ≡ true
+        → live_object s.segments x.notes.tally.segment ≡ Some y
         → SumAfter (notes t (with_tally (tally_read (cell_of (cell_in (tally_args x.args)) y))) ∷ [])
     read_sum t x y e d f = by_cells (cells_of S C s.segments) refl v.sum
       where
@@ -123,12 +135,16 @@ module _ (S C id n : ℕ) where
         same_sum =
             sum_change (weight S C) t (with_fields (with_notes (with_tally (tally_read z)))) s.tasks
             (λ r a. weigh_early S C (tally_read z r.fields.notes.tally) r.fields.args 2 refl refl
-            ∙ sym (weigh_early S C r.fields.notes.tally r.fields.args 1 (subst (λ (u : Task). (u.notes.tally.stage == 1) ≡ true) (some_same (sym e ∙ a)) d) refl))
+            ∙ sym (weigh_early S C r.fields.notes.tally r.fields.args 1
+            (subst (λ (u : Task). (u.notes.tally.stage == 1) ≡ true) (some_same (sym e ∙ a)) d) refl))
 
         -- it reads what the cell holds
-        reads_it : (c : List ℤ) → cells_of S C s.segments ≡ Some c → cell_value S C c ≡ sum_of (weight S C) s.tasks → adds S C (tally_read z x.notes.tally) x.args ≡ true → z ≡ sum_of (weight S C) s.tasks
+        reads_it : (c : List ℤ) → cells_of S C s.segments ≡ Some c → cell_value S C c ≡ sum_of (weight S C) s.tasks
+            → adds S C (tally_read z x.notes.tally) x.args ≡ true → z ≡ sum_of (weight S C) s.tasks
         reads_it c k w a =
-            let b : adds S C x.notes.tally x.args ≡ true = ap (λ (i : ℕ). (not (i == 0) && not (i == 4)) && ((x.notes.tally.segment == S) && (cell_in (tally_args x.args) == C))) (eqb-true x.notes.tally.stage 1 d) ∙ a in
+            let b : adds S C x.notes.tally x.args ≡ true =
+            ap (λ (i : ℕ). (not (i == 0) && not (i == 4))
+            && ((x.notes.tally.segment == S) && (cell_in (tally_args x.args) == C))) (eqb-true x.notes.tally.stage 1 d) ∙ a in
             let here : y.cells ≡ c = some_same (sym (cells_here x y b f) ∙ k) in
             ap (λ (i : ℕ). slice_index_or y.cells i (pos 0)) (cell_same x b) ∙ (ap (λ (i : List ℤ). slice_index_or i C (pos 0)) here ∙ w)
 
@@ -146,11 +162,14 @@ module _ (S C id n : ℕ) where
             ))
 
     -- a tally writes to another cell
-    write_other : (t : ℕ) (value : ℤ) (x : Task) (y : Segment) → live_object s.tasks t ≡ Some x → (x.notes.tally.stage == 2) ≡ true → live_object s.segments x.notes.tally.segment ≡ Some y → ((x.notes.tally.segment == S) && (cell_in (tally_args x.args) == C)) ≡ false
-        → Sum S C (cells_of S C (update x.notes.tally.segment (with_cell (cell_in (tally_args x.args)) value) s.segments)) (change t (with_fields (with_notes (with_tally tally_written))) s.tasks)
+    write_other : (t : ℕ) (value : ℤ) (x : Task) (y : Segment) → live_object s.tasks t ≡ Some x → (x.notes.tally.stage == 2) ≡ true
+        → live_object s.segments x.notes.tally.segment ≡ Some y → ((x.notes.tally.segment == S) && (cell_in (tally_args x.args) == C)) ≡ false
+        → Sum S C (cells_of S C (update x.notes.tally.segment (with_cell (cell_in (tally_args x.args)) value) s.segments))
+        (change t (with_fields (with_notes (with_tally tally_written))) s.tasks)
     write_other t value x y e d f a =
         sum_keep S C _ s.tasks (change t (with_fields (with_notes (with_tally tally_written))) s.tasks) same_sum
-        (λ h. every_change (HasRead S C (sum_of (weight S C) s.tasks)) t (with_fields (with_notes (with_tally tally_written))) s.tasks (λ r i k b g p. true_false g refl) h)
+        (λ h. every_change (HasRead S C (sum_of (weight S C) s.tasks)) t (with_fields (with_notes (with_tally tally_written))) s.tasks
+        (λ r i k b g p. true_false g refl) h)
         (other_cell S C s x.notes.tally.segment (cell_in (tally_args x.args)) value y s.tasks v.good.once_segments f a v.sum)
       where
         same_sum : sum_of (weight S C) (change t (with_fields (with_notes (with_tally tally_written))) s.tasks) ≡ sum_of (weight S C) s.tasks
@@ -158,24 +177,30 @@ module _ (S C id n : ℕ) where
             sum_change (weight S C) t (with_fields (with_notes (with_tally tally_written))) s.tasks
             (λ r i.
             let same : x ≡ r.fields = some_same (sym e ∙ i) in
-            weigh_off S C (tally_written r.fields.notes.tally) r.fields.args (subst (λ (u : Task). ((u.notes.tally.segment == S) && (cell_in (tally_args u.args) == C)) ≡ false) same a)
+            weigh_off S C (tally_written r.fields.notes.tally) r.fields.args
+            (subst (λ (u : Task). ((u.notes.tally.segment == S) && (cell_in (tally_args u.args) == C)) ≡ false) same a)
             ∙ sym (weigh_early S C r.fields.notes.tally r.fields.args 2 (subst (λ (u : Task). (u.notes.tally.stage == 2) ≡ true) same d) refl))
 
     -- no other task that adds to the cell has read and not written: it would own the same mutex
     alone : (x u : Task) → adds S C x.notes.tally x.args ≡ true → runs_on who x ≡ true → Tied n s.mutexes s.segments x → mutex_in (tally_args x.args) ≡ id
-        → runs_on who u ≡ false → Tied n s.mutexes s.segments u × Each S C (λ a. mutex_in (tally_args a) ≡ id) u → adds S C u.notes.tally u.args ≡ true → is_unended u ≡ true → ⊥
+        → runs_on who u ≡ false → Tied n s.mutexes s.segments u × Each S C (λ a. mutex_in (tally_args a) ≡ id) u → adds S C u.notes.tally u.args ≡ true
+        → is_unended u ≡ true → ⊥
     alone x u a k i p q r b c =
         let both : has_both u.notes.tally ≡ true = both_of S C u.notes.tally u.args b in
         let begun = false_from_ne_true _ (λ e. true_false both (r.0.early e)) in
         let w = some_worker u c begun in
-        let own : Owns w.0 id (live_object s.mutexes u.notes.tally.mutex) = subst (λ (j : ℕ). Owns w.0 j (live_object s.mutexes u.notes.tally.mutex)) (r.1 b) (r.0.tied w.0 w.1 both).1 in
-        let owns : Owns who id (live_object s.mutexes x.notes.tally.mutex) = subst (λ (j : ℕ). Owns who j (live_object s.mutexes x.notes.tally.mutex)) p (i.tied who k (both_of S C x.notes.tally x.args a)).1 in
+        let own : Owns w.0 id (live_object s.mutexes u.notes.tally.mutex) =
+        subst (λ (j : ℕ). Owns w.0 j (live_object s.mutexes u.notes.tally.mutex)) (r.1 b) (r.0.tied w.0 w.1 both).1 in
+        let owns : Owns who id (live_object s.mutexes x.notes.tally.mutex) =
+        subst (λ (j : ℕ). Owns who j (live_object s.mutexes x.notes.tally.mutex)) p (i.tied who k (both_of S C x.notes.tally x.args a)).1 in
         let same : w.0 ≡ who = one_owner s.mutexes id w.0 who u.notes.tally.mutex x.notes.tally.mutex (v.ids id) own owns in
         true_false (subst (λ (j : ℕ). runs_on j u ≡ true) same w.1) q
 
     -- a tally writes to the cell
-    write_here : (t : ℕ) (value : ℤ) (x : Task) (y : Segment) → live_object s.tasks t ≡ Some x → runs_on who x ≡ true → (x.notes.tally.stage == 2) ≡ true → value ≡ added x → live_object s.segments x.notes.tally.segment ≡ Some y → adds S C x.notes.tally x.args ≡ true
-        → Sum S C (cells_of S C (update x.notes.tally.segment (with_cell (cell_in (tally_args x.args)) value) s.segments)) (change t (with_fields (with_notes (with_tally tally_written))) s.tasks)
+    write_here : (t : ℕ) (value : ℤ) (x : Task) (y : Segment) → live_object s.tasks t ≡ Some x → runs_on who x ≡ true → (x.notes.tally.stage == 2) ≡ true
+        → value ≡ added x → live_object s.segments x.notes.tally.segment ≡ Some y → adds S C x.notes.tally x.args ≡ true
+        → Sum S C (cells_of S C (update x.notes.tally.segment (with_cell (cell_in (tally_args x.args)) value) s.segments))
+        (change t (with_fields (with_notes (with_tally tally_written))) s.tasks)
     write_here t value x y e k d w f a = sum_cells S C s _ _ now (sym cells_now) (λ i. written_here (old i))
       where
         now : List (Listed Task)
@@ -184,24 +209,29 @@ module _ (S C id n : ℕ) where
         number : ℤ
         number = number_in (tally_args x.args)
 
-        cells_now : cells_of S C (update x.notes.tally.segment (with_cell (cell_in (tally_args x.args)) value) s.segments) ≡ Some (slice_set y.cells (cell_in (tally_args x.args)) value)
+        cells_now : cells_of S C (update x.notes.tally.segment (with_cell (cell_in (tally_args x.args)) value) s.segments)
+            ≡ Some (slice_set y.cells (cell_in (tally_args x.args)) value)
         cells_now =
             ap (λ (q : Option Segment). option_map (λ (z : Segment). z.cells) q)
-            (subst (λ (j : ℕ). record_of (update x.notes.tally.segment (with_cell (cell_in (tally_args x.args)) value) s.segments) j ≡ Some (with_cell (cell_in (tally_args x.args)) value y)) (seg_same x a)
+            (subst (λ (j : ℕ). record_of (update x.notes.tally.segment (with_cell (cell_in (tally_args x.args)) value) s.segments) j
+            ≡ Some (with_cell (cell_in (tally_args x.args)) value y)) (seg_same x a)
             (record_updated x.notes.tally.segment (with_cell (cell_in (tally_args x.args)) value) y s.segments v.good.once_segments f))
 
         inside : C < length (slice_set y.cells (cell_in (tally_args x.args)) value) → C < length y.cells
         inside i = subst (λ (j : ℕ). C < j) (length-set y.cells (cell_in (tally_args x.args)) value) i
 
-        old : C < length (slice_set y.cells (cell_in (tally_args x.args)) value) → (C < length y.cells) × (cell_value S C y.cells ≡ sum_of (weight S C) s.tasks) × Every (HasRead S C (sum_of (weight S C) s.tasks)) s.tasks
+        old : C < length (slice_set y.cells (cell_in (tally_args x.args)) value)
+            → (C < length y.cells) × (cell_value S C y.cells ≡ sum_of (weight S C) s.tasks) × Every (HasRead S C (sum_of (weight S C) s.tasks)) s.tasks
         old i = let u : Sum S C (Some y.cells) s.tasks = sum_cells S C s _ _ s.tasks (cells_here x y a f) v.sum in let z = u (inside i) in (inside i, z.0, z.1)
 
         heavier : (r : Listed Task) → r.fields ≡ x → weight S C (with_notes (with_tally tally_written) r.fields) ≡ weight S C r.fields +ℤ number
         heavier r same =
             let both : ((x.notes.tally.segment == S) && (cell_in (tally_args x.args) == C)) ≡ true = snd_true (has_both x.notes.tally) _ a in
-            let zero : weight S C r.fields ≡ pos 0 = weigh_early S C r.fields.notes.tally r.fields.args 2 (subst (λ (u : Task). (u.notes.tally.stage == 2) ≡ true) (sym same) d) refl in
+            let zero : weight S C r.fields ≡ pos 0 =
+            weigh_early S C r.fields.notes.tally r.fields.args 2 (subst (λ (u : Task). (u.notes.tally.stage == 2) ≡ true) (sym same) d) refl in
             let full : weight S C (with_notes (with_tally tally_written) x) ≡ number = ap (λ (b : Bool). cond (b && true) number (pos 0)) both in
-            subst (λ (u : Task). weight S C (with_notes (with_tally tally_written) u) ≡ number) (sym same) full ∙ (sym (+ℤ_idl number) ∙ ap (λ (q : ℤ). q +ℤ number) (sym zero))
+            subst (λ (u : Task). weight S C (with_notes (with_tally tally_written) u) ≡ number) (sym same) full
+            ∙ (sym (+ℤ_idl number) ∙ ap (λ (q : ℤ). q +ℤ number) (sym zero))
 
         more : sum_of (weight S C) now ≡ sum_of (weight S C) s.tasks +ℤ number
         more = sum_more (weight S C) number t (with_fields (with_notes (with_tally tally_written))) s.tasks x e heavier
@@ -213,20 +243,29 @@ module _ (S C id n : ℕ) where
         name = every_at (Each S C (λ b. mutex_in (tally_args b) ≡ id)) s.tasks t x v.named e a
 
         written_here : (C < length y.cells) × (cell_value S C y.cells ≡ sum_of (weight S C) s.tasks) × Every (HasRead S C (sum_of (weight S C) s.tasks)) s.tasks
-            → (cell_value S C (slice_set y.cells (cell_in (tally_args x.args)) value) ≡ sum_of (weight S C) now) × Every (HasRead S C (sum_of (weight S C) now)) now
+            → (cell_value S C (slice_set y.cells (cell_in (tally_args x.args)) value) ≡ sum_of (weight S C) now)
+            × Every (HasRead S C (sum_of (weight S C) now)) now
         written_here z =
-            let kept : x.notes.tally.kept ≡ sum_of (weight S C) s.tasks = every_at (HasRead S C (sum_of (weight S C) s.tasks)) s.tasks t x z.2 e a d (runs_unended who x k) in
+            let kept : x.notes.tally.kept ≡ sum_of (weight S C) s.tasks =
+            every_at (HasRead S C (sum_of (weight S C) s.tasks)) s.tasks t x z.2 e a d (runs_unended who x k) in
             let sums : value ≡ sum_of (weight S C) now = w ∙ (ap (λ (q : ℤ). q +ℤ number) kept ∙ sym more) in
-            let cell : cell_value S C (slice_set y.cells (cell_in (tally_args x.args)) value) ≡ value = subst (λ (j : ℕ). cell_value S C (slice_set y.cells j value) ≡ value) (sym (cell_same x a)) (get_or-set_same y.cells C value (pos 0) z.0) in (
+            let cell : cell_value S C (slice_set y.cells (cell_in (tally_args x.args)) value) ≡ value =
+            subst (λ (j : ℕ). cell_value S C (slice_set y.cells j value) ≡ value) (sym (cell_same x a)) (get_or-set_same y.cells C value (pos 0) z.0) in (
               cell ∙ sums,
-              every_alone (λ u. Tied n s.mutexes s.segments u × Each S C (λ b. mutex_in (tally_args b) ≡ id) u) (HasRead S C (sum_of (weight S C) now)) who t (with_fields (with_notes (with_tally tally_written))) s.tasks x e k (v.good.one who) v.good.held.dead
+              every_alone (λ u. Tied n s.mutexes s.segments u
+                  × Each S C (λ b. mutex_in (tally_args b) ≡ id) u) (HasRead S C (sum_of (weight S C) now)) who t
+                  (with_fields (with_notes (with_tally tally_written))) s.tasks x e k (v.good.one who) v.good.held.dead
                   (λ u q r b g p. absurd (alone x u a k tie name q r b p)) (λ r same q b g p. true_false g refl)
-                  (every_map (Tied n s.mutexes s.segments) (Each S C (λ b. mutex_in (tally_args b) ≡ id)) (λ u. Tied n s.mutexes s.segments u × Each S C (λ b. mutex_in (tally_args b) ≡ id) u) s.tasks (λ u b c. (b, c)) v.good.ties v.named),
+                  (every_map (Tied n s.mutexes s.segments) (Each S C (λ b. mutex_in (tally_args b) ≡ id)) (λ u. Tied n s.mutexes s.segments u
+                  × Each S C (λ b. mutex_in (tally_args b) ≡ id) u) s.tasks (λ u b c. (b, c)) v.good.ties v.named),
             )
 
-    write_sum : (t : ℕ) (value : ℤ) (x : Task) (y : Segment) → live_object s.tasks t ≡ Some x → runs_on who x ≡ true → (x.notes.tally.stage == 2) ≡ true → value ≡ added x → live_object s.segments x.notes.tally.segment ≡ Some y
-        → Sum S C (cells_of S C (update x.notes.tally.segment (with_cell (cell_in (tally_args x.args)) value) s.segments)) (change t (with_fields (with_notes (with_tally tally_written))) s.tasks)
-    write_sum t value x y e k d w f = whether ((x.notes.tally.segment == S) && (cell_in (tally_args x.args) == C)) (λ a. write_here t value x y e k d w f (λ i. both i && a i)) (λ a. write_other t value x y e d f a)
+    write_sum : (t : ℕ) (value : ℤ) (x : Task) (y : Segment) → live_object s.tasks t ≡ Some x → runs_on who x ≡ true → (x.notes.tally.stage == 2) ≡ true
+        → value ≡ added x → live_object s.segments x.notes.tally.segment ≡ Some y
+        → Sum S C (cells_of S C (update x.notes.tally.segment (with_cell (cell_in (tally_args x.args)) value) s.segments))
+        (change t (with_fields (with_notes (with_tally tally_written))) s.tasks)
+    write_sum t value x y e k d w f = whether ((x.notes.tally.segment == S)
+        && (cell_in (tally_args x.args) == C)) (λ a. write_here t value x y e k d w f (λ i. both i && a i)) (λ a. write_other t value x y e d f a)
       where
         both : has_both x.notes.tally ≡ true
         both = ap (λ (j : ℕ). not (j == 0) && not (j == 4)) (eqb-true x.notes.tally.stage 2 d)
@@ -242,22 +281,28 @@ module _ (S C id n : ℕ) where
     sum_by _ _ _ l f (is.refuses o x e) = v.sum
     sum_by _ _ _ l f (is.refuses_caller o x e) = v.sum
     sum_by _ _ _ l f (is.creates_segment i2 cells h e j) = create_sum S C s h (new_segment i2 cells) cells refl (fresh_unlisted kind.Shmem s h j) v.known v.sum
-    sum_by _ _ _ l f (is.writes_cell h c value x k) = other_cell S C s h.0 c value x s.tasks v.good.once_segments k.found (sym (and-true ((h.0 == S) && (c == C))) ∙ f) v.sum
+    sum_by _ _ _ l f (is.writes_cell h c value x k) =
+        other_cell S C s h.0 c value x s.tasks v.good.once_segments k.found (sym (and-true ((h.0 == S) && (c == C))) ∙ f) v.sum
     sum_by _ _ _ l f (is.tally_reads t x y k z e) = read_sum t.0 x y k.found z e
     sum_by _ _ _ l f (is.tally_writes t value x y k z e) =
-        write_sum t.0 value x y k.found (as_on who x.state k.runs) (not_false _ (first_false _ _ z)) ((Decides-int_eq value (added x)).0 (not_false _ (second_false _ _ z))) e
+        write_sum t.0 value x y k.found (as_on who x.state k.runs) (not_false _ (first_false _ _ z))
+        ((Decides-int_eq value (added x)).0 (not_false _ (second_false _ _ z))) e
     sum_by _ _ _ l f _ = true_false l refl
 
-    sum_row : (o : Op) (r : Reply) → IsNext s (entry who o r) → KeepsPremises s (entry who o r) → Sum S C (cells_of S C (after_row s (row s who o r)).segments) (after_row s (row s who o r)).tasks
+    sum_row : (o : Op) (r : Reply) → IsNext s (entry who o r) → KeepsPremises s (entry who o r)
+        → Sum S C (cells_of S C (after_row s (row s who o r)).segments) (after_row s (row s who o r)).tasks
     sum_row (op.ShmemCreate i2 cells) r i f = sum_by (op.ShmemCreate i2 cells) r _ refl f.write (answer s (entry who (op.ShmemCreate i2 cells) r) i)
     sum_row (op.ShmemWrite x c value) r i f = sum_by (op.ShmemWrite x c value) r _ refl f.write (answer s (entry who (op.ShmemWrite x c value) r) i)
     sum_row (op.TallyRead t) r i f = sum_by (op.TallyRead t) r _ refl f.write (answer s (entry who (op.TallyRead t) r) i)
     sum_row (op.TallyWrite t value) r i f = sum_by (op.TallyWrite t value) r _ refl f.write (answer s (entry who (op.TallyWrite t value) r) i)
     sum_row o r i f =
-        sum_cells S C s _ _ (after_row s (row s who o r)).tasks (sym (by_made_moves (λ t. cells_of S C t.segments ≡ cells_of S C s.segments) s (entry who o r) i (cells_move S C (cells_of S C s.segments) who o refl refl) refl))
+        sum_cells S C s _ _ (after_row s (row s who o r)).tasks
+        (sym (by_made_moves (λ t. cells_of S C t.segments
+        ≡ cells_of S C s.segments) s (entry who o r) i (cells_move S C (cells_of S C s.segments) who o refl refl) refl))
         (sum_keep S C (cells_of S C s.segments) s.tasks (after_row s (row s who o r)).tasks
         (by_moves (λ t. written S C t ≡ written S C s) s (entry who o r) i (written_move S C (written S C s) who o refl) refl)
-        (λ h. by_moves (λ t. Every (HasRead S C (written S C s)) t.tasks) s (entry who o r) i (every_moved (HasRead S C (written S C s)) who o (read_kept S C (written S C s) who o refl refl)) h) v.sum)
+        (λ h. by_moves (λ t. Every (HasRead S C (written S C s)) t.tasks) s (entry who o r) i
+        (every_moved (HasRead S C (written S C s)) who o (read_kept S C (written S C s) who o refl refl)) h) v.sum)
 
   holds_next : (s : State) (e : NodeEntry) → IsNext s e → KeepsPremises s e → SumHolds s → SumHolds (next s e)
   holds_next s e i f v = record {
@@ -265,8 +310,12 @@ module _ (S C id n : ℕ) where
     ids = λ j. by_made_moves (λ t. count_listed (HasId j) t.mutexes ≤ 1) s e i (ids_move j e.who e.op) (v.ids j);
     known =
         every_map (Each S C (λ a. 1 ≤ listed S s.segments)) (λ t. Unit {0}) (Each S C (λ a. 1 ≤ listed S (next s e).segments)) (next s e).tasks
-        (λ t a u b. listed_next kind.Shmem s e S (a b)) (each_next s e.who v (λ a. 1 ≤ listed S s.segments) e.op e.reply i v.known (λ t u y a b c d g. live_known s e.who v u y d g)) (always (next s e).tasks);
-    named = each_next s e.who v (λ a. mutex_in (tally_args a) ≡ id) e.op e.reply i v.named (λ t u y a b c d g. f.lock e.who t u (ap (λ (o : Op). entry e.who o e.reply) a ∙ ap (λ (z : Reply). entry e.who (op.TallyLock t) z) b) c g);
+        (λ t a u b. listed_next kind.Shmem s e S (a b))
+        (each_next s e.who v (λ a. 1 ≤ listed S s.segments) e.op e.reply i v.known (λ t u y a b c d g. live_known s e.who v u y d g))
+        (always (next s e).tasks);
+    named = each_next s e.who v (λ a. mutex_in (tally_args a)
+        ≡ id) e.op e.reply i v.named (λ t u y a b c d g. f.lock e.who t u (ap (λ (o : Op). entry e.who o e.reply) a
+        ∙ ap (λ (z : Reply). entry e.who (op.TallyLock t) z) b) c g);
     right = right_row s e.who v e.op e.reply i;
     sum = sum_row s e.who v e.op e.reply i f;
   }
@@ -281,16 +330,21 @@ module _ (S C id n : ℕ) where
   holds_along s [] l f v = v
   holds_along s (e ∷ es) l f v = holds_along (next s e) es l.1 f.1 (holds_next s e l.0 f.0 v)
 
-  premises_from : (terms : Terms) (es P L : List NodeEntry) → es ≡ P ++ L → some_entry (writes_to S C) L ≡ false → NamesOneMutex terms es S C id → KeepPremises (after terms P) L
+  premises_from : (terms : Terms) (es P L : List NodeEntry) → es ≡ P ++ L → some_entry (writes_to S C) L ≡ false → NamesOneMutex terms es S C id
+      → KeepPremises (after terms P) L
   unfolding KeepPremises
   premises_from terms es P [] cut w k = tt
   premises_from terms es P (e ∷ L) cut w k =
       let both = none_first (writes_to S C e) (some_entry (writes_to S C) L) w in (
         record {
           write = both.0;
-          lock = λ v t x i a b. k P L v t x (cut ∙ ap (λ (z : NodeEntry). P ++ z ∷ L) i) (subst (λ (z : State). live_object z.tasks t.0 ≡ Some x) (sym (after-one (opening terms) P (tally_got v t))) (subst (λ (z : NodeEntry). live_object (next (after terms P) z).tasks t.0 ≡ Some x) i a)) b;
+          lock = λ v t x i a b. k P L v t x (cut ∙ ap (λ (z : NodeEntry). P ++ z ∷ L) i)
+              (subst (λ (z : State). live_object z.tasks t.0
+              ≡ Some x) (sym (after-one (opening terms) P (tally_got v t)))
+              (subst (λ (z : NodeEntry). live_object (next (after terms P) z).tasks t.0 ≡ Some x) i a)) b;
         },
-        subst (λ (z : State). KeepPremises z L) (after-one (opening terms) P e) (premises_from terms es (P ++ e ∷ []) L (cut ∙ sym (append_assoc P (e ∷ []) L)) both.1 k),
+        subst (λ (z : State). KeepPremises z L) (after-one (opening terms) P e)
+            (premises_from terms es (P ++ e ∷ []) L (cut ∙ sym (append_assoc P (e ∷ []) L)) both.1 k),
       )
 
   ended_each : (l : List (Listed Task)) → AllEnded l → Every HasEnded l
@@ -317,10 +371,16 @@ holds_opening S C id terms few = record {
 pub holds_the_sum : (terms : Terms) (es : List NodeEntry) (S C : ℕ) → Legal terms es → HoldsTheSum terms es S C
 unfolding after_from
 holds_the_sum terms es S C legal A B main id x cut found inside w k =
-    let v : SumHolds S C id terms.settings.workers (after terms es) = holds_along S C id terms.settings.workers (opening terms) es legal.from (premises_from S C id terms.settings.workers terms es [] es refl w k) (holds_opening S C id terms legal.fits.settings.workers.1) in
-    let all : AllEnded (after terms es).tasks = subst (λ (L : List NodeEntry). AllEnded (after terms L).tasks) (sym cut) (all_after terms A B main (subst (λ (L : List NodeEntry). Legal terms L) cut legal)) in
+    let v : SumHolds S C id terms.settings.workers (after terms es) =
+    holds_along S C id terms.settings.workers (opening terms) es legal.from (premises_from S C id terms.settings.workers terms es [] es refl w k)
+    (holds_opening S C id terms legal.fits.settings.workers.1) in
+    let all : AllEnded (after terms es).tasks =
+    subst (λ (L : List NodeEntry). AllEnded (after terms L).tasks) (sym cut)
+    (all_after terms A B main (subst (λ (L : List NodeEntry). Legal terms L) cut legal)) in
     let cells : cells_of S C (after terms es).segments ≡ Some x.cells = ap (λ (q : Option Segment). option_map (λ (z : Segment). z.cells) q) found in
     let sum : Sum S C (Some x.cells) (after terms es).tasks = sum_cells S C (after terms es) _ _ (after terms es).tasks cells v.sum in
     (sum inside).0
     ∙ sum_same (weight S C) (number_added S C) (after terms es).tasks
-    (every_map HasEnded (EndsRight S C) (λ t. weight S C t ≡ number_added S C t) (after terms es).tasks (λ t a b. same_number S C id terms.settings.workers t a b) (ended_each S C id terms.settings.workers (after terms es).tasks all) v.right)
+    (every_map HasEnded (EndsRight S C) (λ t. weight S C t
+    ≡ number_added S C t) (after terms es).tasks (λ t a b. same_number S C id terms.settings.workers t a b)
+    (ended_each S C id terms.settings.workers (after terms es).tasks all) v.right)

@@ -7,7 +7,7 @@ use Rattle.history_law.proofs.lists.Found.{FoundAs, count_changed}
 use Rattle.history_law.proofs.Held.{DeadEnded}
 use Rattle.history_law.proofs.SeatMoves.{May, is_tally_lock}
 use Rattle.history_law.proofs.Others.{other_count, runs_over}
-use Rattle.history_law.proofs.TaskMoves.{IsKept, StaysLive, found_moved}
+use Rattle.history_law.proofs.TaskMoves.{IsKept, StaysLive}
 
 -- the tally has its mutex and its segment: it has begun and hasn't failed
 abbrev pub has_both : TallyNotes → Bool
@@ -56,7 +56,8 @@ one_move w who o s (runs_task j y z) k v = whether (y == w)
     omega arith)
     (λ e. let n = as_runs false e in let m : count_listed (runs_on w) s.tasks ≤ 1 = v in omega arith)
   where
-    as_runs : (b : Bool) → (y == w) ≡ b → count_listed (runs_on w) (apply (runs_task j y z) s).tasks + cond (runs_on w k.0) 1 0 ≡ count_listed (runs_on w) s.tasks + cond b 1 0
+    as_runs : (b : Bool) → (y == w) ≡ b → count_listed (runs_on w) (apply (runs_task j y z) s).tasks + cond (runs_on w k.0) 1 0
+        ≡ count_listed (runs_on w) s.tasks + cond b 1 0
     as_runs b e = count_changed (runs_on w) j (with_fields (with_state (Running y z))) b s.tasks k.0 k.1 (λ r a f. ap (λ (c : Bool). c && (y == w)) a ∙ e)
 one_move w who o s (ends_task j e) k v =
     let n = count_changed (runs_on w) j (ended e s.ends) false s.tasks k.0 k.1 (λ r a f. and-false _) in
@@ -77,7 +78,8 @@ none_runs w (r ∷ rs) d c = (by_live r.live d.0 c, none_runs w rs d.1 (rest (r.
     by_runs true e = absurd (omega arith)
     by_runs false e = refl
 
-    by_live : (a : Bool) → (a ≡ false → is_unended r.fields ≡ false) → cond {A = ℕ} (a && runs_on w r.fields) 1 0 + count_listed (runs_on w) rs ≡ 0 → runs_on w r.fields ≡ false
+    by_live : (a : Bool) → (a ≡ false → is_unended r.fields ≡ false) → cond {A = ℕ} (a && runs_on w r.fields) 1 0 + count_listed (runs_on w) rs ≡ 0
+        → runs_on w r.fields ≡ false
     by_live true k e = by_runs (runs_on w r.fields) e
     by_live false k e = runs_over w r.fields (k refl)
 
@@ -99,6 +101,3 @@ OnAt w h j s = FoundAs (On w h) s.tasks j
 
 pub on_stays : (w h i who : ℕ) (o : Op) → is_tally_end i o ≡ false → StaysLive (On w h) who i o
 on_stays w h i who o e1 = grind (arith, nat_tests)
-
-pub on_move : (w h i who : ℕ) (o : Op) → is_tally_end i o ≡ false → (s : State) (x : Move) → May s who o x → OnAt w h i s → OnAt w h i (apply x s)
-on_move w h i who o n s x k v = found_moved (On w h) who i o (on_stays w h i who o n) s x k v

@@ -1,7 +1,10 @@
 -- The worked history of two tallies, by computing.
-use Rattle.history_law.proofs.Names.{nat_tests, ◌≡◌, false, List, [], ◌∷◌, ◌++◌, Some, refl, sym, ◌∙◌, subst, arith, ℤ, pos, append_assoc, no_marks, Failed, fits, answer_of, live_of, issue, change, change_all, listed, issued_at, retired, is_full, may_issue, with_fields, gone, has_worker, is_member, freed, let_go, NewTask, Running, tally_args, new_task, with_state, with_notes, ended, end_each, Segment, Op, is_ready, can_take, has_better, State, opening, Move, starts_task, runs_task, ends_task, ends_waiting, withdraws, notes, leaves, frees_members, lets_members_go, apply, NodeEntry, next, Legal, after_from, after, replay, IsMade, StartsTask, h1, fits_of, by_moves, rest_keeps, legal_if, some_entry, tally_got, record_of, mutex_in, sum_of, number_added, writes_to, NamesOneMutex, two_workers, two_tallies, TalliesAddUp}
+use Rattle.history_law.proofs.Names.{nat_tests, ◌≡◌, false, List, [], ◌∷◌, ◌++◌, Some, refl, sym, ◌∙◌, subst, arith, ℤ, pos, append_assoc, no_marks, fits, answer_of, Listed, Task, live_of, issue, change, change_all, listed, issued_at, retired, is_full, may_issue, has_worker, NewTask, tally_args, end_each, Segment, Op, is_ready, can_take, has_better, State, opening, Move, apply, NodeEntry, next, Legal, after_from, after, replay, IsMade, StartsTask, h1, fits_of, by_moves, legal_if, some_entry, tally_got, record_of, mutex_in, sum_of, number_added, writes_to, NamesOneMutex, two_workers, two_tallies, TalliesAddUp}
 use Rattle.mtapi_machine.specs.declared.ops.Op.TheVariants as op
-use Rattle.history_law.proofs.lists.Every.{Every, every_issue, every_change, every_all, every_at, every_ends}
+use Rattle.history_law.proofs.lists.Every.{Every, every_at}
+use Rattle.history_law.proofs.TaskSteps as step
+use Rattle.history_law.proofs.TaskSteps.{Step, tasks_go, every_steps}
+use Rattle.mtapi_machine.specs.Laws.{IsBy}
 
 module _ (R : List ℤ → Type 0) where
   -- what holds of the arguments of each task that is started holds of those of every task
@@ -15,17 +18,14 @@ module _ (R : List ℤ → Type 0) where
   unfolding StartsWith
   started o t e1 e2 = grind (arith, nat_tests)
 
+  step_args : (s : State) (r : Listed Task) (m : Move) (q : Listed Task) → Step s r m q → R r.fields.args → R q.fields.args
+  step_args s r _ _ (step.stays m) k = k
+  step_args s r _ _ _ k = k
+
   args_move : (o : Op) → StartsWith o → (s : State) (x : Move) → IsMade s o x → Every (λ u. R u.args) s.tasks → Every (λ u. R u.args) (apply x s).tasks
-  args_move o k s (starts_task j t) e v = every_issue (λ u. R u.args) j (new_task t s.starts) s.tasks (started o t k e.by) v
-  args_move o k s (runs_task j w z) e v = every_change (λ u. R u.args) j (with_fields (with_state (Running w z))) s.tasks (λ r a i. i) v
-  args_move o k s (ends_task j x) e v = every_change (λ u. R u.args) j (ended x s.ends) s.tasks (λ r a i. i) v
-  args_move o k s (ends_waiting p x) e v = every_ends (λ u. R u.args) _ x s.ends s.tasks (λ t m i. i) v
-  args_move o k s (withdraws j f c) e v = every_ends (λ u. R u.args) _ (Failed c) s.ends s.tasks (λ t m i. i) v
-  args_move o k s (notes j f) e v = every_change (λ u. R u.args) j (with_fields (with_notes f)) s.tasks (λ r a i. i) v
-  args_move o k s (leaves j) e v = every_change (λ u. R u.args) j gone s.tasks (λ r a i. i) v
-  args_move o k s (frees_members g) e v = every_all (λ u. R u.args) _ freed s.tasks (λ r i. i) v
-  args_move o k s (lets_members_go g) e v = every_all (λ u. R u.args) (is_member g) let_go s.tasks (λ r i. i) v
-  args_move o k s x e v = rest_keeps (λ t. Every (λ u. R u.args) t.tasks) (λ t g q m c r y p. p) x s v
+  args_move o k s x e v =
+      every_steps (λ u. R u.args) s x s.tasks _ (λ h t i. started o t k (subst (λ (m : Move). IsBy m o) i e.by)) (λ r q y z. step_args s r x q y z)
+      (tasks_go s x) v
 
   AllStart : List NodeEntry → Type 0
   AllStart [] = Unit {0}
@@ -51,10 +51,12 @@ all_name = (tt, (tt, (tt, (tt, (refl, (refl, (tt, (tt, (tt, (tt, (tt, (tt, (tt, 
 one_mutex : NamesOneMutex two_workers two_tallies h1 0 1
 one_mutex A B w t x cut e a =
     let all : AllStart names_one ((A ++ tally_got w t ∷ []) ++ B) = subst (AllStart names_one) (cut ∙ sym (append_assoc A (tally_got w t ∷ []) B)) all_name in
-    every_at (λ u. names_one u.args) (after two_workers (A ++ tally_got w t ∷ [])).tasks t.0 x (args_along names_one (opening two_workers) (A ++ tally_got w t ∷ []) (front_starts names_one (A ++ tally_got w t ∷ []) B all) tt) e
+    every_at (λ u. names_one u.args) (after two_workers (A ++ tally_got w t ∷ [])).tasks t.0 x
+    (args_along names_one (opening two_workers) (A ++ tally_got w t ∷ []) (front_starts names_one (A ++ tally_got w t ∷ []) B all) tt) e
 
 two_legal : Legal two_workers two_tallies
-unfolding two_tallies replay live_of issue change change_all listed issued_at retired is_full may_issue fits answer_of has_worker end_each is_ready can_take has_better
+unfolding two_tallies replay live_of issue change change_all listed issued_at retired is_full may_issue fits answer_of has_worker end_each is_ready can_take
+    has_better
 two_legal = record { fits = fits_of 2 4 2 (omega arith) (omega arith) (omega arith) (omega arith) (omega arith) (omega arith); from = legal_if _ _ refl }
 
 no_write : some_entry (writes_to h1 0) two_tallies ≡ false
@@ -65,12 +67,23 @@ abbrev twelve : Segment
 twelve = record { id = 2; cells = pos 12 ∷ []; attached = no_marks }
 
 holds_twelve : record_of (after two_workers two_tallies).segments h1 ≡ Some twelve
-unfolding two_tallies record_of after_from live_of issue change change_all listed issued_at retired is_full may_issue fits answer_of has_worker end_each is_ready can_take has_better
+unfolding two_tallies record_of after_from live_of issue change change_all listed issued_at retired is_full may_issue fits answer_of has_worker end_each
+    is_ready can_take has_better
 holds_twelve = refl
 
 sum_twelve : sum_of (number_added h1 0) (after two_workers two_tallies).tasks ≡ pos 12
-unfolding two_tallies after_from live_of issue change change_all listed issued_at retired is_full may_issue fits answer_of has_worker end_each is_ready can_take has_better
+unfolding two_tallies after_from live_of issue change change_all listed issued_at retired is_full may_issue fits answer_of has_worker end_each is_ready can_take
+    has_better
 sum_twelve = refl
 
 pub tallies_add_up : TalliesAddUp
-tallies_add_up = record { legal = two_legal; one_mutex = one_mutex; no_write = no_write; segment = twelve; found = holds_twelve; holds = refl; sum = sum_twelve }
+tallies_add_up = record {
+  legal = two_legal;
+  one_mutex = one_mutex;
+  no_write = no_write;
+  segment = twelve;
+  found = holds_twelve;
+  holds = refl;
+  sum =
+      sum_twelve;
+}
