@@ -10,15 +10,18 @@ unfolding kept after_from
 kept-append s [] e = refl
 kept-append s (x ∷ L) e = front_more (is_dropped s x) x _ (kept (next s x) L) _ (kept-append (next s x) L e)
 
-pub counts-append : (s : State) (counts : List ℕ) (L : List NodeEntry) (e : NodeEntry) → counts_after s counts (L ++ e ∷ []) ≡ counts_next (after_from s L) (counts_after s counts L) e
+pub counts-append : (s : State) (counts : List ℕ) (L : List NodeEntry) (e : NodeEntry)
+    → counts_after s counts (L ++ e ∷ []) ≡ counts_next (after_from s L) (counts_after s counts L) e
 unfolding counts_after after_from
 counts-append s counts [] e = refl
 counts-append s counts (x ∷ L) e = counts-append (next s x) (counts_next s counts x) L e
 
-pub skipped-append : (s : State) (counts : List ℕ) (L : List NodeEntry) (e : NodeEntry) → skipped s counts (L ++ e ∷ []) ≡ skipped s counts L ++ skipped_of (is_dropped (after_from s L) e) (slice_index (counts_after s counts L) e.who)
+pub skipped-append : (s : State) (counts : List ℕ) (L : List NodeEntry) (e : NodeEntry)
+    → skipped s counts (L ++ e ∷ []) ≡ skipped s counts L ++ skipped_of (is_dropped (after_from s L) e) (slice_index (counts_after s counts L) e.who)
 unfolding skipped after_from counts_after
 skipped-append s counts [] e = refl
-skipped-append s counts (x ∷ L) e = front_more (is_dropped s x) (slice_index counts x.who) _ (skipped (next s x) (counts_next s counts x) L) _ (skipped-append (next s x) (counts_next s counts x) L e)
+skipped-append s counts (x ∷ L) e = front_more (is_dropped s x) (slice_index counts x.who) _ (skipped (next s x) (counts_next s counts x) L) _
+    (skipped-append (next s x) (counts_next s counts x) L e)
 
 -- no number is greater than the list is long
 
@@ -34,7 +37,8 @@ counted_le true true counts who k h i = set_le counts who i _ (k + 1) (omega (ar
 counted_le true false counts who k h i = omega (arith, h i)
 counted_le false p counts who k h i = set_le counts who i 0 (k + 1) (omega (arith, h i)) (omega arith)
 
-counts_le : (s : State) (counts : List ℕ) (L : List NodeEntry) (k : ℕ) → ((i : ℕ) → get_or counts i 0 ≤ k) → (i : ℕ) → get_or (counts_after s counts L) i 0 ≤ k + length L
+counts_le : (s : State) (counts : List ℕ) (L : List NodeEntry) (k : ℕ) → ((i : ℕ) → get_or counts i 0 ≤ k) → (i : ℕ)
+    → get_or (counts_after s counts L) i 0 ≤ k + length L
 unfolding counts_after
 counts_le s counts [] k h i = omega (arith, h i)
 counts_le s counts (e ∷ L) k h i =

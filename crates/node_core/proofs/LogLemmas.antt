@@ -9,14 +9,17 @@ use Rattle.node_core.specs.declared.journaled.Log.{Log}
 use Rattle.node_core.proofs.KeptLemmas.{kept-append, skipped-append, counts-append, number_le}
 
 -- what is kept of a list is kept of the longer one, with what the entry adds
-added : (s : State) (L : List NodeEntry) (e : NodeEntry) (old new : Kept) (n : ℕ) → KeepsOf s old L → AddsTo old e n new → is_dropped (after_from s L) e ≡ false → n ≡ slice_index (counts_after s no_counts L) e.who → KeepsOf s new (L ++ e ∷ [])
+added : (s : State) (L : List NodeEntry) (e : NodeEntry) (old new : Kept) (n : ℕ) → KeepsOf s old L → AddsTo old e n new → is_dropped (after_from s L) e ≡ false
+    → n ≡ slice_index (counts_after s no_counts L) e.who → KeepsOf s new (L ++ e ∷ [])
 added s L e old Nothing n k a d m = tt
 added s L e old Lost n k a d m = tt
 added s L e old (Entries x) n k a d m =
     let before = subst (λ (o : Kept). KeepsOf s o L) a.1 k in (
-      ap (λ (y : KeptEntries). y.entries) a.2 ∙ (ap (λ (l : List NodeEntry). l ++ e ∷ []) before.0 ∙ (ap (λ b. kept s L ++ kept_of b e) (sym d) ∙ sym (kept-append s L e))),
+      ap (λ (y : KeptEntries). y.entries) a.2
+          ∙ (ap (λ (l : List NodeEntry). l ++ e ∷ []) before.0 ∙ (ap (λ b. kept s L ++ kept_of b e) (sym d) ∙ sym (kept-append s L e))),
       ap (λ (y : KeptEntries). y.skipped) a.2
-          ∙ ((λ i. before.1 i ++ m i ∷ []) ∙ (ap (λ b. skipped s no_counts L ++ skipped_of b (slice_index (counts_after s no_counts L) e.who)) (sym d) ∙ sym (skipped-append s no_counts L e))),
+          ∙ ((λ i. before.1 i ++ m i ∷ []) ∙ (ap (λ b. skipped s no_counts L ++ skipped_of b (slice_index (counts_after s no_counts L) e.who)) (sym d)
+          ∙ sym (skipped-append s no_counts L e))),
     )
 
 -- an entry that is left out adds nothing
@@ -25,14 +28,16 @@ left_out s L e Nothing k d = tt
 left_out s L e Lost k d = tt
 left_out s L e (Entries x) k d = (
   k.0 ∙ (none (kept s L) ∙ (ap (λ b. kept s L ++ kept_of b e) (sym d) ∙ sym (kept-append s L e))),
-  k.1 ∙ (none (skipped s no_counts L) ∙ (ap (λ b. skipped s no_counts L ++ skipped_of b (slice_index (counts_after s no_counts L) e.who)) (sym d) ∙ sym (skipped-append s no_counts L e))),
+  k.1 ∙ (none (skipped s no_counts L) ∙ (ap (λ b. skipped s no_counts L ++ skipped_of b (slice_index (counts_after s no_counts L) e.who)) (sym d)
+      ∙ sym (skipped-append s no_counts L e))),
 )
   where
     none : {A : Type 0} (xs : List A) → xs ≡ xs ++ []
     none [] = refl
     none (x ∷ xs) = ap (λ l. x ∷ l) (none xs)
 
-logged : (s : State) (g k : Log) (L : List NodeEntry) (e : NodeEntry) (b : Bool) → LoggedFrom s g L → is_dropped (after_from s L) e ≡ b → Logs g b e k → LoggedFrom s k (L ++ e ∷ [])
+logged : (s : State) (g k : Log) (L : List NodeEntry) (e : NodeEntry) (b : Bool) → LoggedFrom s g L → is_dropped (after_from s L) e ≡ b → Logs g b e k
+    → LoggedFrom s k (L ++ e ∷ [])
 logged s g k L e true old d new = record {
   kept = left_out s L e k.kept (subst (λ (x : Kept). KeepsOf s x L) (sym new.kept) old.kept) d;
   counts = new.counts ∙ ((λ i. counted (sym d i) (is_pending e.reply) (old.counts i) e.who) ∙ sym (counts-append s no_counts L e));
@@ -43,13 +48,16 @@ logged s g k L e false old d new = record {
 }
 
 -- the node goes on with the list, and so does the log
-pub journal_goes_on : (n m : Node) (g k : Log) (L : List NodeEntry) (who : ℕ) (op : Op) (r : Reply) (alike : Bool) → LoggedFrom (opening (terms_of n)) g L → terms_of m ≡ terms_of n → pends_alike (after (terms_of n) L) who op ≡ alike → Logs g (drops alike r) (entry who op r) k → LoggedFrom (opening (terms_of m)) k (L ++ entry who op r ∷ [])
+pub journal_goes_on : (n m : Node) (g k : Log) (L : List NodeEntry) (who : ℕ) (op : Op) (r : Reply) (alike : Bool) → LoggedFrom (opening (terms_of n)) g L
+    → terms_of m ≡ terms_of n → pends_alike (after (terms_of n) L) who op ≡ alike → Logs g (drops alike r) (entry who op r) k
+    → LoggedFrom (opening (terms_of m)) k (L ++ entry who op r ∷ [])
 journal_goes_on n m g k L who op r alike old same is new =
     subst (λ (t : Terms). LoggedFrom (opening t) k (L ++ entry who op r ∷ [])) (sym same)
     (logged (opening (terms_of n)) g k L (entry who op r) (drops alike r) old (ap (λ b. drops b r) is) new)
 
 -- a number fits, and so does a seat
-pub number_fits : (n : Node) (g : Log) (L : List NodeEntry) (who : ℕ) → LoggedFrom (opening (terms_of n)) g L → length L < 2 ^ 62 → slice_index g.counts who < 2 ^ 63
+pub number_fits : (n : Node) (g : Log) (L : List NodeEntry) (who : ℕ) → LoggedFrom (opening (terms_of n)) g L → length L < 2 ^ 62
+    → slice_index g.counts who < 2 ^ 63
 number_fits n g L who st l =
     subst (λ (c : List ℕ). slice_index c who < 2 ^ 63) (sym st.counts) (omega (arith, number_le (opening (terms_of n)) L who))
 
@@ -93,7 +101,8 @@ module _ (t : Terms) where
   journal_lost Lost r e = rw e (λ x. refl, λ x. refl)
   journal_lost (Entries k) r e = rw e (λ x. cc, λ x. cc)
 
-  pub journal_kept : (k : Kept) (r : Result (Option Journal) AllocError) (L : List NodeEntry) → IsJournal t k r → KeepsOf (opening t) k L → Legal t L → IfOk r (λ o. IfSome o (λ j. KeptAs t j L))
+  pub journal_kept : (k : Kept) (r : Result (Option Journal) AllocError) (L : List NodeEntry) → IsJournal t k r → KeepsOf (opening t) k L → Legal t L
+      → IfOk r (λ o. IfSome o (λ j. KeptAs t j L))
   journal_kept Nothing r L e h l = rw e tt
   journal_kept Lost r L e h l = rw e tt
   journal_kept (Entries k) r L e h l =

@@ -4,13 +4,15 @@ use Rattle.node_steps.specs.Stands.{Stands as StandsInside, terms_of as terms_in
 use Rattle.node_core.proofs.Outside.{inner_append, outer_append, small_append, same_length, small_outside, reply_small, pends_outside}
 
 -- what callers see of a history of the node inside is legal
-seen_legal : (n : Node) (L entries : List NodeEntry) → outer_entries entries ≡ L → AllIssueSmall entries → StandsInside n.inner (inner_entries entries) → Legal (terms_of n) L
+seen_legal : (n : Node) (L entries : List NodeEntry) → outer_entries entries ≡ L → AllIssueSmall entries → StandsInside n.inner (inner_entries entries)
+    → Legal (terms_of n) L
 seen_legal n L entries seen small inside = subst (Legal (terms_of n)) seen (history_turns (terms_of n) entries refl small inside.legal).legal
 
 pub new_node : (n : Node) → StandsInside n.inner [] → Stands n []
 new_node n s = record { entries = []; seen = refl; small = tt; inside = s; legal = seen_legal n [] [] refl tt s }
 
-pub new_terms : (n : Node) (settings : NodeSettings) (callers : ℕ) → terms_inside n.inner ≡ record { layout = One; settings = settings; callers = callers } → terms_of n ≡ record { layout = Two; settings = settings; callers = callers }
+pub new_terms : (n : Node) (settings : NodeSettings) (callers : ℕ) → terms_inside n.inner ≡ record { layout = One; settings = settings; callers = callers }
+    → terms_of n ≡ record { layout = Two; settings = settings; callers = callers }
 new_terms n settings callers e = ap (λ (t : Terms). record t { layout = Two }) e
 
 pub same_terms : (n m : Node) → terms_inside m.inner ≡ terms_inside n.inner → terms_of m ≡ terms_of n
@@ -23,8 +25,10 @@ room_inside n k x =
     (inner_entries x.1.entries, x.1.inside, omega (arith, same, x.2))
 
 -- one more entry: the node inside was asked the op turned inwards, and its reply is turned outwards
-module _ (n m : Node) (L : List NodeEntry) (who : ℕ) (o p : Op) (k : Option ObjectKind) (r out : Reply) (st : Stands n L) (inward : p ≡ inward_op o) (kind : k ≡ answered_kind o) where
-  pub goes_on : terms_of m ≡ terms_of n → ((K : List NodeEntry) → StandsInside n.inner K → StandsInside m.inner (K ++ entry who p r ∷ [])) → IssuesSmall p r → (IsSmall r → out ≡ outward k r) → Stands m (L ++ entry who o out ∷ [])
+module _ (n m : Node) (L : List NodeEntry) (who : ℕ) (o p : Op) (k : Option ObjectKind) (r out : Reply) (st : Stands n L) (inward : p ≡ inward_op o) (kind : k
+    ≡ answered_kind o) where
+  pub goes_on : terms_of m ≡ terms_of n → ((K : List NodeEntry) → StandsInside n.inner K → StandsInside m.inner (K ++ entry who p r ∷ [])) → IssuesSmall p r
+      → (IsSmall r → out ≡ outward k r) → Stands m (L ++ entry who o out ∷ [])
   goes_on same goes small is = record {
     entries = entries;
     seen = seen;
@@ -58,6 +62,8 @@ module _ (n m : Node) (L : List NodeEntry) (who : ℕ) (o p : Op) (k : Option Ob
       stands = subst (StandsInside m.inner) (sym (inner_append st.entries (entry who o r ∷ []))) inside
 
 -- a Pending reply leaves the state as it was, where it does so inside
-pub pends_alike_so : (n : Node) (L : List NodeEntry) (who : ℕ) (o p : Op) (b : Bool) → Stands n L → p ≡ inward_op o → ((K : List NodeEntry) → StandsInside n.inner K → pends_alike (after (terms_inside n.inner) K) who p ≡ b) → pends_alike (after (terms_of n) L) who o ≡ b
+pub pends_alike_so : (n : Node) (L : List NodeEntry) (who : ℕ) (o p : Op) (b : Bool) → Stands n L → p ≡ inward_op o
+    → ((K : List NodeEntry) → StandsInside n.inner K → pends_alike (after (terms_inside n.inner) K) who p ≡ b) → pends_alike (after (terms_of n) L) who o ≡ b
 pends_alike_so n L who o p b st inward is =
-    pends_outside (terms_of n) st.entries L who o b refl st.seen st.small st.inside.legal (ap (λ (x : Op). pends_alike (after (terms_inside n.inner) (inner_entries st.entries)) who x) (sym inward) ∙ is (inner_entries st.entries) st.inside)
+    pends_outside (terms_of n) st.entries L who o b refl st.seen st.small st.inside.legal
+    (ap (λ (x : Op). pends_alike (after (terms_inside n.inner) (inner_entries st.entries)) who x) (sym inward) ∙ is (inner_entries st.entries) st.inside)

@@ -49,15 +49,21 @@ pub named : (t : Terms) (L : List NodeEntry) → t.layout ≡ Two → Named (aft
 named t L two = history_named (opening t) (outer_entries L) two (opening_turns t).named
 
 -- a reply of the node inside can be turned outwards
-pub reply_small : (t : Terms) (L : List NodeEntry) (who : ℕ) (o : Op) (r : Reply) → t.layout ≡ Two → AllIssueSmall L → IssuesSmall o r → Legal (in_layout_one t) (inner_entries L ++ entry who (inward_op o) r ∷ []) → Legal (in_layout_one t) (inner_entries L) → IsSmall r
+pub reply_small : (t : Terms) (L : List NodeEntry) (who : ℕ) (o : Op) (r : Reply) → t.layout ≡ Two → AllIssueSmall L → IssuesSmall o r
+    → Legal (in_layout_one t) (inner_entries L ++ entry who (inward_op o) r ∷ []) → Legal (in_layout_one t) (inner_entries L) → IsSmall r
 unfolding LegalFrom
 reply_small t L who o r two small new l before =
-    let last : IsNext (after (in_layout_one t) (inner_entries L)) (entry who (inward_op o) r) = (Legal-rest (opening (in_layout_one t)) (inner_entries L) (entry who (inward_op o) r ∷ []) l.from).0 in
+    let last : IsNext (after (in_layout_one t) (inner_entries L)) (entry who (inward_op o) r) =
+    (Legal-rest (opening (in_layout_one t)) (inner_entries L) (entry who (inward_op o) r ∷ []) l.from).0 in
     let leads : turned (after t (outer_entries L)) ≡ after (in_layout_one t) (inner_entries L) = (history_turns t L two small before).leads in
-    (step_turns (after t (outer_entries L)) who o r (layout_stays (opening t) (outer_entries L) two) (named t L two) new (subst (λ (s : State). Allows (row s who (inward_op o) r) r) (sym leads) last.allowed)).small
+    (step_turns (after t (outer_entries L)) who o r (layout_stays (opening t) (outer_entries L) two) (named t L two) new
+    (subst (λ (s : State). Allows (row s who (inward_op o) r) r) (sym leads) last.allowed)).small
 
 -- a Pending reply leaves the state as it was on both sides, or on none
-pub pends_outside : (t : Terms) (L K : List NodeEntry) (who : ℕ) (o : Op) (b : Bool) → t.layout ≡ Two → outer_entries L ≡ K → AllIssueSmall L → Legal (in_layout_one t) (inner_entries L) → pends_alike (after (in_layout_one t) (inner_entries L)) who (inward_op o) ≡ b → pends_alike (after t K) who o ≡ b
+pub pends_outside : (t : Terms) (L K : List NodeEntry) (who : ℕ) (o : Op) (b : Bool) → t.layout ≡ Two → outer_entries L ≡ K → AllIssueSmall L
+    → Legal (in_layout_one t) (inner_entries L) → pends_alike (after (in_layout_one t) (inner_entries L)) who (inward_op o) ≡ b
+    → pends_alike (after t K) who o ≡ b
 pends_outside t L K who o b two seen small l e =
     ap (λ (l : List NodeEntry). pends_alike (after t l) who o) (sym seen)
-    ∙ (sym (pends_turned (after t (outer_entries L)) who o (named t L two)) ∙ (ap (λ (s : State). pends_alike s who (inward_op o)) (history_turns t L two small l).leads ∙ e))
+    ∙ (sym (pends_turned (after t (outer_entries L)) who o (named t L two))
+    ∙ (ap (λ (s : State). pends_alike s who (inward_op o)) (history_turns t L two small l).leads ∙ e))

@@ -25,7 +25,8 @@ less (suc a) zero most apart = omega arith
 less (suc a) (suc b) most apart = let rest : b < a = less a b (omega (arith, most)) (λ e. apart (ap suc e)) in omega (arith, rest)
 
 -- a slot that had so many turns has had each of their generations, but for one that is live
-was-past : {T : Type 0} (generations turns generation : ℕ) (slot : Slot T) → SlotStands generations turns slot → generation ≤ turns → value_at (Some slot) generation ≡ None → IsPast generations generation slot
+was-past : {T : Type 0} (generations turns generation : ℕ) (slot : Slot T) → SlotStands generations turns slot → generation ≤ turns
+    → value_at (Some slot) generation ≡ None → IsPast generations generation slot
 was-past generations turns generation slot s most none = by_slot slot.value refl slot.retired refl
   where
     by_slot : (o : Option _) → slot.value ≡ o → (b : Bool) → slot.retired ≡ b → IsPast generations generation slot
@@ -41,7 +42,8 @@ was-past generations turns generation slot s most none = by_slot slot.value refl
     ]
 
 module _ {T : Type 0} (k : ObjectKind) (f : T → T) (P : T → Type 0) where
-  agrees-in : (size generations : ℕ) (p : Slots T) (l : List (Listed T)) → AreNamed k P l → Holds size generations p (turned_list k f l) → AgreesIn k f generations p l
+  agrees-in : (size generations : ℕ) (p : Slots T) (l : List (Listed T)) → AreNamed k P l → Holds size generations p (turned_list k f l)
+      → AgreesIn k f generations p l
   agrees-in size generations p l names h = record {
     slots = λ i x e.
         let there = sym (h.stands.found i) ∙ e in
@@ -51,7 +53,9 @@ module _ {T : Type 0} (k : ObjectKind) (f : T → T) (P : T → Type 0) where
     past = λ i slot some off at.
         let turn = h.stands.turns i some in
         let none = sym (ap (λ (o : Option (Slot T)). value_at o (generation_of i)) at) ∙ (h.stands.found i ∙ off) in
-        subst (λ (g : ℕ). IsPast g (generation_of i) slot) h.generations (was-past p.generations (issued_at (slot_of i) (turned_list k f l)) (generation_of i) slot (h.stands.slots (slot_of i) slot at) (subst (λ (c : ℕ). generation_of i ≤ c) (sym (issued_at-slot i (turned_list k f l))) turn.at_most) none);
+        subst (λ (g : ℕ). IsPast g (generation_of i) slot) h.generations
+        (was-past p.generations (issued_at (slot_of i) (turned_list k f l)) (generation_of i) slot (h.stands.slots (slot_of i) slot at)
+        (subst (λ (c : ℕ). generation_of i ≤ c) (sym (issued_at-slot i (turned_list k f l))) turn.at_most) none);
     turns = λ place slot at. (h.stands.slots place slot at).generation;
     retired = h.stands.retired ∙ ap (λ (g : ℕ). retired g (turned_list k f l)) h.generations;
   }
@@ -66,7 +70,8 @@ agrees n L st = record {
   mutexes = agrees-in kind.Mutex same_fields NoHandle attr.objects attr.generations n.inner.resources.mutexes s.mutexes names.mutexes live.resources.mutexes;
   sems = agrees-in kind.Sem same_fields NoHandle attr.objects attr.generations n.inner.resources.sems s.sems names.sems live.resources.sems;
   rwls = agrees-in kind.Rwl same_fields NoHandle attr.objects attr.generations n.inner.resources.rwls s.rwls names.rwls live.resources.rwls;
-  segments = agrees-in kind.Shmem same_fields NoHandle attr.objects attr.generations n.inner.resources.segments s.segments names.segments live.resources.segments;
+  segments = agrees-in kind.Shmem same_fields NoHandle attr.objects attr.generations n.inner.resources.segments s.segments names.segments
+      live.resources.segments;
   keeps = subst (λ (x : State). Keeps x n.inner.scheduler) (sym leads) st.inside.keeps;
 }
   where
@@ -77,7 +82,8 @@ agrees n L st = record {
     s = after (terms_of n) L
 
     leads : turned s ≡ after (terms_inside n.inner) (inner_entries st.entries)
-    leads = ap (λ (K : List NodeEntry). turned (after (terms_of n) K)) (sym st.seen) ∙ (history_turns (terms_of n) st.entries refl st.small st.inside.legal).leads
+    leads = ap (λ (K : List NodeEntry). turned (after (terms_of n) K)) (sym st.seen)
+        ∙ (history_turns (terms_of n) st.entries refl st.small st.inside.legal).leads
 
     same : turned s ≡ state_of n.inner st.inside.lists
     same = leads ∙ st.inside.state
@@ -85,5 +91,7 @@ agrees n L st = record {
     names : Named s
     names = subst (λ (K : List NodeEntry). Named (after (terms_of n) K)) st.seen (named (terms_of n) st.entries refl)
 
-    live : Pools attr n.inner.scheduler.actions n.inner.scheduler.tasks.pool (group_slots n.inner.scheduler) (records_of n.inner.scheduler.queues.pool) n.inner.resources (lists_in (turned s))
-    live = subst (λ (l : Lists). Pools attr n.inner.scheduler.actions n.inner.scheduler.tasks.pool (group_slots n.inner.scheduler) (records_of n.inner.scheduler.queues.pool) n.inner.resources l) (sym (ap lists_in same)) st.inside.live
+    live : Pools attr n.inner.scheduler.actions n.inner.scheduler.tasks.pool (group_slots n.inner.scheduler)
+        (records_of n.inner.scheduler.queues.pool) n.inner.resources (lists_in (turned s))
+    live = subst (λ (l : Lists). Pools attr n.inner.scheduler.actions n.inner.scheduler.tasks.pool (group_slots n.inner.scheduler)
+        (records_of n.inner.scheduler.queues.pool) n.inner.resources l) (sym (ap lists_in same)) st.inside.live

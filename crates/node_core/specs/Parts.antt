@@ -27,9 +27,11 @@ pub record AgreesIn {T : Type 0} (k : ObjectKind) (f : T → T) (generations : �
   pub slots : (h : ℕ) (x : T) → slot_value p h ≡ Some x → option_map f (live_object l (outer k h)) ≡ Some x
   pub records : (h : ℕ) (x : T) → live_object l h ≡ Some x → (h ≡ outer k (inward k h)) × (slot_value p (inward k h) ≡ Some (f x))
   -- a listed handle that isn't live is past: each taken as the pool has it
-  pub past : (h : ℕ) (slot : Slot T) → 1 ≤ listed h (turned_list k f l) → live_object (turned_list k f l) h ≡ None → slice_get p.slots (slot_of h) ≡ Some slot → IsPast generations (generation_of h) slot
+  pub past : (h : ℕ) (slot : Slot T) → 1 ≤ listed h (turned_list k f l) → live_object (turned_list k f l) h ≡ None → slice_get p.slots (slot_of h) ≡ Some slot
+      → IsPast generations (generation_of h) slot
   -- a slot's generation is the number of listed handles that have the slot, and one more where it is empty and not retired
-  pub turns : (place : ℕ) (slot : Slot T) → slice_get p.slots place ≡ Some slot → slot.generation ≡ generation_after slot.value slot.retired (issued_at place (turned_list k f l))
+  pub turns : (place : ℕ) (slot : Slot T) → slice_get p.slots place ≡ Some slot
+      → slot.generation ≡ generation_after slot.value slot.retired (issued_at place (turned_list k f l))
   -- as many slots are retired as handles of the list
   pub retired : retired_count p ≡ retired generations (turned_list k f l)
 

@@ -16,4 +16,5 @@ returns-clause-lost c = journal_lost _ c.args.self.log.kept c.journal_in.result 
 pub returns-clause-kept : goal.returns-clause-kept
 returns-clause-kept c L st =
     journal_kept (terms_of c.args.self.node) c.args.self.log.kept c.journal_in.result L
-    (subst (λ (t : Terms). IsJournal t c.args.self.log.kept c.journal_in.result) c.told_terms-terms.ensures.terms c.journal_in.ensures) st.log.kept (history_of c.args.self.node L st.node)
+    (subst (λ (t : Terms). IsJournal t c.args.self.log.kept c.journal_in.result) c.told_terms-terms.ensures.terms c.journal_in.ensures) st.log.kept
+    (history_of c.args.self.node L st.node)
