@@ -31,5 +31,6 @@ unused_workers_rest s legal own w = record {
     others : entries_of s.number (image s.terms s.seen) ≡ []
     others =
         entries-append s.number (opening_entries s.terms.node.settings.workers s.terms.opened) (images s.terms.opened s.seen)
-        ∙ (ap (λ (l : List NodeEntry). l ++ entries_of s.number (images s.terms.opened s.seen)) (no_opening s.number s.terms.node.settings.workers s.terms.opened (apart s.number s.terms.node.settings.workers w))
+        ∙ (ap (λ (l : List NodeEntry). l ++ entries_of s.number (images s.terms.opened s.seen))
+        (no_opening s.number s.terms.node.settings.workers s.terms.opened (apart s.number s.terms.node.settings.workers w))
         ∙ (images_own s.terms.opened s.number s.seen ∙ ap (λ l. images s.terms.opened l) own))

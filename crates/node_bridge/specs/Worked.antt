@@ -26,7 +26,8 @@ action h = record { 0 = h }
 -- the handles of the node's first eight actions and of its first task, in layout two
 abbrev pub eight : List ActionHandle
 eight =
-    action 4311744512 ∷ action 4311744513 ∷ action 4311744514 ∷ action 4311744515 ∷ action 4311744516 ∷ action 4311744517 ∷ action 4311744518 ∷ action 4311744519
+    action 4311744512 ∷ action 4311744513 ∷ action 4311744514 ∷ action 4311744515 ∷ action 4311744516 ∷ action 4311744517 ∷ action 4311744518
+    ∷ action 4311744519
     ∷ []
 
 abbrev pub first : TaskHandle

@@ -35,13 +35,15 @@ pub record WorkedAsked : Type 0 where
   pub of_others : map (λ k. asks_node (Start k [])) (kind.Watch ∷ kind.Tally ∷ []) ≡ (false ∷ false ∷ [])
   pub ops : map asks_node (Look first ∷ Pick ∷ Finish first summed ∷ Close ∷ []) ≡ (true ∷ true ∷ true ∷ true ∷ [])
   pub start : inward (Start kind.Gcd numbers) ≡ op.TaskStart 5 numbers 0 all_cores false None
-  pub inwards : map inward (Look further ∷ Pick ∷ Finish first divided ∷ Close ∷ []) ≡ (op.TaskLook further false ∷ op.Pick ∷ op.Finish first divided ∷ op.Close ∷ [])
+  pub inwards : map inward (Look further ∷ Pick ∷ Finish first divided ∷ Close ∷ [])
+      ≡ (op.TaskLook further false ∷ op.Pick ∷ op.Finish first divided ∷ op.Close ∷ [])
   pub settings : settings_with 3 40
       ≡ record { workers = 3; tasks = 40; actions = 64; groups = 128; queues = 16; objects = 16; priorities = 1; generations = 4294967295 }
   -- what a task was started with; a start that was refused begins none
   pub begun_so : begun taken first.0 ≡ Some (record { kind = kind.Add; args = numbers })
   pub not_begun : begun taken further.0 ≡ None
-  pub begun_last : begun (entry 1 (Start kind.Mul numbers) (Handle first) ∷ entry 2 (Start kind.Echo (pos 9 ∷ [])) (Handle first) ∷ []) first.0 ≡ Some (record { kind = kind.Echo; args = pos 9 ∷ [] })
+  pub begun_last : begun (entry 1 (Start kind.Mul numbers) (Handle first) ∷ entry 2 (Start kind.Echo (pos 9 ∷ [])) (Handle first) ∷ []) first.0
+      ≡ Some (record { kind = kind.Echo; args = pos 9 ∷ [] })
 
 pub record WorkedInside : Type 0 where
   pub ok : inside eight Ok ≡ reply.Ok
@@ -62,16 +64,20 @@ pub record WorkedInside : Type 0 where
 pub record WorkedCourses : Type 0 where
   pub unasked : entries_in 2 kind.Add numbers Unasked ≡ []
   pub refused : entries_in 2 kind.Add numbers (NotBegun ErrTaskLimit) ≡ entry 2 (Start kind.Add numbers) (Refused ErrTaskLimit) ∷ []
-  pub left : entries_in 2 kind.Add numbers (LeftBehind further 2) ≡ entry 2 (Start kind.Add numbers) (Handle further) ∷ entry 2 (Look further) Pending ∷ entry 2 (Look further) Pending ∷ []
+  pub left : entries_in 2 kind.Add numbers (LeftBehind further 2)
+      ≡ entry 2 (Start kind.Add numbers) (Handle further) ∷ entry 2 (Look further) Pending ∷ entry 2 (Look further) Pending ∷ []
   pub lost : entries_in 2 kind.Add numbers (LostSight further 1 ErrTaskLimit)
       ≡ entry 2 (Start kind.Add numbers) (Handle further) ∷ entry 2 (Look further) Pending ∷ entry 2 (Look further) (Refused ErrTaskLimit) ∷ []
   pub told : entries_in 2 kind.Add numbers (Told further 1 summed)
       ≡ entry 2 (Start kind.Add numbers) (Handle further) ∷ entry 2 (Look further) Pending ∷ entry 2 (Look further) (Done summed) ∷ []
-  pub ends : map told_in (Unasked ∷ NotBegun ErrTaskLimit ∷ LeftBehind further 2 ∷ LostSight further 1 ErrTaskLimit ∷ Told further 1 summed ∷ []) ≡ (None ∷ None ∷ None ∷ None ∷ Some summed ∷ [])
-  pub cut_off : map is_cut_off (Unasked ∷ NotBegun ErrTaskLimit ∷ LeftBehind further 2 ∷ LostSight further 1 ErrTaskLimit ∷ Told further 1 summed ∷ []) ≡ (true ∷ false ∷ true ∷ false ∷ false ∷ [])
+  pub ends : map told_in (Unasked ∷ NotBegun ErrTaskLimit ∷ LeftBehind further 2 ∷ LostSight further 1 ErrTaskLimit ∷ Told further 1 summed ∷ [])
+      ≡ (None ∷ None ∷ None ∷ None ∷ Some summed ∷ [])
+  pub cut_off : map is_cut_off (Unasked ∷ NotBegun ErrTaskLimit ∷ LeftBehind further 2 ∷ LostSight further 1 ErrTaskLimit ∷ Told further 1 summed ∷ [])
+      ≡ (true ∷ false ∷ true ∷ false ∷ false ∷ [])
   pub rested : round_in 3 Rested ≡ entry 3 Pick Idle ∷ []
   pub ran : round_in 3 (Ran further kind.Add numbers summed) ≡ entry 3 Pick (Picked further kind.Add numbers) ∷ entry 3 (Finish further summed) Ok ∷ []
-  pub rounds : all_in 3 (Ran further kind.Add numbers summed ∷ Rested ∷ []) ≡ entry 3 Pick (Picked further kind.Add numbers) ∷ entry 3 (Finish further summed) Ok ∷ entry 3 Pick Idle ∷ []
+  pub rounds : all_in 3 (Ran further kind.Add numbers summed ∷ Rested ∷ [])
+      ≡ entry 3 Pick (Picked further kind.Add numbers) ∷ entry 3 (Finish further summed) Ok ∷ entry 3 Pick Idle ∷ []
 
 pub record WorkedImages : Type 0 where
   pub asked : WorkedAsked

@@ -47,7 +47,8 @@ made_one o old new x u e1 e2 = grind (arith, nat_tests)
 read_refusal : (r : Reply) (e : MtapiStatus) → Answers mtapi done r (Err e) → r ≡ reply.Mtapi e
 read_refusal r e e1 = grind (arith, nat_tests)
 
-is_refused : (o : Op) (old new : Seat) (x : Result (Unit {0}) MtapiStatus) (status : MtapiStatus) → Asked mtapi done o old new x → x ≡ Err status → new.shown < 2 ^ 62 → IsRefused old.terms.node old.number old.mine o status
+is_refused : (o : Op) (old new : Seat) (x : Result (Unit {0}) MtapiStatus) (status : MtapiStatus) → Asked mtapi done o old new x → x ≡ Err status
+    → new.shown < 2 ^ 62 → IsRefused old.terms.node old.number old.mine o status
 is_refused o old new (Ok v) status c is few = absurd (cc)
 is_refused o old new (Err e) status (inr c) is few = let shown = c.0.shown in absurd (omega arith)
 is_refused o old new (Err e) status (inl c) is few =
@@ -55,7 +56,8 @@ is_refused o old new (Err e) status (inl c) is few =
     let turn = c.1 in
     record {
       history = old.seen ++ turn.between;
-      own = entries_append old.number old.seen turn.between ∙ (ap (λ (l : List NodeEntry). entries_of old.number old.seen ++ l) turn.others ∙ (append-nil _ ∙ turn.before));
+      own = entries_append old.number old.seen turn.between
+          ∙ (ap (λ (l : List NodeEntry). entries_of old.number old.seen ++ l) turn.others ∙ (append-nil _ ∙ turn.before));
       legal =
           subst (λ (t : JournaledTerms). Legal t.node ((old.seen ++ turn.between) ++ entry old.number o (reply.Mtapi status) ∷ [])) turn.same.terms
           (subst (λ (r : Reply). Legal new.terms.node ((old.seen ++ turn.between) ++ entry old.number o r ∷ [])) says
@@ -64,34 +66,40 @@ is_refused o old new (Err e) status (inl c) is few =
 
 -- the same of a caller that is made of the seat and gives it back
 pub says_of : (o : Op) (seat start tried given : Seat) (x : Result (Unit {0}) MtapiStatus) (status : MtapiStatus) (f : Failure)
-    → start ≡ seat → Asked mtapi done o start tried x → x ≡ Err status → given ≡ tried → SaysOf given status f → IfRefused f (IsRefused seat.terms.node seat.number seat.mine o)
+    → start ≡ seat → Asked mtapi done o start tried x → x ≡ Err status → given ≡ tried → SaysOf given status f
+    → IfRefused f (IsRefused seat.terms.node seat.number seat.mine o)
 says_of o seat start tried given x status (failure.Refused s) first called is back says =
     subst (IsRefused seat.terms.node seat.number seat.mine o) (sym says.0)
-    (subst (λ (q : Seat). IsRefused q.terms.node q.number q.mine o status) first (is_refused o start tried x status called is (subst (λ (q : Seat). q.shown < 2 ^ 62) back says.1)))
+    (subst (λ (q : Seat). IsRefused q.terms.node q.number q.mine o status) first
+    (is_refused o start tried x status called is (subst (λ (q : Seat). q.shown < 2 ^ 62) back says.1)))
 says_of o seat start tried given x status failure.Memory first called is back says = tt
 says_of o seat start tried given x status (failure.NoThread n) first called is back says = tt
 says_of o seat start tried given x status (failure.Spent n) first called is back says = tt
 
-pub made_last : (o : Op) (seat start new last : Seat) (x : Result (Unit {0}) MtapiStatus) (u : Unit {0}) → start ≡ seat → Asked mtapi done o start new x → x ≡ Ok u → last ≡ new → MadeOne o seat last
+pub made_last : (o : Op) (seat start new last : Seat) (x : Result (Unit {0}) MtapiStatus) (u : Unit {0}) → start ≡ seat → Asked mtapi done o start new x
+    → x ≡ Ok u → last ≡ new → MadeOne o seat last
 made_last o seat start new last x u e1 e2 e3 e4 = grind (arith, nat_tests)
 
 -- Main opens the node, and lets the others in
 
 pub not_opened : (seat start tried given : Seat) (x : Result (Unit {0}) MtapiStatus) (status : MtapiStatus) (f : Failure)
-    → seat.mine ≡ [] → start ≡ seat → Asked mtapi done Initialize start tried x → x ≡ Err status → given ≡ tried → SaysOf given status f → IfRefused f (IsNotOpened seat.terms.node seat.number)
+    → seat.mine ≡ [] → start ≡ seat → Asked mtapi done Initialize start tried x → x ≡ Err status → given ≡ tried → SaysOf given status f
+    → IfRefused f (IsNotOpened seat.terms.node seat.number)
 not_opened seat start tried given x status f new first called is back says =
     refused_weaker (IsRefused seat.terms.node seat.number seat.mine Initialize) (IsNotOpened seat.terms.node seat.number) f
     (λ s r. inl (subst (λ (l : List NodeEntry). IsRefused seat.terms.node seat.number l Initialize s) new r))
     (says_of Initialize seat start tried given x status f first called is back says)
 
-opened_once : (seat start one : Seat) (x : Result (Unit {0}) MtapiStatus) (u : Unit {0}) → start ≡ seat → Asked mtapi done Initialize start one x → x ≡ Ok u → MadeOne Initialize seat one
+opened_once : (seat start one : Seat) (x : Result (Unit {0}) MtapiStatus) (u : Unit {0}) → start ≡ seat → Asked mtapi done Initialize start one x → x ≡ Ok u
+    → MadeOne Initialize seat one
 opened_once seat start one x u first called is = subst (λ (s : Seat). MadeOne Initialize s one) first (made_one Initialize start one x u called is)
 
 entry_first : (seat one : Seat) → seat.mine ≡ [] → MadeOne Initialize seat one → one.mine ≡ entry seat.number Initialize reply.Ok ∷ []
 entry_first seat one new p = p.mine ∙ ap (λ (l : List NodeEntry). l ++ entry seat.number Initialize reply.Ok ∷ []) new
 
 pub not_released : (seat start one two given : Seat) (x y : Result (Unit {0}) MtapiStatus) (u : Unit {0}) (status : MtapiStatus) (f : Failure)
-    → seat.mine ≡ [] → start ≡ seat → Asked mtapi done Initialize start one x → x ≡ Ok u → Asked mtapi done Release one two y → y ≡ Err status → given ≡ two → SaysOf given status f
+    → seat.mine ≡ [] → start ≡ seat → Asked mtapi done Initialize start one x → x ≡ Ok u → Asked mtapi done Release one two y → y ≡ Err status → given ≡ two
+    → SaysOf given status f
     → IfRefused f (IsNotOpened seat.terms.node seat.number)
 not_released seat start one two given x y u status f new first a ai b bi back says =
     let p : MadeOne Initialize seat one = opened_once seat start one x u first a ai in
@@ -115,13 +123,15 @@ pub entered : (seat start before : Seat) (x : Result (Unit {0}) MtapiStatus) (u 
 entered seat start before x u e1 e2 e3 e4 = grind (arith, nat_tests)
 
 pub kept_out : (seat start tried given : Seat) (x : Result (Unit {0}) MtapiStatus) (status : MtapiStatus) (f : Failure)
-    → seat.mine ≡ [] → start ≡ seat → Waited mtapi done Entrance None start tried x → x ≡ Err status → given ≡ tried → Legal given.terms.node given.seen → entries_of given.number given.seen ≡ given.mine
+    → seat.mine ≡ [] → start ≡ seat → Waited mtapi done Entrance None start tried x → x ≡ Err status → given ≡ tried → Legal given.terms.node given.seen
+    → entries_of given.number given.seen ≡ given.mine
     → SaysOf given status f → IfRefused f (IsKeptOut seat.terms.node seat.number)
 kept_out seat start tried given x status f e1 e2 e3 e4 e5 e6 e7 e8 = grind (arith, nat_tests)
 
 -- Whoever came in has its client call
 
-pub has_come : {C T : Type 0} (opens : ℕ → List NodeEntry → Type 0) (promise : C → Seat → Seat → T → Type 0) (client : C) (told : T) (seat before worked back : Seat)
+pub has_come : {C T : Type 0} (opens : ℕ → List NodeEntry → Type 0) (promise : C → Seat → Seat → T
+    → Type 0) (client : C) (told : T) (seat before worked back : Seat)
     → SameSeat seat before × opens seat.number before.mine → SameSeat before worked → GoesOn before worked → promise client before worked told → back ≡ worked
     → HasComeBack opens promise client seat (record { seat = back; told = told })
 has_come opens promise client told seat before worked back came same goes promised kept =
@@ -144,7 +154,8 @@ starts_then : (a b c : List NodeEntry) → StartsWith b a → StartsWith c b →
 starts_then a b c x y = (x.0 ++ y.0, y.1 ∙ (ap (λ (l : List NodeEntry). l ++ y.0) x.1 ∙ append_assoc a x.0 y.0))
 
 -- and begins the end of the node
-pub come_closed : {C T : Type 0} (opens : ℕ → List NodeEntry → Type 0) (promise : C → Seat → Seat → T → Type 0) (client : C) (seat : Seat) (c : Called T) (back : Seat)
+pub come_closed : {C T : Type 0} (opens : ℕ → List NodeEntry → Type 0) (promise : C → Seat → Seat → T
+    → Type 0) (client : C) (seat : Seat) (c : Called T) (back : Seat)
     → HasComeBack opens promise client seat c → GaveUp c.seat back → HasComeBack opens promise client seat (record { seat = back; told = c.told })
 come_closed opens promise client seat c back h gave =
     let k = h.called in
@@ -165,11 +176,13 @@ come_closed opens promise client seat c back h gave =
 
 -- The seats that a cell begins with
 
-fresh_more : (z : Cell) (k n j : ℕ) → j ≡ k + n → (let l : List Seat = fresh_seats z.terms z.id k (suc n) in l) ≡ fresh_seats z.terms z.id k n ++ fresh_seat z.terms z.id j ∷ []
+fresh_more : (z : Cell) (k n j : ℕ) → j ≡ k + n
+    → (let l : List Seat = fresh_seats z.terms z.id k (suc n) in l) ≡ fresh_seats z.terms z.id k n ++ fresh_seat z.terms z.id j ∷ []
 fresh_more z k zero j e = let f : k ≡ j = omega arith in ap (λ (i : ℕ). fresh_seat z.terms z.id i ∷ []) f
 fresh_more z k (suc n) j e = ap (λ (l : List Seat). fresh_seat z.terms z.id k ∷ l) (fresh_more z (suc k) n j (omega arith))
 
-fresh_then : (z : Cell) (k n m j c : ℕ) → j ≡ k + n → c ≡ n + m → (let l : List Seat = fresh_seats z.terms z.id k c in l) ≡ fresh_seats z.terms z.id k n ++ fresh_seats z.terms z.id j m
+fresh_then : (z : Cell) (k n m j c : ℕ) → j ≡ k + n → c ≡ n + m
+    → (let l : List Seat = fresh_seats z.terms z.id k c in l) ≡ fresh_seats z.terms z.id k n ++ fresh_seats z.terms z.id j m
 fresh_then z k zero m j c e f =
     let a : k ≡ j = omega arith in let b : c ≡ m = omega arith in
     ap (λ (i : ℕ). fresh_seats z.terms z.id i c) a ∙ ap (λ (i : ℕ). fresh_seats z.terms z.id j i) b
@@ -187,7 +200,8 @@ fresh_cells z k (suc n) = (refl, fresh_cells z (suc k) n)
 fresh_idle : (z : Cell) (k n : ℕ) → k + n ≤ z.terms.node.settings.workers → All (IsIdle z) (fresh_seats z.terms z.id k n)
 fresh_idle z k zero l = All-nil (IsIdle z)
 fresh_idle z k (suc n) l =
-    All-cons (IsIdle z) (fresh_seat z.terms z.id k) (fresh_seats z.terms z.id (suc k) n) (record { cell = refl; rest = new_at_rest (fresh_seat z.terms z.id k) (omega arith) refl })
+    All-cons (IsIdle z) (fresh_seat z.terms z.id k) (fresh_seats z.terms z.id (suc k) n)
+    (record { cell = refl; rest = new_at_rest (fresh_seat z.terms z.id k) (omega arith) refl })
     (fresh_idle z (suc k) n (omega arith))
 
 -- they are the workers', main's, and those of so many further callers
@@ -206,8 +220,10 @@ enough z t u n all e f many is =
     let count = ap (λ (xs : List Seat). length xs) (begun z t u n all e f many is) ∙ fresh_length z 0 (suc z.terms.node.settings.workers + n) in
     omega arith
 
-pub dealt : (z : Cell) (t : JournaledTerms) (u : Terms) (n at : ℕ) (all workers : List Seat) (main : Seat) (others : List Seat) → z.terms ≡ t → t ≡ record { node = u; keeps = true } → u.callers ≡ n + 1
-    → all ≡ fresh_seats t z.id 0 (journal_seats t) → at ≡ length all - n → take at all ≡ workers ++ main ∷ [] → others ≡ drop at all → Dealt z n workers main others
+pub dealt : (z : Cell) (t : JournaledTerms) (u : Terms) (n at : ℕ) (all workers : List Seat) (main : Seat) (others : List Seat) → z.terms ≡ t
+    → t ≡ record { node = u; keeps = true } → u.callers ≡ n + 1
+    → all ≡ fresh_seats t z.id 0 (journal_seats t) → at ≡ length all - n → take at all ≡ workers ++ main ∷ [] → others ≡ drop at all
+    → Dealt z n workers main others
 dealt z t u n at all workers main others e f many is off front back =
     let w = z.terms.node.settings.workers in
     let whole : all ≡ fresh_seats z.terms z.id 0 (suc w + n) = begun z t u n all e f many is in
@@ -215,18 +231,21 @@ dealt z t u n at all workers main others e f many is off front back =
     let here : at ≡ suc w = omega arith in
     let first : take at all ≡ fresh_seats z.terms z.id 0 (suc w) =
     ap (λ (k : ℕ). take k all) here ∙ (ap (λ (xs : List Seat). take (suc w) xs) whole ∙ fresh-take _ _ _ z.terms z.id 0 (suc w) (suc w + n) (omega arith)) in
-    let both = same_from_push workers (fresh_seats z.terms z.id 0 w) main (fresh_seat z.terms z.id w) (sym front ∙ (first ∙ fresh_more z 0 w w (omega arith))) in
+    let both = same_from_push workers (fresh_seats z.terms z.id 0 w) main (fresh_seat z.terms z.id w) (sym front
+    ∙ (first ∙ fresh_more z 0 w w (omega arith))) in
     let from : 0 + suc w ≡ w + 1 = omega arith in
     let left : suc w + n - suc w ≡ n = omega arith in
     record {
       workers_are = both.0;
       main_is = both.1;
       others_are =
-          back ∙ (ap (λ (k : ℕ). drop k all) here ∙ (ap (λ (xs : List Seat). drop (suc w) xs) whole ∙ (fresh-drop _ _ _ z.terms z.id 0 (suc w) (suc w + n) (omega arith)
+          back ∙ (ap (λ (k : ℕ). drop k all) here
+          ∙ (ap (λ (xs : List Seat). drop (suc w) xs) whole ∙ (fresh-drop _ _ _ z.terms z.id 0 (suc w) (suc w + n) (omega arith)
           ∙ (ap (λ (k : ℕ). fresh_seats z.terms z.id k (suc w + n - suc w)) from ∙ ap (λ (k : ℕ). fresh_seats z.terms z.id (w + 1) k) left))));
     }
 
-pub are_ready : {C D U A : Type 0} (z : Cell) (h : Hands C D U A) → Dealt z (length h.callers.others.items) h.workers.items h.callers.main h.callers.seats.items → h.callers.told.items ≡ [] → AreReady z h
+pub are_ready : {C D U A : Type 0} (z : Cell) (h : Hands C D U A) → Dealt z (length h.callers.others.items) h.workers.items h.callers.main h.callers.seats.items
+    → h.callers.told.items ≡ [] → AreReady z h
 are_ready z h d none = record {
   workers = subst (All (IsIdle z)) (sym d.workers_are) (fresh_idle z 0 z.terms.node.settings.workers (omega arith));
   callers = record { main = d.main_is; seats = d.others_are; told = none };
@@ -250,7 +269,8 @@ module _ {C D U : Type 0} (z : Cell) (h : Callers C D U) (left : List D) (d : D)
       long (x ∷ l) = ap suc (long l)
 
   split_last : MayCall z h → h.others.items ≡ left ++ d ∷ []
-      → h.seats.items ≡ fresh_seats z.terms z.id (z.terms.node.settings.workers + 1) (length left) ++ fresh_seat z.terms z.id (z.terms.node.settings.workers + 1 + length left) ∷ []
+      → h.seats.items ≡ fresh_seats z.terms z.id (z.terms.node.settings.workers + 1) (length left)
+      ++ fresh_seat z.terms z.id (z.terms.node.settings.workers + 1 + length left) ∷ []
   split_last m e =
       m.seats ∙ (ap (λ (n : ℕ). fresh_seats z.terms z.id (z.terms.node.settings.workers + 1) n) (one_fewer h.others.items left d e)
       ∙ fresh_more z (z.terms.node.settings.workers + 1) (length left) (z.terms.node.settings.workers + 1 + length left) refl)
@@ -261,10 +281,12 @@ module _ {C D U : Type 0} (z : Cell) (h : Callers C D U) (left : List D) (d : D)
       let more = one_fewer h.others.items left d e in
       absurd (omega arith)
 
-  pub taken_out : (h' : Callers C D U) (s : Seat) → MayCall z h → h'.main ≡ h.main → h'.told ≡ h.told → h'.others.items ≡ left → h.others.items ≡ left ++ d ∷ [] → h.seats.items ≡ h'.seats.items ++ s ∷ [] → TakenOut z h h' s
+  pub taken_out : (h' : Callers C D U) (s : Seat) → MayCall z h → h'.main ≡ h.main → h'.told ≡ h.told → h'.others.items ≡ left → h.others.items ≡ left ++ d ∷ []
+      → h.seats.items ≡ h'.seats.items ++ s ∷ [] → TakenOut z h h' s
   taken_out h' s m main told rest e f =
       let w1 = z.terms.node.settings.workers + 1 in
-      let both = same_from_push h'.seats.items (fresh_seats z.terms z.id w1 (length left)) s (fresh_seat z.terms z.id (w1 + length left)) (sym f ∙ split_last m e) in
+      let both = same_from_push h'.seats.items (fresh_seats z.terms z.id w1 (length left)) s (fresh_seat z.terms z.id (w1 + length left)) (sym f
+      ∙ split_last m e) in
       let long : length left ≡ length h'.others.items = ap (λ (l : List D). length l) (sym rest) in
       record {
         may = record { main = main ∙ m.main; seats = both.0 ∙ ap (λ (n : ℕ). fresh_seats z.terms z.id w1 n) long; told = ap (λ v. v.items) told ∙ m.told };
@@ -281,7 +303,8 @@ pub new_in : {C D U : Type 0} (z : Cell) (h h' : Callers C D U) (s : Seat) → T
 new_in z h h' s e1 = grind (arith, nat_tests)
 
 told_more : {D U : Type 0} (further : D → Seat → Seat → U → Type 0) (z : Cell) (who j : ℕ) (ds : List D) (bs : List Seat) (us : List U) (d : D) (c : Called U)
-    → j ≡ who + length ds → AreTold further z who ds bs us → HasComeBack CallerEnters further d (fresh_seat z.terms z.id j) c → AreTold further z who (ds ++ d ∷ []) (bs ++ c.seat ∷ []) (us ++ c.told ∷ [])
+    → j ≡ who + length ds → AreTold further z who ds bs us → HasComeBack CallerEnters further d (fresh_seat z.terms z.id j) c
+    → AreTold further z who (ds ++ d ∷ []) (bs ++ c.seat ∷ []) (us ++ c.told ∷ [])
 told_more {U = U} further z who j [] bs us d c e a h =
     let here : j ≡ who = omega arith in (
       c.seat,
@@ -305,8 +328,10 @@ told_more {U = U} further z who j (x ∷ ds) bs us d c e a h = (
 )
 
 -- one more of the further callers came back
-pub one_more_back : {C D T U : Type 0} (promise : C → Seat → Seat → T → Type 0) (further : D → Seat → Seat → U → Type 0) (z : Cell) (h h' : Callers C D U) (s : Seat) (d : D) (c c' : Company T U) (back : Result (Called U) Failure)
-    → h.others.items ≡ h'.others.items ++ d ∷ [] → h'.main ≡ h.main → h'.client ≡ h.client → TakenOut z h h' s → IfOk back (HasComeBack CallerEnters further d s)
+pub one_more_back : {C D T U : Type 0} (promise : C → Seat → Seat → T → Type 0) (further : D → Seat → Seat → U
+    → Type 0) (z : Cell) (h h' : Callers C D U) (s : Seat) (d : D) (c c' : Company T U) (back : Result (Called U) Failure)
+    → h.others.items ≡ h'.others.items ++ d ∷ [] → h'.main ≡ h.main → h'.client ≡ h.client → TakenOut z h h' s
+    → IfOk back (HasComeBack CallerEnters further d s)
     → IsJoinedBy c back c' → HaveComeBack promise further z h' c → HaveComeBack promise further z h c'
 one_more_back promise further z h h' s d c c' (Err f) items main client t came joined b = absurd joined
 one_more_back {C} {D} {T} {U} promise further z h h' s d c c' (Ok k) items main client t came joined b =
@@ -314,7 +339,8 @@ one_more_back {C} {D} {T} {U} promise further z h h' s d c c' (Ok k) items main 
     record {
       main =
           subst (λ (x : Called T). HasComeBack MainOpens promise h.client h.main x) (sym joined.main)
-          (subst (λ (x : Seat). HasComeBack MainOpens promise h.client x c.main) main (subst (λ (x : C). HasComeBack MainOpens promise x h'.main c.main) client b.main));
+          (subst (λ (x : Seat). HasComeBack MainOpens promise h.client x c.main) main
+          (subst (λ (x : C). HasComeBack MainOpens promise x h'.main c.main) client b.main));
       others =
           subst (λ (ds : List D). AreTold further z w1 ds c'.seats.items c'.told.items) (sym items)
           (subst (λ (bs : List Seat). AreTold further z w1 (h'.others.items ++ d ∷ []) bs c'.told.items) (sym joined.seats)
@@ -342,13 +368,16 @@ fewer {D} xs ys y e = let same = ap (λ (l : List D). length l) e ∙ longer ys 
     longer (x ∷ l) = ap suc (longer l)
 
 -- all callers came back, and main began the end
-pub all_closed : {C D T U : Type 0} (promise : C → Seat → Seat → T → Type 0) (further : D → Seat → Seat → U → Type 0) (z : Cell) (h : Callers C D U) (c : Company T U) (back : Seat)
-    → HaveComeBack promise further z h c → GaveUp c.main.seat back → HaveComeBack promise further z h (record { main = record { seat = back; told = c.main.told }; seats = c.seats; told = c.told })
+pub all_closed : {C D T U : Type 0} (promise : C → Seat → Seat → T → Type 0) (further : D → Seat → Seat → U
+    → Type 0) (z : Cell) (h : Callers C D U) (c : Company T U) (back : Seat)
+    → HaveComeBack promise further z h c → GaveUp c.main.seat back
+    → HaveComeBack promise further z h (record { main = record { seat = back; told = c.main.told }; seats = c.seats; told = c.told })
 all_closed promise further z h c back b gave = record { main = come_closed MainOpens promise h.client h.main c.main back b.main gave; others = b.others }
 
 -- The workers' threads
 
-pub came_joined : {C D T U A : Type 0} (promise : C → Seat → Seat → T → Type 0) (further : D → Seat → Seat → U → Type 0) (z : Cell) (h h' : Hands C D U A) (s : Seat) (c c' : ThreadResults T U A) (over : Over A)
+pub came_joined : {C D T U A : Type 0} (promise : C → Seat → Seat → T → Type 0) (further : D → Seat → Seat → U
+    → Type 0) (z : Cell) (h h' : Hands C D U A) (s : Seat) (c c' : ThreadResults T U A) (over : Over A)
     → h.workers.items ≡ h'.workers.items ++ s ∷ [] → vec_len h'.workers + 1 ≡ vec_len h.workers → h'.sets ≡ h.sets → h'.callers ≡ h.callers
     → SameSeat s over.seat → IsJoined c over c' → CameBack promise further z h' c → CameBack promise further z h c'
 came_joined {C} {D} {T} {U} {A} promise further z h h' s c c' over items len sets callers same j b = record {
@@ -399,7 +428,8 @@ module _ {T U A : Type 0} (z : Cell) (c : ThreadResults T U A) (last : Seat) whe
       let n = length c.company.seats.items in
       let front : AllZip SameSeat (fresh_seats z.terms z.id 0 (suc w)) (c.workers.items ++ last ∷ []) =
       subst (λ (xs : List Seat). AllZip SameSeat xs (c.workers.items ++ last ∷ [])) (sym (fresh_more z 0 w w (omega arith)))
-      (AllZip-push SameSeat (fresh_seats z.terms z.id 0 w) c.workers.items (fresh_seat z.terms z.id w) last h.workers (same_then (fresh_seat z.terms z.id w) c.company.main.seat last h.main s)) in
+      (AllZip-push SameSeat (fresh_seats z.terms z.id 0 w) c.workers.items (fresh_seat z.terms z.id w) last h.workers
+      (same_then (fresh_seat z.terms z.id w) c.company.main.seat last h.main s)) in
       subst (λ (xs : List Seat). AllZip SameSeat xs whole) (sym (fresh_then z 0 (suc w) n (w + 1) (suc w + n) (omega arith) refl))
       (zip_behind (fresh_seats z.terms z.id 0 (suc w)) (c.workers.items ++ last ∷ []) (fresh_seats z.terms z.id (w + 1) n) c.company.seats.items front h.others)
 
@@ -411,49 +441,63 @@ module _ {T U A : Type 0} (z : Cell) (c : ThreadResults T U A) (last : Seat) whe
       let many = h.callers in
       let count : all_seats ≡ journal_seats z.terms = omega arith in
       subst (λ (n : ℕ). IsComplete n whole) count
-      (complete_alike all_seats (fresh_seats z.terms z.id 0 all_seats) whole (zip_numbers (fresh_seats z.terms z.id 0 all_seats) whole (all_same h s)) (complete_fresh _ _ _ z.terms z.id all_seats))
+      (complete_alike all_seats (fresh_seats z.terms z.id 0 all_seats) whole (zip_numbers (fresh_seats z.terms z.id 0 all_seats) whole (all_same h s))
+      (complete_fresh _ _ _ z.terms z.id all_seats))
 
   pub main_ended : (history : List NodeEntry) → HasAllSeats z c → MadeOne Final c.company.main.seat last → all_of (IsSeatOf z.terms history) whole
       → entries_of z.terms.node.settings.workers history ≡ c.company.main.seat.mine ++ entry z.terms.node.settings.workers Final reply.Ok ∷ []
   main_ended history h one seats =
-      let own = (all_has (IsSeatOf z.terms history) whole last seats (has_front (c.workers.items ++ last ∷ []) c.company.seats.items last (has_back c.workers.items (last ∷ []) last (inl refl)))).mine in
+      let own = (all_has (IsSeatOf z.terms history) whole last seats
+      (has_front (c.workers.items ++ last ∷ []) c.company.seats.items last (has_back c.workers.items (last ∷ []) last (inl refl)))).mine in
       let number : c.company.main.seat.number ≡ z.terms.node.settings.workers = h.main.number in
-      ap (λ (n : ℕ). entries_of n history) (sym (one.same.number ∙ number)) ∙ (own ∙ (one.mine ∙ ap (λ (n : ℕ). c.company.main.seat.mine ++ entry n Final reply.Ok ∷ []) number))
+      ap (λ (n : ℕ). entries_of n history) (sym (one.same.number ∙ number))
+      ∙ (own ∙ (one.mine ∙ ap (λ (n : ℕ). c.company.main.seat.mine ++ entry n Final reply.Ok ∷ []) number))
 
   pub others_ended : (history : List NodeEntry) → all_of (IsSeatOf z.terms history) whole → all_of (IsSeatOf z.terms history) c.company.seats.items
   others_ended history seats = all_back (IsSeatOf z.terms history) (c.workers.items ++ last ∷ []) c.company.seats.items seats
 
 -- what main's seat is refused, said of the cell
 pub not_ended : {T U A : Type 0} (z : Cell) (c : ThreadResults T U A) (f : Failure) → HasAllSeats z c
-    → IfRefused f (IsRefused c.company.main.seat.terms.node c.company.main.seat.number c.company.main.seat.mine Final) → IfRefused f (IsRefused z.terms.node z.terms.node.settings.workers c.company.main.seat.mine Final)
+    → IfRefused f (IsRefused c.company.main.seat.terms.node c.company.main.seat.number c.company.main.seat.mine Final)
+    → IfRefused f (IsRefused z.terms.node z.terms.node.settings.workers c.company.main.seat.mine Final)
 not_ended z c f e1 e2 = grind (arith, nat_tests)
 
 -- All of it
 
-told_length : {D U : Type 0} (further : D → Seat → Seat → U → Type 0) (z : Cell) (who : ℕ) (ds : List D) (bs : List Seat) (us : List U) → AreTold further z who ds bs us → length bs ≡ length ds
+told_length : {D U : Type 0} (further : D → Seat → Seat → U → Type 0) (z : Cell) (who : ℕ) (ds : List D) (bs : List Seat) (us : List U)
+    → AreTold further z who ds bs us → length bs ≡ length ds
 told_length further z who [] bs us a = ap (λ (l : List Seat). length l) a.0
 told_length further z who (d ∷ ds) bs us a = ap (λ (l : List Seat). length l) a.4 ∙ ap suc (told_length further z (suc who) ds a.1 a.3 a.7)
 
-told_same : {D U : Type 0} (further : D → Seat → Seat → U → Type 0) (z : Cell) (who : ℕ) (ds : List D) (bs : List Seat) (us : List U) → AreTold further z who ds bs us → AllZip SameSeat (fresh_seats z.terms z.id who (length ds)) bs
+told_same : {D U : Type 0} (further : D → Seat → Seat → U → Type 0) (z : Cell) (who : ℕ) (ds : List D) (bs : List Seat) (us : List U)
+    → AreTold further z who ds bs us → AllZip SameSeat (fresh_seats z.terms z.id who (length ds)) bs
 told_same further z who [] bs us a = subst (λ (l : List Seat). AllZip SameSeat [] l) (sym a.0) tt
 told_same further z who (d ∷ ds) bs us a =
-    subst (λ (l : List Seat). AllZip SameSeat (fresh_seats z.terms z.id who (suc (length ds))) l) (sym a.4) (a.6.same, told_same further z (suc who) ds a.1 a.3 a.7)
+    subst (λ (l : List Seat). AllZip SameSeat (fresh_seats z.terms z.id who (suc (length ds))) l) (sym a.4)
+    (a.6.same, told_same further z (suc who) ds a.1 a.3 a.7)
 
-have_called : {D U : Type 0} (further : D → Seat → Seat → U → Type 0) (z : Cell) (history : List NodeEntry) (who : ℕ) (ds : List D) (bs : List Seat) (us : List U)
+have_called : {D U : Type 0} (further : D → Seat → Seat → U
+    → Type 0) (z : Cell) (history : List NodeEntry) (who : ℕ) (ds : List D) (bs : List Seat) (us : List U)
     → all_of (IsSeatOf z.terms history) bs → AreTold further z who ds bs us → HaveCalled further z.terms.node history who ds us
 have_called {D} {U} further z history who [] bs us seats a = subst (λ (l : List U). HaveCalled further z.terms.node history who [] l) (sym a.1) tt
 have_called {D} {U} further z history who (d ∷ ds) bs us seats a =
     let own = subst (λ (l : List Seat). all_of (IsSeatOf z.terms history) l) a.4 seats in
     let mine : entries_of who history ≡ a.0.mine = ap (λ (n : ℕ). entries_of n history) (sym a.6.same.number) ∙ own.0.mine in
-    subst (λ (l : List U). HaveCalled further z.terms.node history who (d ∷ ds) l) (sym a.5)
-    (subst (λ (es : List NodeEntry). HasCalled CallerEnters further d z.terms.node who a.2 es) (sym mine) a.6.called, have_called further z history (suc who) ds a.1 a.3 own.1 a.7)
+    subst (λ (l : List U). HaveCalled further z.terms.node history who (d ∷ ds) l) (sym a.5) (
+      subst (λ (es : List NodeEntry). HasCalled CallerEnters further d z.terms.node who a.2 es) (sym mine) a.6.called,
+      have_called further z history
+          (suc who) ds a.1 a.3 own.1 a.7,
+    )
 
-pub has_all : {C D T U A : Type 0} (promise : C → Seat → Seat → T → Type 0) (further : D → Seat → Seat → U → Type 0) (z : Cell) (h : Hands C D U A) (c : ThreadResults T U A)
-    → z.terms.node.callers ≡ length h.callers.others.items + 1 → Dealt z (length h.callers.others.items) h.workers.items h.callers.main h.callers.seats.items → CameBack promise further z h c → HasAllSeats z c
+pub has_all : {C D T U A : Type 0} (promise : C → Seat → Seat → T → Type 0) (further : D → Seat → Seat → U
+    → Type 0) (z : Cell) (h : Hands C D U A) (c : ThreadResults T U A)
+    → z.terms.node.callers ≡ length h.callers.others.items + 1 → Dealt z (length h.callers.others.items) h.workers.items h.callers.main h.callers.seats.items
+    → CameBack promise further z h c → HasAllSeats z c
 has_all promise further z h c many d b =
     let w1 = z.terms.node.settings.workers + 1 in
     let o = b.company.others in
-    let long : length c.company.seats.items ≡ length h.callers.others.items = told_length further z w1 h.callers.others.items c.company.seats.items c.company.told.items o in
+    let long : length c.company.seats.items ≡ length h.callers.others.items =
+    told_length further z w1 h.callers.others.items c.company.seats.items c.company.told.items o in
     record {
       callers = many ∙ ap (λ (n : ℕ). n + 1) (sym long);
       workers = subst (λ (xs : List Seat). AllZip SameSeat xs c.workers.items) d.workers_are b.workers;
@@ -463,21 +507,27 @@ has_all promise further z h c many d b =
           (told_same further z w1 h.callers.others.items c.company.seats.items c.company.told.items o);
     }
 
-pub sets_are : {C D T U A : Type 0} (promise : C → Seat → Seat → T → Type 0) (further : D → Seat → Seat → U → Type 0) (n : ℕ) (z : Cell) (h : Hands C D U A) (c : ThreadResults T U A) (d : AllDone T U A)
-    → Dealt z (length h.callers.others.items) h.workers.items h.callers.main h.callers.seats.items → CameBack promise further z h c → HasEnded z c d → vec_len h.sets ≡ 0 → z.terms.node.settings.workers ≡ n → vec_len d.sets ≡ n
+pub sets_are : {C D T U A : Type 0} (promise : C → Seat → Seat → T → Type 0) (further : D → Seat → Seat → U
+    → Type 0) (n : ℕ) (z : Cell) (h : Hands C D U A) (c : ThreadResults T U A) (d : AllDone T U A)
+    → Dealt z (length h.callers.others.items) h.workers.items h.callers.main h.callers.seats.items → CameBack promise further z h c → HasEnded z c d
+    → vec_len h.sets ≡ 0 → z.terms.node.settings.workers ≡ n → vec_len d.sets ≡ n
 sets_are promise further n z h c d dealt came ended none few =
     let same : vec_len d.sets ≡ vec_len c.sets = ap vec_len ended.sets in
     let given = came.sets in
-    let workers : length h.workers.items ≡ z.terms.node.settings.workers = ap (λ (xs : List Seat). length xs) dealt.workers_are ∙ fresh_length z 0 z.terms.node.settings.workers in
+    let workers : length h.workers.items ≡ z.terms.node.settings.workers =
+    ap (λ (xs : List Seat). length xs) dealt.workers_are ∙ fresh_length z 0 z.terms.node.settings.workers in
     omega arith
 
 -- the calls of main's client
-called_for : {C D T U A : Type 0} (promise : C → Seat → Seat → T → Type 0) (further : D → Seat → Seat → U → Type 0) (client : C) (t : Terms) (z : Cell) (h : Hands C D U A) (c : ThreadResults T U A)
-    → z.terms.node ≡ t → h.callers.client ≡ client → Dealt z (length h.callers.others.items) h.workers.items h.callers.main h.callers.seats.items → CameBack promise further z h c
+called_for : {C D T U A : Type 0} (promise : C → Seat → Seat → T → Type 0) (further : D → Seat → Seat → U
+    → Type 0) (client : C) (t : Terms) (z : Cell) (h : Hands C D U A) (c : ThreadResults T U A)
+    → z.terms.node ≡ t → h.callers.client ≡ client → Dealt z (length h.callers.others.items) h.workers.items h.callers.main h.callers.seats.items
+    → CameBack promise further z h c
     → HasCalled MainOpens promise client t t.settings.workers c.company.main.told c.company.main.seat.mine
 called_for promise further client t z h c e1 e2 e3 e4 = grind (arith, nat_tests)
 
-pub run_is : {C D T U A : Type 0} (promise : C → Seat → Seat → T → Type 0) (further : D → Seat → Seat → U → Type 0) (client : C) (others : List D) (settings : NodeSettings) (z : Cell) (h : Hands C D U A) (c : ThreadResults T U A) (d : AllDone T U A)
+pub run_is : {C D T U A : Type 0} (promise : C → Seat → Seat → T → Type 0) (further : D → Seat → Seat → U
+    → Type 0) (client : C) (others : List D) (settings : NodeSettings) (z : Cell) (h : Hands C D U A) (c : ThreadResults T U A) (d : AllDone T U A)
     → z.terms.node ≡ terms_among settings (length others) → h.callers.client ≡ client → h.callers.others.items ≡ others
     → Dealt z (length h.callers.others.items) h.workers.items h.callers.main h.callers.seats.items → CameBack promise further z h c → HasEnded z c d
     → IsRunOfAll promise further client others settings d.told d.others.items d.journal
@@ -492,7 +542,8 @@ run_is {C} {D} {T} {U} promise further client others settings z h c d terms same
       kept = subst (λ (u : Terms). KeptAs u d.journal ended.history) terms ended.kept;
       mine = c.company.main.seat.mine;
       called = subst (λ (x : T). HasCalled MainOpens promise client t settings.workers x c.company.main.seat.mine) (sym ended.told) called;
-      ended = subst (λ (u : Terms). entries_of u.settings.workers ended.history ≡ c.company.main.seat.mine ++ entry u.settings.workers Final reply.Ok ∷ []) terms ended.ended;
+      ended = subst (λ (u : Terms). entries_of u.settings.workers ended.history
+          ≡ c.company.main.seat.mine ++ entry u.settings.workers Final reply.Ok ∷ []) terms ended.ended;
       others_called =
           subst (λ (us : List U). HaveCalled further t ended.history (settings.workers + 1) others us) (sym (ap (λ v. v.items) ended.others))
           (subst (λ (ds : List D). HaveCalled further t ended.history (settings.workers + 1) ds c.company.told.items) list
@@ -509,16 +560,20 @@ pub unopened_all : {C T : Type 0} (promise : C → Seat → Seat → T → Type 
     → z.terms.node ≡ terms_among settings n → m ≡ n → IfRefused f (AreRefused z.terms.node m) → IfRefused f (RefusesOne promise client n settings)
 unopened_all promise client n m settings z f e1 e2 e3 = grind (arith, nat_tests)
 
-pub unended_all : {C D T U A : Type 0} (promise : C → Seat → Seat → T → Type 0) (further : D → Seat → Seat → U → Type 0) (client : C) (n : ℕ) (settings : NodeSettings) (z : Cell) (h : Hands C D U A) (c : ThreadResults T U A) (f : Failure)
-    → z.terms.node ≡ terms_among settings n → h.callers.client ≡ client → Dealt z (length h.callers.others.items) h.workers.items h.callers.main h.callers.seats.items → CameBack promise further z h c
+pub unended_all : {C D T U A : Type 0} (promise : C → Seat → Seat → T → Type 0) (further : D → Seat → Seat → U
+    → Type 0) (client : C) (n : ℕ) (settings : NodeSettings) (z : Cell) (h : Hands C D U A) (c : ThreadResults T U A) (f : Failure)
+    → z.terms.node ≡ terms_among settings n → h.callers.client ≡ client
+    → Dealt z (length h.callers.others.items) h.workers.items h.callers.main h.callers.seats.items → CameBack promise further z h c
     → IfRefused f (IsRefused z.terms.node z.terms.node.settings.workers c.company.main.seat.mine Final) → IfRefused f (RefusesOne promise client n settings)
 unended_all promise further client n settings z h c f e1 e2 e3 e4 e5 = grind (arith, nat_tests)
 
 -- Main alone
 
-pub run_alone : {C D T U : Type 0} (promise : C → Seat → Seat → T → Type 0) (further : D → Seat → Seat → U → Type 0) (client : C) (others : List D) (settings : NodeSettings) (told : T) (us : List U) (j : Journal)
+pub run_alone : {C D T U : Type 0} (promise : C → Seat → Seat → T → Type 0) (further : D → Seat → Seat → U
+    → Type 0) (client : C) (others : List D) (settings : NodeSettings) (told : T) (us : List U) (j : Journal)
     → others ≡ [] → IsRunOfAll promise further client others settings told us j → IsRun promise client settings told j
 run_alone promise further client others settings told us j e1 e2 = grind (arith, nat_tests)
 
-pub causes_alone : {C T : Type 0} (promise : C → Seat → Seat → T → Type 0) (client : C) (n : ℕ) (settings : NodeSettings) (f : Failure) → n ≡ 0 → IfRefused f (RefusesOne promise client n settings) → IfRefused f (Refuses promise client settings)
+pub causes_alone : {C T : Type 0} (promise : C → Seat → Seat → T → Type 0) (client : C) (n : ℕ) (settings : NodeSettings) (f : Failure) → n ≡ 0
+    → IfRefused f (RefusesOne promise client n settings) → IfRefused f (Refuses promise client settings)
 causes_alone promise client n settings f e1 e2 = grind (arith, nat_tests)

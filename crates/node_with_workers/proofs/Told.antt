@@ -11,7 +11,13 @@ in_order_behind (x ∷ xs) before es o = (before ++ o.0, o.1, ap (λ (l : List N
 
 pub in_order_then : (xs ys es fs : List NodeEntry) → InOrder xs es → InOrder ys fs → InOrder (xs ++ ys) (es ++ fs)
 in_order_then [] ys es fs o p = in_order_behind ys es fs p
-in_order_then (x ∷ xs) ys es fs o p = (o.0, o.1 ++ fs, ap (λ (l : List NodeEntry). l ++ fs) o.2 ∙ append_assoc o.0 (x ∷ o.1) fs, in_order_then xs ys o.1 fs o.3 p)
+in_order_then (x ∷ xs) ys es fs o p = (
+  o.0,
+  o.1 ++ fs,
+  ap (λ (l : List NodeEntry). l ++ fs) o.2
+      ∙ append_assoc o.0 (x ∷ o.1) fs,
+  in_order_then xs ys o.1 fs o.3 p,
+)
 
 pub in_order_alone : (x : NodeEntry) → InOrder (x ∷ []) (x ∷ [])
 in_order_alone x = ([], [], refl, tt)
@@ -36,7 +42,8 @@ read_handle : (r : Reply) (h : ℕ) → Answers mtapi handle r (Ok h) → r ≡ 
 read_handle r h e1 = grind (arith, nat_tests)
 
 -- a call that made one turn and was told this
-told_once : (o : Op) (old new : Seat) (r s : Reply) (same : SameSeat old new) → new.mine ≡ old.mine ++ entry old.number o r ∷ [] → r ≡ s → WentOn (entry old.number o s ∷ []) old new
+told_once : (o : Op) (old new : Seat) (r s : Reply) (same : SameSeat old new) → new.mine ≡ old.mine ++ entry old.number o r ∷ [] → r ≡ s
+    → WentOn (entry old.number o s ∷ []) old new
 told_once o old new r s same m is = record {
   same = same;
   more = entry old.number o s ∷ [];
@@ -44,7 +51,8 @@ told_once o old new r s same m is = record {
   asked = in_order_alone (entry old.number o s);
 }
 
-pub made_told : (o : Op) (old new : Seat) (x : Result ℕ MtapiStatus) (h : ℕ) → Called mtapi handle o old new x → x ≡ Ok h → WentOn (entry old.number o (reply.Handle h) ∷ []) old new
+pub made_told : (o : Op) (old new : Seat) (x : Result ℕ MtapiStatus) (h : ℕ) → Called mtapi handle o old new x → x ≡ Ok h
+    → WentOn (entry old.number o (reply.Handle h) ∷ []) old new
 made_told o old new (Ok k) h (inl c) is = told_once o old new c.0 (reply.Handle h) c.1.same c.1.mine (read_handle c.0 k c.2 ∙ cc)
 made_told o old new (Ok k) h (inr c) is = absurd (cc)
 made_told o old new (Err e) h c is = absurd (cc)
@@ -53,14 +61,16 @@ made_told o old new (Err e) h c is = absurd (cc)
 pub given_told : {H : Type 0} (number : H → ℕ) (o p : Op) (old new : Seat) (x : Result H MtapiStatus) (h : H)
     → o ≡ p → Called mtapi handle o old new (with_number number x) → x ≡ Ok h → WentOn (entry old.number p (reply.Handle (number h)) ∷ []) old new
 given_told number o p old new x h same called is =
-    made_told p old new (with_number number x) (number h) (subst (λ (q : Op). Called mtapi handle q old new (with_number number x)) same called) (ap (with_number number) is)
+    made_told p old new (with_number number x) (number h) (subst (λ (q : Op). Called mtapi handle q old new (with_number number x)) same called)
+    (ap (with_number number) is)
 
 -- One more call behind others, each with the number of the first seat
 
 pub went_none : (a : Seat) → WentOn [] a a
 went_none a = went_nowhere a a (record { cell = refl; number = refl; terms = refl }) refl
 
-one_more : (xs : List NodeEntry) (o : Op) (r : Reply) (a b c : Seat) → WentOn xs a b → WentOn (entry b.number o r ∷ []) b c → WentOn (xs ++ entry a.number o r ∷ []) a c
+one_more : (xs : List NodeEntry) (o : Op) (r : Reply) (a b c : Seat) → WentOn xs a b → WentOn (entry b.number o r ∷ []) b c
+    → WentOn (xs ++ entry a.number o r ∷ []) a c
 one_more xs o r a b c x y = went_then xs (entry a.number o r ∷ []) a b c x (subst (λ (n : ℕ). WentOn (entry n o r ∷ []) b c) x.same.number y)
 
 pub then_given : {H : Type 0} (number : H → ℕ) (xs : List NodeEntry) (o : Op) (a b c : Seat) (x : Result H MtapiStatus) (h : H)

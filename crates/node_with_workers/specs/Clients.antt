@@ -34,7 +34,8 @@ CallerEnters who es = (looks : ℕ) × (es ≡ replicate looks (entry who Enter 
 
 -- These are the entries of a caller of a node with these terms. By the first of them its seat came in; then the client's promise holds of the
 -- seat before its calls and after them, and of what it was told; and then come others.
-pub record HasCalled {C T : Type 0} (opens : ℕ → List NodeEntry → Type 0) (promise : C → Seat → Seat → T → Type 0) (client : C) (t : Terms) (who : ℕ) (told : T) (es : List NodeEntry) : Type 0 where
+pub record HasCalled {C T : Type 0} (opens : ℕ → List NodeEntry → Type 0) (promise : C → Seat → Seat → T
+    → Type 0) (client : C) (t : Terms) (who : ℕ) (told : T) (es : List NodeEntry) : Type 0 where
   pub before : Seat
   pub number : before.number ≡ who
   pub terms : before.terms.node ≡ t

@@ -18,7 +18,8 @@ use Rattle.node_with_workers.specs.declared.jobs.Over.{Over}
 use Rattle.node_with_workers.specs.Clients.{MainOpens, CallerEnters, HasCalled, IsNotOpened, IsKeptOut}
 
 -- this seat came back, and with it the client called
-pub record HasComeBack {C T : Type 0} (opens : ℕ → List NodeEntry → Type 0) (promise : C → Seat → Seat → T → Type 0) (client : C) (seat : Seat) (c : Called T) : Type 0 where
+pub record HasComeBack {C T : Type 0} (opens : ℕ → List NodeEntry → Type 0) (promise : C → Seat → Seat → T
+    → Type 0) (client : C) (seat : Seat) (c : Called T) : Type 0 where
   pub same : SameSeat seat c.seat
   pub called : HasCalled opens promise client seat.terms.node seat.number c.told c.seat.mine
 
@@ -52,7 +53,8 @@ IsLostBy (Ok c) f = f ≡ Memory
 IsLostBy (Err g) f = f ≡ g
 
 -- main's seat came back, and those of the further callers, each with what its client was told
-pub record HaveComeBack {C D T U : Type 0} (promise : C → Seat → Seat → T → Type 0) (further : D → Seat → Seat → U → Type 0) (z : Cell) (h : Callers C D U) (c : Company T U) : Type 0 where
+pub record HaveComeBack {C D T U : Type 0} (promise : C → Seat → Seat → T → Type 0) (further : D → Seat → Seat → U
+    → Type 0) (z : Cell) (h : Callers C D U) (c : Company T U) : Type 0 where
   pub main : HasComeBack MainOpens promise h.client h.main c.main
   pub others : AreTold further z (z.terms.node.settings.workers + 1) h.others.items c.seats.items c.told.items
 
@@ -72,7 +74,8 @@ pub record IsJoined {T U A : Type 0} (before : ThreadResults T U A) (over : Over
   pub company : after.company ≡ before.company
 
 -- each worker's seat came back, and a set for each; and the callers'
-pub record CameBack {C D T U A : Type 0} (promise : C → Seat → Seat → T → Type 0) (further : D → Seat → Seat → U → Type 0) (z : Cell) (h : Hands C D U A) (c : ThreadResults T U A) : Type 0 where
+pub record CameBack {C D T U A : Type 0} (promise : C → Seat → Seat → T → Type 0) (further : D → Seat → Seat → U
+    → Type 0) (z : Cell) (h : Hands C D U A) (c : ThreadResults T U A) : Type 0 where
   pub workers : AllZip SameSeat h.workers.items c.workers.items
   pub sets : vec_len c.sets ≡ vec_len h.sets + vec_len h.workers
   pub company : HaveComeBack promise further z h.callers c.company

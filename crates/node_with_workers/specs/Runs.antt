@@ -43,13 +43,15 @@ pub record IsRun {C T : Type 0} (promise : C → Seat → Seat → T → Type 0)
 -- one for each caller, of its seat before its calls and after them, and of what it was told.
 abbrev pub HaveCalled : {D U : Type 0} → (D → Seat → Seat → U → Type 0) → Terms → List NodeEntry → ℕ → List D → List U → Type 0
 HaveCalled promise t history who [] [] = Unit {0}
-HaveCalled promise t history who (d ∷ ds) (u ∷ us) = HasCalled CallerEnters promise d t who u (entries_of who history) × HaveCalled promise t history (suc who) ds us
+HaveCalled promise t history who (d ∷ ds) (u ∷ us) =
+    HasCalled CallerEnters promise d t who u (entries_of who history) × HaveCalled promise t history (suc who) ds us
 HaveCalled promise t history who _ _ = ⊥
 
 -- There is one legal history of a node with main and a further caller for each of the other clients. The journal is what is kept of it. In it main
 -- opened the node and let the others in, the promises of all clients hold, each of the seat of its caller before its calls and after them, and
 -- of what it was told, and the last call of main ended the node. The further callers have the numbers behind main's, in their order.
-pub record IsRunOfAll {C D T U : Type 0} (promise : C → Seat → Seat → T → Type 0) (further : D → Seat → Seat → U → Type 0) (client : C) (others : List D) (settings : NodeSettings) (told : T) (others_told : List U) (j : Journal) : Type 0 where
+pub record IsRunOfAll {C D T U : Type 0} (promise : C → Seat → Seat → T → Type 0) (further : D → Seat → Seat → U
+    → Type 0) (client : C) (others : List D) (settings : NodeSettings) (told : T) (others_told : List U) (j : Journal) : Type 0 where
   pub history : List NodeEntry
   pub legal : Legal (terms_among settings (length others)) history
   pub kept : KeptAs (terms_among settings (length others)) j history
@@ -69,7 +71,8 @@ Refuses promise client settings status = IsNotOpened (terms_for settings) settin
 
 -- The same of a node with so many further callers, or one of them wasn't let in.
 abbrev pub RefusesOne : {C T : Type 0} → (C → Seat → Seat → T → Type 0) → C → ℕ → NodeSettings → MtapiStatus → Type 0
-RefusesOne promise client others settings status = AreRefused (terms_among settings others) others status ⊎ IsNotEnded promise client (terms_among settings others) status
+RefusesOne promise client others settings status =
+    AreRefused (terms_among settings others) others status ⊎ IsNotEnded promise client (terms_among settings others) status
 
 -- the crew has all seats of a new cell
 pub record HasAllSeats {T U A : Type 0} (z : Cell) (c : ThreadResults T U A) : Type 0 where

@@ -53,7 +53,8 @@ turn_fits old new o x k =
 -- Looks
 
 -- a look with a limit, and one at the entrance without, that came to an answer
-pub timed_found : (w : Wanted) (limit : Option ℕ) (old new : Seat) (x : Result Reply ℕ) → IsTimed w → IfOk x (λ r. Looked w limit old new r) → IfOk x (λ r. found w r ≡ true)
+pub timed_found : (w : Wanted) (limit : Option ℕ) (old new : Seat) (x : Result Reply ℕ) → IsTimed w → IfOk x (λ r. Looked w limit old new r)
+    → IfOk x (λ r. found w r ≡ true)
 timed_found w limit old new x e1 e2 = grind (arith, nat_tests)
 
 pub entrance_found : (old new : Seat) (x : Result Reply ℕ) → IfOk x (λ r. Looked want.Entrance None old new r) → IfOk x (λ r. found want.Entrance r ≡ true)
@@ -61,8 +62,11 @@ entrance_found old new x k = IfOk-weaker x (λ r. Looked want.Entrance None old 
 
 -- What a call comes to
 
-pub called : {S A : Type 0} (standard : Standard S) (read : Reply → Option A) (o : Op) (old new : Seat) (y : Result Reply ℕ) (x : Result A S) → IfOk y (λ r. Turned old o r new) → OnErr y (Unturned old new) → AnsweredBy standard read y x → Called standard read o old new x
+pub called : {S A : Type 0} (standard : Standard S) (read : Reply → Option A) (o : Op) (old new : Seat) (y : Result Reply ℕ) (x : Result A S)
+    → IfOk y (λ r. Turned old o r new) → OnErr y (Unturned old new) → AnsweredBy standard read y x → Called standard read o old new x
 called standard read o old new y x e1 e2 e3 = grind (arith, nat_tests)
 
-pub waited : {S A : Type 0} (standard : Standard S) (read : Reply → Option A) (w : Wanted) (limit : Option ℕ) (old new : Seat) (y : Result Reply ℕ) (x : Result A S) → IfOk y (λ r. Looked w limit old new r) → OnErr y (StillLooking w limit old new) → AnsweredBy standard read y x → Waited standard read w limit old new x
+pub waited : {S A : Type 0} (standard : Standard S) (read : Reply
+    → Option A) (w : Wanted) (limit : Option ℕ) (old new : Seat) (y : Result Reply ℕ) (x : Result A S) → IfOk y (λ r. Looked w limit old new r)
+    → OnErr y (StillLooking w limit old new) → AnsweredBy standard read y x → Waited standard read w limit old new x
 waited standard read w limit old new y x e1 e2 e3 = grind (arith, nat_tests)

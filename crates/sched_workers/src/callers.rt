@@ -29,7 +29,7 @@ use std::marker::Model;
 use std::sync::Wait;
 use turn_cell::{Spent, TurnCell, TurnSeat};
 use turn_looks::turn;
-use workload_runners::{gives_work, look, wake};
+use workload_runners::{affected_by, look, wake};
 use workload_runs::Wanted;
 
 /// A caller of a node: main, or a further one. Contracts see it as its seat.
@@ -94,9 +94,9 @@ impl<'a> Caller<'a> {
         ensures spent { OnErr result (Unturned self.old self.new) }
         ensures fits { IfOk result (λ r. fits op r ≡ true) }
     {
-        let is_work = gives_work(&op);
+        let affected = affected_by(&op);
         let reply = turn(rt, self.cell, &mut self.seat, op);
-        wake(self.cell, is_work);
+        wake(self.cell, affected);
         reply
     }
 

@@ -61,7 +61,8 @@ module _ {T P Q : Type 0} where
   all_has F (x ∷ seats) s a (inr h) = all_has F seats s a.1 h
 
   -- the seat that came back in the place of this one
-  pub zip_has : (R : SeatView T P Q → SeatView T P Q → Type 0) (xs ys : List (SeatView T P Q)) (s : SeatView T P Q) → AllZip R xs ys → Has xs s → (y : SeatView T P Q) × Has ys y × R s y
+  pub zip_has : (R : SeatView T P Q → SeatView T P Q → Type 0) (xs ys : List (SeatView T P Q)) (s : SeatView T P Q) → AllZip R xs ys → Has xs s
+      → (y : SeatView T P Q) × Has ys y × R s y
   zip_has R [] ys s a h = absurd h
   zip_has R (x ∷ xs) [] s a h = absurd a
   zip_has R (x ∷ xs) (y ∷ ys) s a (inl e) = (y, inl refl, subst (λ (w : SeatView T P Q). R w y) e a.0)

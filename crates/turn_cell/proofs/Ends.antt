@@ -34,18 +34,27 @@ module _ {T P Q : Type 0} where
   within_last [] w f h = h
   within_last (p ∷ v) w f h = inr (within_last v w f h)
 
-  more_at : (v : List (Part T P Q)) (p : Part T P Q) (f : SeatView T P Q) (popped : List (SeatView T P Q)) → is_idle p → IsPartOf f p → Gathers popped v → Gathers (f ∷ popped) (v ++ p ∷ [])
+  more_at : (v : List (Part T P Q)) (p : Part T P Q) (f : SeatView T P Q) (popped : List (SeatView T P Q)) → is_idle p → IsPartOf f p → Gathers popped v
+      → Gathers (f ∷ popped) (v ++ p ∷ [])
   more_at v p f popped idle same g = record {
     idle = all_then is_idle v (p ∷ []) g.idle (idle, tt);
-    numbers = λ k. let a = total-append (has_number k) v (p ∷ []) in let b = g.numbers k in let c : has_number k p ≡ one_if (f.number == k) = ap (λ (n : ℕ). one_if (n == k)) same.0 in omega arith;
+    numbers = λ k. let a = total-append (has_number k) v (p ∷ []) in let b = g.numbers k in let c : has_number k p ≡ one_if (f.number == k) =
+        ap (λ (n : ℕ). one_if (n == k)) same.0 in omega arith;
     all = (within_last v (p ∷ []) f (inl same), all_also (within v) (within (v ++ p ∷ [])) popped (within_more v (p ∷ [])) g.all);
   }
 
-  pub gathers_more : {O : Type 0} (d : T) (z : TableId) (v v' : List (Part T P Q)) (m : Me O (List (Part T P Q))) (p : Part T P Q) (f : SeatView T P Q) (popped : List (SeatView T P Q)) → m ≡ (p ∷ [], []) → is_idle p → view_of d z m.0 ≡ f → v' ≡ v ++ m.0 → Gathers popped v → Gathers (f ∷ popped) v'
+  pub gathers_more : {O : Type 0} (d : T) (z : TableId) (v v' : List (Part T P Q)) (m : Me O (List (Part T P Q))) (p : Part T P Q) (f : SeatView T P Q)
+      (popped : List (SeatView T P Q)) → m ≡ (p ∷ [], []) → is_idle p → view_of d z m.0 ≡ f → v' ≡ v ++ m.0 → Gathers popped v → Gathers (f ∷ popped) v'
   gathers_more {O} d z v v' m p f popped is idle view joined g =
       let view : view_of d z (p ∷ []) ≡ f = ap (λ (m : Me O (List (Part T P Q))). view_of d z m.0) (sym is) ∙ view in
       let whole : v ++ p ∷ [] ≡ v' = ap (λ (m : Me O (List (Part T P Q))). v ++ m.0) (sym is) ∙ sym joined in
-      subst (Gathers (f ∷ popped)) whole (more_at v p f popped idle (ap (λ (x : SeatView T P Q). x.number) view, ap (λ (x : SeatView T P Q). x.terms) view, ap (λ (x : SeatView T P Q). x.seen) view, ap (λ (x : SeatView T P Q). x.mine) view) g)
+      subst (Gathers (f ∷ popped)) whole (more_at v p f popped idle (
+        ap (λ (x : SeatView T P Q). x.number) view,
+        ap (λ (x : SeatView T P Q). x.terms) view,
+        ap (λ (x : SeatView T P Q). x.seen) view,
+        ap
+            (λ (x : SeatView T P Q). x.mine) view,
+      ) g)
 
   none_holds : (h : ℕ) (v : List (Part T P Q)) → all_of is_idle v → total (has_turn h) v ≡ 0
   none_holds h [] a = refl
@@ -64,14 +73,16 @@ module _ {O T P Q : Type 0} (terms_of : O → T) (seat_count : T → ℕ) (legal
   abbrev K : T → S → Type 0
   K = Invariant terms_of seat_count legal stands
 
-  holder : (t : T) (h : List (Entry P Q)) (n : ℕ) (w : List D) → all_of (F t h n) w → 0 < total (has_turn (length h)) w → (k : ℕ) × (k < seat_count t) × (0 < total (has_number k) w)
+  holder : (t : T) (h : List (Entry P Q)) (n : ℕ) (w : List D) → all_of (F t h n) w → 0 < total (has_turn (length h)) w
+      → (k : ℕ) × (k < seat_count t) × (0 < total (has_number k) w)
   holder t h n [] a out = absurd (omega arith)
   holder t h n (p ∷ w) a out = dite (ℕ_discrete (has_turn (length h) p) 0)
       (λ z. let r = holder t h n w a.1 (omega arith) in (r.0, r.1, omega arith))
       (λ nz. let one = one_same p.number p.number refl in (p.number, a.0.number, omega arith))
 
   -- who has each seat's part, and holds no turn, knows that the object is at home
-  at_home : (t : T) (s : S) (r : K t s) (id : ℕ) (v : List D) → get_elem? s.views id ≡ some v → all_of is_idle v → ((k : ℕ) → k < seat_count t → 0 < total (has_number k) v)
+  at_home : (t : T) (s : S) (r : K t s) (id : ℕ) (v : List D) → get_elem? s.views id ≡ some v → all_of is_idle v
+      → ((k : ℕ) → k < seat_count t → 0 < total (has_number k) v)
       → (o : O) × (s.homes ≡ some (Some o) ∷ []) × stands o r.history × (terms_of o ≡ t)
   at_home t s r id v at idle complete = ⊎_elim
       (λ (z : (o : O) × (s.homes ≡ some (Some o) ∷ []) × stands o r.history × (terms_of o ≡ t)). z)
@@ -105,7 +116,8 @@ module _ {O T P Q : Type 0} (terms_of : O → T) (seat_count : T → ℕ) (legal
     pub stood : stands object history
     pub all : all_of (IsSeatOf t history) seats
 
-  pub ends : (t : T) (id : ℕ) (v : List D) (seats : List (SeatView T P Q)) (ws : List ℕ) (xs : List (Option O)) (y : Option O) → Gathers seats v → IsComplete (seat_count t) seats
+  pub ends : (t : T) (id : ℕ) (v : List D) (seats : List (SeatView T P Q)) (ws : List ℕ) (xs : List (Option O)) (y : Option O) → Gathers seats v
+      → IsComplete (seat_count t) seats
       → Final (Seen (K t) id v) ws xs → get_elem? xs 0 ≡ some y → Ended t seats y
   ends t id v seats ws xs y g complete final after_take =
       let s : S = final.0 in

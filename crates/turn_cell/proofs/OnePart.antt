@@ -24,7 +24,9 @@ module _ {T P Q : Type 0} where
   drawn_miss p found guess ne = ap (after_draw p found) (ne_eqb found guess ne)
 
   -- a fact about a seat, as its parts have it
-  pub carried : {O : Type 0} (F : SeatView T P Q → SeatView T P Q → Type 0) (d : T) (z z' : TableId) (now : SeatView T P Q) (me me' : Me O (List (Part T P Q))) (p q : Part T P Q) → me ≡ (p ∷ [], []) → view_of d z me.0 ≡ now → me' ≡ (q ∷ [], [])
+  pub carried : {O : Type 0} (F : SeatView T P Q → SeatView T P Q
+      → Type 0) (d : T) (z z' : TableId) (now : SeatView T P Q) (me me' : Me O (List (Part T P Q))) (p q : Part T P Q) → me ≡ (p ∷ [], [])
+      → view_of d z me.0 ≡ now → me' ≡ (q ∷ [], [])
       → F (view_of d z (p ∷ [])) (view_of d z' (q ∷ [])) → F now (view_of d z' me'.0)
   carried F d z z' now me me' p q e1 e2 e3 e4 = grind (arith, nat_tests, view_of)
 

@@ -36,8 +36,10 @@ module _ {O T P Q : Type 0} (terms_of : O → T) (seat_count : T → ℕ) (legal
   total-map c f (x ∷ v) h = let here = h x in let more = total-map c f v h in omega arith
 
   -- other views, which have the same parts in all, or parts that have seen more
-  other_views : (t : T) (s : S) (r : K t s) (views : List (List D)) → ((k : ℕ) → count (has_number k) views ≡ count (has_number k) s.views) → ((k : ℕ) → count (has_ticket k) views ≡ count (has_ticket k) s.views)
-      → ((k : ℕ) → count (has_turn k) views ≡ count (has_turn k) s.views) → ((i : ℕ) (v : List D) → get_elem? views i ≡ some v → all_of (F t r.history r.tickets) v)
+  other_views : (t : T) (s : S) (r : K t s) (views : List (List D)) → ((k : ℕ) → count (has_number k) views ≡ count (has_number k) s.views)
+      → ((k : ℕ) → count (has_ticket k) views ≡ count (has_ticket k) s.views)
+      → ((k : ℕ) → count (has_turn k) views ≡ count (has_turn k) s.views)
+      → ((i : ℕ) (v : List D) → get_elem? views i ≡ some v → all_of (F t r.history r.tickets) v)
       → K t record { words = length r.history ∷ r.tickets ∷ []; homes = s.homes; views = views }
   other_views t s r views numbers tickets turns each = record {
     history = r.history;
@@ -47,28 +49,35 @@ module _ {O T P Q : Type 0} (terms_of : O → T) (seat_count : T → ℕ) (legal
     most = r.most;
     lawful = r.lawful;
     place = ⊎_elim (λ (z : (o : O) × (s.homes ≡ some (Some o) ∷ []) × stands o r.history × (terms_of o ≡ t)). inl z)
-        (λ (z : (s.homes ≡ none ∷ []) × (0 < count (has_turn (length r.history)) s.views)). let same = turns (length r.history) in let out = z.1 in inr (z.0, omega arith)) r.place;
+        (λ (z : (s.homes ≡ none ∷ []) × (0 < count (has_turn (length r.history)) s.views)). let same = turns (length r.history) in let out = z.1 in
+        inr (z.0, omega arith)) r.place;
     each = each;
     numbers = λ k. let same = numbers k in let most = r.numbers k in omega arith;
     turns = λ k. let same = tickets k in let most = r.turns k in omega arith;
     in_line = λ k out. let same = tickets k in r.in_line k (omega arith);
   }
 
-  at_words : (t : T) (s : S) (r : K t s) (views : List (List D)) → K t record { words = length r.history ∷ r.tickets ∷ []; homes = s.homes; views = views } → K t record { words = s.words; homes = s.homes; views = views }
+  at_words : (t : T) (s : S) (r : K t s) (views : List (List D)) → K t record { words = length r.history ∷ r.tickets ∷ []; homes = s.homes; views = views }
+      → K t record { words = s.words; homes = s.homes; views = views }
   at_words t s r views k = subst (λ (ws : List ℕ). K t record { words = ws; homes = s.homes; views = views }) (sym r.words) k
 
-  cut_count : (c : D → ℕ) (views : List (List D)) (id : ℕ) (v left right : List D) → get_elem? views id ≡ some v → total c left + total c right ≡ total c v → count c (set views id left ++ right ∷ []) ≡ count c views
-  cut_count c views id v left right at e = let a = total-set (total c) views id v left at in let b = total-append (total c) (set views id left) (right ∷ []) in omega arith
+  cut_count : (c : D → ℕ) (views : List (List D)) (id : ℕ) (v left right : List D) → get_elem? views id ≡ some v → total c left + total c right ≡ total c v
+      → count c (set views id left ++ right ∷ []) ≡ count c views
+  cut_count c views id v left right at e = let a = total-set (total c) views id v left at in let b = total-append (total c) (set views id left) (right ∷ []) in
+      omega arith
 
   pub cuts : (t : T) (id : ℕ) (v left right : List D) → left ++ right ≡ v → Splits (K t) id v left right
   cuts t id v left right e s r at =
       let known : all_of (F t r.history r.tickets) v = r.each id v at in
       let fewer : (c : D → ℕ) → count c (set s.views id left ++ right ∷ []) ≡ count c s.views = λ c.
       cut_count c s.views id v left right at (sym (total-append c left right) ∙ ap (total c) e) in
-      let halves : all_of (F t r.history r.tickets) left × all_of (F t r.history r.tickets) right = split_all (F t r.history r.tickets) left right (subst (all_of (F t r.history r.tickets)) (sym e) known) in
-      at_words t s r (set s.views id left ++ right ∷ []) (other_views t s r (set s.views id left ++ right ∷ []) (λ k. fewer (has_number k)) (λ k. fewer (has_ticket k)) (λ k. fewer (has_turn k))
+      let halves : all_of (F t r.history r.tickets) left × all_of (F t r.history r.tickets) right =
+      split_all (F t r.history r.tickets) left right (subst (all_of (F t r.history r.tickets)) (sym e) known) in
+      at_words t s r (set s.views id left ++ right
+      ∷ []) (other_views t s r (set s.views id left ++ right ∷ []) (λ k. fewer (has_number k)) (λ k. fewer (has_ticket k)) (λ k. fewer (has_turn k))
       (λ i w here. ⊎_elim
-      (λ (z : get_elem? (set s.views id left) i ≡ some w). ⊎_elim (λ (y : (i ≡ id) × (left ≡ w)). subst (all_of (F t r.history r.tickets)) y.1 halves.0) (λ (y : (i ≢ id) × (get_elem? s.views i ≡ some w)). r.each i w y.1) (at_set s.views id i left w z))
+      (λ (z : get_elem? (set s.views id left) i ≡ some w). ⊎_elim (λ (y : (i ≡ id) × (left ≡ w)). subst (all_of (F t r.history r.tickets)) y.1 halves.0)
+      (λ (y : (i ≢ id) × (get_elem? s.views i ≡ some w)). r.each i w y.1) (at_set s.views id i left w z))
       (λ (z : right ≡ w). subst (all_of (F t r.history r.tickets)) z halves.1)
       (at_snoc (set s.views id left) right w i here)))
     where
@@ -86,16 +95,27 @@ module _ {O T P Q : Type 0} (terms_of : O → T) (seat_count : T → ℕ) (legal
       at_words t s r (set mid other []) (other_views t s r (set mid other []) (λ k. same (has_number k)) (λ k. same (has_ticket k)) (λ k. same (has_turn k))
       (λ i x here. ⊎_elim
       (λ (z : (i ≡ other) × ([] ≡ x)). subst (all_of (F t r.history r.tickets)) z.1 tt)
-      (λ (z : (i ≢ other) × (get_elem? mid i ≡ some x)). ⊎_elim (λ (y : (i ≡ id) × ((v ++ w) ≡ x)). subst (all_of (F t r.history r.tickets)) y.1 whole) (λ (y : (i ≢ id) × (get_elem? s.views i ≡ some x)). r.each i x y.1) (at_set s.views id i (v ++ w) x z.1))
+      (λ (z : (i ≢ other) × (get_elem? mid i ≡ some x)). ⊎_elim (λ (y : (i ≡ id) × ((v ++ w) ≡ x)). subst (all_of (F t r.history r.tickets)) y.1 whole)
+      (λ (y : (i ≢ id) × (get_elem? s.views i ≡ some x)). r.each i x y.1) (at_set s.views id i (v ++ w) x z.1))
       (at_set mid other i [] x here)))
 
   shown_fits : (t : T) (h : List E) (n : ℕ) (p : D) → F t h n p → F t h n (having_seen h p)
-  shown_fits t h n p f = record { terms = f.terms; number = f.number; seen = starts_self h; mine = f.mine; seen_mine = f.mine; shown = f.shown; holds = λ k is. (refl, (f.holds k is).1) }
+  shown_fits t h n p f = record {
+    terms = f.terms;
+    number = f.number;
+    seen = starts_self h;
+    mine = f.mine;
+    seen_mine = f.mine;
+    shown = f.shown;
+    holds =
+        λ k is. (refl, (f.holds k is).1);
+  }
 
   knows : (t : T) (h : List E) (n : ℕ) → legal t h → (p : D) → F t h n p → Knows terms_of seat_count legal stands h p
   knows t h n lawful p f = record { lawful = subst (λ (x : T). legal x h) (sym f.terms) lawful; begins = f.seen; own = f.mine }
 
-  pub gathers : (t : T) (slots id : ℕ) (m : Me (Option O) (List D)) → Allows (K t) slots id m 0 (λ n. n) (observed terms_of seat_count legal stands (step slots 0 0 0 none) m)
+  pub gathers : (t : T) (slots id : ℕ) (m : Me (Option O) (List D))
+      → Allows (K t) slots id m 0 (λ n. n) (observed terms_of seat_count legal stands (step slots 0 0 0 none) m)
   gathers t slots id m s r len at small =
       let v : List D = m.0 in
       let c : List (ℕ × Option O) = m.1 in
@@ -112,7 +132,8 @@ module _ {O T P Q : Type 0} (terms_of : O → T) (seat_count : T → ℕ) (legal
         keeps,
         tt,
         other_views t s r (set s.views id w) (λ k. same (has_number k) (λ x. refl)) (λ k. same (has_ticket k) (λ x. refl)) (λ k. same (has_turn k) (λ x. refl))
-            (λ i x here. ⊎_elim (λ (y : (i ≡ id) × (w ≡ x)). subst (all_of (F t h r.tickets)) y.1 (all_map (F t h r.tickets) (F t h r.tickets) (having_seen h) v (shown_fits t h r.tickets) known))
+            (λ i x here. ⊎_elim (λ (y : (i ≡ id) × (w ≡ x)). subst (all_of (F t h r.tickets)) y.1
+            (all_map (F t h r.tickets) (F t h r.tickets) (having_seen h) v (shown_fits t h r.tickets) known))
             (λ (y : (i ≢ id) × (get_elem? s.views i ≡ some x)). r.each i x y.1) (at_set s.views id i w x here)),
         (h, refl, all_also (F t h r.tickets) (Knows terms_of seat_count legal stands h) v (knows t h r.tickets r.lawful) known),
       )
@@ -124,6 +145,8 @@ module _ {O T P Q : Type 0} (terms_of : O → T) (seat_count : T → ℕ) (legal
     pub first_knows : Knows terms_of seat_count legal stands history pa
     pub second_knows : Knows terms_of seat_count legal stands history pb
 
-  pub meets : (pa pb : D) (ma mb mt mj ml ma' mb' : Me (Option O) (List D)) → ma ≡ (pa ∷ [], []) → mb ≡ (pb ∷ [], []) → mt ≡ (mb.0, []) → mj ≡ (ma.0 ++ mt.0, ma.1)
-      → ((h : List E) × (ml ≡ (map (having_seen h) mj.0, mj.1)) × all_of (Knows terms_of seat_count legal stands h) mj.0) → ma' ≡ (first_of ml.0, ml.1) → mb' ≡ (rest_of ml.0, []) → Met pa pb ma' mb'
+  pub meets : (pa pb : D) (ma mb mt mj ml ma' mb' : Me (Option O) (List D)) → ma ≡ (pa ∷ [], []) → mb ≡ (pb ∷ [], []) → mt ≡ (mb.0, [])
+      → mj ≡ (ma.0 ++ mt.0, ma.1)
+      → ((h : List E) × (ml ≡ (map (having_seen h) mj.0, mj.1)) × all_of (Knows terms_of seat_count legal stands h) mj.0) → ma' ≡ (first_of ml.0, ml.1)
+      → mb' ≡ (rest_of ml.0, []) → Met pa pb ma' mb'
   meets pa pb ma mb mt mj ml ma' mb' e1 e2 e3 e4 e5 e6 e7 = grind (arith, nat_tests)

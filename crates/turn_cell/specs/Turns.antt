@@ -137,7 +137,8 @@ module _ {O T P Q : Type 0} (terms_of : O → T) (seat_count : T → ℕ) (legal
 
   -- the object went home, and the entry came into the history
   abbrev pub passed : List P → List Q → Step (Option O) → M → ℕ → M → Type 0
-  passed ops replies st m r m' = (p : Part T P Q) (op : P) (reply : Q) → m.0 ≡ p ∷ [] → ops ≡ op ∷ [] → replies ≡ reply ∷ [] → m' ≡ (after_pass p (part_entry p op reply) ∷ [], rest m.1)
+  passed ops replies st m r m' = (p : Part T P Q) (op : P) (reply : Q) → m.0 ≡ p ∷ [] → ops ≡ op ∷ [] → replies ≡ reply ∷ []
+      → m' ≡ (after_pass p (part_entry p op reply) ∷ [], rest m.1)
 
   -- h is a history of these terms, and the part knows a beginning of it
   pub record Knows (h : List (Entry P Q)) (p : Part T P Q) : Type 0 where

@@ -18,7 +18,15 @@ module _ {T P Q : Type 0} where
 
   -- the seat of the cell z whose token has these parts
   abbrev pub view_of : T → TableId → List (Part T P Q) → SeatView T P Q
-  view_of d z v = record { cell = z; number = (first_or d v).number; terms = (first_or d v).terms; seen = (first_or d v).seen; mine = (first_or d v).mine; shown = (first_or d v).shown }
+  view_of d z v = record {
+    cell = z;
+    number = (first_or d v).number;
+    terms = (first_or d v).terms;
+    seen = (first_or d v).seen;
+    mine =
+        (first_or d v).mine;
+    shown = (first_or d v).shown;
+  }
 
   -- a seat between two calls: its token has one idle part, with a legal history and its own entries of it
   pub record AtRest {O : Type 0} (legal : T → List (Entry P Q) → Type 0) (number shown : ℕ) (me : Me (Option O) (List (Part T P Q))) : Type 0 where

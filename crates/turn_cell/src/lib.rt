@@ -16,7 +16,7 @@ mod steps;
 mod threads;
 pub mod tickets;
 
-pub use bells::{Bell, SHORT_SLEEP};
+pub use bells::{Bell, EACH_END, NO_END, SHORT_SLEEP};
 pub use cell::TurnCell;
 pub use closing::Closed;
 pub use history::{Entry, Object};

@@ -4,12 +4,13 @@ ghost use Rattle.std.specs.Prelude.{◌≡◌, ◌<◌, ◌↔◌, Bool, Some, N
 ghost use Rattle.mtapi_values.specs.Timeouts.{looks_of};
 ghost use Rattle.turn_looks.specs.Looks.{Looked, StillLooking};
 
+use crate::ends::Awaiting;
 use crate::pauses::Pause;
 use crate::turns::turn;
 use history::Object;
 use mtapi_values::Timeout;
 use std::sync::Wait;
-use turn_cell::{Spent, TurnCell, TurnSeat};
+use turn_cell::{NO_END, Spent, TurnCell, TurnSeat};
 
 /// What a call looks for.
 pub trait LookFor<O: Object> {
@@ -26,6 +27,12 @@ pub trait LookFor<O: Object> {
     /// Whether the reply means "not yet".
     fn is_waiting(&self, reply: &O::Reply) -> bool
         ensures { IsTrue result ↔ (reply.now ≡ waits) };
+
+    /// The number of the end for which it looks, `EACH_END` where each may be it, or `NO_END` where none is. The loop of looks sleeps long
+    /// where a ring of the bell for ends is sure.
+    fn awaited(&self) -> u64 {
+        NO_END
+    }
 }
 
 // At most so many looks.
@@ -71,27 +78,27 @@ fn look_on<O: Object, W: LookFor<O>, R: Wait>(
     ensures answered { IfOk result (λ r. Looked O.legal (W.op_of wanted.now) W.waits None seat.old seat.new r) }
     ensures spent { OnErr result (StillLooking O.legal (W.op_of wanted.now) W.waits None seat.old seat.new) }
 {
-    let mut pause = Pause::new();
+    let mut awaiting = Awaiting::new(cell.ends(), wanted.awaited());
     for _ in rt.forever() {
         match turn(rt, cell, seat, wanted.op(false)) {
             Ok(reply) => {
                 if !wanted.is_waiting(&reply) {
-                    pause.leave(cell.ends());
+                    awaiting.end();
                     return Ok(reply);
                 }
             }
             Err(spent) => {
-                pause.leave(cell.ends());
+                awaiting.end();
                 return Err(spent);
             }
         }
-        let _ = pause.wait_for(rt, cell.ends());
+        awaiting.wait(rt);
     }
     unreachable!()
 }
 
 /// Looks until there is an answer, or until the looks are used up. Each look is one turn. Without a limit it sleeps between two looks
-/// until the cell's bell for ends rings, or for a millisecond.
+/// until the cell's bell for ends rings.
 ///
 /// # Errors
 ///

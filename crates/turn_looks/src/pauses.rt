@@ -14,12 +14,13 @@ const SPINS: u32 = 3;
 const LONGEST: u64 = 1_000;
 
 // So long a sleep is at most, in microseconds, that a bell ends, while nobody that belongs to the bell is awake.
-const IDLE: u64 = 16_000;
+pub(crate) const IDLE: u64 = 16_000;
 
 // So many sleeps a wait with a limit of looks makes at most: two seconds, whatever the limit is.
 const FEW: u64 = 2_000;
 
-/// It spins, then gives its time away, and then sleeps, twice as long each time, up to a millisecond.
+/// How a thread waits by itself: it spins, then gives its time away, and then sleeps, twice as long each time, up to a millisecond. Or
+/// how a worker waits for its bell.
 #[derive(Drop)]
 pub struct Pause {
     backoff: Backoff,
@@ -35,8 +36,6 @@ pub struct Pause {
     asleep: AtomicU64,
     // How often the bell had rung when it was last heard, while it listens.
     heard: Option<u64>,
-    // Whether it has spun on the bell, since there was something to do.
-    spun: bool,
 }
 
 impl Pause {
@@ -59,22 +58,12 @@ impl Pause {
             left,
             asleep: AtomicU64::new(0),
             heard: None,
-            spun: false,
         }
     }
 
-    /// Whether it hasn't waited since there was something to do.
+    /// Whether it hasn't waited for a bell since there was something to do.
     pub fn is_new(&self) -> bool {
-        self.short == 0
-    }
-
-    /// Begins anew, after there was something to do.
-    pub fn reset(&mut self) {
-        self.backoff.reset();
-        self.short = 0;
-        self.micros = 1;
-        self.idle = SHORT_SLEEP;
-        self.spun = false;
+        self.heard.is_none()
     }
 
     // The length of a sleep that this bell ends: a millisecond while somebody that belongs to it is awake, who may not ring for all work,
@@ -89,39 +78,22 @@ impl Pause {
         length
     }
 
-    /// Waits once for a bell: it spins, then listens, then spins until it rings, which asks for no turn, and then sleeps
-    /// until it rings. True where it begins to listen.
-    pub fn wait_for<R: Wait>(&mut self, rt: &R, bell: &Bell) -> bool {
-        if self.short < SPINS {
-            self.short += 1;
-            self.backoff.spin();
-            return false;
-        }
-        match self.heard {
-            None => {
-                self.heard = Some(bell.listen());
-                true
-            }
-            Some(rings) if !self.spun => {
-                self.spun = true;
-                self.heard = Some(bell.spin(rings));
-                false
-            }
-            Some(rings) => {
-                let micros = self.length(bell);
-                self.heard = Some(bell.sleep(rt, rings, micros));
-                false
-            }
-        }
+    /// Waits once for a bell: at first it listens and spins until the bell rings, which asks for no turn. Later it sleeps until it rings.
+    pub fn wait_for<R: Wait>(&mut self, rt: &R, bell: &Bell) {
+        let rings = match self.heard {
+            None => bell.spin(bell.listen()),
+            Some(rings) => bell.sleep(rt, rings, self.length(bell)),
+        };
+        self.heard = Some(rings);
     }
 
-    /// Waits for the bell no more.
+    /// Waits for the bell no more, since there is something to do.
     pub fn leave(&mut self, bell: &Bell) {
         if self.heard.is_some() {
             bell.leave();
         }
         self.heard = None;
-        self.reset();
+        self.idle = SHORT_SLEEP;
     }
 
     /// Waits once.

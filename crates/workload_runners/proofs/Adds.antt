@@ -8,7 +8,8 @@ pub same_then : (a b c : Seat) → SameSeat a b → SameSeat b c → SameSeat a 
 same_then a b c s t = record { cell = t.cell ∙ s.cell; number = t.number ∙ s.number; terms = t.terms ∙ s.terms }
 
 -- entries that depend on the seat's number, behind others
-pub mine_then : (a b c : Seat) (f g : ℕ → List NodeEntry) → SameSeat a b → b.mine ≡ a.mine ++ f a.number → c.mine ≡ b.mine ++ g b.number → c.mine ≡ a.mine ++ (f a.number ++ g a.number)
+pub mine_then : (a b c : Seat) (f g : ℕ → List NodeEntry) → SameSeat a b → b.mine ≡ a.mine ++ f a.number → c.mine ≡ b.mine ++ g b.number
+    → c.mine ≡ a.mine ++ (f a.number ++ g a.number)
 mine_then a b c f g s p q =
     q ∙ (ap (λ (n : ℕ). b.mine ++ g n) s.number ∙ (ap (λ (m : List NodeEntry). m ++ g a.number) p ∙ append_assoc a.mine (f a.number) (g a.number)))
 
@@ -16,7 +17,8 @@ module _ (R : ℕ → List NodeEntry → Type 0) where
   pub adds_none : (a : Seat) → R a.number [] → AddsOwn R a a
   adds_none a r = record { same = same_seat a; own = []; mine = sym (append-nil a.mine); is = r }
 
-  pub adds_then : (P Q : ℕ → List NodeEntry → Type 0) (a b c : Seat) → AddsOwn P a b → AddsOwn Q b c → ((xs ys : List NodeEntry) → P a.number xs → Q a.number ys → R a.number (xs ++ ys)) → AddsOwn R a c
+  pub adds_then : (P Q : ℕ → List NodeEntry → Type 0) (a b c : Seat) → AddsOwn P a b → AddsOwn Q b c
+      → ((xs ys : List NodeEntry) → P a.number xs → Q a.number ys → R a.number (xs ++ ys)) → AddsOwn R a c
   adds_then P Q a b c x y f = record {
     same = same_then a b c x.same y.same;
     own = x.own ++ y.own;
@@ -32,7 +34,13 @@ module _ (R : ℕ → List NodeEntry → Type 0) where
   all_own a b none x = subst (λ (l : List NodeEntry). R a.number l) (sym (x.mine ∙ ap (λ (l : List NodeEntry). l ++ x.own) none)) x.is
 
   pub adds_more : (a b c : Seat) → AddsOwn R a b → HasSeenMore b c → AddsOwn R a c
-  adds_more a b c x m = record { same = same_then a b c x.same (record { cell = m.cell; number = m.number; terms = m.terms }); own = x.own; mine = m.mine ∙ x.mine; is = x.is }
+  adds_more a b c x m = record {
+    same = same_then a b c x.same (record { cell = m.cell; number = m.number; terms = m.terms });
+    own = x.own;
+    mine =
+        m.mine ∙ x.mine;
+    is = x.is;
+  }
 
   pub all_more : (xs ys zs : List Seat) → AllZip (AddsOwn R) xs ys → AllZip HasSeenMore ys zs → AllZip (AddsOwn R) xs zs
   all_more [] [] [] a b = tt

@@ -6,27 +6,34 @@ use Rattle.workload_runners.proofs.Adds.{adds_none, adds_then, adds_as}
 pub stated_once : (old new : Seat) (o : Op) (r : Reply) (h : ℕ) → h ≡ handle_of r → Turned old o r new → AddsOwn (StatedAs (Once o) h) old new
 stated_once old new o r h e t = record { same = t.same; own = _; mine = t.mine; is = record { reply = r; made = refl; is = e } }
 
-pub stated_look : (old new : Seat) (w : Wanted) (timeout : Timeout) (r : Reply) (h : ℕ) → h ≡ handle_of r → Looked w (looks_of timeout) old new r → AddsOwn (StatedAs (Looking (waits w) (op_of w) timeout) h) old new
+pub stated_look : (old new : Seat) (w : Wanted) (timeout : Timeout) (r : Reply) (h : ℕ) → h ≡ handle_of r → Looked w (looks_of timeout) old new r
+    → AddsOwn (StatedAs (Looking (waits w) (op_of w) timeout) h) old new
 stated_look old new w timeout r h e1 e2 = grind (arith, nat_tests)
 
 -- the statements so far: what is left may follow
 pub record SoFar (bound now : List ℕ) (done : List Statement) (w : ℕ) (own : List NodeEntry) : Type 0 where
   pub replies : List Reply
-  pub goes : (rest : List Statement) (es : List NodeEntry) (rs : List Reply) → Carried (MadeAs w) now rest es rs → Carried (MadeAs w) bound (done ++ rest) (own ++ es) (replies ++ rs)
+  pub goes : (rest : List Statement) (es : List NodeEntry) (rs : List Reply) → Carried (MadeAs w) now rest es rs
+      → Carried (MadeAs w) bound (done ++ rest) (own ++ es) (replies ++ rs)
 
 pub none_so_far : (a : Seat) (bound : List ℕ) → AddsOwn (SoFar bound bound []) a a
 none_so_far a bound = adds_none (SoFar bound bound []) a (record { replies = []; goes = λ rest es rs c. c })
 
-pub more_so_far : (a b c : Seat) (bound now : List ℕ) (done : List Statement) (s : Statement) (h : ℕ) → AddsOwn (SoFar bound now done) a b → AddsOwn (StatedAs (call_of now s.deed) h) b c → AddsOwn (SoFar bound (now ++ h ∷ []) (done ++ s ∷ [])) a c
+pub more_so_far : (a b c : Seat) (bound now : List ℕ) (done : List Statement) (s : Statement) (h : ℕ) → AddsOwn (SoFar bound now done) a b
+    → AddsOwn (StatedAs (call_of now s.deed) h) b c → AddsOwn (SoFar bound (now ++ h ∷ []) (done ++ s ∷ [])) a c
 unfolding Carried
 more_so_far a b c bound now done s h x y =
     adds_then (SoFar bound (now ++ h ∷ []) (done ++ s ∷ [])) (SoFar bound now done) (StatedAs (call_of now s.deed) h) a b c x y (λ xs ys p q. record {
       replies = p.replies ++ q.reply ∷ [];
       goes = λ rest es rs more.
-          subst (λ (ss : List Statement). Carried (MadeAs a.number) bound ss ((xs ++ ys) ++ es) ((p.replies ++ q.reply ∷ []) ++ rs)) (sym (append_assoc done (s ∷ []) rest))
-          (subst (λ (us : List NodeEntry). Carried (MadeAs a.number) bound (done ++ s ∷ rest) us ((p.replies ++ q.reply ∷ []) ++ rs)) (sym (append_assoc xs ys es))
-          (subst (λ (qs : List Reply). Carried (MadeAs a.number) bound (done ++ s ∷ rest) (xs ++ (ys ++ es)) qs) (sym (append_assoc p.replies (q.reply ∷ []) rs))
-          (p.goes (s ∷ rest) (ys ++ es) (q.reply ∷ rs) (ys, es, refl, q.made, subst (λ (n : ℕ). Carried (MadeAs a.number) (now ++ n ∷ []) rest es rs) q.is more))));
+          subst (λ (ss : List Statement). Carried (MadeAs a.number) bound ss ((xs ++ ys) ++ es) ((p.replies ++ q.reply ∷ []) ++ rs))
+          (sym (append_assoc done (s ∷ []) rest))
+          (subst (λ (us : List NodeEntry). Carried (MadeAs a.number) bound (done ++ s ∷ rest) us ((p.replies ++ q.reply ∷ []) ++ rs))
+          (sym (append_assoc xs ys es))
+          (subst (λ (qs : List Reply). Carried (MadeAs a.number) bound (done ++ s ∷ rest) (xs ++ (ys ++ es)) qs)
+          (sym (append_assoc p.replies (q.reply ∷ []) rs))
+          (p.goes (s ∷ rest) (ys ++ es) (q.reply ∷ rs)
+          (ys, es, refl, q.made, subst (λ (n : ℕ). Carried (MadeAs a.number) (now ++ n ∷ []) rest es rs) q.is more))));
     })
 
 pub carried_out : (a b : Seat) (bound now : List ℕ) (done : List Statement) → AddsOwn (SoFar bound now done) a b → AddsOwn (CarriedAs bound done) a b
@@ -56,7 +63,8 @@ opens_both a b c false r q e t u = adds_then (OpensAs false) (λ w es. es ≡ en
     (record { same = t.same; own = _; mine = t.mine; is = refl }) (record { same = u.same; own = _; mine = u.mine; is = refl })
     (λ xs ys x y. record { first = r; lets = entry a.number Release q ∷ []; is = λ i. x i ++ y i; let_is = (q, refl) })
 
-pub main_adds : (ss : List Statement) (a b c : Seat) (begins : Bool) → begins ≡ has_begin ss → AddsOwn (OpensAs begins) a b → AddsOwn (CarriedAs [] ss) b c → AddsOwn (MainAs ss) a c
+pub main_adds : (ss : List Statement) (a b c : Seat) (begins : Bool) → begins ≡ has_begin ss → AddsOwn (OpensAs begins) a b → AddsOwn (CarriedAs [] ss) b c
+    → AddsOwn (MainAs ss) a c
 main_adds ss a b c begins e x y = adds_then (MainAs ss) (OpensAs begins) (CarriedAs [] ss) a b c x y
     (λ xs ys p q. record { front = xs; own = ys; is = refl; opens = subst (λ (d : Bool). OpensAs d a.number xs) e p; carried = q })
 
@@ -65,11 +73,28 @@ main_adds ss a b c begins e x y = adds_then (MainAs ss) (OpensAs begins) (Carrie
 pub enters : (a b : Seat) (r : Reply) → Looked Entrance None a b r → AddsOwn (EntersAs r) a b
 enters a b r l = record { same = l.same; own = _; mine = l.mine; is = record { pending = l.pending; is = refl; decides = l.decides l.bound } }
 
-pub entered_adds : (ss : List Statement) (a b c : Seat) (r : Reply) → is_ok r ≡ true → Looked Entrance None a b r → AddsOwn (CarriedAs [] ss) b c → AddsOwn (CallerAs ss) a c
+pub entered_adds : (ss : List Statement) (a b c : Seat) (r : Reply) → is_ok r ≡ true → Looked Entrance None a b r → AddsOwn (CarriedAs [] ss) b c
+    → AddsOwn (CallerAs ss) a c
 entered_adds ss a b c r e l y = adds_then (CallerAs ss) (EntersAs r) (CarriedAs [] ss) a b c (enters a b r l) y
-    (λ xs ys p q. record { reply = r; front = xs; own = ys; is = refl; enters = p; carried = subst (λ (d : Bool). CarriedAs [] (if d then ss else []) a.number ys) (sym e) q })
+    (λ xs ys p q. record {
+      reply = r;
+      front = xs;
+      own = ys;
+      is = refl;
+      enters = p;
+      carried =
+          subst (λ (d : Bool). CarriedAs [] (if d then ss else []) a.number ys) (sym e) q;
+    })
 
 pub refused_adds : (ss : List Statement) (a b : Seat) (r : Reply) → is_ok r ≡ false → Looked Entrance None a b r → AddsOwn (CallerAs ss) a b
 unfolding Carried
 refused_adds ss a b r e l = adds_as (CallerAs ss) (EntersAs r) a b (enters a b r l)
-    (λ es p. record { reply = r; front = es; own = []; is = sym (append-nil es); enters = p; carried = subst (λ (d : Bool). CarriedAs [] (if d then ss else []) a.number []) (sym e) (record { replies = []; carried = refl }) })
+    (λ es p. record {
+      reply = r;
+      front = es;
+      own = [];
+      is = sym (append-nil es);
+      enters = p;
+      carried =
+          subst (λ (d : Bool). CarriedAs [] (if d then ss else []) a.number []) (sym e) (record { replies = []; carried = refl });
+    })

@@ -15,7 +15,8 @@ got [] i d l = absurd (omega arith)
 got (x ∷ xs) zero d l = refl
 got (x ∷ xs) (suc i) d l = got xs i d (omega arith)
 
-pub got_part : (parts : List Part) (a b m n : ℕ) (p d : Part) → a ≡ m → b ≡ n → m - n < length parts → p ≡ get_or parts (a - b) d → slice_get parts (m - n) ≡ Some p
+pub got_part : (parts : List Part) (a b m n : ℕ) (p d : Part) → a ≡ m → b ≡ n → m - n < length parts → p ≡ get_or parts (a - b) d
+    → slice_get parts (m - n) ≡ Some p
 got_part parts a b m n p d e f l g = got parts (m - n) d l ∙ ap (λ (x : Part). Some x) ((λ i. get_or parts (sym e i - sym f i) d) ∙ sym g)
 
 -- a close that was asked, be it answered or not
@@ -31,11 +32,13 @@ module _ (z : Cell) (parts : List Part) where
         (All-push (λ (x : Seat). x.cell ≡ z.id) c.others.items b.seat i.others e);
   }
 
-  pub given_parts : (h h' : Hands) (s : Seat) → AreReady z parts h → GaveOut h h' s → All (HasPart z parts h.main.number) h'.callers.items × HasPart z parts h.main.number s
+  pub given_parts : (h h' : Hands) (s : Seat) → AreReady z parts h → GaveOut h h' s
+      → All (HasPart z parts h.main.number) h'.callers.items × HasPart z parts h.main.number s
   given_parts h h' s r o =
       let p = All-pop (HasPart z parts h.main.number) h.callers.items h'.callers.items (Some s) o.items r.callers in (p.0, p.1)
 
-  joined_did : (ss : List Statement) (h h' : Hands) (s : Seat) (p : Part) (c : ReturnedSeats) (b : Back) (c' : ReturnedSeats) → GaveOut h h' s → slice_get parts (s.number - h.main.number) ≡ Some p → CameBack (CallerAs p.statements) s b → IsJoined c b c' → IsClean c'
+  joined_did : (ss : List Statement) (h h' : Hands) (s : Seat) (p : Part) (c : ReturnedSeats) (b : Back) (c' : ReturnedSeats) → GaveOut h h' s
+      → slice_get parts (s.number - h.main.number) ≡ Some p → CameBack (CallerAs p.statements) s b → IsJoined c b c' → IsClean c'
       → (IsClean c → CallersDid parts ss h'.main h'.callers.items c) → CallersDid parts ss h.main h.callers.items c'
   joined_did ss h h' s p c b c' o e k j clean before =
       let was = before (record { started = sym j.refused ∙ clean.started; turned = j.crew clean.turned }) in
@@ -44,11 +47,13 @@ module _ (z : Cell) (parts : List Part) where
         called =
             subst (λ (ys : List Seat). AllZip (AddsOwn (CallerIn parts h.main.number)) h.callers.items ys) (sym j.others)
             (subst (λ (xs : List Seat). AllZip (AddsOwn (CallerIn parts h.main.number)) xs (c.others.items ++ b.seat ∷ [])) (sym o.items)
-            (AllZip-push (AddsOwn (CallerIn parts h.main.number)) h'.callers.items c.others.items s b.seat (subst (λ (m : Seat). AllZip (AddsOwn (CallerIn parts m.number)) h'.callers.items c.others.items) o.main was.called)
+            (AllZip-push (AddsOwn (CallerIn parts h.main.number)) h'.callers.items c.others.items s b.seat
+            (subst (λ (m : Seat). AllZip (AddsOwn (CallerIn parts m.number)) h'.callers.items c.others.items) o.main was.called)
             (adds_as (CallerIn parts h.main.number) (CallerAs p.statements) s b.seat (k.did (j.back clean.turned)) (λ es x. (p, e, x)))));
       }
 
-  pub joined_crew : (ss : List Statement) (h h' : Hands) (s : Seat) (p : Part) (c : ReturnedSeats) (b : Back) (c' : ReturnedSeats) → AreReady z parts h → GaveOut h h' s → slice_get parts (s.number - h.main.number) ≡ Some p → CameBack (CallerAs p.statements) s b → IsJoined c b c'
+  pub joined_crew : (ss : List Statement) (h h' : Hands) (s : Seat) (p : Part) (c : ReturnedSeats) (b : Back) (c' : ReturnedSeats) → AreReady z parts h
+      → GaveOut h h' s → slice_get parts (s.number - h.main.number) ≡ Some p → CameBack (CallerAs p.statements) s b → IsJoined c b c'
       → IsCrewOf z parts ss h' c → IsCrewOf z parts ss h c'
   joined_crew ss h h' s q c b c' r o g k j i =
       let p = given_parts h h' s r o in
@@ -58,5 +63,6 @@ module _ (z : Cell) (parts : List Part) where
         len = (let a = i.len in let l = o.len in let q = j.len in omega arith);
         room = (let a = i.room in let q = j.capacity in omega arith);
         did = λ clean. joined_did ss h h' s q c b c' o g k j clean i.did;
-        gave_up = λ refused. subst (λ (m : Seat). GaveUp h.main m) (sym j.main) (subst (λ (m : Seat). GaveUp m c.main) o.main (i.gave_up (sym j.refused ∙ refused)));
+        gave_up = λ refused. subst (λ (m : Seat). GaveUp h.main m) (sym j.main)
+            (subst (λ (m : Seat). GaveUp m c.main) o.main (i.gave_up (sym j.refused ∙ refused)));
       }

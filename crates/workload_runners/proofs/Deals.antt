@@ -21,12 +21,16 @@ pub record DealtLists (z : Cell) (w n : ℕ) (main : Seat) (callers workers : Li
   pub callers_are : callers ≡ fresh_seats z.terms z.id (w + 1) (n - w - 1)
   pub workers_are : workers ≡ fresh_seats z.terms z.id 0 w
 
-pub dealt : (z : Cell) (w n : ℕ) (all workers rest one callers popped : List Seat) (main : Seat) → all ≡ fresh_seats z.terms z.id 0 n → w < n → workers ≡ take w all → rest ≡ drop w all → one ≡ take 1 rest → callers ≡ drop 1 rest → one ≡ popped ++ main ∷ []
+pub dealt : (z : Cell) (w n : ℕ) (all workers rest one callers popped : List Seat) (main : Seat) → all ≡ fresh_seats z.terms z.id 0 n → w < n
+    → workers ≡ take w all → rest ≡ drop w all → one ≡ take 1 rest → callers ≡ drop 1 rest → one ≡ popped ++ main ∷ []
     → DealtLists z w n main callers workers
 dealt z w n all workers rest one callers popped main is l ws rs os cs p =
     let zero_is : 0 + w ≡ w = omega arith in
-    let rest_is : rest ≡ fresh_seats z.terms z.id w (n - w) = rs ∙ (ap (λ (xs : List Seat). drop w xs) is ∙ (fresh-drop _ _ _ z.terms z.id 0 w n (omega arith) ∙ ap (λ (k : ℕ). fresh_seats z.terms z.id k (n - w)) zero_is)) in
-    let first : one ≡ fresh_seat z.terms z.id w ∷ [] = os ∙ (ap (λ (xs : List Seat). take 1 xs) rest_is ∙ fresh-take _ _ _ z.terms z.id w 1 (n - w) (omega arith)) in
+    let rest_is : rest ≡ fresh_seats z.terms z.id w (n - w) =
+    rs ∙ (ap (λ (xs : List Seat). drop w xs) is
+    ∙ (fresh-drop _ _ _ z.terms z.id 0 w n (omega arith) ∙ ap (λ (k : ℕ). fresh_seats z.terms z.id k (n - w)) zero_is)) in
+    let first : one ≡ fresh_seat z.terms z.id w ∷ [] =
+    os ∙ (ap (λ (xs : List Seat). take 1 xs) rest_is ∙ fresh-take _ _ _ z.terms z.id w 1 (n - w) (omega arith)) in
     record {
       main_is = single popped main (fresh_seat z.terms z.id w) (sym p ∙ first);
       callers_are = cs ∙ (ap (λ (xs : List Seat). drop 1 xs) rest_is ∙ fresh-drop _ _ _ z.terms z.id w 1 (n - w) (omega arith));
@@ -35,11 +39,14 @@ dealt z w n all workers rest one callers popped main is l ws rs os cs p =
 
 -- Who has a seat is ready
 
-all_fresh : (z : Cell) (P : Seat → Type 0) (from n : ℕ) → ((k : ℕ) → from ≤ k → k < from + n → P (fresh_seat z.terms z.id k)) → All P (fresh_seats z.terms z.id from n)
+all_fresh : (z : Cell) (P : Seat → Type 0) (from n : ℕ) → ((k : ℕ) → from ≤ k → k < from + n → P (fresh_seat z.terms z.id k))
+    → All P (fresh_seats z.terms z.id from n)
 all_fresh z P from zero f = All-nil P
-all_fresh z P from (suc n) f = All-cons P (fresh_seat z.terms z.id from) (fresh_seats z.terms z.id (suc from) n) (f from (omega arith) (omega arith)) (all_fresh z P (suc from) n (λ k low high. f k (omega arith) (omega arith)))
+all_fresh z P from (suc n) f = All-cons P (fresh_seat z.terms z.id from) (fresh_seats z.terms z.id (suc from) n) (f from (omega arith) (omega arith))
+    (all_fresh z P (suc from) n (λ k low high. f k (omega arith) (omega arith)))
 
-pub all_ready : (z : Cell) (w m : ℕ) (parts : List Part) (a : AllHands) → Dealt z w m a → length parts ≡ m + 1 → w ≡ z.terms.node.settings.workers → AreAllReady z parts a
+pub all_ready : (z : Cell) (w m : ℕ) (parts : List Part) (a : AllHands) → Dealt z w m a → length parts ≡ m + 1 → w ≡ z.terms.node.settings.workers
+    → AreAllReady z parts a
 all_ready z w m parts a d count few =
     let number : a.hands.main.number ≡ w = ap (λ (s : Seat). s.number) d.main in
     record {
@@ -59,7 +66,8 @@ all_ready z w m parts a d count few =
 
 -- What the crew did, where nobody had to stop
 
-pub crew_came : (z : Cell) (w m : ℕ) (parts : List Part) (ss : List Statement) (a : AllHands) (c c' : ReturnedSeats) → Dealt z w m a → IsWholeCrewOf z parts ss a c → IsEnded Final c c' → IsClean c' → Came z w m parts ss c'
+pub crew_came : (z : Cell) (w m : ℕ) (parts : List Part) (ss : List Statement) (a : AllHands) (c c' : ReturnedSeats) → Dealt z w m a
+    → IsWholeCrewOf z parts ss a c → IsEnded Final c c' → IsClean c' → Came z w m parts ss c'
 crew_came z w m parts ss a c c' d i e clean =
     let was = i.did (record { started = sym e.refused ∙ clean.started; turned = e.turned clean.turned }) in
     came z w m parts ss c c'
@@ -67,26 +75,31 @@ crew_came z w m parts ss a c c' d i e clean =
     (subst (λ (xs : List Seat). AllDid parts ss a.hands.main xs (fresh_seats z.terms z.id 0 w) c) d.callers
     (subst (λ (xs : List Seat). AllDid parts ss a.hands.main a.hands.callers.items xs c) d.workers was))) e clean
 
-pub crew_complete : (z : Cell) (w m : ℕ) (parts : List Part) (ss : List Statement) (a : AllHands) (c c' : ReturnedSeats) → Dealt z w m a → IsWholeCrewOf z parts ss a c → IsEnded Final c c' → (t : JournaledTerms) → journal_seats t ≡ w + (m + 1) → IsClean c' → IsComplete (journal_seats t) (c'.others.items ++ c'.main ∷ [])
+pub crew_complete : (z : Cell) (w m : ℕ) (parts : List Part) (ss : List Statement) (a : AllHands) (c c' : ReturnedSeats) → Dealt z w m a
+    → IsWholeCrewOf z parts ss a c → IsEnded Final c c' → (t : JournaledTerms) → journal_seats t ≡ w + (m + 1) → IsClean c'
+    → IsComplete (journal_seats t) (c'.others.items ++ c'.main ∷ [])
 crew_complete z w m parts ss a c c' d i e t n clean = came_complete z w m parts ss c' (crew_came z w m parts ss a c c' d i e clean) (journal_seats t) n
 
 -- The journal of a closed cell is a run of the workload
 
 -- a number stands beside each kept entry
-both_or_none : (b : Bool) (es : List NodeEntry) (e : NodeEntry) (ns : List ℕ) (n : ℕ) → length es ≡ length ns → length (if b then es else e ∷ es) ≡ length (if b then ns else n ∷ ns)
+both_or_none : (b : Bool) (es : List NodeEntry) (e : NodeEntry) (ns : List ℕ) (n : ℕ) → length es ≡ length ns
+    → length (if b then es else e ∷ es) ≡ length (if b then ns else n ∷ ns)
 both_or_none b es e ns n e1 = grind (arith, nat_tests)
 
 beside_each : (s : State) (counts : List ℕ) (L : List NodeEntry) → length (kept s L) ≡ length (skipped s counts L)
 unfolding kept skipped
 beside_each s counts [] = refl
 beside_each s counts (e ∷ L) =
-    both_or_none (is_dropped s e) (kept (next s e) L) e (skipped (next s e) (counts_next s counts e) L) (slice_index counts e.who) (beside_each (next s e) (counts_next s counts e) L)
+    both_or_none (is_dropped s e) (kept (next s e) L) e (skipped (next s e) (counts_next s counts e) L) (slice_index counts e.who)
+    (beside_each (next s e) (counts_next s counts e) L)
 
 -- the close and the final call stand at the end
 last : (xs : List NodeEntry) (x : NodeEntry) (ys zs : List NodeEntry) → xs ++ x ∷ (ys ++ zs) ≡ (xs ++ x ∷ ys) ++ zs
 last xs x ys zs = sym (append_assoc xs (x ∷ ys) zs)
 
-pub run_is : (load : Workload) (z : Cell) (m : ℕ) (p : Part) (ps : List Part) (c : ReturnedSeats) (j : Journal) → load.parts ≡ p ∷ ps → m ≡ length ps → z.terms.node ≡ terms_for load → Came z load.settings.workers m (p ∷ ps) p.statements c → JournalOf z c j → IsRun load j
+pub run_is : (load : Workload) (z : Cell) (m : ℕ) (p : Part) (ps : List Part) (c : ReturnedSeats) (j : Journal) → load.parts ≡ p ∷ ps → m ≡ length ps
+    → z.terms.node ≡ terms_for load → Came z load.settings.workers m (p ∷ ps) p.statements c → JournalOf z c j → IsRun load j
 run_is load z m p ps c j e n t x k =
     let parts_count : length load.parts ≡ length (p ∷ ps) = ap (λ (l : List Part). length l) e in
     let workers_are : z.terms.node.settings.workers ≡ load.settings.workers = ap (λ (u : Terms). u.settings.workers) t in
@@ -96,9 +109,11 @@ run_is load z m p ps c j e n t x k =
     let some_callers = fits.callers in
     let known = came_known z load.settings.workers m (p ∷ ps) p.statements c x k.history k.legal k.seats workers_are (omega arith) (omega arith) in
     let total : load.settings.workers + (m + 1) ≡ load.settings.workers + length (p ∷ ps) = omega arith in
-    let whole = run_by load z.terms.node p ps k.history (subst (λ (i : ℕ). Known z.terms.node load.settings.workers i (p ∷ ps) p.statements k.history) total known) e in
+    let whole = run_by load z.terms.node p ps k.history
+    (subst (λ (i : ℕ). Known z.terms.node load.settings.workers i (p ∷ ps) p.statements k.history) total known) e in
     let told = journal_run load z.terms.node k.history (omega arith, omega arith) whole in
-    let run = subst (λ (es : List NodeEntry). RunOf load es j.entries.skipped) (sym k.kept.entries) (subst (λ (ns : List ℕ). RunOf load (kept (opening z.terms.node) k.history) ns) (sym k.kept.numbers) told) in
+    let run = subst (λ (es : List NodeEntry). RunOf load es j.entries.skipped) (sym k.kept.entries)
+    (subst (λ (ns : List ℕ). RunOf load (kept (opening z.terms.node) k.history) ns) (sym k.kept.numbers) told) in
     let legal = subst (λ (u : Terms). Legal u j.entries.entries) t k.kept.legal in
     let main = load.settings.workers in
     let ends = run.ends in
@@ -106,7 +121,8 @@ run_is load z m p ps c j e n t x k =
       settings = k.kept.settings ∙ ap (λ (u : Terms). u.settings) t;
       callers = k.kept.callers ∙ callers_are;
       layout = k.kept.layout ∙ ap (λ (u : Terms). u.layout) t;
-      beside = ap (λ (es : List NodeEntry). length es) k.kept.entries ∙ (beside_each (opening z.terms.node) no_counts k.history ∙ ap (λ (ns : List ℕ). length ns) (sym k.kept.numbers));
+      beside = ap (λ (es : List NodeEntry). length es) k.kept.entries
+          ∙ (beside_each (opening z.terms.node) no_counts k.history ∙ ap (λ (ns : List ℕ). length ns) (sym k.kept.numbers));
       history = k.history;
       answered = subst (λ (u : Terms). Legal u k.history) t k.legal;
       made = subst (λ (u : Terms). RunBy load (opening u) k.history) t whole;
@@ -118,7 +134,8 @@ run_is load z m p ps c j e n t x k =
     }
 
 pub of_cell : (z : Cell) (c : ReturnedSeats) → IsOf z c → all_of (λ (s : Seat). s.cell ≡ z.id) (c.others.items ++ c.main ∷ [])
-of_cell z c i = each_of (λ (s : Seat). s.cell ≡ z.id) (c.others.items ++ c.main ∷ []) (All-push (λ (s : Seat). s.cell ≡ z.id) c.others.items c.main i.others i.main)
+of_cell z c i = each_of (λ (s : Seat). s.cell
+    ≡ z.id) (c.others.items ++ c.main ∷ []) (All-push (λ (s : Seat). s.cell ≡ z.id) c.others.items c.main i.others i.main)
 
 -- A run that was refused
 
@@ -128,7 +145,8 @@ refused_is c r e1 = grind (arith, nat_tests)
 pub counts_as : (b d : Bool) (before after : ℕ) → b ≡ d → Counts d before after → Counts b before after
 counts_as b d before after e x = subst (λ (i : Bool). Counts i before after) (sym e) x
 
-pub gives_main : (z : Cell) (w m n : ℕ) (parts : List Part) (ss : List Statement) (a : AllHands) (c c' : ReturnedSeats) (r : Result Journal RunError) → w ≡ n → Dealt z w m a → IsWholeCrewOf z parts ss a c → (c.refused ≡ true → c' ≡ c) → c'.refused ≡ c.refused → RefusedAs c' r → IfErr r (GivesMain n)
+pub gives_main : (z : Cell) (w m n : ℕ) (parts : List Part) (ss : List Statement) (a : AllHands) (c c' : ReturnedSeats) (r : Result Journal RunError) → w ≡ n
+    → Dealt z w m a → IsWholeCrewOf z parts ss a c → (c.refused ≡ true → c' ≡ c) → c'.refused ≡ c.refused → RefusedAs c' r → IfErr r (GivesMain n)
 gives_main z w m n parts ss a c c' r e1 e2 e3 e4 e5 e6 = grind (arith, nat_tests)
 
 -- How a run begins
@@ -143,7 +161,8 @@ pub record Begun (load : Workload) (z : Cell) (items : List Seat) (n : ℕ) : Ty
   pub count : n ≡ load.settings.workers + length load.parts
   pub len : length items ≡ n
 
-pub begun : (load : Workload) (z : Cell) (items : List Seat) (t : JournaledTerms) (u : Terms) → z.terms ≡ t → t ≡ record { node = u; keeps = true } → u ≡ terms_for load → items ≡ fresh_seats t z.id 0 (journal_seats t) → Begun load z items (journal_seats t)
+pub begun : (load : Workload) (z : Cell) (items : List Seat) (t : JournaledTerms) (u : Terms) → z.terms ≡ t → t ≡ record { node = u; keeps = true }
+    → u ≡ terms_for load → items ≡ fresh_seats t z.id 0 (journal_seats t) → Begun load z items (journal_seats t)
 begun load z items t u e f g is = record {
   terms = ap (λ (x : JournaledTerms). x.node) e ∙ (ap (λ (x : JournaledTerms). x.node) f ∙ g);
   fresh = is ∙ ap (λ (x : JournaledTerms). fresh_seats x z.id 0 (journal_seats t)) (sym e);
@@ -156,9 +175,12 @@ first_part [] p l e = absurd (omega arith)
 first_part (q ∷ qs) p l e = (qs, ap (λ (x : Part). x ∷ qs) (sym e))
 
 -- and what it gives
-pub ran : (load : Workload) (z : Cell) (w m : ℕ) (parts : List Part) (ss : List Statement) (p : Part) (qs : List Part) (a : AllHands) (c c' : ReturnedSeats) (r : Result Journal RunError) → w ≡ load.settings.workers → parts ≡ p ∷ qs → load.parts ≡ p ∷ qs → ss ≡ p.statements → m ≡ length qs → z.terms.node ≡ terms_for load
+pub ran : (load : Workload) (z : Cell) (w m : ℕ) (parts : List Part) (ss : List Statement) (p : Part) (qs : List Part) (a : AllHands) (c c' : ReturnedSeats)
+    (r : Result Journal RunError) → w ≡ load.settings.workers → parts ≡ p ∷ qs → load.parts ≡ p ∷ qs → ss ≡ p.statements → m ≡ length qs
+    → z.terms.node ≡ terms_for load
     → Dealt z w m a → IsWholeCrewOf z parts ss a c → IsEnded Final c c' → IfOk r (JournalOf z c') → IfOk r (IsRun load)
-ran load z w m parts ss p qs a c c' r we pe le se me te d i e h = IfOk-weaker r (JournalOf z c') (IsRun load) (λ j k. run_is load z m p qs c' j le me te (shown k.clean) k) h
+ran load z w m parts ss p qs a c c' r we pe le se me te d i e h =
+    IfOk-weaker r (JournalOf z c') (IsRun load) (λ j k. run_is load z m p qs c' j le me te (shown k.clean) k) h
   where
     shown : IsClean c' → Came z load.settings.workers m (p ∷ qs) p.statements c'
     shown clean =

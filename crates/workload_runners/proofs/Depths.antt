@@ -17,7 +17,8 @@ new_shallow : (id : ℕ) (recursive : Bool) → Shallow (new_mutex id recursive)
 new_shallow id recursive = record { deep = omega arith; free = λ e. refl }
 
 -- a seat that may lock it owns it already, less than 64 deep, or nobody does
-locked_shallow : (who : ℕ) (m : Mutex) → (is_seat who m.owner && (not m.recursive || (m.depth == 64))) ≡ false → mutex_busy who m ≡ false → Shallow m → Shallow (locked_by who m)
+locked_shallow : (who : ℕ) (m : Mutex) → (is_seat who m.owner && (not m.recursive || (m.depth == 64))) ≡ false → mutex_busy who m ≡ false → Shallow m
+    → Shallow (locked_by who m)
 locked_shallow who m e1 e2 e3 = grind (arith, nat_tests)
 
 free_locked : (who : ℕ) (m : Mutex) → is_some m.owner ≡ false → Shallow m → Shallow (locked_by who m)
@@ -28,8 +29,10 @@ unlocked_shallow m e1 = grind (arith, nat_tests)
 
 module _ (s : State) (who : ℕ) (v : Every Shallow s.mutexes) where
   -- the mutex of a handle changes
-  hit : (h : ℕ) (f : Mutex → Mutex) (m : Mutex) → live_object s.mutexes h ≡ Some m → (Shallow m → Shallow (f m)) → Every Shallow (change h (with_fields f) s.mutexes)
-  hit h f m e k = every_change Shallow h (with_fields f) s.mutexes (λ r i p. subst (λ (z : Mutex). Shallow (f z)) (some_same (sym e ∙ i)) (k (subst Shallow (sym (some_same (sym e ∙ i))) p))) v
+  hit : (h : ℕ) (f : Mutex → Mutex) (m : Mutex) → live_object s.mutexes h ≡ Some m → (Shallow m → Shallow (f m))
+      → Every Shallow (change h (with_fields f) s.mutexes)
+  hit h f m e k = every_change Shallow h (with_fields f) s.mutexes
+      (λ r i p. subst (λ (z : Mutex). Shallow (f z)) (some_same (sym e ∙ i)) (k (subst Shallow (sym (some_same (sym e ∙ i))) p))) v
 
   by : (o : Op) (r : Reply) (ms : List Move) → Answers s who o r ms → Every Shallow (after_moves ms s).mutexes
   by _ _ _ (is.creates_mutex id recursive h n f) = every_issue Shallow h (new_mutex id recursive) s.mutexes (new_shallow id recursive) v

@@ -25,7 +25,8 @@ module _ (w : ℕ) (I : State → List NodeEntry → Type 0) (goes : (s : State)
   none_told k l = turns_none w k.state k.rest l.1
 
   -- the next entry of the seat, and the state in which it was made
-  one_told : (e : NodeEntry) (k : Place) (rest : List NodeEntry) (P : List Turn → Type 0) → Left I w k (e ∷ rest) → ((A B : List NodeEntry) → k.rest ≡ A ++ e ∷ B → Others w A → P (turn_of (after_from k.state A) e ∷ []))
+  one_told : (e : NodeEntry) (k : Place) (rest : List NodeEntry) (P : List Turn → Type 0) → Left I w k (e ∷ rest)
+      → ((A B : List NodeEntry) → k.rest ≡ A ++ e ∷ B → Others w A → P (turn_of (after_from k.state A) e ∷ []))
       → Told (Left I w) (whole w) k rest P
   one_told e k rest P l f =
       let c : Cut w k.rest e rest = first_own w k.rest e rest l.1 in
@@ -34,12 +35,15 @@ module _ (w : ℕ) (I : State → List NodeEntry → Type 0) (goes : (s : State)
       record {
         front = turn_of (after_from k.state c.before) e ∷ [];
         behind = record { state = after_from k.state F; rest = c.behind };
-        is = ap (λ (L : List NodeEntry). turns_of w k.state L) is ∙ (turns_append w k.state F c.behind ∙ ap (λ (T : List Turn). T ++ turns_of w (after_from k.state F) c.behind) (turns_one w k.state c.before e c.others c.by));
+        is = ap (λ (L : List NodeEntry). turns_of w k.state L) is
+            ∙ (turns_append w k.state F c.behind ∙ ap (λ (T : List Turn). T
+            ++ turns_of w (after_from k.state F) c.behind) (turns_one w k.state c.before e c.others c.by));
         shows = f c.before c.behind c.is c.others;
         left_is = (goes k.state F c.behind (subst (λ (L : List NodeEntry). I k.state L) is l.0), c.rest);
       }
 
-  works_told : (es : List NodeEntry) (k : Place) (rest : List NodeEntry) → AllWork es → Left I w k (es ++ rest) → Told (Left I w) (whole w) k rest (λ ts. all_worked ts ≡ true)
+  works_told : (es : List NodeEntry) (k : Place) (rest : List NodeEntry) → AllWork es → Left I w k (es ++ rest)
+      → Told (Left I w) (whole w) k rest (λ ts. all_worked ts ≡ true)
   unfolding all_worked
   works_told [] k rest a l = record { front = []; behind = k; is = refl; shows = refl; left_is = l }
   works_told (e ∷ es) k rest a l =
@@ -57,7 +61,12 @@ worker_turns w s H a =
     let stop : NodeEntry = entry w op.Pick reply.Stop in
     let f = works_told w I (λ s A B i. tt) (all_in w a.rounds) (record { state = s; rest = H }) (stop ∷ []) (rounds_work w a.rounds) (tt, a.is) in
     let z = one_told w I (λ s A B i. tt) stop f.behind [] (λ ts. ts ≡ stayed op.Pick reply.Stop ∷ []) f.left_is (λ A B is o. refl) in
-    record { work = f.front; is = f.is ∙ ap (λ (T : List Turn). f.front ++ T) (z.is ∙ (λ i. z.shows i ++ none_told w I (λ s A B i. tt) z.behind z.left_is i)); works = f.shows }
+    record {
+      work = f.front;
+      is = f.is ∙ ap (λ (T : List Turn). f.front ++ T) (z.is
+          ∙ (λ i. z.shows i ++ none_told w I (λ s A B i. tt) z.behind z.left_is i));
+      works = f.shows;
+    }
 
 -- Callers, in a legal history
 
@@ -111,12 +120,16 @@ module _ (w : ℕ) where
   next_at : (s : State) (H A : List NodeEntry) (e : NodeEntry) (B : List NodeEntry) → IsLegal s H → H ≡ A ++ e ∷ B → IsNext (after_from s A) e
   next_at s H A e B i is = (first_next s A e B (subst (λ (L : List NodeEntry). LegalFrom s L) is i.1)).0
 
-  looks_told : (x : Wanted) (last : Bool) (r : Reply) → ((u : State) → IsNext u (entry w (op_of x last) r) → (is_dropped u (entry w (op_of x last) r) ≡ false) × (is_pending r ≡ false)) → (n : ℕ) (k : Place) (rest : List NodeEntry)
-      → Left IsLegal w k (replicate n (entry w (op_of x false) reply.Pending) ++ entry w (op_of x last) r ∷ rest) → CallerTold k rest (Marked x n last r w k.state)
+  looks_told : (x : Wanted) (last : Bool) (r : Reply)
+      → ((u : State) → IsNext u (entry w (op_of x last) r) → (is_dropped u (entry w (op_of x last) r) ≡ false) × (is_pending r ≡ false))
+      → (n : ℕ) (k : Place) (rest : List NodeEntry)
+      → Left IsLegal w k (replicate n (entry w (op_of x false) reply.Pending) ++ entry w (op_of x last) r ∷ rest)
+      → CallerTold k rest (Marked x n last r w k.state)
   unfolding none_of one_told
   looks_told x last r ends zero k rest l =
       let e : NodeEntry = entry w (op_of x last) r in
-      one_told w IsLegal legal_goes e k rest (Marked x 0 last r w k.state) l (λ A B is o. let d = ends (after_from k.state A) (next_at k.state k.rest A e B l.0 is) in record {
+      one_told w IsLegal legal_goes e k rest (Marked x 0 last r w k.state) l (λ A B is o. let d =
+      ends (after_from k.state A) (next_at k.state k.rest A e B l.0 is) in record {
         marks = [];
         count = refl;
         is = ap (λ (b : Bool). record { op = op_of x last; reply = r; stays = not b } ∷ []) d.0;
@@ -130,10 +143,12 @@ module _ (w : ℕ) where
       let a = one_told w IsLegal legal_goes e k es (Pended x w k.state) l (λ A B is o. record {
         mark = not (is_dropped (after_from k.state A) e);
         is = refl;
-        dropped = λ v. ap not (stands_drop x w (after_from k.state A) (stands_stay x w k.state A (e ∷ B) (subst (λ (L : List NodeEntry). IsLegal k.state L) is l.0) o v));
+        dropped = λ v. ap not (stands_drop x w (after_from k.state A)
+            (stands_stay x w k.state A (e ∷ B) (subst (λ (L : List NodeEntry). IsLegal k.state L) is l.0) o v));
       }) in
       let c : Cut w k.rest e es = first_own w k.rest e es l.1 in
-      let v : Stands x w a.behind.state = subst (λ (u : State). Stands x w u) (sym (after-one k.state c.before e)) (pend_stands x w (after_from k.state c.before) (next_at k.state k.rest c.before e c.behind l.0 c.is)) in
+      let v : Stands x w a.behind.state = subst (λ (u : State). Stands x w u) (sym (after-one k.state c.before e))
+      (pend_stands x w (after_from k.state c.before) (next_at k.state k.rest c.before e c.behind l.0 c.is)) in
       told_then (Left IsLegal w) (whole w) k es rest (Pended x w k.state) (Marked x n last r w a.behind.state) (Marked x (suc n) last r w k.state)
       (λ xs ys p q. record {
         marks = p.mark ∷ q.marks;
@@ -144,17 +159,22 @@ module _ (w : ℕ) where
         decides = q.decides;
       }) a (looks_told x last r ends n a.behind rest a.left_is)
 
-  within : (limit : Option ℕ) (n m : ℕ) (last : Bool) → m ≡ n → MatchOption limit (last ≡ false) (λ k. (n < k) × (last ≡ (n + 1 == k))) → KeepsTimeout limit last (m + 1)
+  within : (limit : Option ℕ) (n m : ℕ) (last : Bool) → m ≡ n → MatchOption limit (last ≡ false) (λ k. (n < k) × (last ≡ (n + 1 == k)))
+      → KeepsTimeout limit last (m + 1)
   within limit n m last e1 e2 = grind (arith, nat_tests)
 
-  decided : (x : Wanted) (s : State) (last : Bool) (r : Reply) → IsTimed x → (last ≡ false → is_pending r ≡ false) → IsNext s (entry w (op_of x last) r) → is_pending r ≡ false
+  decided : (x : Wanted) (s : State) (last : Bool) (r : Reply) → IsTimed x → (last ≡ false → is_pending r ≡ false) → IsNext s (entry w (op_of x last) r)
+      → is_pending r ≡ false
   decided x s last r e1 e2 e3 = grind (arith, nat_tests)
 
-  wanted_told : (x : Wanted) (timeout : Timeout) (es : List NodeEntry) (r : Reply) (k : Place) (rest : List NodeEntry) → IsTimed x → LookedAs w (op_of x) (looks_of timeout) es r → Left IsLegal w k (es ++ rest) → CallerTold k rest (λ ts. MadeBy (Looking (waits x) (op_of x) timeout) ts r)
+  wanted_told : (x : Wanted) (timeout : Timeout) (es : List NodeEntry) (r : Reply) (k : Place) (rest : List NodeEntry) → IsTimed x
+      → LookedAs w (op_of x) (looks_of timeout) es r → Left IsLegal w k (es ++ rest)
+      → CallerTold k rest (λ ts. MadeBy (Looking (waits x) (op_of x) timeout) ts r)
   wanted_told x timeout es r k rest i a l =
       let e : NodeEntry = entry w (op_of x a.last) r in
       let E : List NodeEntry = replicate a.pending (entry w (op_of x false) reply.Pending) in
-      told_as (Left IsLegal w) (whole w) k rest (Marked x a.pending a.last r w k.state) (λ ts. MadeBy (Looking (waits x) (op_of x) timeout) ts r) (λ ts m. record {
+      told_as (Left IsLegal w) (whole w) k rest (Marked x a.pending a.last r w k.state) (λ ts. MadeBy (Looking (waits x) (op_of x) timeout) ts r)
+      (λ ts m. record {
         marks = m.marks;
         last = a.last;
         is = m.is;
@@ -168,7 +188,8 @@ module _ (w : ℕ) where
       (λ u n. let d = decided x u a.last r i a.decides n in ((wanted_says x u w a.last r n.allowed).stays d (pends_alike u w (op_of x a.last)), d))
       a.pending k rest (l.0, l.1 ∙ (ap (λ (L : List NodeEntry). L ++ rest) a.is ∙ append_assoc E (e ∷ []) rest)))
 
-  made_told : (c : Call) → Shaped c → (es : List NodeEntry) (r : Reply) (k : Place) (rest : List NodeEntry) → MadeAs w c es r → Left IsLegal w k (es ++ rest) → CallerTold k rest (λ ts. MadeBy c ts r)
+  made_told : (c : Call) → Shaped c → (es : List NodeEntry) (r : Reply) (k : Place) (rest : List NodeEntry) → MadeAs w c es r → Left IsLegal w k (es ++ rest)
+      → CallerTold k rest (λ ts. MadeBy c ts r)
   made_told (Once o) i es r k rest a l =
       let e : NodeEntry = entry w o r in
       one_told w IsLegal legal_goes e k rest (λ ts. MadeBy (Once o) ts r) (l.0, l.1 ∙ ap (λ (L : List NodeEntry). L ++ rest) a)
@@ -180,13 +201,16 @@ module _ (w : ℕ) where
       (wanted_told i.0 timeout es r k rest i.3 (subst (λ (p : Bool → Op). LookedAs w p (looks_of timeout) es r) i.2 a) l))
 
   -- an entry of the phase that was done
-  done_told : (o : Op) (k : Place) (rest : List NodeEntry) → Left IsLegal w k (entry w o reply.Ok ∷ rest) → CallerTold k rest (λ ts. ts ≡ stayed o reply.Ok ∷ [])
+  done_told : (o : Op) (k : Place) (rest : List NodeEntry) → Left IsLegal w k (entry w o reply.Ok ∷ rest)
+      → CallerTold k rest (λ ts. ts ≡ stayed o reply.Ok ∷ [])
   done_told o k rest l = one_told w IsLegal legal_goes (entry w o reply.Ok) k rest (λ ts. ts ≡ stayed o reply.Ok ∷ []) l (λ A B is others. refl)
 
-  both_told : (o p : Op) (k : Place) (rest : List NodeEntry) → Left IsLegal w k (entry w o reply.Ok ∷ entry w p reply.Ok ∷ rest) → CallerTold k rest (λ ts. ts ≡ stayed o reply.Ok ∷ stayed p reply.Ok ∷ [])
+  both_told : (o p : Op) (k : Place) (rest : List NodeEntry) → Left IsLegal w k (entry w o reply.Ok ∷ entry w p reply.Ok ∷ rest)
+      → CallerTold k rest (λ ts. ts ≡ stayed o reply.Ok ∷ stayed p reply.Ok ∷ [])
   both_told o p k rest l =
       let x = done_told o k (entry w p reply.Ok ∷ rest) l in
-      told_then (Left IsLegal w) (whole w) k (entry w p reply.Ok ∷ rest) rest _ _ (λ ts. ts ≡ stayed o reply.Ok ∷ stayed p reply.Ok ∷ []) (λ xs ys a b i. a i ++ b i) x (done_told p x.behind rest x.left_is)
+      told_then (Left IsLegal w) (whole w) k (entry w p reply.Ok ∷ rest) rest _ _ (λ ts. ts
+      ≡ stayed o reply.Ok ∷ stayed p reply.Ok ∷ []) (λ xs ys a b i. a i ++ b i) x (done_told p x.behind rest x.left_is)
 
   head_told : (b : Bool) (k : Place) (rest : List NodeEntry) → Left IsLegal w k (head_entries w b ++ rest) → CallerTold k rest (λ ts. ts ≡ head_turns b)
   head_told true k rest l = done_told op.Initialize k rest l
@@ -195,11 +219,17 @@ module _ (w : ℕ) where
   tail_told : (k : Place) → Left IsLegal w k (entry w op.Close reply.Ok ∷ entry w op.Final reply.Ok ∷ []) → whole w k ≡ tail_turns
   tail_told k l = let x = both_told op.Close op.Final k [] l in x.is ∙ (λ i. x.shows i ++ none_told w IsLegal legal_goes x.behind x.left_is i)
 
-  entered_told : (es : List NodeEntry) → EntersAs reply.Ok w es → (k : Place) (rest : List NodeEntry) → Left IsLegal w k (es ++ rest) → CallerTold k rest EnteredBy
+  entered_told : (es : List NodeEntry) → EntersAs reply.Ok w es → (k : Place) (rest : List NodeEntry) → Left IsLegal w k (es ++ rest)
+      → CallerTold k rest EnteredBy
   entered_told es a k rest l =
       let E : List NodeEntry = replicate a.pending (entry w op.Enter reply.Pending) in
-      told_as (Left IsLegal w) (whole w) k rest (Marked Entrance a.pending false reply.Ok w k.state) EnteredBy (λ ts m. record { marks = m.marks; none_kept = m.none_kept tt; is = m.is })
-      (looks_told Entrance false reply.Ok (λ u n. (refl, refl)) a.pending k rest (l.0, l.1 ∙ (ap (λ (L : List NodeEntry). L ++ rest) a.is ∙ append_assoc E (entry w op.Enter reply.Ok ∷ []) rest)))
+      told_as (Left IsLegal w) (whole w) k rest (Marked Entrance a.pending false reply.Ok w k.state) EnteredBy
+      (λ ts m. record { marks = m.marks; none_kept = m.none_kept tt; is = m.is })
+      (looks_told Entrance false reply.Ok (λ u n. (refl, refl)) a.pending k rest (
+        l.0,
+        l.1
+            ∙ (ap (λ (L : List NodeEntry). L ++ rest) a.is ∙ append_assoc E (entry w op.Enter reply.Ok ∷ []) rest),
+      ))
 
   entries_tell : Tells (Left IsLegal w) (whole w) (in_entries w) in_turns
   entries_tell = record {
@@ -211,7 +241,9 @@ module _ (w : ℕ) where
   }
 
 pub main_turns : MainTurns
-main_turns w ss rs s H o l m = main_told (Left IsLegal w) (whole w) (in_entries w) in_turns (entries_tell w) ss (entries_of w H) rs m (record { state = s; rest = H }) ((o, l), refl)
+main_turns w ss rs s H o l m = main_told (Left IsLegal w) (whole w) (in_entries w) in_turns (entries_tell w) ss (entries_of w H) rs m
+    (record { state = s; rest = H }) ((o, l), refl)
 
 pub caller_turns : CallerTurns
-caller_turns w ss rs s H o l m = caller_told (Left IsLegal w) (whole w) (in_entries w) in_turns (entries_tell w) ss (entries_of w H) rs m (record { state = s; rest = H }) ((o, l), refl)
+caller_turns w ss rs s H o l m = caller_told (Left IsLegal w) (whole w) (in_entries w) in_turns (entries_tell w) ss (entries_of w H) rs m
+    (record { state = s; rest = H }) ((o, l), refl)

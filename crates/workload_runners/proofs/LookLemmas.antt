@@ -7,7 +7,8 @@ use Rattle.workload_runners.proofs.OwnEntries.{turned_next, state_at}
 use Rattle.workload_runners.proofs.Adds.{same_then}
 
 -- no op looks out of time but at its last look
-not_late : (w : Wanted) (last : Bool) (s : State) (who : ℕ) (r : Reply) → Every InTime s.tasks → Allows (row s who (op_of w last) r) r → is_timeout r ≡ true → last ≡ true
+not_late : (w : Wanted) (last : Bool) (s : State) (who : ℕ) (r : Reply) → Every InTime s.tasks → Allows (row s who (op_of w last) r) r → is_timeout r ≡ true
+    → last ≡ true
 not_late w true s who r v a l = refl
 not_late w false s who r v a l = absurd (both ((wanted_says w s who false r a).early v refl) l)
   where
@@ -34,7 +35,8 @@ pub looked : (w : Wanted) (limit : Option ℕ) (a c : Seat) (r : Reply) → look
 looked w limit a c r l =
     let t : Turned l.before (op_of w l.last) r c = l.turned in
     let at : Allows (row (state_at l.before c (op_of w l.last) r t) a.number (op_of w l.last) r) r =
-    subst (λ (k : ℕ). Allows (row (state_at l.before c (op_of w l.last) r t) k (op_of w l.last) r) r) l.pended.same.number (turned_next l.before c (op_of w l.last) r t).allowed in
+    subst (λ (k : ℕ). Allows (row (state_at l.before c (op_of w l.last) r t) k (op_of w l.last) r) r) l.pended.same.number
+    (turned_next l.before c (op_of w l.last) r t).allowed in
     record {
       same = same_then a l.before c l.pended.same t.same;
       pending = l.pending;
@@ -42,7 +44,8 @@ looked w limit a c r l =
       mine = l.mine;
       bound = l.bound;
       decides = λ e. not_pending r (l.decides e);
-      found = (wanted_says w (state_at l.before c (op_of w l.last) r t) a.number l.last r at).found (in_time_at l.before c (op_of w l.last) r t) (shallow_at l.before c (op_of w l.last) r t);
+      found = (wanted_says w (state_at l.before c (op_of w l.last) r t) a.number l.last r at).found (in_time_at l.before c (op_of w l.last) r t)
+          (shallow_at l.before c (op_of w l.last) r t);
       late = not_late w l.last (state_at l.before c (op_of w l.last) r t) a.number r (in_time_at l.before c (op_of w l.last) r t) at;
       front = l.before.seen ++ t.between;
       seen = subst (λ (k : ℕ). c.seen ≡ (l.before.seen ++ t.between) ++ entry k (op_of w l.last) r ∷ []) l.pended.same.number t.seen;

@@ -22,13 +22,15 @@ pub knows_more : (m n s : Seat) → HasSeenMore m n → Knows m s → Knows n s
 knows_more m n s h k = record { prefix = k.prefix; begins = starts_then k.prefix m.seen n.seen k.begins h.seen; own = k.own }
 
 module _ {X Y : Type 0} where
-  pub zip_of : (R : X → Y → Type 0) (xs : List X) (ys : List Y) → length ys ≡ length xs → ((k : ℕ) (d : X) (e : Y) → k < length xs → R (get_or xs k d) (get_or ys k e)) → AllZip R xs ys
+  pub zip_of : (R : X → Y → Type 0) (xs : List X) (ys : List Y) → length ys ≡ length xs
+      → ((k : ℕ) (d : X) (e : Y) → k < length xs → R (get_or xs k d) (get_or ys k e)) → AllZip R xs ys
   zip_of R [] [] l f = tt
   zip_of R [] (y ∷ ys) l f = absurd (omega arith)
   zip_of R (x ∷ xs) [] l f = absurd (omega arith)
   zip_of R (x ∷ xs) (y ∷ ys) l f = (f 0 x y (omega arith), zip_of R xs ys (omega arith) (λ k d e h. f (suc k) d e (omega arith)))
 
-  pub zip_front : (R : X → Y → Type 0) (xs zs : List X) (ws : List Y) → AllZip R (xs ++ zs) ws → (us : List Y) × (vs : List Y) × (ws ≡ us ++ vs) × AllZip R xs us × AllZip R zs vs
+  pub zip_front : (R : X → Y → Type 0) (xs zs : List X) (ws : List Y) → AllZip R (xs ++ zs) ws
+      → (us : List Y) × (vs : List Y) × (ws ≡ us ++ vs) × AllZip R xs us × AllZip R zs vs
   zip_front R [] zs ws a = ([], ws, refl, tt, a)
   zip_front R (x ∷ xs) zs [] a = absurd a
   zip_front R (x ∷ xs) zs (w ∷ ws) a = let r = zip_front R xs zs ws a.1 in (w ∷ r.0, r.1, ap (λ (l : List Y). w ∷ l) r.2, (a.0, r.3), r.4)
@@ -84,21 +86,28 @@ met_none m xs = record {
   knows = λ k d l h. absurd (omega arith);
 }
 
-pub met_more : (a m m' s s' : Seat) (xs ys zs : List Seat) (n : ℕ) → MetSoFar a m xs ys n → n < length ys → s ≡ get_or ys n s → HasSeenMore m m' → HasSeenMore s s' → m'.seen ≡ s'.seen → entries_of s'.number s'.seen ≡ s'.mine → zs ≡ set ys n s' → MetSoFar a m' xs zs (n + 1)
+pub met_more : (a m m' s s' : Seat) (xs ys zs : List Seat) (n : ℕ) → MetSoFar a m xs ys n → n < length ys → s ≡ get_or ys n s → HasSeenMore m m'
+    → HasSeenMore s s' → m'.seen ≡ s'.seen → entries_of s'.number s'.seen ≡ s'.mine → zs ≡ set ys n s' → MetSoFar a m' xs zs (n + 1)
 met_more a m m' s s' xs ys zs n x l at more other one own is =
     let long : length zs ≡ length ys = ap (λ (v : List Seat). length v) is ∙ length-set ys n s' in
     record {
       main = seen_then a m m' x.main more;
       len = long ∙ x.len;
-      others = λ k d e h. subst (λ (v : List Seat). HasSeenMore (get_or xs k d) (get_or v k e)) (sym is) (dite (ℕ_discrete k n) (λ q. at_place k d e h q) (λ q. subst (λ (w : Seat). HasSeenMore (get_or xs k d) w) (sym (set_other ys n k s' e q)) (x.others k d e h)));
-      knows = λ k d h j. subst (λ (v : List Seat). Knows m' (get_or v k d)) (sym is) (dite (ℕ_discrete k n) (λ q. known_place k d q) (λ q. subst (λ (w : Seat). Knows m' w) (sym (set_other ys n k s' d q)) (knows_more m m' (get_or ys k d) more (x.knows k d (omega arith) (omega arith)))));
+      others = λ k d e h. subst (λ (v : List Seat). HasSeenMore (get_or xs k d) (get_or v k e)) (sym is)
+          (dite (ℕ_discrete k n) (λ q. at_place k d e h q)
+          (λ q. subst (λ (w : Seat). HasSeenMore (get_or xs k d) w) (sym (set_other ys n k s' e q)) (x.others k d e h)));
+      knows = λ k d h j. subst (λ (v : List Seat). Knows m' (get_or v k d)) (sym is)
+          (dite (ℕ_discrete k n) (λ q. known_place k d q)
+          (λ q. subst (λ (w : Seat). Knows m' w) (sym (set_other ys n k s' d q))
+          (knows_more m m' (get_or ys k d) more (x.knows k d (omega arith) (omega arith)))));
     }
   where
     at_place : (k : ℕ) (d e : Seat) → k < length xs → k ≡ n → HasSeenMore (get_or xs k d) (get_or (set ys n s') k e)
     at_place k d e h q =
         let here : get_or ys k s ≡ s = ap (λ (j : ℕ). get_or ys j s) q ∙ sym at in
         let there : get_or (set ys n s') k e ≡ s' = ap (λ (j : ℕ). get_or (set ys n s') j e) q ∙ set_same ys n s' e l in
-        subst (λ (w : Seat). HasSeenMore (get_or xs k d) w) (sym there) (seen_then (get_or xs k d) s s' (subst (λ (w : Seat). HasSeenMore (get_or xs k d) w) here (x.others k d s h)) other)
+        subst (λ (w : Seat). HasSeenMore (get_or xs k d) w) (sym there)
+        (seen_then (get_or xs k d) s s' (subst (λ (w : Seat). HasSeenMore (get_or xs k d) w) here (x.others k d s h)) other)
 
     known_place : (k : ℕ) (d : Seat) → k ≡ n → Knows m' (get_or (set ys n s') k d)
     known_place k d q =
@@ -110,14 +119,18 @@ met_all a m xs ys n l x = record { main = x.main; len = x.len; others = x.others
 
 -- Main met all, and made its call
 
-pub ended_turn : (o : Op) (c c' : ReturnedSeats) (met : Seat) (r : Reply) → AreMet c.main met c.others.items c'.others.items → Turned met o r c'.main → vec_len c'.others ≡ vec_len c.others → vec_capacity c'.others ≡ vec_capacity c.others → c'.refused ≡ c.refused → c'.stop ≡ c.stop → IsEnded o c c'
-ended_turn o c c' met r m t len capacity refused stop = record { len = len; capacity = capacity; refused = refused; turned = λ e. sym stop ∙ e; ended = λ clean. (met, r, m, t) }
+pub ended_turn : (o : Op) (c c' : ReturnedSeats) (met : Seat) (r : Reply) → AreMet c.main met c.others.items c'.others.items → Turned met o r c'.main
+    → vec_len c'.others ≡ vec_len c.others → vec_capacity c'.others ≡ vec_capacity c.others → c'.refused ≡ c.refused → c'.stop ≡ c.stop → IsEnded o c c'
+ended_turn o c c' met r m t len capacity refused stop =
+    record { len = len; capacity = capacity; refused = refused; turned = λ e. sym stop ∙ e; ended = λ clean. (met, r, m, t) }
 
 not_none : {A B : Type 0} {x : A} → Some x ≡ None → B
 not_none e = absurd (cc)
 
-pub ended_spent : (o : Op) (c c' : ReturnedSeats) (s : Stop) → vec_len c'.others ≡ vec_len c.others → vec_capacity c'.others ≡ vec_capacity c.others → c'.refused ≡ c.refused → c'.stop ≡ Some s → IsEnded o c c'
-ended_spent o c c' s len capacity refused stop = record { len = len; capacity = capacity; refused = refused; turned = λ e. not_none (sym stop ∙ e); ended = λ clean. not_none (sym stop ∙ clean.turned) }
+pub ended_spent : (o : Op) (c c' : ReturnedSeats) (s : Stop) → vec_len c'.others ≡ vec_len c.others → vec_capacity c'.others ≡ vec_capacity c.others
+    → c'.refused ≡ c.refused → c'.stop ≡ Some s → IsEnded o c c'
+ended_spent o c c' s len capacity refused stop =
+    record { len = len; capacity = capacity; refused = refused; turned = λ e. not_none (sym stop ∙ e); ended = λ clean. not_none (sym stop ∙ clean.turned) }
 
 pub of_met : (z : Cell) (a m : Seat) (xs ys : List Seat) → AreMet a m xs ys → All (λ (s : Seat). s.cell ≡ z.id) xs → All (λ (s : Seat). s.cell ≡ z.id) ys
 of_met z a m xs ys x all = λ k d h. let n = x.len in (x.others k d d (omega arith)).cell ∙ all k d (omega arith)

@@ -24,7 +24,8 @@ call_quiet bound d = grind (arith, nat_tests)
 made_quiet : (w : ℕ) (c : Call) → CallQuiet c → (es : List NodeEntry) (r : Reply) → MadeAs w c es r → NoPhase es
 made_quiet w (Once o) q es r e = subst NoPhase (sym e) (q, tt)
 made_quiet w (Looking waits o timeout) q es r a =
-    subst NoPhase (sym a.is) (quiet_append (replicate a.pending (entry w (o false) reply.Pending)) (entry w (o a.last) r ∷ []) (quiet_replicate a.pending (entry w (o false) reply.Pending) (q false)) (q a.last, tt))
+    subst NoPhase (sym a.is) (quiet_append (replicate a.pending (entry w (o false) reply.Pending)) (entry w (o a.last) r
+    ∷ []) (quiet_replicate a.pending (entry w (o false) reply.Pending) (q false)) (q a.last, tt))
 
 pub carried_quiet : (w : ℕ) (ss : List Statement) (bound : List ℕ) (es : List NodeEntry) (rs : List Reply) → Carried (MadeAs w) bound ss es rs → NoPhase es
 unfolding Carried
@@ -32,7 +33,8 @@ carried_quiet w [] bound es [] a = subst NoPhase (sym a) tt
 carried_quiet w [] bound es (r ∷ rs) a = absurd a
 carried_quiet w (s ∷ ss) bound es [] a = absurd a
 carried_quiet w (s ∷ ss) bound es (r ∷ rs) a =
-    subst NoPhase (sym a.2) (quiet_append a.0 a.1 (made_quiet w (call_of bound s.deed) (call_quiet bound s.deed) a.0 r a.3) (carried_quiet w ss (bound ++ handle_of r ∷ []) a.1 rs a.4))
+    subst NoPhase (sym a.2) (quiet_append a.0 a.1 (made_quiet w (call_of bound s.deed) (call_quiet bound s.deed) a.0 r a.3)
+    (carried_quiet w ss (bound ++ handle_of r ∷ []) a.1 rs a.4))
 
 -- nor does what is work
 work_op : (o : Op) (r : Reply) → is_work o r ≡ true → moves_phase o ≡ false
@@ -117,7 +119,8 @@ own_next w e s H rest l q k =
     record {
       before = c.before;
       behind = c.behind;
-      phase = phase_stays s c.before (Legal-front s c.before (e ∷ c.behind) whole) (quiet_all w c.before (quiet_front w c.before (e ∷ c.behind) quiet) c.others);
+      phase = phase_stays s c.before (Legal-front s c.before (e ∷ c.behind) whole)
+          (quiet_all w c.before (quiet_front w c.before (e ∷ c.behind) quiet) c.others);
       next_is = n.0;
       legal = n.1;
       quiet = quiet_back w (c.before ++ e ∷ []) c.behind (subst (OthersQuiet w) (sym (append_assoc c.before (e ∷ []) c.behind)) quiet);

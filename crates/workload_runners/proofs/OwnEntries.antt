@@ -11,4 +11,5 @@ state_at old new o r t = after new.terms.node (old.seen ++ t.between)
 
 pub turned_next : (old new : Seat) (o : Op) (r : Reply) (t : Turned old o r new) → IsNext (state_at old new o r t) (entry old.number o r)
 turned_next old new o r t =
-    first_legal _ _ (Legal-rest (opening new.terms.node) (old.seen ++ t.between) (entry old.number o r ∷ []) (subst (λ (l : List NodeEntry). LegalFrom (opening new.terms.node) l) t.seen t.legal.from))
+    first_legal _ _ (Legal-rest (opening new.terms.node) (old.seen ++ t.between) (entry old.number o r
+    ∷ []) (subst (λ (l : List NodeEntry). LegalFrom (opening new.terms.node) l) t.seen t.legal.from))

@@ -6,7 +6,8 @@ pub own_one : (w : ℕ) (e : NodeEntry) → e.who ≡ w → entries_of w (e ∷ 
 own_one w e s = (λ i. cond (s i == w) (e ∷ []) []) ∙ ap (λ c. cond c (e ∷ []) []) (self_is w)
 
 -- where an entry of the seat stands, behind these of its own
-pub own_at : (w : ℕ) (xs H : List NodeEntry) (e : NodeEntry) (ys : List NodeEntry) → entries_of w H ≡ xs ++ e ∷ ys → (A : List NodeEntry) × (B : List NodeEntry) × (H ≡ A ++ e ∷ B)
+pub own_at : (w : ℕ) (xs H : List NodeEntry) (e : NodeEntry) (ys : List NodeEntry) → entries_of w H ≡ xs ++ e ∷ ys
+    → (A : List NodeEntry) × (B : List NodeEntry) × (H ≡ A ++ e ∷ B)
 own_at w [] H e ys k = let c : Cut w H e ys = first_own w H e ys k in (c.before, c.behind, c.is)
 own_at w (x ∷ xs) H e ys k =
     let c : Cut w H x (xs ++ e ∷ ys) = first_own w H x (xs ++ e ∷ ys) k in
@@ -34,7 +35,8 @@ no_back (x ∷ xs) ys e = absurd (cc)
 -- where a prefix has all entries of the seat, the rest has none
 pub prefix_rest : (w : ℕ) (H F R mine : List NodeEntry) → H ≡ F ++ R → entries_of w F ≡ mine → entries_of w H ≡ mine → entries_of w R ≡ []
 prefix_rest w H F R mine is own all =
-    nothing_more mine (entries_of w R) (ap (λ (l : List NodeEntry). l ++ entries_of w R) (sym own) ∙ (sym (entries-append w F R) ∙ (ap (λ (l : List NodeEntry). entries_of w l) (sym is) ∙ all)))
+    nothing_more mine (entries_of w R) (ap (λ (l : List NodeEntry). l ++ entries_of w R) (sym own)
+    ∙ (sym (entries-append w F R) ∙ (ap (λ (l : List NodeEntry). entries_of w l) (sym is) ∙ all)))
 
 pub others_front : (w : ℕ) (A B : List NodeEntry) → entries_of w (A ++ B) ≡ [] → entries_of w A ≡ []
 others_front w A B n = no_front (entries_of w A) (entries_of w B) (sym (entries-append w A B) ∙ n)
@@ -73,7 +75,8 @@ differ a b l = grind (arith, nat_tests)
 pub beyond : (n who : ℕ) (L : List NodeEntry) → BySeats n L → n ≤ who → entries_of who L ≡ []
 beyond n who [] b l = refl
 beyond n who (e ∷ es) b l =
-    (let low : e.who < who = (let x = b.0 in omega arith) in λ i. cond (differ e.who who low i) (e ∷ entries_of who es) (entries_of who es)) ∙ beyond n who es b.1 l
+    (let low : e.who < who = (let x = b.0 in omega arith) in λ i. cond (differ e.who who low i) (e ∷ entries_of who es) (entries_of who es))
+    ∙ beyond n who es b.1 l
 
 pub by_back : (n : ℕ) (A B : List NodeEntry) → BySeats n (A ++ B) → BySeats n B
 by_back n [] B b = b
@@ -123,7 +126,8 @@ pub record Ending (w : ℕ) (m1 m2 m3 m4 : Seat) (a b : Reply) : Type 0 where
   pub more : HasSeenMore m2 m3
   pub final : Turned m3 Final b m4
 
-module _ (w : ℕ) (m1 m2 m3 m4 : Seat) (a b : Reply) (x : Ending w m1 m2 m3 m4 a b) (H : List NodeEntry) (begins : StartsWith H m4.seen) (all : entries_of m4.number H ≡ m4.mine) where
+module _ (w : ℕ) (m1 m2 m3 m4 : Seat) (a b : Reply) (x : Ending w m1 m2 m3 m4 a b) (H : List NodeEntry) (begins : StartsWith H m4.seen)
+    (all : entries_of m4.number H ≡ m4.mine) where
   pub third : m3.number ≡ w
   third = x.more.number ∙ (x.closed.same.number ∙ x.number)
 
@@ -132,7 +136,8 @@ module _ (w : ℕ) (m1 m2 m3 m4 : Seat) (a b : Reply) (x : Ending w m1 m2 m3 m4 
 
   -- what main had seen when it met the others for the last time
   pub seen_then_closed : m3.seen ≡ ((m1.seen ++ x.closed.between) ++ entry w Close a ∷ []) ++ x.more.seen.0
-  seen_then_closed = x.more.seen.1 ∙ ap (λ (l : List NodeEntry). l ++ x.more.seen.0) (x.closed.seen ∙ ap (λ (n : ℕ). (m1.seen ++ x.closed.between) ++ entry n Close a ∷ []) x.number)
+  seen_then_closed = x.more.seen.1 ∙ ap (λ (l : List NodeEntry). l ++ x.more.seen.0) (x.closed.seen
+      ∙ ap (λ (n : ℕ). (m1.seen ++ x.closed.between) ++ entry n Close a ∷ []) x.number)
 
   pub whole_is : H ≡ ((m3.seen ++ x.final.between) ++ entry w Final b ∷ []) ++ begins.0
   whole_is = begins.1 ∙ ap (λ (l : List NodeEntry). l ++ begins.0) (x.final.seen ∙ ap (λ (n : ℕ). (m3.seen ++ x.final.between) ++ entry n Final b ∷ []) third)
@@ -169,7 +174,8 @@ module _ (w : ℕ) (m1 m2 m3 m4 : Seat) (a b : Reply) (x : Ending w m1 m2 m3 m4 
 
   -- what main had seen before its final call
   pub before_final : m3.seen ++ x.final.between ≡ (m1.seen ++ x.closed.between) ++ entry w Close a ∷ (x.more.seen.0 ++ x.final.between)
-  before_final = ap (λ (l : List NodeEntry). l ++ x.final.between) seen_then_closed ∙ regroup_front (m1.seen ++ x.closed.between) x.more.seen.0 x.final.between (entry w Close a)
+  before_final = ap (λ (l : List NodeEntry). l ++ x.final.between) seen_then_closed
+      ∙ regroup_front (m1.seen ++ x.closed.between) x.more.seen.0 x.final.between (entry w Close a)
 
   pub whole_from : H ≡ m3.seen ++ (x.final.between ++ entry w Final b ∷ begins.0)
   whole_from = whole_is ∙ regroup_back m3.seen x.final.between begins.0 (entry w Final b)

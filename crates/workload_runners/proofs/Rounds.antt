@@ -28,8 +28,11 @@ round_work : (w : ℕ) (r : Round) → AllWork (entries_in w r)
 round_work w Rested = (refl, tt)
 round_work w (Ran t a k args done) = (refl, (refl, tt))
 round_work w (Watched t a k args heard e) = (refl, work_append (asks w t heard) (entry w (op.WatchEnd t) (reply.Ended e) ∷ []) (asks_work w t heard) (refl, tt))
-round_work w (Tallied t a k args pending steps e) =
-    (refl, work_append (retries w t pending ++ tally_steps w t steps) (entry w (op.TallyEnd t) (reply.Ended e) ∷ []) (work_append (retries w t pending) (tally_steps w t steps) (retries_work w t pending) (steps_work w t steps)) (refl, tt))
+round_work w (Tallied t a k args pending steps e) = (
+  refl,
+  work_append (retries w t pending ++ tally_steps w t steps) (entry w (op.TallyEnd t) (reply.Ended e)
+      ∷ []) (work_append (retries w t pending) (tally_steps w t steps) (retries_work w t pending) (steps_work w t steps)) (refl, tt),
+)
 
 pub rounds_work : (w : ℕ) (rs : List Round) → AllWork (all_in w rs)
 unfolding all_in

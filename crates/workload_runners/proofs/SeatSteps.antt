@@ -40,9 +40,11 @@ module _ (old new : Seat) (o : Op) (r : Reply) (t : Turned old o r new) where
   holds_at h x a = keeps_at.holds h x a.holds
 
   worker_then : old.number < old.terms.node.settings.workers → new.number < new.terms.node.settings.workers
-  worker_then l = subst (λ (n : ℕ). n < new.terms.node.settings.workers) (sym t.same.number) (subst (λ (x : JournaledTerms). old.number < x.node.settings.workers) (sym t.same.terms) l)
+  worker_then l = subst (λ (n : ℕ). n < new.terms.node.settings.workers) (sym t.same.number)
+      (subst (λ (x : JournaledTerms). old.number < x.node.settings.workers) (sym t.same.terms) l)
 
-  pub rest_then : old.number < old.terms.node.settings.workers → Free (next (state_at old new o r t) (entry old.number o r)) old.number → Added old (entry old.number o r ∷ []) new
+  pub rest_then : old.number < old.terms.node.settings.workers → Free (next (state_at old new o r t) (entry old.number o r)) old.number
+      → Added old (entry old.number o r ∷ []) new
   rest_then l f = record {
     same = t.same;
     mine = t.mine;
@@ -52,29 +54,36 @@ module _ (old new : Seat) (o : Op) (r : Reply) (t : Turned old o r new) where
     };
   }
 
-  pub works_then : (h : ℕ) (x : Work) → old.number < old.terms.node.settings.workers → Holds (next (state_at old new o r t) (entry old.number o r)) old.number h x → Works old o r h x new
+  pub works_then : (h : ℕ) (x : Work) → old.number < old.terms.node.settings.workers
+      → Holds (next (state_at old new o r t) (entry old.number o r)) old.number h x → Works old o r h x new
   works_then h x l f = record {
     same = t.same;
     mine = t.mine;
     work = record {
       worker = worker_then l;
-      holds = subst (λ (n : ℕ). Holds (after new.terms.node new.seen) n h x) (sym t.same.number) (subst (λ (s : State). Holds s old.number h x) (sym next_is) f);
+      holds = subst (λ (n : ℕ). Holds (after new.terms.node new.seen) n h x) (sym t.same.number)
+          (subst (λ (s : State). Holds s old.number h x) (sym next_is) f);
     };
   }
 
 pub picks_end : (old new : Seat) (r : Reply) → AtRest old → Turned old op.Pick r new → PickEnds old r new
-picks_end old new r a t = by_reply r t (picked_as _ old.number r (worker_at old new op.Pick r t a.worker) (untouched_at old new op.Pick r t) (free_at old new op.Pick r t a) (turned_next old new op.Pick r t))
+picks_end old new r a t = by_reply r t (picked_as _ old.number r (worker_at old new op.Pick r t a.worker) (untouched_at old new op.Pick r t)
+    (free_at old new op.Pick r t a) (turned_next old new op.Pick r t))
   where
-    by_reply : (r : Reply) (t : Turned old op.Pick r new) → PickedAs (state_at old new op.Pick r t) old.number r (next (state_at old new op.Pick r t) (entry old.number op.Pick r)) → PickEnds old r new
+    by_reply : (r : Reply) (t : Turned old op.Pick r new)
+        → PickedAs (state_at old new op.Pick r t) old.number r (next (state_at old new op.Pick r t) (entry old.number op.Pick r)) → PickEnds old r new
     by_reply (reply.Picked h b k args) t p = works_then old new op.Pick (reply.Picked h b k args) t h.0 (work_of k args) a.worker p
-    by_reply reply.Idle t p = rest_then old new op.Pick reply.Idle t a.worker (subst (λ (s : State). Free s old.number) (sym p) (free_at old new op.Pick reply.Idle t a))
+    by_reply reply.Idle t p = rest_then old new op.Pick reply.Idle t a.worker
+        (subst (λ (s : State). Free s old.number) (sym p) (free_at old new op.Pick reply.Idle t a))
     by_reply reply.Stop t p = (t.same, t.mine)
     by_reply _ t p = absurd p
 
-pub finishes : (old new : Seat) (r : Reply) (h : TaskHandle) (done : Answered) → AtWork old h.0 (work_of done.kind done.args) → Turned old (op.Finish h done) r new → Finishes old h done new
+pub finishes : (old new : Seat) (r : Reply) (h : TaskHandle) (done : Answered) → AtWork old h.0 (work_of done.kind done.args)
+    → Turned old (op.Finish h done) r new → Finishes old h done new
 finishes old new r h done a t =
     let o = op.Finish h done in
-    let p = finished_as (state_at old new o r t) old.number h.0 (work_of done.kind done.args) (holds_at old new o r t h.0 (work_of done.kind done.args) a) done r (worker_at old new o r t a.worker) refl refl (turned_next old new o r t) in
+    let p = finished_as (state_at old new o r t) old.number h.0 (work_of done.kind done.args)
+    (holds_at old new o r t h.0 (work_of done.kind done.args) a) done r (worker_at old new o r t a.worker) refl refl (turned_next old new o r t) in
     let x = rest_then old new o r t a.worker p.free in
     subst (λ (q : Reply). Added old (entry old.number o q ∷ []) new) p.reply x
 
@@ -82,14 +91,22 @@ finishes old new r h done a t =
 may_look : (args : List ℤ) (looks most : ℕ) → looks_of args ≡ Some most → looks < most → (looks == most) ≡ false
 may_look args looks most e l = grind (arith, nat_tests)
 
-pub asked : (old new : Seat) (r : Reply) (h : TaskHandle) (args : List ℤ) (looks most : ℕ) → looks_of args ≡ Some most → looks < most → AtWork old h.0 (watching args looks false) → Turned old (op.Asked h) r new → (b : Bool) × (r ≡ reply.Asked b) × Asked old h args looks b new
+pub asked : (old new : Seat) (r : Reply) (h : TaskHandle) (args : List ℤ) (looks most : ℕ) → looks_of args ≡ Some most → looks < most
+    → AtWork old h.0 (watching args looks false) → Turned old (op.Asked h) r new → (b : Bool) × (r ≡ reply.Asked b) × Asked old h args looks b new
 asked old new r h args looks most e l a t =
     let o = op.Asked h in
     let x = watching args looks false in
-    let p = asked_as (state_at old new o r t) old.number h.0 x (holds_at old new o r t h.0 x a) most r (worker_at old new o r t a.worker) refl refl e (may_look args looks most e l) (turned_next old new o r t) in
-    (p.requested, p.reply, subst (λ (q : Reply). Works old o q h.0 (reported looks p.requested args) new) p.reply (by_told p.requested (λ y. works_then old new o r t h.0 y a.worker) p.holds))
+    let p = asked_as (state_at old new o r t) old.number h.0 x (holds_at old new o r t h.0 x a) most r (worker_at old new o r t a.worker) refl refl e
+    (may_look args looks most e l) (turned_next old new o r t) in (
+      p.requested,
+      p.reply,
+      subst (λ (q : Reply). Works old o q h.0 (reported looks p.requested args) new) p.reply
+          (by_told p.requested (λ y. works_then old new o r t h.0 y a.worker) p.holds),
+    )
   where
-    by_told : (b : Bool) → ((y : Work) → Holds (next (state_at old new (op.Asked h) r t) (entry old.number (op.Asked h) r)) old.number h.0 y → Works old (op.Asked h) r h.0 y new) → Holds (next (state_at old new (op.Asked h) r t) (entry old.number (op.Asked h) r)) old.number h.0 (Rattle.workload_runners.proofs.WorkLemmas.reported b (watching args looks false)) → Works old (op.Asked h) r h.0 (reported looks b args) new
+    by_told : (b : Bool) → ((y : Work) → Holds (next (state_at old new (op.Asked h) r t) (entry old.number (op.Asked h) r)) old.number h.0 y
+        → Works old (op.Asked h) r h.0 y new) → Holds (next (state_at old new (op.Asked h) r t) (entry old.number (op.Asked h) r)) old.number h.0
+        (Rattle.workload_runners.proofs.WorkLemmas.reported b (watching args looks false)) → Works old (op.Asked h) r h.0 (reported looks b args) new
     by_told true f k = f _ k
     by_told false f k = f _ k
 
@@ -97,14 +114,16 @@ pub ends : (old new : Seat) (r : Reply) (h : TaskHandle) (args : List ℤ) → M
 ends old new r h args a t =
     let o = op.WatchEnd h in
     let x = watching args a.looks a.seen in
-    let p = watched_as (state_at old new o r t) old.number h.0 x (holds_at old new o r t h.0 x a.work) r (worker_at old new o r t a.work.worker) refl a.over (turned_next old new o r t) in
+    let p = watched_as (state_at old new o r t) old.number h.0 x (holds_at old new o r t h.0 x a.work) r (worker_at old new o r t a.work.worker) refl a.over
+    (turned_next old new o r t) in
     (p.end, subst (λ (q : Reply). Added old (entry old.number o q ∷ []) new) p.reply (rest_then old new o r t a.work.worker p.free))
 
 -- the reply says whether the watch was told to stop
 told_same : {b d : Bool} → reply.Asked b ≡ reply.Asked d → b ≡ d
 told_same e = cc
 
-pub asked_is : (old new : Seat) (r : Reply) (h : TaskHandle) (args : List ℤ) (looks most : ℕ) (b : Bool) → looks_of args ≡ Some most → looks < most → AtWork old h.0 (watching args looks false) → Turned old (op.Asked h) r new → r ≡ reply.Asked b → Asked old h args looks b new
+pub asked_is : (old new : Seat) (r : Reply) (h : TaskHandle) (args : List ℤ) (looks most : ℕ) (b : Bool) → looks_of args ≡ Some most → looks < most
+    → AtWork old h.0 (watching args looks false) → Turned old (op.Asked h) r new → r ≡ reply.Asked b → Asked old h args looks b new
 asked_is old new r h args looks most b e l a t is =
     let x = asked old new r h args looks most e l a t in
     subst (λ (d : Bool). Asked old h args looks d new) (told_same (sym x.1 ∙ is)) x.2
@@ -117,16 +136,31 @@ pub record Heard (old : Seat) (h : TaskHandle) (args : List ℤ) (n : ℕ) (new 
   pub mine : new.mine ≡ old.mine ++ asks old.number h heard
   pub work : AtWork new h.0 (watching args n false)
 
-heard_mine : (a b c : Seat) (h : TaskHandle) (x : List Bool) (d : Bool) → SameSeat a b → b.mine ≡ a.mine ++ asks a.number h x → c.mine ≡ b.mine ++ entry b.number (op.Asked h) (reply.Asked d) ∷ [] → c.mine ≡ a.mine ++ asks a.number h (x ++ d ∷ [])
+heard_mine : (a b c : Seat) (h : TaskHandle) (x : List Bool) (d : Bool) → SameSeat a b → b.mine ≡ a.mine ++ asks a.number h x
+    → c.mine ≡ b.mine ++ entry b.number (op.Asked h) (reply.Asked d) ∷ [] → c.mine ≡ a.mine ++ asks a.number h (x ++ d ∷ [])
 heard_mine a b c h x d s p q =
-    mine_then a b c (λ w. asks w h x) (λ w. entry w (op.Asked h) (reply.Asked d) ∷ []) s p q ∙ ap (λ (m : List NodeEntry). a.mine ++ m) (sym (map-append (λ (y : Bool). entry a.number (op.Asked h) (reply.Asked y)) x (d ∷ [])))
+    mine_then a b c (λ w. asks w h x) (λ w. entry w (op.Asked h) (reply.Asked d) ∷ []) s p q
+    ∙ ap (λ (m : List NodeEntry). a.mine ++ m) (sym (map-append (λ (y : Bool). entry a.number (op.Asked h) (reply.Asked y)) x (d ∷ [])))
 
-pub heard_more : (a b c : Seat) (h : TaskHandle) (args : List ℤ) (n : ℕ) (d : Bool) → d ≡ false → Heard a h args n b → Asked b h args n d c → Heard a h args (n + 1) c
+pub heard_more : (a b c : Seat) (h : TaskHandle) (args : List ℤ) (n : ℕ) (d : Bool) → d ≡ false → Heard a h args n b → Asked b h args n d c
+    → Heard a h args (n + 1) c
 heard_more a b c h args n true e p q = absurd (cc)
-heard_more a b c h args n false e p q = record { heard = p.heard ++ false ∷ []; same = same_then a b c p.same q.same; mine = heard_mine a b c h p.heard false p.same p.mine q.mine; work = q.work }
+heard_more a b c h args n false e p q =
+    record { heard = p.heard ++ false ∷ []; same = same_then a b c p.same q.same; mine = heard_mine a b c h p.heard false p.same p.mine q.mine; work = q.work }
 
-pub heard_stop : (a b c : Seat) (h : TaskHandle) (args : List ℤ) (n most : ℕ) (d : Bool) → d ≡ true → Heard a h args n b → Asked b h args n d c → LookedOut a h args most c
-heard_stop a b c h args n most true e p q = record { heard = p.heard ++ true ∷ []; same = same_then a b c p.same q.same; mine = heard_mine a b c h p.heard true p.same p.mine q.mine; looks = n; seen = true; work = q.work; over = refl }
+pub heard_stop : (a b c : Seat) (h : TaskHandle) (args : List ℤ) (n most : ℕ) (d : Bool) → d ≡ true → Heard a h args n b → Asked b h args n d c
+    → LookedOut a h args most c
+heard_stop a b c h args n most true e p q =
+    record {
+      heard = p.heard ++ true ∷ [];
+      same = same_then a b c p.same q.same;
+      mine = heard_mine a b c h p.heard true p.same p.mine q.mine;
+      looks = n;
+      seen =
+          true;
+      work = q.work;
+      over = refl;
+    }
 heard_stop a b c h args n most false e p q = absurd (cc)
 
 pub watches_at_once : (a c : Seat) (h : TaskHandle) → Ends a h c → Watches a h c
@@ -134,21 +168,25 @@ watches_at_once a c h y = ([], y.0, y.1)
 
 -- Rounds
 
-pub ran : (a b c : Seat) (h : TaskHandle) (k : _) (args : List ℤ) (done : Answered) (x : ActionHandle) → Works a op.Pick (reply.Picked h x k args) h.0 (work_of k args) b → Finishes b h done c → Added a (entries_in a.number (Ran h x k args done)) c
+pub ran : (a b c : Seat) (h : TaskHandle) (k : _) (args : List ℤ) (done : Answered) (x : ActionHandle)
+    → Works a op.Pick (reply.Picked h x k args) h.0 (work_of k args) b → Finishes b h done c → Added a (entries_in a.number (Ran h x k args done)) c
 ran a b c h k args done x p q = record {
   same = same_then a b c p.same q.same;
   mine = mine_then a b c (λ w. entry w op.Pick (reply.Picked h x k args) ∷ []) (λ w. entry w (op.Finish h done) reply.Ok ∷ []) p.same p.mine q.mine;
   rest = q.rest;
 }
 
-pub watched : (a b c : Seat) (h : TaskHandle) (k : _) (args : List ℤ) (x : ActionHandle) → Works a op.Pick (reply.Picked h x k args) h.0 (work_of k args) b → (y : Watches b h c) → Added a (entries_in a.number (Watched h x k args y.0 y.1)) c
+pub watched : (a b c : Seat) (h : TaskHandle) (k : _) (args : List ℤ) (x : ActionHandle) → Works a op.Pick (reply.Picked h x k args) h.0 (work_of k args) b
+    → (y : Watches b h c) → Added a (entries_in a.number (Watched h x k args y.0 y.1)) c
 watched a b c h k args x p y = record {
   same = same_then a b c p.same y.2.same;
-  mine = mine_then a b c (λ w. entry w op.Pick (reply.Picked h x k args) ∷ []) (λ w. asks w h y.0 ++ entry w (op.WatchEnd h) (reply.Ended y.1) ∷ []) p.same p.mine y.2.mine;
+  mine = mine_then a b c (λ w. entry w op.Pick (reply.Picked h x k args) ∷ []) (λ w. asks w h y.0 ++ entry w (op.WatchEnd h) (reply.Ended y.1)
+      ∷ []) p.same p.mine y.2.mine;
   rest = y.2.rest;
 }
 
-pub tallied : (a b c : Seat) (h : TaskHandle) (k : _) (args : List ℤ) (x : ActionHandle) → Works a op.Pick (reply.Picked h x k args) h.0 (work_of k args) b → (y : Tallies b h c) → Added a (entries_in a.number (Tallied h x k args y.0 y.1 y.2)) c
+pub tallied : (a b c : Seat) (h : TaskHandle) (k : _) (args : List ℤ) (x : ActionHandle) → Works a op.Pick (reply.Picked h x k args) h.0 (work_of k args) b
+    → (y : Tallies b h c) → Added a (entries_in a.number (Tallied h x k args y.0 y.1 y.2)) c
 tallied a b c h k args x p y = record {
   same = same_then a b c p.same y.3.same;
   mine = mine_then a b c (λ w. entry w op.Pick (reply.Picked h x k args) ∷ []) (λ w. tally_entries w h y.0 y.1 y.2) p.same p.mine y.3.mine;
@@ -156,7 +194,8 @@ tallied a b c h k args x p y = record {
 }
 
 -- what was taken and run is a round
-pub acted : (a b c : Seat) (h : TaskHandle) (k : Kind) (args : List ℤ) (x : ActionHandle) → Works a op.Pick (reply.Picked h x k args) h.0 (work_of k args) b → Acts b h c → Rounded a true c
+pub acted : (a b c : Seat) (h : TaskHandle) (k : Kind) (args : List ℤ) (x : ActionHandle) → Works a op.Pick (reply.Picked h x k args) h.0 (work_of k args) b
+    → Acts b h c → Rounded a true c
 acted a b c h k args x p (inl q) = (Ran h x k args q.0, ran a b c h k args q.0 x p q.1)
 acted a b c h k args x p (inr (inl q)) = (Watched h x k args q.0 q.1, watched a b c h k args x p q)
 acted a b c h k args x p (inr (inr q)) = (Tallied h x k args q.0 q.1 q.2, tallied a b c h k args x p q)
@@ -173,14 +212,16 @@ rounds_none a r = record { rounds = []; added = record { same = same_seat a; min
 all_in-push : (w : ℕ) (rs : List Round) (r : Round) → all_in w (rs ++ r ∷ []) ≡ all_in w rs ++ entries_in w r
 unfolding all_in
 all_in-push w [] r = append-nil (entries_in w r)
-all_in-push w (x ∷ xs) r = ap (λ (m : List NodeEntry). entries_in w x ++ m) (all_in-push w xs r) ∙ sym (append_assoc (entries_in w x) (all_in w xs) (entries_in w r))
+all_in-push w (x ∷ xs) r = ap (λ (m : List NodeEntry). entries_in w x ++ m) (all_in-push w xs r)
+    ∙ sym (append_assoc (entries_in w x) (all_in w xs) (entries_in w r))
 
 pub rounds_more : (a b c : Seat) → Rounds a b → Rounded b true c → Rounds a c
 rounds_more a b c p q = record {
   rounds = p.rounds ++ q.0 ∷ [];
   added = record {
     same = same_then a b c p.added.same q.1.same;
-    mine = mine_then a b c (λ w. all_in w p.rounds) (λ w. entries_in w q.0) p.added.same p.added.mine q.1.mine ∙ ap (λ (m : List NodeEntry). a.mine ++ m) (sym (all_in-push a.number p.rounds q.0));
+    mine = mine_then a b c (λ w. all_in w p.rounds) (λ w. entries_in w q.0) p.added.same p.added.mine q.1.mine
+        ∙ ap (λ (m : List NodeEntry). a.mine ++ m) (sym (all_in-push a.number p.rounds q.0));
     rest = q.1.rest;
   };
 }

@@ -28,7 +28,9 @@ module _ {A : Type 0} where
   each_back F [] ys a = a
   each_back F (x ∷ xs) ys a = each_back F xs ys a.1
 
-pub came : (z : Cell) (w m : ℕ) (parts : List Part) (ss : List Statement) (c c' : ReturnedSeats) → AllDid parts ss (fresh_seat z.terms z.id w) (fresh_seats z.terms z.id (w + 1) m) (fresh_seats z.terms z.id 0 w) c → IsEnded op.Final c c' → IsClean c' → Came z w m parts ss c'
+pub came : (z : Cell) (w m : ℕ) (parts : List Part) (ss : List Statement) (c c' : ReturnedSeats)
+    → AllDid parts ss (fresh_seat z.terms z.id w) (fresh_seats z.terms z.id (w + 1) m) (fresh_seats z.terms z.id 0 w) c → IsEnded op.Final c c' → IsClean c'
+    → Came z w m parts ss c'
 came z w m parts ss c c' d e clean =
     let x = e.ended clean in
     let main0 : Seat = fresh_seat z.terms z.id w in
@@ -61,13 +63,23 @@ record CameSeat (R : ℕ → List NodeEntry → Type 0) (k : ℕ) (m : Seat) (al
   knows : Knows m seat
   number : seat.number ≡ k
 
-came_seat : (R : ℕ → List NodeEntry → Type 0) (z : Cell) (from n k : ℕ) (m : Seat) (backs all : List Seat) → AllZip (AddsOwn R) (fresh_seats z.terms z.id from n) backs → all_of (Knows m) backs → ((s : Seat) → Has backs s → Has all s) → from ≤ k → k < from + n → CameSeat R k m all
+came_seat : (R : ℕ → List NodeEntry → Type 0) (z : Cell) (from n k : ℕ) (m : Seat) (backs all : List Seat)
+    → AllZip (AddsOwn R) (fresh_seats z.terms z.id from n) backs → all_of (Knows m) backs → ((s : Seat) → Has backs s → Has all s) → from ≤ k → k < from + n
+    → CameSeat R k m all
 came_seat R z from n k m backs all did known among low high =
     let y = zip_has (AddsOwn R) (fresh_seats z.terms z.id from n) backs (fresh_seat z.terms z.id k) did (fresh_in _ _ _ z.terms z.id from n k low high) in
-    record { seat = y.0; has = among y.0 y.1; did = all_own R (fresh_seat z.terms z.id k) y.0 refl y.2; knows = all_has (Knows m) backs y.0 known y.1; number = y.2.same.number }
+    record {
+      seat = y.0;
+      has = among y.0 y.1;
+      did = all_own R (fresh_seat z.terms z.id k) y.0 refl y.2;
+      knows = all_has (Knows m) backs y.0 known y.1;
+      number =
+          y.2.same.number;
+    }
 
 -- in a history that goes on behind what m had seen
-known_seat : (R : ℕ → List NodeEntry → Type 0) (z : Cell) (k : ℕ) (m : Seat) (all : List Seat) (H M T : List NodeEntry) → all_of (IsSeatOf z.terms H) all → H ≡ m.seen ++ (M ++ T) → CameSeat R k m all → KnownSeat R k H (m.seen ++ M) T
+known_seat : (R : ℕ → List NodeEntry → Type 0) (z : Cell) (k : ℕ) (m : Seat) (all : List Seat) (H M T : List NodeEntry) → all_of (IsSeatOf z.terms H) all
+    → H ≡ m.seen ++ (M ++ T) → CameSeat R k m all → KnownSeat R k H (m.seen ++ M) T
 known_seat R z k m all H M T seats is y =
     let s = all_has (IsSeatOf z.terms H) all y.seat seats y.has in
     let own : entries_of k H ≡ y.seat.mine = ap (λ (n : ℕ). entries_of n H) (sym y.number) ∙ s.mine in
@@ -85,10 +97,12 @@ module _ (z : Cell) (w m : ℕ) (parts : List Part) (ss : List Statement) (c : R
   among s h = subst (λ (l : List Seat). Has (l ++ c.main ∷ []) s) (sym x.others) (has_front (x.callers ++ x.workers) (c.main ∷ []) s h)
 
   caller_came : (k : ℕ) → w < k → k < w + (m + 1) → CameSeat (CallerIn parts w) k x.m1 all
-  caller_came k l h = came_seat (CallerIn parts w) z (w + 1) m k x.m1 x.callers all x.called x.knows_callers (λ s i. among s (has_front x.callers x.workers s i)) (omega arith) (omega arith)
+  caller_came k l h = came_seat (CallerIn parts w) z (w
+      + 1) m k x.m1 x.callers all x.called x.knows_callers (λ s i. among s (has_front x.callers x.workers s i)) (omega arith) (omega arith)
 
   worker_came : (k : ℕ) → k < w → CameSeat WorkerAs k x.m3 all
-  worker_came k l = came_seat WorkerAs z 0 w k x.m3 x.workers all x.served x.knows_workers (λ s i. among s (has_back x.callers x.workers s i)) (omega arith) (omega arith)
+  worker_came k l = came_seat WorkerAs z 0 w k x.m3 x.workers all x.served x.knows_workers (λ s i. among s (has_back x.callers x.workers s i)) (omega arith)
+      (omega arith)
 
   main_has : Has all c.main
   main_has = has_back c.others.items (c.main ∷ []) c.main (inl refl)
@@ -118,14 +132,19 @@ module _ (z : Cell) (w m : ℕ) (parts : List Part) (ss : List Statement) (c : R
     known_caller : (k : ℕ) → w < k → k < w + (m + 1) → KnownSeat (CallerIn parts w) k H (x.m1.seen ++ x.ending.closed.between) behind_close
     known_caller k l h =
         known_seat (CallerIn parts w) z k x.m1 all H x.ending.closed.between behind_close seats
-        (in_order w x.m1 x.m2 x.m3 c.main x.a x.b x.ending H main_is.seen main_is.mine ∙ append_assoc x.m1.seen x.ending.closed.between behind_close) (caller_came k l h)
+        (in_order w x.m1 x.m2 x.m3 c.main x.a x.b x.ending H main_is.seen main_is.mine
+        ∙ append_assoc x.m1.seen x.ending.closed.between behind_close) (caller_came k l h)
 
-    known_worker : (k : ℕ) → k < w → KnownSeat WorkerAs k H ((x.m1.seen ++ x.ending.closed.between) ++ entry w op.Close x.a ∷ (x.ending.more.seen.0 ++ x.ending.final.between)) (entry w op.Final x.b ∷ main_is.seen.0)
+    known_worker : (k : ℕ) → k < w → KnownSeat WorkerAs k H ((x.m1.seen ++ x.ending.closed.between) ++ entry w op.Close x.a
+        ∷ (x.ending.more.seen.0 ++ x.ending.final.between)) (entry w op.Final x.b ∷ main_is.seen.0)
     known_worker k l =
-        subst (λ (S : List NodeEntry). KnownSeat WorkerAs k H S (entry w op.Final x.b ∷ main_is.seen.0)) (before_final w x.m1 x.m2 x.m3 c.main x.a x.b x.ending H main_is.seen main_is.mine)
-        (known_seat WorkerAs z k x.m3 all H x.ending.final.between (entry w op.Final x.b ∷ main_is.seen.0) seats (whole_from w x.m1 x.m2 x.m3 c.main x.a x.b x.ending H main_is.seen main_is.mine) (worker_came k l))
+        subst (λ (S : List NodeEntry). KnownSeat WorkerAs k H S (entry w op.Final x.b ∷ main_is.seen.0))
+        (before_final w x.m1 x.m2 x.m3 c.main x.a x.b x.ending H main_is.seen main_is.mine)
+        (known_seat WorkerAs z k x.m3 all H x.ending.final.between (entry w op.Final x.b
+        ∷ main_is.seen.0) seats (whole_from w x.m1 x.m2 x.m3 c.main x.a x.b x.ending H main_is.seen main_is.mine) (worker_came k l))
 
-    pub came_known : z.terms.node.settings.workers ≡ w → z.terms.node.settings.workers + z.terms.node.callers ≡ w + (m + 1) → w + (m + 1) ≤ 25 → Known z.terms.node w (w + (m + 1)) parts ss H
+    pub came_known : z.terms.node.settings.workers ≡ w → z.terms.node.settings.workers + z.terms.node.callers ≡ w + (m + 1) → w + (m + 1) ≤ 25
+        → Known z.terms.node w (w + (m + 1)) parts ss H
     came_known few_workers count few = record {
       legal = legal.from;
       workers_are = few_workers;

@@ -11,13 +11,29 @@ use Rattle.workload_runners.proofs.SeatSteps.{worker_at, holds_at, rest_then, wo
 
 -- Asking for both
 
-pub locks_once : (old new : Seat) (r : Reply) (t : TaskHandle) (args : List ℤ) → AtWork old t.0 (tallying args no_tally) → Turned old (op.TallyLock t) r new → IsTallyAnswer r × LocksOnce old t args (answer_in r) new
-locks_once old new r t args a u = by_reply r u (locked_as _ old.number t.0 (tallying args no_tally) (holds_at old new (op.TallyLock t) r u t.0 (tallying args no_tally) a) r (worker_at old new (op.TallyLock t) r u a.worker) refl refl (turned_next old new (op.TallyLock t) r u))
+pub locks_once : (old new : Seat) (r : Reply) (t : TaskHandle) (args : List ℤ) → AtWork old t.0 (tallying args no_tally) → Turned old (op.TallyLock t) r new
+    → IsTallyAnswer r × LocksOnce old t args (answer_in r) new
+locks_once old new r t args a u = by_reply r u
+    (locked_as _ old.number t.0 (tallying args no_tally) (holds_at old new (op.TallyLock t) r u t.0 (tallying args no_tally) a) r
+    (worker_at old new (op.TallyLock t) r u a.worker) refl refl (turned_next old new (op.TallyLock t) r u))
   where
-    by_reply : (r : Reply) (u : Turned old (op.TallyLock t) r new) → LockedAs r old.number t.0 (tallying args no_tally) (next (state_at old new (op.TallyLock t) r u) (entry old.number (op.TallyLock t) r)) → IsTallyAnswer r × LocksOnce old t args (answer_in r) new
+    by_reply : (r : Reply) (u : Turned old (op.TallyLock t) r new)
+        → LockedAs r old.number t.0 (tallying args no_tally) (next (state_at old new (op.TallyLock t) r u) (entry old.number (op.TallyLock t) r))
+        → IsTallyAnswer r × LocksOnce old t args (answer_in r) new
     by_reply reply.Pending u p = (tt, works_then old new (op.TallyLock t) reply.Pending u t.0 (tallying args no_tally) a.worker p)
-    by_reply (reply.Asked false) u p = (tt, (p.0, works_then old new (op.TallyLock t) (reply.Asked false) u t.0 (tallying args (tally_failed p.0 no_tally)) a.worker p.1))
-    by_reply (reply.Asked true) u p = (tt, (p.0, p.1, works_then old new (op.TallyLock t) (reply.Asked true) u t.0 (tallying args (tally_has p.0 p.1 no_tally)) a.worker p.2))
+    by_reply (reply.Asked false) u p = (
+      tt,
+      (p.0, works_then old new (op.TallyLock t) (reply.Asked false) u t.0 (tallying args (tally_failed p.0 no_tally)) a.worker p.1),
+    )
+    by_reply (reply.Asked true) u p = (
+      tt,
+      (
+        p.0,
+        p.1,
+        works_then old new (op.TallyLock t) (reply.Asked true) u t.0
+            (tallying args (tally_has p.0 p.1 no_tally)) a.worker p.2,
+      ),
+    )
     by_reply _ u p = absurd p
 
 -- the questions so far, each to be asked again
@@ -35,10 +51,12 @@ one_more zero e = refl
 one_more (suc n) e = ap (λ (l : List NodeEntry). e ∷ l) (one_more n e)
 
 -- another turn behind the questions so far
-behind : (a b c : Seat) (t : TaskHandle) (n : ℕ) (o : _) (r : Reply) → SameSeat a b → b.mine ≡ a.mine ++ retries a.number t n → c.mine ≡ b.mine ++ entry b.number o r ∷ [] → c.mine ≡ a.mine ++ (retries a.number t n ++ entry a.number o r ∷ [])
+behind : (a b c : Seat) (t : TaskHandle) (n : ℕ) (o : _) (r : Reply) → SameSeat a b → b.mine ≡ a.mine ++ retries a.number t n
+    → c.mine ≡ b.mine ++ entry b.number o r ∷ [] → c.mine ≡ a.mine ++ (retries a.number t n ++ entry a.number o r ∷ [])
 behind a b c t n o r s p q = mine_then a b c (λ w. retries w t n) (λ w. entry w o r ∷ []) s p q
 
-pub retried_more : (a b c : Seat) (t : TaskHandle) (args : List ℤ) (g : Option Bool) → g ≡ None → Retried a t args b → LocksOnce b t args g c → Retried a t args c
+pub retried_more : (a b c : Seat) (t : TaskHandle) (args : List ℤ) (g : Option Bool) → g ≡ None → Retried a t args b → LocksOnce b t args g c
+    → Retried a t args c
 retried_more a b c t args None e p q = record {
   pending = suc p.pending;
   same = same_then a b c p.same q.same;
@@ -49,7 +67,8 @@ retried_more a b c t args None e p q = record {
 }
 retried_more a b c t args (Some g) e p q = absurd (cc)
 
-pub takes_both : (a b c : Seat) (t : TaskHandle) (args : List ℤ) (g : Option Bool) (got : Bool) → g ≡ Some got → Retried a t args b → LocksOnce b t args g c → TakesBoth a t args got c
+pub takes_both : (a b c : Seat) (t : TaskHandle) (args : List ℤ) (g : Option Bool) (got : Bool) → g ≡ Some got → Retried a t args b → LocksOnce b t args g c
+    → TakesBoth a t args got c
 takes_both a b c t args None got e p q = absurd (cc)
 takes_both a b c t args (Some false) got e p q =
     subst (λ (x : Bool). TakesBoth a t args x c) (cc)
@@ -57,7 +76,12 @@ takes_both a b c t args (Some false) got e p q =
       pending = p.pending;
       notes = tally_failed q.0 no_tally;
       locked = (q.0, refl);
-      does = record { same = same_then a b c p.same q.1.same; mine = behind a b c t p.pending (op.TallyLock t) (reply.Asked false) p.same p.mine q.1.mine; work = q.1.work };
+      does = record {
+        same = same_then a b c p.same q.1.same;
+        mine =
+            behind a b c t p.pending (op.TallyLock t) (reply.Asked false) p.same p.mine q.1.mine;
+        work = q.1.work;
+      };
     })
 takes_both a b c t args (Some true) got e p q =
     subst (λ (x : Bool). TakesBoth a t args x c) (cc)
@@ -65,29 +89,53 @@ takes_both a b c t args (Some true) got e p q =
       pending = p.pending;
       notes = tally_has q.0 q.1 no_tally;
       locked = (q.0, q.1, refl);
-      does = record { same = same_then a b c p.same q.2.same; mine = behind a b c t p.pending (op.TallyLock t) (reply.Asked true) p.same p.mine q.2.mine; work = q.2.work };
+      does = record {
+        same = same_then a b c p.same q.2.same;
+        mine = behind a b c t p.pending (op.TallyLock t) (reply.Asked true) p.same p.mine q.2.mine;
+        work =
+            q.2.work;
+      };
     })
 
 -- Reading and writing
 
-pub reads_cell : (old new : Seat) (r : Reply) (t : TaskHandle) (args : List ℤ) → MayRead old t args → Turned old (op.TallyRead t) r new → (z : ℤ) × (r ≡ reply.Number z) × ReadsCell old t args z new
+pub reads_cell : (old new : Seat) (r : Reply) (t : TaskHandle) (args : List ℤ) → MayRead old t args → Turned old (op.TallyRead t) r new
+    → (z : ℤ) × (r ≡ reply.Number z) × ReadsCell old t args z new
 reads_cell old new r t args a u =
     let x = tallying args (tally_has a.0 a.1 no_tally) in
-    let p = read_as _ old.number t.0 x (holds_at old new (op.TallyRead t) r u t.0 x a.2) r (worker_at old new (op.TallyRead t) r u a.2.worker) refl refl (turned_next old new (op.TallyRead t) r u) in
-    (p.number, p.reply, (a.0, a.1, subst (λ (q : Reply). Works old (op.TallyRead t) q t.0 (tallying args (tally_read p.number (tally_has a.0 a.1 no_tally))) new) p.reply (works_then old new (op.TallyRead t) r u t.0 (tallying args (tally_read p.number (tally_has a.0 a.1 no_tally))) a.2.worker p.holds)))
+    let p = read_as _ old.number t.0 x (holds_at old new (op.TallyRead t) r u t.0 x a.2) r (worker_at old new (op.TallyRead t) r u a.2.worker) refl refl
+    (turned_next old new (op.TallyRead t) r u) in (
+      p.number,
+      p.reply,
+      (
+        a.0,
+        a.1,
+        subst (λ (q : Reply). Works old (op.TallyRead t) q t.0
+            (tallying args (tally_read p.number (tally_has a.0 a.1 no_tally))) new) p.reply
+            (works_then old new (op.TallyRead t) r u t.0 (tallying args (tally_read p.number (tally_has a.0 a.1 no_tally))) a.2.worker p.holds),
+      ),
+    )
 
 number_same : {y z : ℤ} → reply.Number y ≡ reply.Number z → y ≡ z
 number_same e = cc
 
-pub reads_cell_is : (old new : Seat) (r : Reply) (t : TaskHandle) (args : List ℤ) (z : ℤ) → MayRead old t args → Turned old (op.TallyRead t) r new → r ≡ reply.Number z → ReadsCell old t args z new
-reads_cell_is old new r t args z a u e = let x = reads_cell old new r t args a u in subst (λ (y : ℤ). ReadsCell old t args y new) (number_same (sym x.1 ∙ e)) x.2
+pub reads_cell_is : (old new : Seat) (r : Reply) (t : TaskHandle) (args : List ℤ) (z : ℤ) → MayRead old t args → Turned old (op.TallyRead t) r new
+    → r ≡ reply.Number z → ReadsCell old t args z new
+reads_cell_is old new r t args z a u e = let x = reads_cell old new r t args a u in
+    subst (λ (y : ℤ). ReadsCell old t args y new) (number_same (sym x.1 ∙ e)) x.2
 
-pub writes_cell : (old new : Seat) (r : Reply) (t : TaskHandle) (args : List ℤ) (z value : ℤ) → MayWrite old t args z → value ≡ sum_with args z → Turned old (op.TallyWrite t value) r new → WritesCell old t args z value new
+pub writes_cell : (old new : Seat) (r : Reply) (t : TaskHandle) (args : List ℤ) (z value : ℤ) → MayWrite old t args z → value ≡ sum_with args z
+    → Turned old (op.TallyWrite t value) r new → WritesCell old t args z value new
 writes_cell old new r t args z value a e u =
     let o = op.TallyWrite t value in
     let x = tallying args (tally_read z (tally_has a.0 a.1 no_tally)) in
-    let p = written_as _ old.number t.0 x (holds_at old new o r u t.0 x a.2) value r (worker_at old new o r u a.2.worker) refl refl e (turned_next old new o r u) in
-    (a.0, a.1, subst (λ (q : Reply). Works old o q t.0 (tallying args (tally_written (tally_read z (tally_has a.0 a.1 no_tally)))) new) p.reply (works_then old new o r u t.0 (tallying args (tally_written (tally_read z (tally_has a.0 a.1 no_tally)))) a.2.worker p.holds))
+    let p = written_as _ old.number t.0 x (holds_at old new o r u t.0 x a.2) value r (worker_at old new o r u a.2.worker) refl refl e
+    (turned_next old new o r u) in (
+      a.0,
+      a.1,
+      subst (λ (q : Reply). Works old o q t.0 (tallying args (tally_written (tally_read z (tally_has a.0 a.1 no_tally)))) new) p.reply
+          (works_then old new o r u t.0 (tallying args (tally_written (tally_read z (tally_has a.0 a.1 no_tally)))) a.2.worker p.holds),
+    )
 
 -- a sum that doesn't fit
 unfit : (z : ℤ) → None ≡ fitting z → fits z ≡ false
@@ -102,7 +150,8 @@ adds_nothing a b t args z x e = record {
   may = (tally_read z (tally_has x.0 x.1 no_tally), x.2.work, unfit (sum_with args z) e);
 }
 
-pub adds_sum : (a b c : Seat) (t : TaskHandle) (args : List ℤ) (z kept value : ℤ) → ReadsCell a t args z b → WritesCell b t args kept value c → AddsToCell a t args c
+pub adds_sum : (a b c : Seat) (t : TaskHandle) (args : List ℤ) (z kept value : ℤ) → ReadsCell a t args z b → WritesCell b t args kept value c
+    → AddsToCell a t args c
 adds_sum a b c t args z kept value x y = record {
   steps = entry a.number (op.TallyRead t) (reply.Number z) ∷ entry a.number (op.TallyWrite t value) reply.Ok ∷ [];
   same = same_then a b c x.2.same y.2.same;

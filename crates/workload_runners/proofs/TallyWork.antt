@@ -11,7 +11,8 @@ abbrev pub with_done : (TallyNotes → TallyNotes) → Work → Work
 with_done f x = record x { tally = f x.tally }
 
 -- a note of what the worker's tally has done
-noted_holds : (s u : State) (w h : ℕ) (x : Work) (f : TallyNotes → TallyNotes) → Holds s w h x → u.tasks ≡ update h (with_notes (with_tally f)) s.tasks → Holds u w h (with_done f x)
+noted_holds : (s u : State) (w h : ℕ) (x : Work) (f : TallyNotes → TallyNotes) → Holds s w h x → u.tasks ≡ update h (with_notes (with_tally f)) s.tasks
+    → Holds u w h (with_done f x)
 noted_holds s u w h x f v e =
     let on = runs_on_its w x v.task v.runs in
     let n = count_changed (runs_on w) h (with_fields (with_notes (with_tally f))) true s.tasks v.task v.found (λ r l i j. l j && (ap (runs_on w) i ∙ on) j) in
@@ -19,15 +20,18 @@ noted_holds s u w h x f v e =
     let one : count_listed (runs_on w) (update h (with_notes (with_tally f)) s.tasks) ≡ 1 = omega (arith, n, o, v.alone) in
     record {
       task = with_notes (with_tally f) v.task;
-      found = subst (λ (l : List (Listed Task)). live_object l h ≡ Some (with_notes (with_tally f) v.task)) (sym e) (at-update h (with_notes (with_tally f)) v.task s.tasks v.found);
+      found = subst (λ (l : List (Listed Task)). live_object l h
+          ≡ Some (with_notes (with_tally f) v.task)) (sym e) (at-update h (with_notes (with_tally f)) v.task s.tasks v.found);
       runs = record { state = v.runs.state; arguments = v.runs.arguments; looked = v.runs.looked; reported = v.runs.reported; did = ap f v.runs.did };
       alone = subst (λ (l : List (Listed Task)). count_listed (runs_on w) l ≡ 1) (sym e) one;
     }
 
 -- the row's ways to the tally that the worker has
 tally_goes : (s : State) (w h : ℕ) (x : Work) (v : Holds s w h x) (r : Reply) (f : Task → Row) → w < workers s → x.kind ≡ kind.Tally
-    → Allows (unless (not (nat_lt w (workers s))) (Mtapi m.ErrParameter) (live (live_object s.tasks h) (says (Mtapi m.ErrTaskInvalid)) (λ y. unless (not (runs_as w kind.Tally y)) (Mtapi m.ErrTaskInvalid) (f y)))) r
-    → Goes s (unless (not (nat_lt w (workers s))) (Mtapi m.ErrParameter) (live (live_object s.tasks h) (says (Mtapi m.ErrTaskInvalid)) (λ y. unless (not (runs_as w kind.Tally y)) (Mtapi m.ErrTaskInvalid) (f y)))) r (f v.task)
+    → Allows (unless (not (nat_lt w (workers s))) (Mtapi m.ErrParameter)
+    (live (live_object s.tasks h) (says (Mtapi m.ErrTaskInvalid)) (λ y. unless (not (runs_as w kind.Tally y)) (Mtapi m.ErrTaskInvalid) (f y)))) r
+    → Goes s (unless (not (nat_lt w (workers s))) (Mtapi m.ErrParameter)
+    (live (live_object s.tasks h) (says (Mtapi m.ErrTaskInvalid)) (λ y. unless (not (runs_as w kind.Tally y)) (Mtapi m.ErrTaskInvalid) (f y)))) r (f v.task)
 tally_goes s w h x v r f e1 e2 e3 = grind (arith, nat_tests)
 
 -- what a row may answer and do
@@ -69,20 +73,24 @@ module _ (s : State) (w h : ℕ) (x : Work) (v : Holds s w h x) where
   both_taken cell (Some p) None = gave_up _
   both_taken cell (Some p) (Some q) =
       gives_live Locks (live_object s.mutexes p) _ _ (gave_up _) (λ y. gives_live Locks (live_object s.segments q) _ _ (gave_up _) (λ z.
-      gives_cond Locks (not (nat_lt cell (length z.cells))) _ _ (gave_up _) (gives_cond Locks (is_some y.owner) _ _ v (p, q, noted_holds s _ w h x (tally_has p q) v refl))))
+      gives_cond Locks (not (nat_lt cell (length z.cells))) _ _ (gave_up _)
+      (gives_cond Locks (is_some y.owner) _ _ v (p, q, noted_holds s _ w h x (tally_has p q) v refl))))
 
   locked : (args : List ℤ) (o : Option Adds) → Gives Locks (locks s w h args o)
   locked args None = gave_up _
   locked args (Some y) = both_taken y.cell _ _
 
 -- a tally that has done nothing asks for both
-pub locked_as : (s : State) (w h : ℕ) (x : Work) (v : Holds s w h x) (r : Reply) → w < workers s → x.kind ≡ kind.Tally → (x.tally.stage == 0) ≡ true → IsNext s (entry w (op.TallyLock (record { 0 = h })) r)
+pub locked_as : (s : State) (w h : ℕ) (x : Work) (v : Holds s w h x) (r : Reply) → w < workers s → x.kind ≡ kind.Tally → (x.tally.stage == 0) ≡ true
+    → IsNext s (entry w (op.TallyLock (record { 0 = h })) r)
     → LockedAs r w h x (next s (entry w (op.TallyLock (record { 0 = h })) r))
 locked_as s w h x v r l k e i =
     let f : Task → Row = λ y. unless (not (y.notes.tally.stage == 0)) (Mtapi m.ErrParameter) (locks s w h y.args (tally_args y.args)) in
     let g = tally_goes s w h x v r f l k i.allowed in
-    let p = pass (not (v.task.notes.tally.stage == 0)) (Mtapi m.ErrParameter) r (locks s w h v.task.args (tally_args v.task.args)) s (ap not (ap (λ (y : TallyNotes). y.stage == 0) v.runs.did ∙ e)) g.allowed in
-    subst (λ (u : State). LockedAs r w h x u) (sym (g.leads ∙ p.leads)) (by_gives (Locks s w h x v) (locks s w h v.task.args (tally_args v.task.args)) r (locked s w h x v v.task.args (tally_args v.task.args)) p.allowed)
+    let p = pass (not (v.task.notes.tally.stage == 0)) (Mtapi m.ErrParameter) r (locks s w h v.task.args (tally_args v.task.args)) s
+    (ap not (ap (λ (y : TallyNotes). y.stage == 0) v.runs.did ∙ e)) g.allowed in
+    subst (λ (u : State). LockedAs r w h x u) (sym (g.leads ∙ p.leads))
+    (by_gives (Locks s w h x v) (locks s w h v.task.args (tally_args v.task.args)) r (locked s w h x v v.task.args (tally_args v.task.args)) p.allowed)
 
 -- Reading
 
@@ -91,13 +99,19 @@ pub record ReadAs (r : Reply) (w h : ℕ) (x : Work) (u : State) : Type 0 where
   pub reply : r ≡ Number number
   pub holds : Holds u w h (with_done (tally_read number) x)
 
-pub read_as : (s : State) (w h : ℕ) (x : Work) (v : Holds s w h x) (r : Reply) → w < workers s → x.kind ≡ kind.Tally → (x.tally.stage == 1) ≡ true → IsNext s (entry w (op.TallyRead (record { 0 = h })) r)
+pub read_as : (s : State) (w h : ℕ) (x : Work) (v : Holds s w h x) (r : Reply) → w < workers s → x.kind ≡ kind.Tally → (x.tally.stage == 1) ≡ true
+    → IsNext s (entry w (op.TallyRead (record { 0 = h })) r)
     → ReadAs r w h x (next s (entry w (op.TallyRead (record { 0 = h })) r))
 read_as s w h x v r l k e i =
-    let inside : Task → Row = λ y. live (live_object s.segments y.notes.tally.segment) never (λ z. gives (Number (cell_of (cell_in (tally_args y.args)) z)) (notes h (with_tally (tally_read (cell_of (cell_in (tally_args y.args)) z))) ∷ [])) in
+    let inside : Task → Row = λ y. live (live_object s.segments y.notes.tally.segment) never
+    (λ z. gives (Number (cell_of (cell_in (tally_args y.args)) z)) (notes h (with_tally (tally_read (cell_of (cell_in (tally_args y.args)) z))) ∷ [])) in
     let g = tally_goes s w h x v r (λ y. unless (not (y.notes.tally.stage == 1)) (Mtapi m.ErrParameter) (inside y)) l k i.allowed in
-    let p = pass (not (v.task.notes.tally.stage == 1)) (Mtapi m.ErrParameter) r (inside v.task) s (ap not (ap (λ (y : TallyNotes). y.stage == 1) v.runs.did ∙ e)) g.allowed in
-    subst (λ (u : State). ReadAs r w h x u) (sym (g.leads ∙ p.leads)) (by_gives (λ y ms. ReadAs y w h x (after_moves ms s)) (inside v.task) r (gives_live (λ y ms. ReadAs y w h x (after_moves ms s)) (live_object s.segments v.task.notes.tally.segment) never _ tt (λ z. record { number = _; reply = refl; holds = noted_holds s _ w h x (tally_read (cell_of (cell_in (tally_args v.task.args)) z)) v refl })) p.allowed)
+    let p = pass (not (v.task.notes.tally.stage == 1)) (Mtapi m.ErrParameter) r (inside v.task) s
+    (ap not (ap (λ (y : TallyNotes). y.stage == 1) v.runs.did ∙ e)) g.allowed in
+    subst (λ (u : State). ReadAs r w h x u) (sym (g.leads ∙ p.leads))
+    (by_gives (λ y ms. ReadAs y w h x (after_moves ms s)) (inside v.task) r
+    (gives_live (λ y ms. ReadAs y w h x (after_moves ms s)) (live_object s.segments v.task.notes.tally.segment) never _ tt
+    (λ z. record { number = _; reply = refl; holds = noted_holds s _ w h x (tally_read (cell_of (cell_in (tally_args v.task.args)) z)) v refl })) p.allowed)
 
 -- Writing
 
@@ -105,15 +119,22 @@ pub record WrittenAs (r : Reply) (w h : ℕ) (x : Work) (u : State) : Type 0 whe
   pub reply : r ≡ Ok
   pub holds : Holds u w h (with_done tally_written x)
 
-pub written_as : (s : State) (w h : ℕ) (x : Work) (v : Holds s w h x) (value : ℤ) (r : Reply) → w < workers s → x.kind ≡ kind.Tally → (x.tally.stage == 2) ≡ true → value ≡ x.tally.kept +ℤ number_in (tally_args x.args)
+pub written_as : (s : State) (w h : ℕ) (x : Work) (v : Holds s w h x) (value : ℤ) (r : Reply) → w < workers s → x.kind ≡ kind.Tally
+    → (x.tally.stage == 2) ≡ true → value ≡ x.tally.kept +ℤ number_in (tally_args x.args)
     → IsNext s (entry w (op.TallyWrite (record { 0 = h }) value) r) → WrittenAs r w h x (next s (entry w (op.TallyWrite (record { 0 = h }) value) r))
 written_as s w h x v value r l k e d i =
-    let inside : Task → Row = λ y. live (live_object s.segments y.notes.tally.segment) never (λ z. gives Ok (alters Segments y.notes.tally.segment (with_cell (cell_in (tally_args y.args)) value) ∷ notes h (with_tally tally_written) ∷ [])) in
-    let g = tally_goes s w h x v r (λ y. unless (not (y.notes.tally.stage == 2) || not (int_eq value (added y))) (Mtapi m.ErrParameter) (inside y)) l k i.allowed in
+    let inside : Task → Row = λ y. live (live_object s.segments y.notes.tally.segment) never
+    (λ z. gives Ok (alters Segments y.notes.tally.segment (with_cell (cell_in (tally_args y.args)) value) ∷ notes h (with_tally tally_written) ∷ [])) in
+    let g = tally_goes s w h x v r (λ y. unless (not (y.notes.tally.stage == 2)
+    || not (int_eq value (added y))) (Mtapi m.ErrParameter) (inside y)) l k i.allowed in
     let same : value ≡ added v.task = d ∙ (λ j. (sym v.runs.did j).kept +ℤ number_in (tally_args (sym v.runs.arguments j))) in
     let stage : (v.task.notes.tally.stage == 2) ≡ true = ap (λ (y : TallyNotes). y.stage == 2) v.runs.did ∙ e in
-    let p = pass (not (v.task.notes.tally.stage == 2) || not (int_eq value (added v.task))) (Mtapi m.ErrParameter) r (inside v.task) s (λ j. not (stage j) || not ((Decides-int_eq value (added v.task)).1 same j)) g.allowed in
-    subst (λ (u : State). WrittenAs r w h x u) (sym (g.leads ∙ p.leads)) (by_gives (λ y ms. WrittenAs y w h x (after_moves ms s)) (inside v.task) r (gives_live (λ y ms. WrittenAs y w h x (after_moves ms s)) (live_object s.segments v.task.notes.tally.segment) never _ tt (λ z. record { reply = refl; holds = noted_holds s _ w h x tally_written v refl })) p.allowed)
+    let p = pass (not (v.task.notes.tally.stage == 2) || not (int_eq value (added v.task))) (Mtapi m.ErrParameter) r (inside v.task) s (λ j. not (stage j)
+    || not ((Decides-int_eq value (added v.task)).1 same j)) g.allowed in
+    subst (λ (u : State). WrittenAs r w h x u) (sym (g.leads ∙ p.leads))
+    (by_gives (λ y ms. WrittenAs y w h x (after_moves ms s)) (inside v.task) r
+    (gives_live (λ y ms. WrittenAs y w h x (after_moves ms s)) (live_object s.segments v.task.notes.tally.segment) never _ tt
+    (λ z. record { reply = refl; holds = noted_holds s _ w h x tally_written v refl })) p.allowed)
 
 -- Ending
 
@@ -124,20 +145,26 @@ pub record TalliedAs (r : Reply) (w : ℕ) (u : State) : Type 0 where
 
 -- a row that ends the task, beside changes of a mutex and of a segment
 ended : (s : State) (w h : ℕ) (x : Work) (v : Holds s w h x) (b : Bool) (t : Task) (e : TaskEnd)
-    → Gives (λ r ms. TalliedAs r w (after_moves ms s)) (cond b (gives (reply.Ended t.notes.tally.verdict) (ends_task h t.notes.tally.verdict ∷ [])) (gives_back s w h t e))
+    → Gives (λ r ms. TalliedAs r w (after_moves ms s))
+    (cond b (gives (reply.Ended t.notes.tally.verdict) (ends_task h t.notes.tally.verdict ∷ [])) (gives_back s w h t e))
 ended s w h x v true t e = record { end = _; reply = refl; free = ends_free s w h x v t.notes.tally.verdict s.ends }
 ended s w h x v false t e =
     gives_live (λ r ms. TalliedAs r w (after_moves ms s)) (live_object s.segments t.notes.tally.segment) never _ tt (λ y.
-    gives_live (λ r ms. TalliedAs r w (after_moves ms s)) (live_object s.mutexes t.notes.tally.mutex) never _ tt (λ z. record { end = e; reply = refl; free = ends_free s w h x v e s.ends }))
+    gives_live (λ r ms. TalliedAs r w (after_moves ms s)) (live_object s.mutexes t.notes.tally.mutex) never _ tt
+    (λ z. record { end = e; reply = refl; free = ends_free s w h x v e s.ends }))
 
 pub tallied_as : (s : State) (w h : ℕ) (x : Work) (v : Holds s w h x) (r : Reply) → w < workers s → x.kind ≡ kind.Tally
     → (nat_lt x.tally.stage 2 || ((x.tally.stage == 2) && fits (x.tally.kept +ℤ number_in (tally_args x.args)))) ≡ false
     → IsNext s (entry w (op.TallyEnd (record { 0 = h })) r) → TalliedAs r w (next s (entry w (op.TallyEnd (record { 0 = h })) r))
 tallied_as s w h x v r l k d i =
     let how : Task → TaskEnd = λ y. cond (y.notes.tally.stage == 2) (Failed m.ErrActionFailed) (Completed (added y ∷ [])) in
-    let inside : Task → Row = λ y. cond (y.notes.tally.stage == 4) (gives (reply.Ended y.notes.tally.verdict) (ends_task h y.notes.tally.verdict ∷ [])) (gives_back s w h y (how y)) in
-    let g = tally_goes s w h x v r (λ y. unless (nat_lt y.notes.tally.stage 2 || ((y.notes.tally.stage == 2) && fits (added y))) (Mtapi m.ErrParameter) (inside y)) l k i.allowed in
+    let inside : Task → Row = λ y. cond (y.notes.tally.stage == 4) (gives (reply.Ended y.notes.tally.verdict) (ends_task h y.notes.tally.verdict ∷ []))
+    (gives_back s w h y (how y)) in
+    let g = tally_goes s w h x v r (λ y. unless (nat_lt y.notes.tally.stage 2
+    || ((y.notes.tally.stage == 2) && fits (added y))) (Mtapi m.ErrParameter) (inside y)) l k i.allowed in
     let may : (nat_lt v.task.notes.tally.stage 2 || ((v.task.notes.tally.stage == 2) && fits (added v.task))) ≡ false =
     (λ j. nat_lt (v.runs.did j).stage 2 || (((v.runs.did j).stage == 2) && fits ((v.runs.did j).kept +ℤ number_in (tally_args (v.runs.arguments j))))) ∙ d in
-    let p = pass (nat_lt v.task.notes.tally.stage 2 || ((v.task.notes.tally.stage == 2) && fits (added v.task))) (Mtapi m.ErrParameter) r (inside v.task) s may g.allowed in
-    subst (λ (u : State). TalliedAs r w u) (sym (g.leads ∙ p.leads)) (by_gives (λ y ms. TalliedAs y w (after_moves ms s)) (inside v.task) r (ended s w h x v (v.task.notes.tally.stage == 4) v.task (how v.task)) p.allowed)
+    let p = pass (nat_lt v.task.notes.tally.stage 2
+    || ((v.task.notes.tally.stage == 2) && fits (added v.task))) (Mtapi m.ErrParameter) r (inside v.task) s may g.allowed in
+    subst (λ (u : State). TalliedAs r w u) (sym (g.leads ∙ p.leads))
+    (by_gives (λ y ms. TalliedAs y w (after_moves ms s)) (inside v.task) r (ended s w h x v (v.task.notes.tally.stage == 4) v.task (how v.task)) p.allowed)

@@ -107,10 +107,12 @@ says_by : (w : Wanted) (s : State) (who : ℕ) (last : Bool) (r : Reply) (ms : L
 says_by (want.Task t) s who _ _ _ (is.refuses o c e) = code c (not_timeout c e) (not_spent ended c e)
 says_by (want.Task t) s who _ _ _ (is.looks_early _ x f u d) = waits
 says_by (want.Task t) s who _ _ _ (is.looks_last _ x f u d) = late _ refl (λ b. refl) refl
-says_by (want.Task t) s who _ _ _ (is.looks_over _ last x e n f u d) = record { pending = λ i e. refl; stays = λ e b. refl; early = λ v e. refl; found = λ v d e. refl }
+says_by (want.Task t) s who _ _ _ (is.looks_over _ last x e n f u d) =
+    record { pending = λ i e. refl; stays = λ e b. refl; early = λ v e. refl; found = λ v d e. refl }
 says_by (want.Task t) s who _ _ _ (is.refuses_caller o c e) = absurd (cc)
 says_by want.Entrance s who _ _ _ (is.refuses o c e) = code c (not_timeout c e) (not_spent done c e)
-says_by want.Entrance s who _ _ _ (is.enters_early a b) = record { pending = λ i e. absurd i; stays = λ e b. absurd (cc); early = λ v e. refl; found = λ v d e. absurd (cc) }
+says_by want.Entrance s who _ _ _ (is.enters_early a b) =
+    record { pending = λ i e. absurd i; stays = λ e b. absurd (cc); early = λ v e. refl; found = λ v d e. absurd (cc) }
 says_by want.Entrance s who _ _ _ (is.enters_node a b) = ok refl
 says_by want.Entrance s who _ _ _ (is.refuses_caller o c e) = absurd (cc)
 says_by (want.AllMembers g) s who _ _ _ (is.refuses o c e) = code c (not_timeout c e) (not_spent done c e)
@@ -124,13 +126,20 @@ says_by (want.AllMembers g) s who _ _ _ (is.refuses_caller o c e) = absurd (cc)
 says_by (want.FirstMember g) s who _ _ _ (is.refuses o c e) = code c (not_timeout c e) (not_spent given c e)
 says_by (want.FirstMember g) s who _ _ _ (is.any_early _ x e b) = waits
 says_by (want.FirstMember g) s who _ _ _ (is.any_late _) = late _ refl (λ b. refl) refl
-says_by (want.FirstMember g) s who _ _ _ (is.any_given _ last x y ys t e n a b f d) = record { pending = λ i e. refl; stays = λ e b. refl; early = λ v e. refl; found = λ v d e. refl }
+says_by (want.FirstMember g) s who _ _ _ (is.any_given _ last x y ys t e n a b f d) =
+    record { pending = λ i e. refl; stays = λ e b. refl; early = λ v e. refl; found = λ v d e. refl }
 says_by (want.FirstMember g) s who _ _ _ (is.refuses_caller o c e) = absurd (cc)
 says_by (want.Mutex h) s who _ _ _ (is.refuses_caller o c e) = mcode c (not_caller_timeout c e) (not_spent_caller key c e)
 says_by (want.Mutex h) s who _ _ _ (is.mutex_early _ x k b) = waits
 says_by (want.Mutex h) s who _ _ _ (is.mutex_late _) = late _ refl (λ b. refl) refl
 says_by (want.Mutex h) s who _ _ _ (is.locks_mutex _ last x k b) =
-    record { pending = λ i e. refl; stays = λ e b. refl; early = λ v e. refl; found = λ v d e. key_found x.depth (every_at Shallow s.mutexes h.0 x d k.found).deep }
+    record {
+      pending = λ i e. refl;
+      stays = λ e b. refl;
+      early = λ v e. refl;
+      found =
+          λ v d e. key_found x.depth (every_at Shallow s.mutexes h.0 x d k.found).deep;
+    }
 says_by (want.Mutex h) s who _ _ _ (is.refuses o c e) = absurd (cc)
 says_by (want.Sem h) s who _ _ _ (is.refuses_caller o c e) = mcode c (not_caller_timeout c e) (not_spent_caller done c e)
 says_by (want.Sem h) s who _ _ _ (is.sem_early _ x k b) = waits

@@ -54,14 +54,16 @@ same_part e = cc
 abbrev CallerBy : List Statement → List Turn → Type 0
 CallerBy ss ts = (rs : List Reply) × CallerRan in_turns ss ts rs
 
-callers_by : (s : State) (L : List NodeEntry) (ps : List Part) (who : ℕ) → ((i : ℕ) (p : Part) → slice_get ps i ≡ Some p → CallerBy p.statements (turns_of (who + i) s L))
+callers_by : (s : State) (L : List NodeEntry) (ps : List Part) (who : ℕ)
+    → ((i : ℕ) (p : Part) → slice_get ps i ≡ Some p → CallerBy p.statements (turns_of (who + i) s L))
     → (rss : List (List Reply)) × CallersRan in_turns (λ k. turns_of k s L) who ps rss
 unfolding CallersRan
 callers_by s L [] who f = ([], tt)
 callers_by s L (p ∷ ps) who f =
     let here : who + 0 ≡ who = omega arith in
     let first = subst (λ (n : ℕ). CallerBy p.statements (turns_of n s L)) here (f 0 p refl) in
-    let more = callers_by s L ps (suc who) (λ i q e. let n : who + suc i ≡ suc who + i = omega arith in subst (λ (m : ℕ). CallerBy q.statements (turns_of m s L)) n (f (suc i) q e)) in
+    let more = callers_by s L ps (suc who) (λ i q e. let n : who + suc i ≡ suc who + i = omega arith in
+    subst (λ (m : ℕ). CallerBy q.statements (turns_of m s L)) n (f (suc i) q e)) in
     (first.0 ∷ more.0, (first.1, more.1))
 
 -- before the first entry no task is listed
@@ -111,11 +113,14 @@ module _ (terms : Terms) (w n : ℕ) (parts : List Part) (ss : List Statement) (
   -- no other seat moves the phase
   caller_quiet : (k : ℕ) (ps : List Statement) (es : List NodeEntry) → CallerAs ps k es → NoPhase es
   caller_quiet k ps es d =
-      let looks = quiet_append (replicate d.enters.pending (entry k op.Enter Pending)) (entry k op.Enter d.reply ∷ []) (quiet_replicate d.enters.pending (entry k op.Enter Pending) refl) (refl, tt) in
-      subst NoPhase (sym d.is) (quiet_append d.front d.own (subst NoPhase (sym d.enters.is) looks) (carried_quiet k (if is_ok d.reply then ps else []) [] d.own d.carried.replies d.carried.carried))
+      let looks = quiet_append (replicate d.enters.pending (entry k op.Enter Pending)) (entry k op.Enter d.reply
+      ∷ []) (quiet_replicate d.enters.pending (entry k op.Enter Pending) refl) (refl, tt) in
+      subst NoPhase (sym d.is) (quiet_append d.front d.own (subst NoPhase (sym d.enters.is) looks)
+      (carried_quiet k (if is_ok d.reply then ps else []) [] d.own d.carried.replies d.carried.carried))
 
   worker_quiet : (k : ℕ) (es : List NodeEntry) → WorkerAs k es → NoPhase es
-  worker_quiet k es d = subst NoPhase (sym d.is) (quiet_append (all_in k d.rounds) (entry k op.Pick Stop ∷ []) (work_quiet (all_in k d.rounds) (rounds_work k d.rounds)) (refl, tt))
+  worker_quiet k es d = subst NoPhase (sym d.is)
+      (quiet_append (all_in k d.rounds) (entry k op.Pick Stop ∷ []) (work_quiet (all_in k d.rounds) (rounds_work k d.rounds)) (refl, tt))
 
   others_quiet : OthersQuiet w H
   others_quiet k ne = elim (place_of w n k) [
@@ -153,7 +158,8 @@ module _ (terms : Terms) (w n : ℕ) (parts : List Part) (ss : List Statement) (
   release_is : (r : Reply) → lets ≡ entry w op.Release r ∷ [] → r ≡ Ok
   release_is r e =
       let u : State = after_from (opening terms) first_call.before in
-      let n = own_next w (entry w op.Release r) (next u I) first_call.behind x.main.own first_call.legal first_call.quiet (first_call.rest_is ∙ ap (λ (L : List NodeEntry). L ++ x.main.own) e) in
+      let n = own_next w (entry w op.Release r) (next u I) first_call.behind x.main.own first_call.legal first_call.quiet (first_call.rest_is
+      ∙ ap (λ (L : List NodeEntry). L ++ x.main.own) e) in
       release_reply (after_from (next u I) n.before) w r (n.phase ∙ open_phase u w x.main.opens.first first_call.phase) n.next_is.allowed
 
   heads_are : (b : Bool) → MatchBool b (lets ≡ []) ((r : Reply) × (lets ≡ entry w op.Release r ∷ [])) → entry w op.Initialize Ok ∷ lets ≡ head_entries w b
@@ -202,7 +208,8 @@ module _ (terms : Terms) (w n : ℕ) (parts : List Part) (ss : List Statement) (
   early = early_at x.cuts.before [] (sym (append-nil x.cuts.before))
 
   closed_is : x.a ≡ Ok
-  closed_is = close_reply (after_from (opening terms) x.cuts.before) w x.a early (first_next (opening terms) x.cuts.before C (x.cuts.behind ++ F ∷ x.cuts.rest) legal_whole).0.allowed
+  closed_is = close_reply (after_from (opening terms) x.cuts.before) w x.a early
+      (first_next (opening terms) x.cuts.before C (x.cuts.behind ++ F ∷ x.cuts.rest) legal_whole).0.allowed
 
   -- and finalized
   regrouped : x.cuts.before ++ C ∷ (x.cuts.behind ++ F ∷ x.cuts.rest) ≡ (x.cuts.before ++ C ∷ x.cuts.behind) ++ F ∷ x.cuts.rest
@@ -236,7 +243,8 @@ module _ (terms : Terms) (w n : ℕ) (parts : List Part) (ss : List Statement) (
       let u : State = after_from (opening terms) S in
       let room = stopped_room terms S prefix in
       let count : workers u ≡ w = ap (λ (t : Terms). t.settings.workers) (terms_stay (opening terms) S prefix) ∙ x.workers_are in
-      let all : all_marked (workers u) u.stopped ≡ true = all_marks (workers u) u.stopped (let a = x.main_seat in let b = x.few in omega arith) (λ k l. marks_final k (omega arith)) in
+      let all : all_marked (workers u) u.stopped ≡ true =
+      all_marks (workers u) u.stopped (let a = x.main_seat in let b = x.few in omega arith) (λ k l. marks_final k (omega arith)) in
       final_reply u w x.b phase_final all (first_next (opening terms) S F x.cuts.rest legal_final).0.allowed
 
   -- The parts of the run
@@ -244,14 +252,18 @@ module _ (terms : Terms) (w n : ℕ) (parts : List Part) (ss : List Statement) (
   all_main : entries_of w H ≡ x.own ++ C ∷ F ∷ []
   all_main =
       let fin : entries_of w (F ∷ x.cuts.rest) ≡ F ∷ [] = entries-append w (F ∷ []) x.cuts.rest ∙ (λ i. own_one w F refl i ++ x.cuts.main_rest i) in
-      let mid : entries_of w (x.cuts.behind ++ F ∷ x.cuts.rest) ≡ F ∷ [] = entries-append w x.cuts.behind (F ∷ x.cuts.rest) ∙ (λ i. x.cuts.main_behind i ++ fin i) in
-      let tail : entries_of w (C ∷ (x.cuts.behind ++ F ∷ x.cuts.rest)) ≡ C ∷ F ∷ [] = entries-append w (C ∷ []) (x.cuts.behind ++ F ∷ x.cuts.rest) ∙ (λ i. own_one w C refl i ++ mid i) in
-      ap (λ (L : List NodeEntry). entries_of w L) whole ∙ (entries-append w x.cuts.before (C ∷ (x.cuts.behind ++ F ∷ x.cuts.rest)) ∙ (λ i. x.cuts.main_before i ++ tail i))
+      let mid : entries_of w (x.cuts.behind ++ F ∷ x.cuts.rest) ≡ F ∷ [] =
+      entries-append w x.cuts.behind (F ∷ x.cuts.rest) ∙ (λ i. x.cuts.main_behind i ++ fin i) in
+      let tail : entries_of w (C ∷ (x.cuts.behind ++ F ∷ x.cuts.rest)) ≡ C ∷ F ∷ [] =
+      entries-append w (C ∷ []) (x.cuts.behind ++ F ∷ x.cuts.rest) ∙ (λ i. own_one w C refl i ++ mid i) in
+      ap (λ (L : List NodeEntry). entries_of w L) whole
+      ∙ (entries-append w x.cuts.before (C ∷ (x.cuts.behind ++ F ∷ x.cuts.rest)) ∙ (λ i. x.cuts.main_before i ++ tail i))
 
   pub main_by : MainRan in_turns ss (turns_of w (opening terms) H) x.main.carried.replies
   main_by =
       let es = x.main.own in
-      let head : x.main.front ≡ head_entries w (has_begin ss) = x.main.opens.is ∙ ((λ i. entry w op.Initialize (first_is i) ∷ lets) ∙ heads_are (has_begin ss) x.main.opens.let_is) in
+      let head : x.main.front ≡ head_entries w (has_begin ss) =
+      x.main.opens.is ∙ ((λ i. entry w op.Initialize (first_is i) ∷ lets) ∙ heads_are (has_begin ss) x.main.opens.let_is) in
       main_turns w ss x.main.carried.replies (opening terms) H (once_opening terms) x.legal (record {
         body = es;
         is =
@@ -289,11 +301,15 @@ module _ (terms : Terms) (w n : ℕ) (parts : List Part) (ss : List Statement) (
       | is_worker h ↦ absurd (omega arith)
       | is_main e ↦ absurd (omega arith)
       | is_caller h g ↦ others_front k x.cuts.behind (F ∷ x.cuts.rest) (none_behind k h g)
-      | is_none h ↦ others_front k x.cuts.behind (F ∷ x.cuts.rest) (beyond n k (x.cuts.behind ++ F ∷ x.cuts.rest) (bound_here (x.cuts.before ++ C ∷ []) (x.cuts.behind ++ F ∷ x.cuts.rest) (whole ∙ sym (append_assoc x.cuts.before (C ∷ []) (x.cuts.behind ++ F ∷ x.cuts.rest)))) h)
+      | is_none h ↦ others_front k x.cuts.behind (F
+          ∷ x.cuts.rest) (beyond n k (x.cuts.behind ++ F
+          ∷ x.cuts.rest) (bound_here (x.cuts.before ++ C ∷ []) (x.cuts.behind ++ F ∷ x.cuts.rest) (whole
+          ∙ sym (append_assoc x.cuts.before (C ∷ []) (x.cuts.behind ++ F ∷ x.cuts.rest)))) h)
     ];
   }
 
-module _ (load : Workload) (terms : Terms) (p : Part) (ps : List Part) (H : List NodeEntry) (x : Known terms load.settings.workers (load.settings.workers + length (p ∷ ps)) (p ∷ ps) p.statements H) where
+module _ (load : Workload) (terms : Terms) (p : Part) (ps : List Part) (H : List NodeEntry)
+    (x : Known terms load.settings.workers (load.settings.workers + length (p ∷ ps)) (p ∷ ps) p.statements H) where
   each_caller : (i : ℕ) (q : Part) → slice_get ps i ≡ Some q → CallerBy q.statements (turns_of (suc load.settings.workers + i) (opening terms) H)
   each_caller i q g =
       let low = got_below ps i q g in

@@ -35,17 +35,23 @@ asked_holds s w h x v =
     }
 
 -- a watch that may look once more is told whether it was asked to stop
-pub asked_as : (s : State) (w h : ℕ) (x : Work) (v : Holds s w h x) (n : ℕ) (r : Reply) → w < workers s → x.kind ≡ kind.Watch → x.seen ≡ false → looks_of x.args ≡ Some n → (x.looks == n) ≡ false → IsNext s (entry w (op.Asked (record { 0 = h })) r)
+pub asked_as : (s : State) (w h : ℕ) (x : Work) (v : Holds s w h x) (n : ℕ) (r : Reply) → w < workers s → x.kind ≡ kind.Watch → x.seen ≡ false
+    → looks_of x.args ≡ Some n → (x.looks == n) ≡ false → IsNext s (entry w (op.Asked (record { 0 = h })) r)
     → AskedAs r w h x (next s (entry w (op.Asked (record { 0 = h })) r))
 asked_as s w h x v n r l k e a d i =
     let f : Task → Row = λ y. mtapi_unless (asked_refusals w y) (gives (Asked y.notes.requested) (notes h asked_once ∷ [])) in
     let g = own_goes s w h x v r f l i.allowed in
     let runs : runs_as w kind.Watch v.task ≡ true = ap (λ (z : Kind). runs_as w z v.task) (sym k) ∙ runs_as_its w x v.task v.runs in
-    let p = pass (not (runs_as w kind.Watch v.task)) (Mtapi m.ErrTaskInvalid) r (unless (is_none (looks_of v.task.args) || v.task.notes.seen || holds (λ m. v.task.notes.looks == m) (looks_of v.task.args)) (Mtapi m.ErrParameter) (gives (Asked v.task.notes.requested) (notes h asked_once ∷ []))) s (ap not runs) g.allowed in
+    let p = pass (not (runs_as w kind.Watch v.task)) (Mtapi m.ErrTaskInvalid) r
+    (unless (is_none (looks_of v.task.args) || v.task.notes.seen
+    || holds (λ m. v.task.notes.looks == m) (looks_of v.task.args)) (Mtapi m.ErrParameter)
+    (gives (Asked v.task.notes.requested) (notes h asked_once ∷ []))) s (ap not runs) g.allowed in
     let looks : looks_of v.task.args ≡ Some n = ap looks_of v.runs.arguments ∙ a in
     let c : (is_none (looks_of v.task.args) || v.task.notes.seen || holds (λ m. v.task.notes.looks == m) (looks_of v.task.args)) ≡ false =
     (λ j. is_none (looks j) || (v.runs.reported ∙ e) j || holds (λ m. v.runs.looked j == m) (looks j)) ∙ d in
-    let q = pass (is_none (looks_of v.task.args) || v.task.notes.seen || holds (λ m. v.task.notes.looks == m) (looks_of v.task.args)) (Mtapi m.ErrParameter) r (gives (Asked v.task.notes.requested) (notes h asked_once ∷ [])) s c p.allowed in
+    let q = pass (is_none (looks_of v.task.args) || v.task.notes.seen
+    || holds (λ m. v.task.notes.looks == m) (looks_of v.task.args)) (Mtapi m.ErrParameter) r
+    (gives (Asked v.task.notes.requested) (notes h asked_once ∷ [])) s c p.allowed in
     record {
       requested = v.task.notes.requested;
       reply = q.allowed;
@@ -58,14 +64,17 @@ pub record WatchedAs (r : Reply) (w : ℕ) (u : State) : Type 0 where
   pub free : Free u w
 
 -- a watch that was told to stop, or has no looks left, ends
-pub watched_as : (s : State) (w h : ℕ) (x : Work) (v : Holds s w h x) (r : Reply) → w < workers s → x.kind ≡ kind.Watch → (not x.seen && holds (λ n. nat_lt x.looks n) (looks_of x.args)) ≡ false → IsNext s (entry w (op.WatchEnd (record { 0 = h })) r)
+pub watched_as : (s : State) (w h : ℕ) (x : Work) (v : Holds s w h x) (r : Reply) → w < workers s → x.kind ≡ kind.Watch
+    → (not x.seen && holds (λ n. nat_lt x.looks n) (looks_of x.args)) ≡ false → IsNext s (entry w (op.WatchEnd (record { 0 = h })) r)
     → WatchedAs r w (next s (entry w (op.WatchEnd (record { 0 = h })) r))
 watched_as s w h x v r l k d i =
     let f : Task → Row = λ y. mtapi_unless (watch_end_refusals w y) (gives (reply.Ended (watch_end y)) (ends_task h (watch_end y) ∷ [])) in
     let g = own_goes s w h x v r f l i.allowed in
     let runs : runs_as w kind.Watch v.task ≡ true = ap (λ (z : Kind). runs_as w z v.task) (sym k) ∙ runs_as_its w x v.task v.runs in
     let last : Row = gives (reply.Ended (watch_end v.task)) (ends_task h (watch_end v.task) ∷ []) in
-    let p = pass (not (runs_as w kind.Watch v.task)) (Mtapi m.ErrTaskInvalid) r (unless (not v.task.notes.seen && holds (λ n. nat_lt v.task.notes.looks n) (looks_of v.task.args)) (Mtapi m.ErrParameter) last) s (ap not runs) g.allowed in
+    let p = pass (not (runs_as w kind.Watch v.task)) (Mtapi m.ErrTaskInvalid) r
+    (unless (not v.task.notes.seen && holds (λ n. nat_lt v.task.notes.looks n) (looks_of v.task.args)) (Mtapi m.ErrParameter) last) s
+    (ap not runs) g.allowed in
     let c : (not v.task.notes.seen && holds (λ n. nat_lt v.task.notes.looks n) (looks_of v.task.args)) ≡ false =
     (λ j. not (v.runs.reported j) && holds (λ n. nat_lt (v.runs.looked j) n) (looks_of (v.runs.arguments j))) ∙ d in
     let q = pass (not v.task.notes.seen && holds (λ n. nat_lt v.task.notes.looks n) (looks_of v.task.args)) (Mtapi m.ErrParameter) r last s c p.allowed in

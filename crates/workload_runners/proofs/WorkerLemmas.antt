@@ -15,8 +15,10 @@ module _ (z : Cell) (parts : List Part) where
   given_workers a a' s r o =
       let p = All-pop (IsIdle z) a.workers.items a'.workers.items (Some s) o.items r.workers in (p.0, p.1)
 
-  all_did : (ss : List Statement) (a a' : AllHands) (s : Seat) (c : ReturnedSeats) (b : Back) (c' : ReturnedSeats) → GaveWorker a a' s → CameBack WorkerAs s b → IsJoined c b c' → IsClean c'
-      → (IsClean c → AllDid parts ss a'.hands.main a'.hands.callers.items a'.workers.items c) → AllDid parts ss a.hands.main a.hands.callers.items a.workers.items c'
+  all_did : (ss : List Statement) (a a' : AllHands) (s : Seat) (c : ReturnedSeats) (b : Back) (c' : ReturnedSeats) → GaveWorker a a' s → CameBack WorkerAs s b
+      → IsJoined c b c' → IsClean c'
+      → (IsClean c → AllDid parts ss a'.hands.main a'.hands.callers.items a'.workers.items c)
+      → AllDid parts ss a.hands.main a.hands.callers.items a.workers.items c'
   all_did ss a a' s c b c' o k j clean before =
       let was = before (record { started = sym j.refused ∙ clean.started; turned = j.crew clean.turned }) in
       record {
@@ -25,14 +27,16 @@ module _ (z : Cell) (parts : List Part) where
         whole =
             j.others
             ∙ (ap (λ (xs : List Seat). xs ++ b.seat ∷ []) was.whole ∙ append_assoc was.called was.worked (b.seat ∷ []));
-        main_closed = subst (λ (m : Seat). MainClosed ss a.hands.main was.called m) (sym j.main) (subst (λ (h : Hands). MainClosed ss h.main was.called c.main) o.hands was.main_closed);
+        main_closed = subst (λ (m : Seat). MainClosed ss a.hands.main was.called m) (sym j.main)
+            (subst (λ (h : Hands). MainClosed ss h.main was.called c.main) o.hands was.main_closed);
         callers_did = subst (λ (h : Hands). AllZip (AddsOwn (CallerIn parts h.main.number)) h.callers.items was.called) o.hands was.callers_did;
         workers_did =
             subst (λ (xs : List Seat). AllZip (AddsOwn WorkerAs) xs (was.worked ++ b.seat ∷ [])) (sym o.items)
             (AllZip-push (AddsOwn WorkerAs) a'.workers.items was.worked s b.seat was.workers_did (k.did (j.back clean.turned)));
       }
 
-  pub joined_all : (ss : List Statement) (a a' : AllHands) (s : Seat) (c : ReturnedSeats) (b : Back) (c' : ReturnedSeats) → AreAllReady z parts a → GaveWorker a a' s → CameBack WorkerAs s b → IsJoined c b c'
+  pub joined_all : (ss : List Statement) (a a' : AllHands) (s : Seat) (c : ReturnedSeats) (b : Back) (c' : ReturnedSeats) → AreAllReady z parts a
+      → GaveWorker a a' s → CameBack WorkerAs s b → IsJoined c b c'
       → IsWholeCrewOf z parts ss a' c → IsWholeCrewOf z parts ss a c'
   joined_all ss a a' s c b c' r o k j i =
       let p = given_workers a a' s r o in
@@ -43,7 +47,8 @@ module _ (z : Cell) (parts : List Part) where
         len = (let f = i.len in let l = o.len in let q = j.len in omega arith);
         room = (let f = i.room in let q = j.capacity in omega arith);
         did = λ clean. all_did ss a a' s c b c' o k j clean i.did;
-        gave_up = λ refused. subst (λ (m : Seat). GaveUp a.hands.main m) (sym j.main) (subst (λ (h : Hands). GaveUp h.main c.main) o.hands (i.gave_up (sym j.refused ∙ refused)));
+        gave_up = λ refused. subst (λ (m : Seat). GaveUp a.hands.main m) (sym j.main)
+            (subst (λ (h : Hands). GaveUp h.main c.main) o.hands (i.gave_up (sym j.refused ∙ refused)));
       }
 
   ended_did : (ss : List Statement) (a : AllHands) (c c' : ReturnedSeats) → a.workers.items ≡ [] → IsEnded Close c c' → IsClean c'
@@ -60,7 +65,8 @@ module _ (z : Cell) (parts : List Part) where
         workers_did = subst (λ (xs : List Seat). AllZip (AddsOwn WorkerAs) xs []) (sym none) tt;
       }
 
-  pub ended_all : (ss : List Statement) (a : AllHands) (c c' : ReturnedSeats) → a.workers.items ≡ [] → IsCrewOf z parts ss a.hands c → IsEnded Close c c' → IsOf z c' → (c.refused ≡ true → c' ≡ c) → IsWholeCrewOf z parts ss a c'
+  pub ended_all : (ss : List Statement) (a : AllHands) (c c' : ReturnedSeats) → a.workers.items ≡ [] → IsCrewOf z parts ss a.hands c → IsEnded Close c c'
+      → IsOf z c' → (c.refused ≡ true → c' ≡ c) → IsWholeCrewOf z parts ss a c'
   ended_all ss a c c' none i k of_cell untouched = record {
     of_cell = of_cell;
     len = (let f = i.len in let q = k.len in omega arith);

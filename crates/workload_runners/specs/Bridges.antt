@@ -25,10 +25,12 @@ in_entries w = record { made = MadeAs w; head = head_entries w; tail = entry w o
 
 -- what main's entries tell of its part, its turns tell too
 abbrev pub MainTurns : Type 0
-MainTurns = (w : ℕ) (ss : List Statement) (rs : List Reply) (s : State) (H : List NodeEntry) → OnceListed s → LegalFrom s H → MainRan (in_entries w) ss (entries_of w H) rs → MainRan in_turns ss (turns_of w s H) rs
+MainTurns = (w : ℕ) (ss : List Statement) (rs : List Reply) (s : State) (H : List NodeEntry) → OnceListed s → LegalFrom s H
+    → MainRan (in_entries w) ss (entries_of w H) rs → MainRan in_turns ss (turns_of w s H) rs
 
 abbrev pub CallerTurns : Type 0
-CallerTurns = (w : ℕ) (ss : List Statement) (rs : List Reply) (s : State) (H : List NodeEntry) → OnceListed s → LegalFrom s H → CallerRan (in_entries w) ss (entries_of w H) rs → CallerRan in_turns ss (turns_of w s H) rs
+CallerTurns = (w : ℕ) (ss : List Statement) (rs : List Reply) (s : State) (H : List NodeEntry) → OnceListed s → LegalFrom s H
+    → CallerRan (in_entries w) ss (entries_of w H) rs → CallerRan in_turns ss (turns_of w s H) rs
 
 abbrev pub WorkerTurns : Type 0
 WorkerTurns = (w : ℕ) (s : State) (H : List NodeEntry) → WorkerAs w (entries_of w H) → WorkerBy (turns_of w s H)

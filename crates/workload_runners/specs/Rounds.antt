@@ -38,7 +38,8 @@ retries w t pending = replicate pending (entry w (op.TallyLock t) reply.Pending)
 abbrev pub tally_steps : ℕ → TaskHandle → Tallying → List NodeEntry
 tally_steps w t GivesUp = entry w (op.TallyLock t) (reply.Asked false) ∷ []
 tally_steps w t (Reads z) = entry w (op.TallyLock t) (reply.Asked true) ∷ entry w (op.TallyRead t) (reply.Number z) ∷ []
-tally_steps w t (Writes z value) = entry w (op.TallyLock t) (reply.Asked true) ∷ entry w (op.TallyRead t) (reply.Number z) ∷ entry w (op.TallyWrite t value) reply.Ok ∷ []
+tally_steps w t (Writes z value) = entry w (op.TallyLock t) (reply.Asked true) ∷ entry w (op.TallyRead t) (reply.Number z)
+    ∷ entry w (op.TallyWrite t value) reply.Ok ∷ []
 
 abbrev pub tally_entries : ℕ → TaskHandle → ℕ → Tallying → TaskEnd → List NodeEntry
 tally_entries w t pending steps end = (retries w t pending ++ tally_steps w t steps) ++ entry w (op.TallyEnd t) (reply.Ended end) ∷ []
@@ -47,7 +48,8 @@ tally_entries w t pending steps end = (retries w t pending ++ tally_steps w t st
 abbrev pub entries_in : ℕ → Round → List NodeEntry
 entries_in w Rested = entry w op.Pick reply.Idle ∷ []
 entries_in w (Ran t a k args done) = entry w op.Pick (reply.Picked t a k args) ∷ entry w (op.Finish t done) reply.Ok ∷ []
-entries_in w (Watched t a k args reported end) = entry w op.Pick (reply.Picked t a k args) ∷ (asks w t reported ++ entry w (op.WatchEnd t) (reply.Ended end) ∷ [])
+entries_in w (Watched t a k args reported end) =
+    entry w op.Pick (reply.Picked t a k args) ∷ (asks w t reported ++ entry w (op.WatchEnd t) (reply.Ended end) ∷ [])
 entries_in w (Tallied t a k args pending steps end) = entry w op.Pick (reply.Picked t a k args) ∷ tally_entries w t pending steps end
 
 unfoldable pub all_in : ℕ → List Round → List NodeEntry

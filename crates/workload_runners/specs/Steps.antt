@@ -117,7 +117,8 @@ abbrev pub ReadsCell : Seat → TaskHandle → List ℤ → ℤ → Seat → Typ
 ReadsCell old t args z new = (a : ℕ) × (b : ℕ) × Works old (op.TallyRead t) (reply.Number z) t.0 (tallying args (tally_read z (tally_has a b no_tally))) new
 
 abbrev pub WritesCell : Seat → TaskHandle → List ℤ → ℤ → ℤ → Seat → Type 0
-WritesCell old t args z value new = (a : ℕ) × (b : ℕ) × Works old (op.TallyWrite t value) reply.Ok t.0 (tallying args (tally_written (tally_read z (tally_has a b no_tally)))) new
+WritesCell old t args z value new = (a : ℕ) × (b : ℕ)
+    × Works old (op.TallyWrite t value) reply.Ok t.0 (tallying args (tally_written (tally_read z (tally_has a b no_tally)))) new
 
 -- these entries are a tally's that has both
 pub record HasBoth (w : ℕ) (t : TaskHandle) (es : List NodeEntry) : Type 0 where

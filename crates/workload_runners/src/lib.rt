@@ -14,5 +14,5 @@ pub use crew::back::Back;
 pub use crew::jobs::WorkerJob;
 pub use looks::look;
 pub use run::{NoRun, RunError, run_node, without_seat};
-pub use statements::{Stop, gives_work, wake};
+pub use statements::{Affected, Stop, affected_by, wake};
 pub use workers::Worker;

@@ -7,7 +7,7 @@ ghost use Rattle.workload_runners.specs.Looks.{Looked, StillLooking};
 use mtapi_values::Timeout;
 use node_core::{Journaled, Op, Reply};
 use std::sync::Wait;
-use turn_cell::{Spent, TurnCell, TurnSeat};
+use turn_cell::{EACH_END, NO_END, Spent, TurnCell, TurnSeat};
 use turn_looks::LookFor;
 use workload_runs::Wanted;
 
@@ -32,6 +32,14 @@ impl LookFor<Journaled> for Awaited {
 
     fn is_waiting(&self, reply: &Reply) -> bool {
         matches!(reply, Reply::Pending)
+    }
+
+    fn awaited(&self) -> u64 {
+        match self.wanted {
+            Wanted::Task(task) => task.0,
+            Wanted::AllMembers(_) | Wanted::FirstMember(_) => EACH_END,
+            _ => NO_END,
+        }
     }
 }
 

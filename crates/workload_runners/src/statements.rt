@@ -35,28 +35,47 @@ fn handle_of(reply: &Reply) -> u64
     }
 }
 
-/// Whether this op may leave a worker something to do: a task that may begin, or the end of the node. An op that ends tasks may, since the
-/// next one of an ordered queue begins then.
-pub fn gives_work(op: &Op) -> bool {
-    matches!(
-        op,
-        Op::TaskStart { .. }
-            | Op::TaskEnqueue { .. }
-            | Op::TaskCancel { .. }
-            | Op::ActionEnable { .. }
-            | Op::ActionDisable { .. }
-            | Op::ActionDelete { .. }
-            | Op::QueueEnable { .. }
-            | Op::QueueDisable { .. }
-            | Op::QueueDelete { .. }
-            | Op::Close
-    )
+/// Who that sleeps may have something to do after an op of a caller.
+#[derive(Drop)]
+pub enum Affected {
+    /// Nobody.
+    Nobody,
+    /// A worker, since a task may begin.
+    Workers,
+    /// Those that wait for ends, since the op may end tasks, a group or the node; and a worker, since the next task of an ordered queue may
+    /// begin.
+    Everybody,
 }
 
-/// After a call that may have left work, a worker that sleeps is called.
-pub fn wake(cell: &TurnCell<Journaled>, gives_work: bool) {
-    if gives_work {
-        cell.work().call();
+/// Who that sleeps may have something to do after this op.
+pub fn affected_by(op: &Op) -> Affected {
+    match op {
+        Op::TaskStart { .. }
+        | Op::TaskEnqueue { .. }
+        | Op::ActionEnable { .. }
+        | Op::QueueEnable { .. } => Affected::Workers,
+        Op::TaskCancel { .. }
+        | Op::ActionDisable { .. }
+        | Op::ActionDelete { .. }
+        | Op::QueueDisable { .. }
+        | Op::QueueDelete { .. }
+        | Op::GroupDelete { .. }
+        | Op::Close => Affected::Everybody,
+        _ => Affected::Nobody,
+    }
+}
+
+/// After a call those are woken that may have something to do.
+pub fn wake(cell: &TurnCell<Journaled>, affected: Affected) {
+    match affected {
+        Affected::Nobody => {}
+        Affected::Workers => cell.work().call(),
+        Affected::Everybody => {
+            cell.work().call();
+            if cell.ends().is_heard() {
+                cell.ends().ring_all();
+            }
+        }
     }
 }
 
@@ -71,10 +90,10 @@ fn once<R: Wait>(
     ensures stated { IfOk result (λ h. AddsOwn (StatedAs (Once op) h) seat.old seat.new) }
     ensures spent { OnErr result (Stranded seat.old seat.new) }
 {
-    let is_work = gives_work(&op);
+    let affected = affected_by(&op);
     match turn(rt, cell, seat, op) {
         Ok(reply) => {
-            wake(cell, is_work);
+            wake(cell, affected);
             Ok(handle_of(&reply))
         }
         Err(spent) => Err(spent),

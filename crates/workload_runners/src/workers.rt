@@ -15,7 +15,7 @@ use mtapi_values::{Args, Kind, TaskHandle};
 use node_core::{Journaled, Op, Reply};
 use std::marker::Model;
 use std::sync::Wait;
-use turn_cell::{Spent, TurnCell, TurnSeat};
+use turn_cell::{NO_END, Spent, TurnCell, TurnSeat};
 use turn_looks::{Pause, ServeEnd, turn};
 
 // How often a watch with these arguments looks.
@@ -198,8 +198,8 @@ fn act<R: Wait, A: ActionSet>(
 
 // A worker that found no task waits once. Before its first wait since it ended one, it tells those that wait for ends.
 fn rest<R: Wait>(rt: &R, cell: &TurnCell<Journaled>, pause: &mut Pause) {
-    if pause.is_new() && cell.ends().is_heard() {
-        cell.ends().ring_all();
+    if pause.is_new() {
+        cell.ends().tell(NO_END);
     }
     pause.wait_for(rt, cell.work());
 }
@@ -229,7 +229,10 @@ fn round<R: Wait, A: ActionSet>(
             pause.leave(cell.work());
             cell.work().pass_on();
             match act(rt, cell, seat, acts, task, kind, args) {
-                Ok(()) => Ok(true),
+                Ok(()) => {
+                    cell.ends().tell(task.0);
+                    Ok(true)
+                }
                 Err(spent) => Err(spent),
             }
         }

@@ -10,5 +10,6 @@ returns-in-Ok-clause-called g c =
 
 pub returns-in-Err-clause-refused : goal.returns-in-Err-clause-refused
 returns-in-Err-clause-refused g c =
-    kept_out c.args.seat c.new-caller.result c.enter.new.self c.into_seat-seat-in-Err.result c.enter.result c.in-Err.status c.failure_of.result c.requires.new c.new-caller.ensures c.enter.ensures c.in-Err.is
+    kept_out c.args.seat c.new-caller.result c.enter.new.self c.into_seat-seat-in-Err.result c.enter.result c.in-Err.status c.failure_of.result c.requires.new
+    c.new-caller.ensures c.enter.ensures c.in-Err.is
     c.into_seat-seat-in-Err.ensures c.known.ensures.legal c.known.ensures.own c.failure_of.ensures

@@ -5,12 +5,14 @@ use Rattle.node_with_workers.proofs.run.end.Goals as goal
 pub close-requires-clause-own : goal.close-requires-clause-own
 close-requires-clause-own g c =
     let items = c.in-Ok-append.ensures.items ∙ ap (λ (xs : List Seat). xs ++ c.args.crew.company.seats.items) c.in-Ok.ensures.items in
-    subst (λ (xs : List Seat). all_of (λ (s : Seat). s.cell ≡ c.args.cell.id) xs) (sym items) (all_own c.args.cell c.args.crew c.in_ok-seat.seat c.requires.seats c.in_ok-seat.ensures.ended.same)
+    subst (λ (xs : List Seat). all_of (λ (s : Seat). s.cell ≡ c.args.cell.id) xs) (sym items)
+    (all_own c.args.cell c.args.crew c.in_ok-seat.seat c.requires.seats c.in_ok-seat.ensures.ended.same)
 
 pub close-requires-clause-complete : goal.close-requires-clause-complete
 close-requires-clause-complete g c =
     let items = c.in-Ok-append.ensures.items ∙ ap (λ (xs : List Seat). xs ++ c.args.crew.company.seats.items) c.in-Ok.ensures.items in
-    subst (λ (xs : List Seat). IsComplete (journal_seats c.args.cell.terms) xs) (sym items) (all_complete c.args.cell c.args.crew c.in_ok-seat.seat c.requires.seats c.in_ok-seat.ensures.ended.same)
+    subst (λ (xs : List Seat). IsComplete (journal_seats c.args.cell.terms) xs) (sym items)
+    (all_complete c.args.cell c.args.crew c.in_ok-seat.seat c.requires.seats c.in_ok-seat.ensures.ended.same)
 
 pub returns-in_err-seat-clause-failed : goal.returns-in_err-seat-clause-failed
 returns-in_err-seat-clause-failed g c = let r = not_ended c.args.cell c.args.crew _ c.requires.seats c.in_err-seat.ensures.refused in search rules

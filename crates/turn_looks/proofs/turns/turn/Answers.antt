@@ -4,7 +4,8 @@ use Rattle.turn_looks.proofs.turns.turn.Goals as goal
 pub returns-clause-turned : goal.returns-clause-turned
 returns-clause-turned g c =
     let e = c.call.ensures in
-    turned_if g.O.Object.legal c.args.seat.now c.call.new.seat c.args.op c.call.result (record { cell = e.cell; number = e.number; terms = e.terms }) c.known.ensures.own e.seen e.mine e.own e.legal
+    turned_if g.O.Object.legal c.args.seat.now c.call.new.seat c.args.op c.call.result
+    (record { cell = e.cell; number = e.number; terms = e.terms }) c.known.ensures.own e.seen e.mine e.own e.legal
 
 pub returns-clause-spent : goal.returns-clause-spent
 returns-clause-spent g c =

@@ -6,7 +6,9 @@ pub returns : goal.returns
 returns c =
     let r = c.in_ok-rest.ensures in
     let s = c.in_ok-callers.ensures in
-    let d = dealt c.args.cell.now c.args.workers _ c.args.seats.items c.split_off.new.self.items c.in_ok-rest.rest.items c.split_off-2.new.self.items c.in_ok-callers.callers.items c.pop.new.self.items c.in-Some.main c.requires.fresh c.requires.some r.items r.tail s.items s.tail c.in-Some.ensures.items in
+    let d = dealt c.args.cell.now c.args.workers _ c.args.seats.items c.split_off.new.self.items c.in_ok-rest.rest.items c.split_off-2.new.self.items
+    c.in_ok-callers.callers.items c.pop.new.self.items c.in-Some.main c.requires.fresh c.requires.some r.items r.tail s.items s.tail
+    c.in-Some.ensures.items in
     record {
       main = d.main_is;
       callers = d.callers_are;

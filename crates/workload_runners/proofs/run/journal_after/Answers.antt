@@ -3,7 +3,8 @@ use Rattle.workload_runners.proofs.Deals.{of_cell}
 use Rattle.workload_runners.proofs.run.journal_after.Goals as goal
 
 pub close-requires-clause-own : goal.close-requires-clause-own
-close-requires-clause-own c = subst (λ (xs : List Seat). all_of (λ (s : Seat). s.cell ≡ c.args.cell.id) xs) (sym c.with_main.ensures) (of_cell c.args.cell c.args.crew c.requires.of_cell)
+close-requires-clause-own c = subst (λ (xs : List Seat). all_of (λ (s : Seat). s.cell ≡ c.args.cell.id) xs) (sym c.with_main.ensures)
+    (of_cell c.args.cell c.args.crew c.requires.of_cell)
 
 pub close-requires-clause-complete : goal.close-requires-clause-complete
 close-requires-clause-complete c =

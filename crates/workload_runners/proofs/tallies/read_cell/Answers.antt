@@ -3,7 +3,8 @@ use Rattle.workload_runners.proofs.TallySeat.{reads_cell, reads_cell_is}
 use Rattle.workload_runners.proofs.tallies.read_cell.Goals as goal
 
 pub number_read-requires : goal.number_read-requires
-number_read-requires g c = let x = reads_cell c.args.seat.now c.turn.new.seat c.in-Ok.reply c.args.task c.args.args.now c.requires.may c.in-Ok.ensures.turned in (x.0, x.1)
+number_read-requires g c = let x = reads_cell c.args.seat.now c.turn.new.seat c.in-Ok.reply c.args.task c.args.args.now c.requires.may c.in-Ok.ensures.turned in
+    (x.0, x.1)
 
 pub returns-in-Ok-clause-read : goal.returns-in-Ok-clause-read
 returns-in-Ok-clause-read g c =

@@ -8,6 +8,7 @@ loop-init g c = (rounds_none c.args.seat.now c.requires.rest, (tt, tt))
 
 pub loop-preserved : goal.loop-preserved
 loop-preserved g c = (
-  rounds_more c.args.seat.now c.loop.seat c.round.new.seat c.loop.invariant.0 (subst (λ (b : Bool). Rounded c.loop.seat b c.round.new.seat) c.if-not-goes_on.false c.in-Ok.ensures.rounded),
+  rounds_more c.args.seat.now c.loop.seat c.round.new.seat c.loop.invariant.0
+      (subst (λ (b : Bool). Rounded c.loop.seat b c.round.new.seat) c.if-not-goes_on.false c.in-Ok.ensures.rounded),
   (tt, tt),
 )

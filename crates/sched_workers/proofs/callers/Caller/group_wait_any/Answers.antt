@@ -5,4 +5,5 @@ use Rattle.sched_workers.proofs.CallAnswers.{waited}
 use Rattle.sched_workers.proofs.callers.Caller.group_wait_any.Goals as goal
 
 pub returns : goal.returns
-returns g c = waited mtapi given (FirstMember c.args.group) (looks_of c.args.timeout) _ _ c.within.result c.given.result c.within.ensures.looked c.within.ensures.spent c.given.ensures
+returns g c = waited mtapi given (FirstMember c.args.group)
+    (looks_of c.args.timeout) _ _ c.within.result c.given.result c.within.ensures.looked c.within.ensures.spent c.given.ensures

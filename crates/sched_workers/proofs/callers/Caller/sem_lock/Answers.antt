@@ -5,4 +5,5 @@ use Rattle.sched_workers.proofs.CallAnswers.{waited}
 use Rattle.sched_workers.proofs.callers.Caller.sem_lock.Goals as goal
 
 pub returns : goal.returns
-returns g c = waited mrapi done (Sem c.args.sem) (looks_of c.args.timeout) _ _ c.within.result c.resource_done.result c.within.ensures.looked c.within.ensures.spent c.resource_done.ensures
+returns g c = waited mrapi done (Sem c.args.sem)
+    (looks_of c.args.timeout) _ _ c.within.result c.resource_done.result c.within.ensures.looked c.within.ensures.spent c.resource_done.ensures

@@ -5,4 +5,5 @@ use Rattle.sched_workers.proofs.CallAnswers.{waited}
 use Rattle.sched_workers.proofs.callers.Caller.task_wait.Goals as goal
 
 pub returns : goal.returns
-returns g c = waited mtapi ended (Task c.args.task) (looks_of c.args.timeout) _ _ c.within.result c.ended.result c.within.ensures.looked c.within.ensures.spent c.ended.ensures
+returns g c = waited mtapi ended (Task c.args.task)
+    (looks_of c.args.timeout) _ _ c.within.result c.ended.result c.within.ensures.looked c.within.ensures.spent c.ended.ensures

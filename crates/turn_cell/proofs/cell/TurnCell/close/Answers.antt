@@ -19,19 +19,25 @@ module _ {O T P Q : Type 0} (terms_of : O → T) (seat_count : T → ℕ) (legal
       subst G (λ i. (one i, same i)) (e.terms, (e.history, e.lawful, e.stood, e.all))
 
 pub gather-token-requires-clause-some : goal.gather-token-requires-clause-some
-gather-token-requires-clause-some g c = some_seat _ _ (subst (λ t. 0 < g.O.Object.seat_count t) (ap (λ w. w.terms) c.self.view_is) c.self.invariant.2) c.requires.complete
+gather-token-requires-clause-some g c =
+    some_seat _ _ (subst (λ t. 0 < g.O.Object.seat_count t) (ap (λ w. w.terms) c.self.view_is) c.self.invariant.2) c.requires.complete
 
 pub unreachable-requires : goal.unreachable-requires
 unreachable-requires g c =
     let complete = subst (λ t. IsComplete (g.O.Object.seat_count t) c.args.seats.items) (sym (ap (λ w. w.terms) c.self.view_is)) c.requires.complete in
-    no_object (boxed_terms g.O.Object.terms) g.O.Object.seat_count g.O.Object.legal (boxed_stands g.O.Object.stands) _ _ _ (ends _ _ _ _ _ _ _ _ _ _ _ c.gather-token.ensures.parts complete c.close_with-closed.ensures.values.2 c.take-slot.ensures.value) c.in-None.is
+    no_object (boxed_terms g.O.Object.terms) g.O.Object.seat_count g.O.Object.legal (boxed_stands g.O.Object.stands) _ _ _
+    (ends _ _ _ _ _ _ _ _ _ _ _ c.gather-token.ensures.parts complete c.close_with-closed.ensures.values.2 c.take-slot.ensures.value) c.in-None.is
 
 pub returns : goal.returns
 returns g c =
     let complete = subst (λ t. IsComplete (g.O.Object.seat_count t) c.args.seats.items) (sym (ap (λ w. w.terms) c.self.view_is)) c.requires.complete in
-    let r = the_object (boxed_terms g.O.Object.terms) g.O.Object.seat_count g.O.Object.legal (boxed_stands g.O.Object.stands) _ c.args.self.terms _ _ c.in-Some.object (ends _ _ _ _ _ _ _ _ _ _ _ c.gather-token.ensures.parts complete c.close_with-closed.ensures.values.2 c.take-slot.ensures.value) c.in-Some.is (ap (λ w. w.terms) c.self.view_is) in
+    let r = the_object (boxed_terms g.O.Object.terms) g.O.Object.seat_count g.O.Object.legal
+    (boxed_stands g.O.Object.stands) _ c.args.self.terms _ _ c.in-Some.object
+    (ends _ _ _ _ _ _ _ _ _ _ _ c.gather-token.ensures.parts complete c.close_with-closed.ensures.values.2 c.take-slot.ensures.value) c.in-Some.is
+    (ap (λ w. w.terms) c.self.view_is) in
     let out = sym c.into_inner.ensures in
     record {
       terms = subst (λ o. g.O.Object.terms o ≡ c.args.self.terms) out r.0;
-      history = subst (λ o. (h : List (Entry g.row.O-Op.Denot g.row.O-Reply.Denot)) × g.O.Object.legal c.args.self.terms h × g.O.Object.stands o h × all_of (IsSeatOf c.args.self.terms h) c.args.seats.items) out r.1;
+      history = subst (λ o. (h : List (Entry g.row.O-Op.Denot g.row.O-Reply.Denot)) × g.O.Object.legal c.args.self.terms h × g.O.Object.stands o h
+          × all_of (IsSeatOf c.args.self.terms h) c.args.seats.items) out r.1;
     }

@@ -6,9 +6,11 @@ use Rattle.turn_cell.proofs.Keeps.{draws}
 use Rattle.turn_cell.proofs.cell.TurnCell.draw.Goals as goal
 
 module _ {O T P Q : Type 0} where
-  starts : (m : Me (Option O) (List (Part T P Q))) (q : Part T P Q) (n : ℕ) → m ≡ (q ∷ [], []) → q.stage ≡ Idle → q.shown ≡ n → (p : Part T P Q) → m ≡ (p ∷ [], []) → m ≡ (after_draw p n false ∷ [], [])
+  starts : (m : Me (Option O) (List (Part T P Q))) (q : Part T P Q) (n : ℕ) → m ≡ (q ∷ [], []) → q.stage ≡ Idle → q.shown ≡ n → (p : Part T P Q)
+      → m ≡ (p ∷ [], []) → m ≡ (after_draw p n false ∷ [], [])
   starts m q n is idle shown p e = let same = one_part q p (ap (λ (m : Me (Option O) (List (Part T P Q))). m.0) (sym is ∙ e)) in
-      e ∙ ap (λ (x : Part T P Q). (x ∷ [], [])) (drawn_start p n (subst (λ (x : Part T P Q). x.stage ≡ Idle) same idle) (subst (λ (x : Part T P Q). x.shown ≡ n) same shown))
+      e ∙ ap (λ (x : Part T P Q). (x ∷ [], []))
+      (drawn_start p n (subst (λ (x : Part T P Q). x.stage ≡ Idle) same idle) (subst (λ (x : Part T P Q). x.shown ≡ n) same shown))
 
   to : (m : Me (Option O) (List (Part T P Q))) (p q : Part T P Q) → m ≡ (p ∷ [], []) → p ≡ q → m ≡ (q ∷ [], [])
   to m p q e s = e ∙ ap (λ (x : Part T P Q). (x ∷ [], [])) s
@@ -27,10 +29,15 @@ compare_exchange-found-requires g c = let w = c.requires.idle in (
 )
 
 pub returns-then-found-guess-clause-drawn : goal.returns-then-found-guess-clause-drawn
-returns-then-found-guess-clause-drawn g c = (low c.peek.result c.min-guess.result c.min-guess.ensures, λ p e. to _ _ _ (c.compare_exchange-found.ensures.2 (after_draw p c.loop.shown false) (c.loop.invariant.shown p e)) (drawn_hit p _ _ c.if-found-guess.true))
+returns-then-found-guess-clause-drawn g c = (
+  low c.peek.result c.min-guess.result c.min-guess.ensures,
+  λ p e. to _ _ _
+      (c.compare_exchange-found.ensures.2 (after_draw p c.loop.shown false) (c.loop.invariant.shown p e)) (drawn_hit p _ _ c.if-found-guess.true),
+)
 
 pub loop-preserved : goal.loop-preserved
 loop-preserved g c = record {
   own = c.compare_exchange-found.ensures.0 ∙ c.loop.invariant.own;
-  shown = λ p e. to _ _ _ (c.compare_exchange-found.ensures.2 (after_draw p c.loop.shown false) (c.loop.invariant.shown p e)) (drawn_miss p _ _ c.if-found-guess.false);
+  shown = λ p e. to _ _ _ (c.compare_exchange-found.ensures.2 (after_draw p c.loop.shown false) (c.loop.invariant.shown p e))
+      (drawn_miss p _ _ c.if-found-guess.false);
 }

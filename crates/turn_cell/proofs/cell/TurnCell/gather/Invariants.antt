@@ -6,7 +6,8 @@ invariant-loop-next g l = record {
   own : l.token.table_id ≡ l.fn.self.id;
   free : l.token.me.1 ≡ [];
   cells : all_of (λ f. f.cell ≡ l.fn.self.id) l.seats.items;
-  parts : (popped : List (SeatView g.row.O-Terms.Denot g.row.O-Op.Denot g.row.O-Reply.Denot)) × (l.fn.seats.items ≡ l.seats.items ++ popped) × Gathers popped l.token.me.0;
+  parts : (popped : List (SeatView g.row.O-Terms.Denot g.row.O-Op.Denot g.row.O-Reply.Denot)) × (l.fn.seats.items ≡ l.seats.items ++ popped)
+      × Gathers popped l.token.me.0;
 }
 
 abbrev pub decreases-loop-next : goal.decreases-loop-next

@@ -10,5 +10,6 @@ pub fetch_add-requires : goal.fetch_add-requires
 fetch_add-requires g c = let h = c.requires.holds in (
   c.exchange-none.ensures.0 ∙ (c.requires.own ∙ sym (ap (λ w. w.id) c.self.view_is)),
   (let n = c.self.invariant.0 in omega arith),
-  passes _ _ _ _ _ _ _ h.0 h.1 h.2 c.args.reply.now c.args.object g.B.GhostArgument.argument g.C.GhostArgument.argument _ (λ b. g.met.O.Object.stands_legal (box_value b)) h.7 h.8 h.4 h.5 h.6 (put _ _ _ None (Some c.args.object) h.3 c.exchange-none.ensures.3),
+  passes _ _ _ _ _ _ _ h.0 h.1 h.2 c.args.reply.now c.args.object g.B.GhostArgument.argument g.C.GhostArgument.argument _
+      (λ b. g.met.O.Object.stands_legal (box_value b)) h.7 h.8 h.4 h.5 h.6 (put _ _ _ None (Some c.args.object) h.3 c.exchange-none.ensures.3),
 )

@@ -18,7 +18,8 @@ loop-i-preserved c =
     let x = c.loop-i.invariant in
     let e = c.meet.ensures in
     record {
-      met = met_more c.args.main.now c.loop-i.main c.meet.new.a c.index_mut.result.now c.meet.new.b c.args.others.now.items c.loop-i.others.items _ c.loop-i.i x.met (omega arith) c.index_mut.ensures.value e.first e.second e.one e.second_own refl;
+      met = met_more c.args.main.now c.loop-i.main c.meet.new.a c.index_mut.result.now c.meet.new.b c.args.others.now.items c.loop-i.others.items _ c.loop-i.i
+          x.met (omega arith) c.index_mut.ensures.value e.first e.second e.one e.second_own refl;
       len = x.len;
       capacity = x.capacity;
     }
