@@ -116,10 +116,42 @@ def ends_task(op, reply):
     return (op == "finish" and reply == ["ok"]) or (op in ("watch_end", "tally_end") and reply[0] == "ended")
 
 
+class Actions:
+    """The actions of a journal that weren't deleted, and which waiting tasks no worker can take."""
+
+    def __init__(self, journal):
+        self.workers = int(re.search(r" workers=(\d+)", journal).group(1))
+        self.known, self.jobs, self.asked = {}, {}, {}
+
+    def note(self, op, fields, reply):
+        """Follows an entry. Whether it deletes or disables an action."""
+        if reply[0] == "handle":
+            if op == "action_create":
+                self.known[reply[1]] = [fields[0], int(fields[2]), True]
+            elif op == "queue_create":
+                self.jobs[reply[1]] = fields[1]
+            elif op == "task_start":
+                self.asked[reply[1]] = fields[0], int(fields[3])
+            elif op == "task_enqueue":
+                self.asked[reply[1]] = self.jobs.get(fields[0]), int(fields[2])
+        if op not in ("action_delete", "action_disable", "action_enable") or reply != ["ok"] or fields[0] not in self.known:
+            return False
+        if op == "action_delete":
+            del self.known[fields[0]]
+        else:
+            self.known[fields[0]][2] = op == "action_enable"
+        return op != "action_enable"
+
+    def is_left(self, task):
+        wanted, cores = self.asked[task]
+        masks = [mask for job, mask, enabled in self.known.values() if enabled and job == wanted]
+        return wanted is not None and not any(mask & cores & 1 << worker for mask in masks for worker in range(self.workers))
+
+
 def expected(journal):
     """How many slices and flows the journal has, and the counts of tasks that wait, as (time, handle of a queue, count)."""
     tasks, calls, flows, counts = 0, 0, 0, []
-    waiting, retains, runs = {}, {}, set()
+    waiting, retains, runs, actions = {}, {}, set(), Actions(journal)
 
     def counted(time_, queue):
         counts.append((time_, queue, sum(1 for it in waiting.values() if it == queue)))
@@ -140,6 +172,12 @@ def expected(journal):
             continue
         calls += 1
         gone = None
+        if actions.note(op, fields, reply):
+            left = [task for task in waiting if actions.is_left(task)]
+            queues = {waiting.pop(task) for task in left}
+            for queue in [None] + list(retains):
+                if queue in queues:
+                    counted(time_, queue)
         if op == "queue_create" and reply[0] == "handle":
             retains[reply[1]] = fields[5] == "1"
             counted(time_, reply[1])

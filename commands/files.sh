@@ -16,7 +16,8 @@ read_from() {
     fi
 }
 
-# Copies a file that is named, a pipe too, into the scratch folder: a byte more than an input may have is enough.
+# Copies a file that is named, a pipe too, into the scratch folder: a byte more than an input may have is enough. The third word
+# is what is told if that fails, if not the file's name too.
 take_file() {
     if [ "$1" = - ]; then
         head -c $((most_input + 1)) 2>/dev/null <&0 >"$scratch/$2" &
@@ -25,7 +26,7 @@ take_file() {
     fi
     processes=($!)
     if ! wait "$!"; then
-        tell "read fault: $(name_of "$1")"
+        tell "${3-read fault: $(name_of "$1")}"
         leave "$read_fault"
     fi
     processes=()
@@ -128,9 +129,22 @@ run() {
     leave "$?"
 }
 
+# `check` alone: the command's own answer, and a hint where the input is what `run --journal` wrote.
+check_input() {
+    make_scratch
+    on_signals true
+    take_file - whole 'read fault'
+    program_on "$command_crate" whole verdict check
+    show "$scratch/verdict"
+    if [ "$ended_with" -eq "$refused" ] && has_journal whole && begins_with_report whole; then
+        tell "a report stands in front of the journal: use check FILE -"
+    fi
+    leave "$ended_with"
+}
+
 # `check [FILE [KEPT]]`.
 check() {
-    if [ $# -eq 0 ]; then run_program "$command_crate" check; fi
+    if [ $# -eq 0 ]; then check_input; fi
     make_scratch
     on_signals true
     take_file "$1" input
@@ -167,24 +181,26 @@ take_run() {
     fi
 }
 
-# `picture [FILE [KEPT]]`.
-picture() {
+# Shows a run by the program of a crate.
+show_run() {
+    local crate=$1
+    shift
     make_scratch
     on_signals true
     take_run "$@"
-    program_on mtapi_picture whole drawn
-    show "$scratch/drawn"
+    program_on "$crate" whole shown
+    show "$scratch/shown"
     leave "$ended_with"
+}
+
+# `picture [FILE [KEPT]]`.
+picture() {
+    show_run mtapi_picture "$@"
 }
 
 # `trace [FILE [KEPT]]`.
 trace() {
-    make_scratch
-    on_signals true
-    take_run "$@"
-    program_on mtapi_trace whole traced
-    show "$scratch/traced"
-    leave "$ended_with"
+    show_run mtapi_trace "$@"
 }
 
 # `explain [FILE]`: of a file each mistake stands behind the file's name, as compilers have it.
@@ -199,13 +215,11 @@ explain() {
     leave "$ended_with"
 }
 
-# By lines and columns; what is no mistake stands last.
 place_mistakes() {
     LC_ALL=C name=$1 awk -v bold="$bold" -v plain="$plain" '
         match($0, /^line [0-9]+, column [0-9]+: /) {
             split($0, words, /[ ,:]+/)
-            print words[2], words[4], bold ENVIRON["name"] ":" words[2] ":" words[4] ":" plain " " substr($0, RLENGTH + 1)
-            next
+            $0 = bold ENVIRON["name"] ":" words[2] ":" words[4] ":" plain " " substr($0, RLENGTH + 1)
         }
-        { print 1000000000, 0, $0 }' "$scratch/told" | LC_ALL=C sort -s -n -k 1,1 -k 2,2 | cut -d ' ' -f 3-
+        { print }' "$scratch/told"
 }

@@ -44,7 +44,8 @@ front_is ds xs h = rw (dot_place ds xs h) (take-append_seam ds (46 ∷ xs))
 back_is : (ds xs : List ℕ) → list_all is_ascii_digit ds ≡ true → after_first is_dot (ds ++ 46 ∷ xs) ≡ xs
 back_is ds xs h = rw (dot_place ds xs h) (drop_front ds xs 46 _ (omega arith))
 
-whole_handle : (h q s p n g t : ℕ) → 2 ^ 24 * q + s ≡ h → s < 2 ^ 24 → 256 * p + n ≡ q → n < 256 → 2 ^ 32 * g + t ≡ h → t < 2 ^ 32 → g * 2 ^ 32 + n * 2 ^ 24 + s ≡ h
+whole_handle : (h q s p n g t : ℕ) → 2 ^ 24 * q + s ≡ h → s < 2 ^ 24 → 256 * p + n ≡ q → n < 256 → 2 ^ 32 * g + t ≡ h → t < 2 ^ 32
+    → g * 2 ^ 32 + n * 2 ^ 24 + s ≡ h
 whole_handle h q s p n g t a b c d e f = omega arith
 
 div_parts : (x n : ℕ) → 0 < n → n * (x / n) + x % n ≡ x
@@ -54,12 +55,15 @@ pub mod_less : (x n : ℕ) → 0 < n → x % n < n
 mod_less x n h = omega arith
 
 handle_whole : (h : ℕ) → h / 2 ^ 32 * 2 ^ 32 + named_kind h * 2 ^ 24 + h % 2 ^ 24 ≡ h
-handle_whole h = whole_handle h (h / 2 ^ 24) (h % 2 ^ 24) (h / 2 ^ 24 / 256) (h / 2 ^ 24 % 256) (h / 2 ^ 32) (h % 2 ^ 32) (div_parts h (2 ^ 24) (omega arith)) (mod_less h (2 ^ 24) (omega arith)) (div_parts (h / 2 ^ 24) 256 (omega arith)) (mod_less (h / 2 ^ 24) 256 (omega arith)) (div_parts h (2 ^ 32) (omega arith)) (mod_less h (2 ^ 32) (omega arith))
+handle_whole h = whole_handle h (h / 2 ^ 24) (h % 2 ^ 24) (h / 2 ^ 24 / 256) (h / 2 ^ 24 % 256) (h / 2 ^ 32) (h % 2 ^ 32) (div_parts h (2 ^ 24) (omega arith))
+    (mod_less h (2 ^ 24) (omega arith)) (div_parts (h / 2 ^ 24) 256 (omega arith)) (mod_less (h / 2 ^ 24) 256 (omega arith))
+    (div_parts h (2 ^ 32) (omega arith)) (mod_less h (2 ^ 32) (omega arith))
 
 pub generation_fits : (h : ℕ) → h < 2 ^ 64 → h / 2 ^ 32 < 2 ^ 32
 generation_fits h f = let parts = div_parts h (2 ^ 32) (omega arith) in omega arith
 
-named_from : (k : ObjectKind) (text : List ℕ) (g s : ℕ) → number_within 0 4294967295 (before_first is_dot text) ≡ Some g → number_within 0 16777215 (after_first is_dot text) ≡ Some s → handle_named k text ≡ Some (g * 2 ^ 32 + object_number k * 2 ^ 24 + s)
+named_from : (k : ObjectKind) (text : List ℕ) (g s : ℕ) → number_within 0 4294967295 (before_first is_dot text) ≡ Some g
+    → number_within 0 16777215 (after_first is_dot text) ≡ Some s → handle_named k text ≡ Some (g * 2 ^ 32 + object_number k * 2 ^ 24 + s)
 unfolding handle_named
 named_from k text g s a b = rw (a, b) refl
 

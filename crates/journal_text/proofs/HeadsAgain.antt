@@ -8,7 +8,8 @@ use Rattle.journal_text.proofs.LinesAgain.{bytes_same}
 
 keyed : (word : List ℕ) (n : ℕ) → after_first (λ b. eqb b 61) word ≡ decimal n → n < 2 ^ 32 → number_behind word ≡ n
 unfolding number_behind
-keyed word n e f = ap (λ t. unwrap_or (number_within 0 4294967295 t) 0) e ∙ ap (λ o. unwrap_or o 0) (within_written 0 4294967295 n (omega arith) (omega arith) (omega arith))
+keyed word n e f = ap (λ t. unwrap_or (number_within 0 4294967295 t) 0) e
+    ∙ ap (λ o. unwrap_or o 0) (within_written 0 4294967295 n (omega arith) (omega arith) (omega arith))
 
 title_none : number_behind (codes "mtapi-journal") ≡ 0
 unfolding number_behind number number_within
@@ -81,7 +82,8 @@ head_above h f = joined_above (head_words h) (words_plain h f)
 
 behind_again : (h : Head) → HeadFits h → numbers_behind (head_text h) ≡ setting_numbers h.settings h.callers
 unfolding numbers_behind head_text
-behind_again h f = ap (map number_behind) (between_words (codes "mtapi-journal") (version h.layout ∷ (first_texts h ++ last_texts h)) (words_plain h f)) ∙ numbers_again h f
+behind_again h f = ap (map number_behind) (between_words (codes "mtapi-journal") (version h.layout ∷ (first_texts h ++ last_texts h)) (words_plain h f))
+    ∙ numbers_again h f
 
 from_again : (h : Head) → HeadFits h → head_from h.layout (numbers_behind (head_text h)) ≡ h
 unfolding head_from

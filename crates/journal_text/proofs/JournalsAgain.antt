@@ -15,11 +15,13 @@ ended_some : (lines : List (List ℕ)) → (n : List ℕ) × (ns : List (List �
 ended_some [] = ([], [], refl)
 ended_some (l ∷ ls) = (l, ls ++ [] ∷ [], refl)
 
-adds_again : (head : Head) (line : ℕ) (kept : KeptEntries) (e : NodeEntry) (n : ℕ) → HeadFits head → EntryFits head e n → line_adds head line kept (entry_text head e n) ≡ Ok (with_kept kept (e, n))
+adds_again : (head : Head) (line : ℕ) (kept : KeptEntries) (e : NodeEntry) (n : ℕ) → HeadFits head → EntryFits head e n
+    → line_adds head line kept (entry_text head e n) ≡ Ok (with_kept kept (e, n))
 unfolding line_adds
 adds_again head line kept e n g f = ap (λ o. in_line line o >>= λ x. Ok (with_kept kept x)) (entry_again head e n g f)
 
-first_again : (head : Head) (line : ℕ) (kept : KeptEntries) (e : NodeEntry) (n : ℕ) (lines : List (List ℕ)) → HeadFits head → EntryFits head e n → entries_from head line kept (entry_text head e n ∷ (lines ++ [] ∷ [])) ≡ entries_from head (line + 1) (with_kept kept (e, n)) (lines ++ [] ∷ [])
+first_again : (head : Head) (line : ℕ) (kept : KeptEntries) (e : NodeEntry) (n : ℕ) (lines : List (List ℕ)) → HeadFits head → EntryFits head e n
+    → entries_from head line kept (entry_text head e n ∷ (lines ++ [] ∷ [])) ≡ entries_from head (line + 1) (with_kept kept (e, n)) (lines ++ [] ∷ [])
 first_again head line kept e n lines g f =
     let o = ended_some lines in
     ap (λ l. entries_from head line kept (entry_text head e n ∷ l)) o.2
@@ -31,27 +33,34 @@ abbrev with_all : KeptEntries → List NodeEntry → List ℕ → KeptEntries
 with_all kept es ns = record { entries = kept.entries ++ es; skipped = kept.skipped ++ ns }
 
 all_none : (kept : KeptEntries) → kept ≡ with_all kept [] []
-all_none kept = ap (λ es. record { entries = es; skipped = kept.skipped }) (sym (append-nil kept.entries)) ∙ ap (λ ns. record { entries = kept.entries ++ []; skipped = ns }) (sym (append-nil kept.skipped))
+all_none kept = ap (λ es. record { entries = es; skipped = kept.skipped }) (sym (append-nil kept.entries))
+    ∙ ap (λ ns. record { entries = kept.entries ++ []; skipped = ns }) (sym (append-nil kept.skipped))
 
-all_more : (kept : KeptEntries) (e : NodeEntry) (n : ℕ) (es : List NodeEntry) (ns : List ℕ) → with_all (with_kept kept (e, n)) es ns ≡ with_all kept (e ∷ es) (n ∷ ns)
-all_more kept e n es ns = ap (λ l. record { entries = l; skipped = (kept.skipped ++ n ∷ []) ++ ns }) (append_assoc kept.entries (e ∷ []) es) ∙ ap (λ l. record { entries = kept.entries ++ e ∷ es; skipped = l }) (append_assoc kept.skipped (n ∷ []) ns)
+all_more : (kept : KeptEntries) (e : NodeEntry) (n : ℕ) (es : List NodeEntry) (ns : List ℕ)
+    → with_all (with_kept kept (e, n)) es ns ≡ with_all kept (e ∷ es) (n ∷ ns)
+all_more kept e n es ns = ap (λ l. record { entries = l; skipped = (kept.skipped ++ n ∷ []) ++ ns }) (append_assoc kept.entries (e ∷ []) es)
+    ∙ ap (λ l. record { entries = kept.entries ++ e ∷ es; skipped = l }) (append_assoc kept.skipped (n ∷ []) ns)
 
-entries_again : (head : Head) (line : ℕ) (kept : KeptEntries) (es : List NodeEntry) (ns : List ℕ) → HeadFits head → EntriesFit head es ns → entries_from head line kept (ended_lines head es ns) ≡ Ok (with_all kept es ns)
+entries_again : (head : Head) (line : ℕ) (kept : KeptEntries) (es : List NodeEntry) (ns : List ℕ) → HeadFits head → EntriesFit head es ns
+    → entries_from head line kept (ended_lines head es ns) ≡ Ok (with_all kept es ns)
 unfolding entries_from
 entries_again head line kept [] [] g f = ap (λ k. Ok k) (all_none kept)
 entries_again head line kept [] (n ∷ ns) g f = absurd f
 entries_again head line kept (e ∷ es) [] g f = absurd f
-entries_again head line kept (e ∷ es) (n ∷ ns) g f = grind (arith, nat_tests, entries_again head (line + 1) (with_kept kept (e, n)) es ns g f.1, first_again, entry_lines, with_kept, all_more)
+entries_again head line kept (e ∷ es) (n ∷ ns) g f =
+    grind (arith, nat_tests, entries_again head (line + 1) (with_kept kept (e, n)) es ns g f.1, first_again, entry_lines, with_kept, all_more)
 
 -- ---- lines
 
-lines_again : (head : Head) (es : List NodeEntry) (ns : List ℕ) → HeadFits head → EntriesFit head es ns → between 10 (lines_text (entry_lines head es ns)) ≡ ended_lines head es ns
+lines_again : (head : Head) (es : List NodeEntry) (ns : List ℕ) → HeadFits head → EntriesFit head es ns
+    → between 10 (lines_text (entry_lines head es ns)) ≡ ended_lines head es ns
 lines_again head [] [] g f = refl
 lines_again head [] (n ∷ ns) g f = absurd f
 lines_again head (e ∷ es) [] g f = absurd f
 lines_again head (e ∷ es) (n ∷ ns) g f = grind (arith, nat_tests, lines_again head es ns g f.1, between_line, entry_text, lines_text, entry_lines, entry_above)
 
-whole_again : (head : Head) (es : List NodeEntry) (ns : List ℕ) → HeadFits head → EntriesFit head es ns → journal_from (head_text head ∷ ended_lines head es ns) ≡ Ok (with_entries head (record { entries = es; skipped = ns }))
+whole_again : (head : Head) (es : List NodeEntry) (ns : List ℕ) → HeadFits head → EntriesFit head es ns
+    → journal_from (head_text head ∷ ended_lines head es ns) ≡ Ok (with_entries head (record { entries = es; skipped = ns }))
 whole_again head es ns g f =
     let o = ended_some (entry_lines head es ns) in
     ap (λ l. journal_from (head_text head ∷ l)) o.2
@@ -65,19 +74,25 @@ text_again j f =
     let head = head_for j in
     let es = j.entries.entries in
     let ns = j.entries.skipped in
-    ap journal_from (between_line (head_text head) (lines_text (entry_lines head es ns)) (head_above head f.head) ∙ ap (λ l. head_text head ∷ l) (lines_again head es ns f.head f.entries))
+    ap journal_from (between_line (head_text head) (lines_text (entry_lines head es ns)) (head_above head f.head)
+    ∙ ap (λ l. head_text head ∷ l) (lines_again head es ns f.head f.entries))
     ∙ whole_again head es ns f.head f.entries
 
 -- ---- what the types keep, beside what makes a journal one that can be written
 
-entries_fit : (head : Head) (es : List NodeEntry) (ns : List ℕ) → length ns ≡ length es → AllPartsFit es ns → AllByRecursion (HasPlace head) es → EntriesFit head es ns
+entries_fit : (head : Head) (es : List NodeEntry) (ns : List ℕ) → length ns ≡ length es → AllPartsFit es ns → AllByRecursion (HasPlace head) es
+    → EntriesFit head es ns
 entries_fit head [] [] same parts places = tt
 entries_fit head [] (n ∷ ns) same parts places = absurd cc
 entries_fit head (e ∷ es) [] same parts places = absurd cc
-entries_fit head (e ∷ es) (n ∷ ns) same parts places = (record { place = places.0; parts = parts.0 }, entries_fit head es ns (omega (arith, same)) parts.1 places.1)
+entries_fit head (e ∷ es) (n ∷ ns) same parts places =
+    (record { place = places.0; parts = parts.0 }, entries_fit head es ns (omega (arith, same)) parts.1 places.1)
 
-writable_fits : (j : Journal) → AreNodeSettings j.settings → length j.entries.skipped ≡ length j.entries.entries → AllPartsFit j.entries.entries j.entries.skipped → IsWritable j → JournalFits j
+writable_fits : (j : Journal) → AreNodeSettings j.settings → length j.entries.skipped ≡ length j.entries.entries
+    → AllPartsFit j.entries.entries j.entries.skipped → IsWritable j → JournalFits j
 writable_fits j e1 e2 e3 e4 = grind (arith, nat_tests, entries_fit, head_for)
 
-pub again_from : {E : Type 0} (j : Journal) (r : Result (Vec ℕ) E) → IfOk r (λ t. t.items ≡ journal_text j) → AreNodeSettings j.settings → length j.entries.skipped ≡ length j.entries.entries → IfOk r (λ t. AllPartsFit j.entries.entries j.entries.skipped) → IsWritable j → IfOk r (λ t. journal_of t.items ≡ Ok j)
+pub again_from : {E : Type 0} (j : Journal) (r : Result (Vec ℕ) E) → IfOk r (λ t. t.items ≡ journal_text j) → AreNodeSettings j.settings
+    → length j.entries.skipped ≡ length j.entries.entries → IfOk r (λ t. AllPartsFit j.entries.entries j.entries.skipped) → IsWritable j
+    → IfOk r (λ t. journal_of t.items ≡ Ok j)
 again_from j r e1 e2 e3 e4 e5 = grind (arith, nat_tests, journal_of, text_again, writable_fits)

@@ -16,23 +16,29 @@ all_append p (x ∷ xs) ys h k = let both = and_parts (p x) (list_all p xs) h in
 
 lacks : (c n : ℕ) (text : List ℕ) → c ≤ n → is_above n text ≡ true → AllByRecursion (λ b. eqb b c ≡ false) text
 lacks c n [] le h = tt
-lacks c n (b ∷ bs) le h = let both = and_parts (nat_lt n b) (is_above n bs) h in let above = ltb-true n b both.0 in (ne_eqb b c (λ (e : b ≡ c). omega arith), lacks c n bs le both.1)
+lacks c n (b ∷ bs) le h = let both = and_parts (nat_lt n b) (is_above n bs) h in let above = ltb-true n b both.0 in
+    (ne_eqb b c (λ (e : b ≡ c). omega arith), lacks c n bs le both.1)
 
-pub between_words : (first : List ℕ) (rest : List (List ℕ)) → list_all is_plain (first ∷ rest) ≡ true → between 32 (join_with_byte 32 (first ∷ rest)) ≡ first ∷ rest
+pub between_words : (first : List ℕ) (rest : List (List ℕ)) → list_all is_plain (first ∷ rest) ≡ true
+    → between 32 (join_with_byte 32 (first ∷ rest)) ≡ first ∷ rest
 between_words first [] h =
-    slice_split_none (λ b. eqb b 32) first (All-from_recursion (λ (b : ℕ). eqb b 32 ≡ false) first (lacks 32 32 first (omega arith) (and_parts (is_plain first) true h).0))
+    slice_split_none (λ b. eqb b 32) first (All-from_recursion (λ (b : ℕ). eqb b 32
+    ≡ false) first (lacks 32 32 first (omega arith) (and_parts (is_plain first) true h).0))
 between_words first (next ∷ rest) h =
     let both = and_parts (is_plain first) (list_all is_plain (next ∷ rest)) h in
-    slice_split_at (λ b. eqb b 32) first 32 (join_with_byte 32 (next ∷ rest)) (All-from_recursion (λ (b : ℕ). eqb b 32 ≡ false) first (lacks 32 32 first (omega arith) both.0)) (eq-eqb 32 32 refl)
+    slice_split_at (λ b. eqb b 32) first 32 (join_with_byte 32 (next ∷ rest))
+    (All-from_recursion (λ (b : ℕ). eqb b 32 ≡ false) first (lacks 32 32 first (omega arith) both.0)) (eq-eqb 32 32 refl)
     ∙ ap (λ l. first ∷ l) (between_words next rest both.1)
 
 -- a line without its line feed, before other text
 pub between_line : (line text : List ℕ) → is_above 10 line ≡ true → between 10 (line ++ 10 ∷ text) ≡ line ∷ between 10 text
-between_line line text h = slice_split_at (λ b. eqb b 10) line 10 text (All-from_recursion (λ (b : ℕ). eqb b 10 ≡ false) line (lacks 10 10 line (omega arith) h)) (eq-eqb 10 10 refl)
+between_line line text h = slice_split_at (λ b. eqb b 10) line 10 text
+    (All-from_recursion (λ (b : ℕ). eqb b 10 ≡ false) line (lacks 10 10 line (omega arith) h)) (eq-eqb 10 10 refl)
 
 lower : (text : List ℕ) → is_plain text ≡ true → is_above 10 text ≡ true
 lower [] h = refl
-lower (b ∷ bs) h = let both = and_parts (nat_lt 32 b) (is_plain bs) h in let above = ltb-true 32 b both.0 in and_from _ _ (lt-ltb 10 b (omega arith)) (lower bs both.1)
+lower (b ∷ bs) h = let both = and_parts (nat_lt 32 b) (is_plain bs) h in let above = ltb-true 32 b both.0 in
+    and_from _ _ (lt-ltb 10 b (omega arith)) (lower bs both.1)
 
 -- words joined by spaces have no line feed
 pub joined_above : (words : List (List ℕ)) → list_all is_plain words ≡ true → is_above 10 (join_with_byte 32 words) ≡ true
@@ -49,7 +55,8 @@ commas_plain (w ∷ next ∷ words) h = all_append (λ b. nat_lt 32 b) w (44 ∷
 
 digits_plain : (ds : List ℕ) → list_all is_ascii_digit ds ≡ true → is_plain ds ≡ true
 digits_plain [] h = refl
-digits_plain (d ∷ ds) h = let both = and_parts (is_ascii_digit d) (list_all is_ascii_digit ds) h in let high = digit_high d both.0 in and_from _ _ (lt-ltb 32 d (omega arith)) (digits_plain ds both.1)
+digits_plain (d ∷ ds) h = let both = and_parts (is_ascii_digit d) (list_all is_ascii_digit ds) h in let high = digit_high d both.0 in
+    and_from _ _ (lt-ltb 32 d (omega arith)) (digits_plain ds both.1)
 
 pub decimal_plain : (n : ℕ) → n < 2 ^ 64 → is_plain (decimal n) ≡ true
 decimal_plain n lt = digits_plain (decimal n) (digits_decimal own n lt)

@@ -32,7 +32,8 @@ head_in_spelled l line h e =
     let t = and_parts (has_callers x) _ c.0 in
     rw (← c.1) (bytes_are (head_text x) line t.1)
 
-or_else_spelled : (line : List ℕ) (h : Head) (a b : Option Head) → ((x : Head) → a ≡ Some x → head_text x ≡ line) → ((x : Head) → b ≡ Some x → head_text x ≡ line) → or_else a b ≡ Some h → head_text h ≡ line
+or_else_spelled : (line : List ℕ) (h : Head) (a b : Option Head) → ((x : Head) → a ≡ Some x → head_text x ≡ line)
+    → ((x : Head) → b ≡ Some x → head_text x ≡ line) → or_else a b ≡ Some h → head_text h ≡ line
 or_else_spelled line h a b e1 e2 e3 = grind (arith, nat_tests)
 
 -- what was read as a head is the head's line
@@ -50,7 +51,8 @@ lines_append : (xs ys : List (List ℕ)) → lines_text (xs ++ ys) ≡ lines_tex
 lines_append [] ys = refl
 lines_append (x ∷ xs) ys = rw (lines_append xs ys) (sym (append_assoc x (10 ∷ lines_text xs) (lines_text ys)))
 
-entry_lines_append : (head : Head) (es : List NodeEntry) (ns : List ℕ) (e : NodeEntry) (n : ℕ) → length es ≡ length ns → entry_lines head (es ++ e ∷ []) (ns ++ n ∷ []) ≡ entry_lines head es ns ++ entry_text head e n ∷ []
+entry_lines_append : (head : Head) (es : List NodeEntry) (ns : List ℕ) (e : NodeEntry) (n : ℕ) → length es ≡ length ns
+    → entry_lines head (es ++ e ∷ []) (ns ++ n ∷ []) ≡ entry_lines head es ns ++ entry_text head e n ∷ []
 entry_lines_append head [] [] e n h = refl
 entry_lines_append head [] (m ∷ ns) e n h = absurd (omega (arith, h))
 entry_lines_append head (d ∷ es) [] e n h = absurd (omega (arith, h))
@@ -66,14 +68,17 @@ length_more (y ∷ ys) x = omega (arith, length_more ys x)
 kept_beside : (k : KeptEntries) (x : NodeEntry × ℕ) → IsBeside k → IsBeside (with_kept k x)
 kept_beside k x h = omega (arith, h, length_more k.entries x.0, length_more k.skipped x.1)
 
-kept_more : (head : Head) (k : KeptEntries) (x : NodeEntry × ℕ) → IsBeside k → kept_text head (with_kept k x) ≡ kept_text head k ++ (entry_text head x.0 x.1 ++ 10 ∷ [])
-kept_more head k x h = ap lines_text (entry_lines_append head k.entries k.skipped x.0 x.1 h) ∙ lines_append (entry_lines head k.entries k.skipped) (entry_text head x.0 x.1 ∷ [])
+kept_more : (head : Head) (k : KeptEntries) (x : NodeEntry × ℕ) → IsBeside k
+    → kept_text head (with_kept k x) ≡ kept_text head k ++ (entry_text head x.0 x.1 ++ 10 ∷ [])
+kept_more head k x h = ap lines_text (entry_lines_append head k.entries k.skipped x.0 x.1 h)
+    ∙ lines_append (entry_lines head k.entries k.skipped) (entry_text head x.0 x.1 ∷ [])
 
 pub at_end_is : {A : Type 0} (x y : A) (last : List ℕ) → at_end x last ≡ Ok y → (x ≡ y) × (last ≡ [])
 at_end_is x y last e1 = grind (arith, nat_tests)
 
 -- the entries that were read are those whose lines these are
-pub entries_spelled : (head : Head) (line : ℕ) (kept k : KeptEntries) (text : List ℕ) (texts : List (List ℕ)) → IsBeside kept → entries_from head line kept (text ∷ texts) ≡ Ok k → kept_text head k ≡ kept_text head kept ++ join_with_byte 10 (text ∷ texts)
+pub entries_spelled : (head : Head) (line : ℕ) (kept k : KeptEntries) (text : List ℕ) (texts : List (List ℕ)) → IsBeside kept
+    → entries_from head line kept (text ∷ texts) ≡ Ok k → kept_text head k ≡ kept_text head kept ++ join_with_byte 10 (text ∷ texts)
 unfolding entries_from line_adds
 entries_spelled head line kept k text [] b h =
     let p = at_end_is kept k text h in
@@ -85,13 +90,15 @@ entries_spelled head line kept k text (next ∷ texts) b h =
     let same : with_kept kept q.0 ≡ p.0 = cc in
     let rest = entries_spelled head (line + 1) (with_kept kept q.0) k next texts (kept_beside kept q.0 b) (rw (← same) at p.2) in
     let first = rw spelled at (kept_more head kept q.0 b) in
-    rest ∙ ap (λ l. l ++ join_with_byte 10 (next ∷ texts)) first ∙ append_assoc (kept_text head kept) (text ++ 10 ∷ []) (join_with_byte 10 (next ∷ texts)) ∙ ap (λ l. kept_text head kept ++ l) (append_assoc text (10 ∷ []) (join_with_byte 10 (next ∷ texts)))
+    rest ∙ ap (λ l. l ++ join_with_byte 10 (next ∷ texts)) first ∙ append_assoc (kept_text head kept) (text ++ 10 ∷ []) (join_with_byte 10 (next ∷ texts))
+    ∙ ap (λ l. kept_text head kept ++ l) (append_assoc text (10 ∷ []) (join_with_byte 10 (next ∷ texts)))
 
 -- a head with entries is a journal
 abbrev pub with_entries : Head → KeptEntries → Journal
 with_entries head kept = record { layout = head.layout; settings = head.settings; callers = head.callers; entries = kept }
 
-journal_whole : (head : Head) (kept : KeptEntries) (text next : List ℕ) (texts : List (List ℕ)) → head_text head ≡ text → kept_text head kept ≡ join_with_byte 10 (next ∷ texts) → journal_text (with_entries head kept) ≡ join_with_byte 10 (text ∷ next ∷ texts)
+journal_whole : (head : Head) (kept : KeptEntries) (text next : List ℕ) (texts : List (List ℕ)) → head_text head ≡ text
+    → kept_text head kept ≡ join_with_byte 10 (next ∷ texts) → journal_text (with_entries head kept) ≡ join_with_byte 10 (text ∷ next ∷ texts)
 unfolding journal_text
 journal_whole head kept text next texts a b = ap (λ l. l ++ 10 ∷ kept_text head kept) a ∙ ap (λ l. text ++ 10 ∷ l) b
 

@@ -4,13 +4,15 @@ use Rattle.journal_text.proofs.Names.{◌≡◌, ◌⊎◌, ℕ, zero, suc, ◌+
 
 -- A split at a place: past the last byte, or at the first journal
 
-pub split_at : (bytes : List ℕ) (n : ℕ) → n ≤ length bytes → (n ≡ length bytes) ⊎ (begins_journal bytes n ≡ true) → ((m : ℕ) → m < n → begins_journal bytes m ≡ false)
+pub split_at : (bytes : List ℕ) (n : ℕ) → n ≤ length bytes → (n ≡ length bytes) ⊎ (begins_journal bytes n ≡ true)
+    → ((m : ℕ) → m < n → begins_journal bytes m ≡ false)
     → IsSplit bytes (take n bytes) (drop n bytes)
 split_at bytes n e1 e2 e3 = grind (arith, nat_tests, take-append-drop, length-take-le, begins_journal, drop_of_length-le)
 
 -- There is one
 
-pub none_below : (bytes : List ℕ) (n : ℕ) → ((m : ℕ) → m < n → begins_journal bytes m ≡ false) → begins_journal bytes n ≡ false → (m : ℕ) → m < n + 1 → begins_journal bytes m ≡ false
+pub none_below : (bytes : List ℕ) (n : ℕ) → ((m : ℕ) → m < n → begins_journal bytes m ≡ false) → begins_journal bytes n ≡ false → (m : ℕ) → m < n + 1
+    → begins_journal bytes m ≡ false
 none_below bytes n e1 e2 m e3 = grind (arith, nat_tests)
 
 parts_at : (bytes : List ℕ) (n : ℕ) → IsSplit bytes (take n bytes) (drop n bytes) → OfParts bytes (λ front rest. Unit {0})
@@ -38,8 +40,10 @@ same_split bytes front rest front' rest' s s' = by (cases_order (length front) (
     by : (length front ≡ length front') ⊎ ((length front < length front') ⊎ (length front' < length front)) → (front ≡ front') × (rest ≡ rest')
     by (inl same) =
         let both : front ++ rest ≡ front' ++ rest' = sym s.whole ∙ s'.whole in
-        let fronts : front ≡ front' = sym (take-append_seam front rest) ∙ ap (λ (xs : List ℕ). take (length front) xs) both ∙ ap (λ (k : ℕ). take k (front' ++ rest')) same ∙ take-append_seam front' rest' in
-        let rests : rest ≡ rest' = sym (drop-append_seam front rest) ∙ ap (λ (xs : List ℕ). drop (length front) xs) both ∙ ap (λ (k : ℕ). drop k (front' ++ rest')) same ∙ drop-append_seam front' rest' in
+        let fronts : front ≡ front' = sym (take-append_seam front rest) ∙ ap (λ (xs : List ℕ). take (length front) xs) both
+        ∙ ap (λ (k : ℕ). take k (front' ++ rest')) same ∙ take-append_seam front' rest' in
+        let rests : rest ≡ rest' = sym (drop-append_seam front rest) ∙ ap (λ (xs : List ℕ). drop (length front) xs) both
+        ∙ ap (λ (k : ℕ). drop k (front' ++ rest')) same ∙ drop-append_seam front' rest' in
         (fronts, rests)
     by (inr (inl less)) = absurd (not_shorter bytes front rest front' rest' s s' less)
     by (inr (inr less)) = absurd (not_shorter bytes front' rest' front rest s' s less)

@@ -57,18 +57,22 @@ value_again l (Value.Group (Some h)) ws f = ap (λ o. alone ws (option_map Value
 value_again l (Value.End (TaskEnd.Completed zs)) ws f = ap (λ o. end_value (one TaskEnd.Completed ws o)) (args_again zs f)
 value_again l (Value.End TaskEnd.Cancelled) ws f = refl
 value_again l (Value.End (TaskEnd.Failed s)) ws f = ap (λ o. end_value (one TaskEnd.Failed ws o)) (mtapi_finds_each.own s)
-value_again l (Value.Status (Status.Mtapi s)) ws f = ap (λ o. alone ws (option_map Value.Status (status_from o (mrapi_of (mtapi_name s))))) (mtapi_finds_each.own s)
+value_again l (Value.Status (Status.Mtapi s)) ws f =
+    ap (λ o. alone ws (option_map Value.Status (status_from o (mrapi_of (mtapi_name s))))) (mtapi_finds_each.own s)
 value_again l (Value.Status (Status.Mrapi s)) ws f = ap (λ o. alone ws (option_map Value.Status o)) (status_again s)
 
 -- the first of the values, and the others behind it
-first_again : (l : Layout) (prefix : List Value) (v : Value) (vs : List Value) (ws : List (List ℕ)) → ValueFits v → values_onto prefix (shape_of v ∷ map shape_of vs) (values_words l (v ∷ vs) ++ ws) ≡ values_onto (prefix ++ v ∷ []) (map shape_of vs) (values_words l vs ++ ws)
+first_again : (l : Layout) (prefix : List Value) (v : Value) (vs : List Value) (ws : List (List ℕ)) → ValueFits v
+    → values_onto prefix (shape_of v ∷ map shape_of vs) (values_words l (v ∷ vs) ++ ws)
+    ≡ values_onto (prefix ++ v ∷ []) (map shape_of vs) (values_words l vs ++ ws)
 unfolding values_onto
 first_again l prefix v vs ws f =
     let regrouped = append_assoc (value_words l v) (values_words l vs) ws in
     ap (λ t. value_of (shape_of v) t >>= λ x. values_onto (prefix ++ x.0 ∷ []) (map shape_of vs) x.1) regrouped
     ∙ ap (λ o. o >>= λ x. values_onto (prefix ++ x.0 ∷ []) (map shape_of vs) x.1) (value_again l v (values_words l vs ++ ws) f)
 
-pub values_again : (l : Layout) (prefix vs : List Value) (ws : List (List ℕ)) → AllByRecursion ValueFits vs → values_onto prefix (map shape_of vs) (values_words l vs ++ ws) ≡ Some (prefix ++ vs, ws)
+pub values_again : (l : Layout) (prefix vs : List Value) (ws : List (List ℕ)) → AllByRecursion ValueFits vs
+    → values_onto prefix (map shape_of vs) (values_words l vs ++ ws) ≡ Some (prefix ++ vs, ws)
 unfolding values_onto
 values_again l prefix [] ws f = ap (λ t. Some (t, ws)) (sym (append-nil prefix))
 values_again l prefix (v ∷ vs) ws f =

@@ -84,15 +84,21 @@ op_spelled (Op.ActionCreate job kind cores) = (OpWord.ActionCreate, Value.Number
 op_spelled (Op.ActionDelete action) = (OpWord.ActionDelete, Value.Handle action.0 ∷ [])
 op_spelled (Op.ActionDisable action) = (OpWord.ActionDisable, Value.Handle action.0 ∷ [])
 op_spelled (Op.ActionEnable action) = (OpWord.ActionEnable, Value.Handle action.0 ∷ [])
-op_spelled (Op.TaskStart job args priority cores detached group) = (OpWord.TaskStart, Value.Number job ∷ Value.Args args ∷ Value.Number priority ∷ Value.Cores cores ∷ Value.Flag detached ∷ Value.Group (option_map (λ g. g.0) group) ∷ [])
-op_spelled (Op.TaskEnqueue queue args cores detached group) = (OpWord.TaskEnqueue, Value.Handle queue.0 ∷ Value.Args args ∷ Value.Cores cores ∷ Value.Flag detached ∷ Value.Group (option_map (λ g. g.0) group) ∷ [])
+op_spelled (Op.TaskStart job args priority cores detached group) = (
+  OpWord.TaskStart,
+  Value.Number job ∷ Value.Args args ∷ Value.Number priority ∷ Value.Cores cores ∷ Value.Flag detached
+      ∷ Value.Group (option_map (λ g. g.0) group) ∷ [],
+)
+op_spelled (Op.TaskEnqueue queue args cores detached group) =
+    (OpWord.TaskEnqueue, Value.Handle queue.0 ∷ Value.Args args ∷ Value.Cores cores ∷ Value.Flag detached ∷ Value.Group (option_map (λ g. g.0) group) ∷ [])
 op_spelled (Op.TaskLook task last) = (OpWord.TaskLook, Value.Handle task.0 ∷ Value.Flag last ∷ [])
 op_spelled (Op.TaskCancel task) = (OpWord.TaskCancel, Value.Handle task.0 ∷ [])
 op_spelled Op.GroupCreate = (OpWord.GroupCreate, [])
 op_spelled (Op.GroupDelete group) = (OpWord.GroupDelete, Value.Handle group.0 ∷ [])
 op_spelled (Op.AllLook group last) = (OpWord.AllLook, Value.Handle group.0 ∷ Value.Flag last ∷ [])
 op_spelled (Op.AnyLook group last) = (OpWord.AnyLook, Value.Handle group.0 ∷ Value.Flag last ∷ [])
-op_spelled (Op.QueueCreate id job priority limit ordered retain) = (OpWord.QueueCreate, Value.Number id ∷ Value.Number job ∷ Value.Number priority ∷ Value.Number limit ∷ Value.Flag ordered ∷ Value.Flag retain ∷ [])
+op_spelled (Op.QueueCreate id job priority limit ordered retain) =
+    (OpWord.QueueCreate, Value.Number id ∷ Value.Number job ∷ Value.Number priority ∷ Value.Number limit ∷ Value.Flag ordered ∷ Value.Flag retain ∷ [])
 op_spelled (Op.QueueGet id) = (OpWord.QueueGet, Value.Number id ∷ [])
 op_spelled (Op.QueueEnable queue) = (OpWord.QueueEnable, Value.Handle queue.0 ∷ [])
 op_spelled (Op.QueueDisable queue) = (OpWord.QueueDisable, Value.Handle queue.0 ∷ [])
@@ -148,8 +154,10 @@ node_op _ _ = None
 
 -- an op on tasks or groups, by its word and its values
 unfoldable pub task_op : OpWord → List Value → Option Op
-task_op OpWord.TaskStart (Value.Number job ∷ Value.Args args ∷ Value.Number priority ∷ Value.Cores cores ∷ Value.Flag detached ∷ Value.Group group ∷ []) = Some (Op.TaskStart job args priority cores detached (option_map (λ g. record { 0 = g }) group))
-task_op OpWord.TaskEnqueue (Value.Handle queue ∷ Value.Args args ∷ Value.Cores cores ∷ Value.Flag detached ∷ Value.Group group ∷ []) = Some (Op.TaskEnqueue (record { 0 = queue }) args cores detached (option_map (λ g. record { 0 = g }) group))
+task_op OpWord.TaskStart (Value.Number job ∷ Value.Args args ∷ Value.Number priority ∷ Value.Cores cores ∷ Value.Flag detached ∷ Value.Group group ∷ []) =
+    Some (Op.TaskStart job args priority cores detached (option_map (λ g. record { 0 = g }) group))
+task_op OpWord.TaskEnqueue (Value.Handle queue ∷ Value.Args args ∷ Value.Cores cores ∷ Value.Flag detached ∷ Value.Group group ∷ []) =
+    Some (Op.TaskEnqueue (record { 0 = queue }) args cores detached (option_map (λ g. record { 0 = g }) group))
 task_op OpWord.TaskLook (Value.Handle task ∷ Value.Flag last ∷ []) = Some (Op.TaskLook (record { 0 = task }) last)
 task_op OpWord.TaskCancel (Value.Handle task ∷ []) = Some (Op.TaskCancel (record { 0 = task }))
 task_op OpWord.GroupCreate [] = Some Op.GroupCreate
@@ -160,7 +168,8 @@ task_op _ _ = None
 
 -- an op on queues, by its word and its values
 unfoldable pub queue_op : OpWord → List Value → Option Op
-queue_op OpWord.QueueCreate (Value.Number id ∷ Value.Number job ∷ Value.Number priority ∷ Value.Number limit ∷ Value.Flag ordered ∷ Value.Flag retain ∷ []) = Some (Op.QueueCreate id job priority limit ordered retain)
+queue_op OpWord.QueueCreate (Value.Number id ∷ Value.Number job ∷ Value.Number priority ∷ Value.Number limit ∷ Value.Flag ordered ∷ Value.Flag retain ∷ []) =
+    Some (Op.QueueCreate id job priority limit ordered retain)
 queue_op OpWord.QueueGet (Value.Number id ∷ []) = Some (Op.QueueGet id)
 queue_op OpWord.QueueEnable (Value.Handle queue ∷ []) = Some (Op.QueueEnable (record { 0 = queue }))
 queue_op OpWord.QueueDisable (Value.Handle queue ∷ []) = Some (Op.QueueDisable (record { 0 = queue }))

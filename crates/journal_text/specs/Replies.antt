@@ -51,7 +51,8 @@ reply_of ReplyWord.Number (Value.Whole z ∷ []) = Some (Reply.Number z)
 reply_of ReplyWord.Ended (Value.End e ∷ []) = Some (Reply.Ended e)
 reply_of ReplyWord.Given (Value.Handle task ∷ Value.End e ∷ []) = Some (Reply.Given (record { 0 = task }) e)
 reply_of ReplyWord.Pending [] = Some Reply.Pending
-reply_of ReplyWord.Picked (Value.Handle task ∷ Value.Handle action ∷ Value.Kind kind ∷ Value.Args args ∷ []) = Some (Reply.Picked (record { 0 = task }) (record { 0 = action }) kind args)
+reply_of ReplyWord.Picked (Value.Handle task ∷ Value.Handle action ∷ Value.Kind kind ∷ Value.Args args ∷ []) =
+    Some (Reply.Picked (record { 0 = task }) (record { 0 = action }) kind args)
 reply_of ReplyWord.Idle [] = Some Reply.Idle
 reply_of ReplyWord.Stop [] = Some Reply.Stop
 reply_of ReplyWord.Asked (Value.Flag b ∷ []) = Some (Reply.Asked b)

@@ -24,7 +24,12 @@ use Rattle.journal_text.specs.Journals.{journal_text, journal_of}
 
 -- three workers and so many callers
 abbrev pub head : Layout → ℕ → Head
-head layout callers = record { layout = layout; settings = record { workers = 3; tasks = 31; actions = 32; groups = 33; queues = 34; objects = 35; priorities = 6; generations = 37 }; callers = callers }
+head layout callers = record {
+  layout = layout;
+  settings =
+      record { workers = 3; tasks = 31; actions = 32; groups = 33; queues = 34; objects = 35; priorities = 6; generations = 37 };
+  callers = callers;
+}
 
 -- a seat asked this, and got this reply
 abbrev pub entry : ℕ → Op → Reply → NodeEntry
@@ -81,10 +86,13 @@ pub record WorkedNodeOps : Type 0 where
 
 -- the ops on tasks and groups
 pub record WorkedTaskOps : Type 0 where
-  pub task_start : Names (λ h. op.TaskStart 24 (pos 31 ∷ negsuc 31 ∷ []) 3 (cores 5) false (Some (record { 0 = h }))) 3 (codes "task_start 24 31,-32 3 5 0 911") (codes "task_start 24 31,-32 3 5 0 g21.34")
+  pub task_start : Names (λ h. op.TaskStart 24 (pos 31 ∷ negsuc 31 ∷ []) 3 (cores 5) false (Some (record { 0 = h }))) 3 (codes "task_start 24 31,-32 3 5 0 911")
+      (codes "task_start 24 31,-32 3 5 0 g21.34")
   pub task_start_alone : Tells (op.TaskStart 25 [] 4 (cores 18446744073709551615) true None) (codes "task_start 25 - 4 18446744073709551615 1 -")
-  pub task_enqueue : Names (λ h. op.TaskEnqueue (record { 0 = h }) (pos 33 ∷ []) (cores 9) false (Some (record { 0 = handle 3 }))) 4 (codes "task_enqueue 911 33 9 0 90244644898") (codes "task_enqueue q21.34 33 9 0 g21.34")
-  pub task_enqueue_alone : Names (λ h. op.TaskEnqueue (record { 0 = h }) [] (cores 10) true None) 4 (codes "task_enqueue 911 - 10 1 -") (codes "task_enqueue q21.34 - 10 1 -")
+  pub task_enqueue : Names (λ h. op.TaskEnqueue (record { 0 = h }) (pos 33 ∷ []) (cores 9) false (Some (record { 0 = handle 3 }))) 4
+      (codes "task_enqueue 911 33 9 0 90244644898") (codes "task_enqueue q21.34 33 9 0 g21.34")
+  pub task_enqueue_alone : Names (λ h. op.TaskEnqueue (record { 0 = h }) [] (cores 10) true None) 4 (codes "task_enqueue 911 - 10 1 -")
+      (codes "task_enqueue q21.34 - 10 1 -")
   pub task_look : Names (λ h. op.TaskLook (record { 0 = h }) false) 2 (codes "task_look 911 0") (codes "task_look t21.34 0")
   pub task_look_last : Names (λ h. op.TaskLook (record { 0 = h }) true) 2 (codes "task_look 911 1") (codes "task_look t21.34 1")
   pub task_cancel : Names (λ h. op.TaskCancel (record { 0 = h })) 2 (codes "task_cancel 911") (codes "task_cancel t21.34")
@@ -105,9 +113,12 @@ pub record WorkedQueueOps : Type 0 where
 -- the ops of workers
 pub record WorkedWorkOps : Type 0 where
   pub pick : Tells op.Pick (codes "pick")
-  pub finish : Names (λ h. op.Finish (record { 0 = h }) (record { kind = kind.Add; args = pos 8 ∷ pos 9 ∷ []; end = Done (pos 17 ∷ []) })) 2 (codes "finish 911 add 8,9 completed 17") (codes "finish t21.34 add 8,9 completed 17")
-  pub finish_empty : Names (λ h. op.Finish (record { 0 = h }) (record { kind = kind.Echo; args = []; end = Done [] })) 2 (codes "finish 911 echo - completed -") (codes "finish t21.34 echo - completed -")
-  pub finish_failed : Names (λ h. op.Finish (record { 0 = h }) (record { kind = kind.Div; args = pos 7 ∷ []; end = Fails mtapi.ErrArgSize })) 2 (codes "finish 911 div 7 error MTAPI_ERR_ARG_SIZE") (codes "finish t21.34 div 7 error MTAPI_ERR_ARG_SIZE")
+  pub finish : Names (λ h. op.Finish (record { 0 = h }) (record { kind = kind.Add; args = pos 8 ∷ pos 9 ∷ []; end = Done (pos 17 ∷ []) })) 2
+      (codes "finish 911 add 8,9 completed 17") (codes "finish t21.34 add 8,9 completed 17")
+  pub finish_empty : Names (λ h. op.Finish (record { 0 = h }) (record { kind = kind.Echo; args = []; end = Done [] })) 2 (codes "finish 911 echo - completed -")
+      (codes "finish t21.34 echo - completed -")
+  pub finish_failed : Names (λ h. op.Finish (record { 0 = h }) (record { kind = kind.Div; args = pos 7 ∷ []; end = Fails mtapi.ErrArgSize })) 2
+      (codes "finish 911 div 7 error MTAPI_ERR_ARG_SIZE") (codes "finish t21.34 div 7 error MTAPI_ERR_ARG_SIZE")
   pub asks : Names (λ h. op.Asked (record { 0 = h })) 2 (codes "asked 911") (codes "asked t21.34")
   pub watch_end : Names (λ h. op.WatchEnd (record { 0 = h })) 2 (codes "watch_end 911") (codes "watch_end t21.34")
   pub tally_lock : Names (λ h. op.TallyLock (record { 0 = h })) 2 (codes "tally_lock 911") (codes "tally_lock t21.34")
@@ -153,11 +164,13 @@ pub record WorkedReplies : Type 0 where
   pub completed : Replies (λ h. reply.Ended (Completed (pos 46 ∷ negsuc 46 ∷ []))) 1 (codes "ended completed 46,-47") (codes "ended completed 46,-47")
   pub completed_empty : Replies (λ h. reply.Ended (Completed [])) 1 (codes "ended completed -") (codes "ended completed -")
   pub cancelled : Replies (λ h. reply.Ended Cancelled) 1 (codes "ended cancelled") (codes "ended cancelled")
-  pub failed : Replies (λ h. reply.Ended (Failed mtapi.ErrQueueDeleted)) 1 (codes "ended error MTAPI_ERR_QUEUE_DELETED") (codes "ended error MTAPI_ERR_QUEUE_DELETED")
+  pub failed : Replies (λ h. reply.Ended (Failed mtapi.ErrQueueDeleted)) 1 (codes "ended error MTAPI_ERR_QUEUE_DELETED")
+      (codes "ended error MTAPI_ERR_QUEUE_DELETED")
   pub given : Replies (λ h. reply.Given (record { 0 = h }) (Completed (pos 48 ∷ []))) 2 (codes "given 911 completed 48") (codes "given t21.34 completed 48")
   pub given_cancelled : Replies (λ h. reply.Given (record { 0 = h }) Cancelled) 2 (codes "given 911 cancelled") (codes "given t21.34 cancelled")
   pub pending : Replies (λ h. reply.Pending) 1 (codes "pending") (codes "pending")
-  pub picked : Replies (λ h. reply.Picked (record { 0 = h }) (record { 0 = handle 1 }) kind.Mul (pos 49 ∷ negsuc 49 ∷ [])) 2 (codes "picked 911 90211090466 mul 49,-50") (codes "picked t21.34 a21.34 mul 49,-50")
+  pub picked : Replies (λ h. reply.Picked (record { 0 = h }) (record { 0 = handle 1 }) kind.Mul (pos 49 ∷ negsuc 49 ∷ [])) 2
+      (codes "picked 911 90211090466 mul 49,-50") (codes "picked t21.34 a21.34 mul 49,-50")
   pub idle : Replies (λ h. reply.Idle) 1 (codes "idle") (codes "idle")
   pub stop : Replies (λ h. reply.Stop) 1 (codes "stop") (codes "stop")
   pub asked_not : Replies (λ h. reply.Asked false) 1 (codes "asked 0") (codes "asked 0")
@@ -169,10 +182,14 @@ pub record WorkedReplies : Type 0 where
 pub record WorkedHeads : Type 0 where
   pub one : head_text (head One 4) ≡ codes "mtapi-journal 1 workers=3 callers=4 tasks=31 actions=32 groups=33 queues=34 objects=35 priorities=6 generations=37"
   pub two : head_text (head Two 4) ≡ codes "mtapi-journal 2 workers=3 callers=4 tasks=31 actions=32 groups=33 queues=34 objects=35 priorities=6 generations=37"
-  pub one_read : head_of (codes "mtapi-journal 1 workers=3 callers=4 tasks=31 actions=32 groups=33 queues=34 objects=35 priorities=6 generations=37") ≡ Some (head One 4)
-  pub two_read : head_of (codes "mtapi-journal 2 workers=3 callers=4 tasks=31 actions=32 groups=33 queues=34 objects=35 priorities=6 generations=37") ≡ Some (head Two 4)
-  pub most_callers : head_of (codes "mtapi-journal 1 workers=3 callers=9 tasks=31 actions=32 groups=33 queues=34 objects=35 priorities=6 generations=37") ≡ Some (head One 9)
-  pub too_many_callers : head_of (codes "mtapi-journal 1 workers=3 callers=10 tasks=31 actions=32 groups=33 queues=34 objects=35 priorities=6 generations=37") ≡ None
+  pub one_read : head_of (codes "mtapi-journal 1 workers=3 callers=4 tasks=31 actions=32 groups=33 queues=34 objects=35 priorities=6 generations=37")
+      ≡ Some (head One 4)
+  pub two_read : head_of (codes "mtapi-journal 2 workers=3 callers=4 tasks=31 actions=32 groups=33 queues=34 objects=35 priorities=6 generations=37")
+      ≡ Some (head Two 4)
+  pub most_callers : head_of (codes "mtapi-journal 1 workers=3 callers=9 tasks=31 actions=32 groups=33 queues=34 objects=35 priorities=6 generations=37")
+      ≡ Some (head One 9)
+  pub too_many_callers : head_of (codes "mtapi-journal 1 workers=3 callers=10 tasks=31 actions=32 groups=33 queues=34 objects=35 priorities=6 generations=37")
+      ≡ None
   pub no_caller : head_of (codes "mtapi-journal 1 workers=3 callers=0 tasks=31 actions=32 groups=33 queues=34 objects=35 priorities=6 generations=37") ≡ None
   pub third_text : head_of (codes "mtapi-journal 3 workers=3 callers=4 tasks=31 actions=32 groups=33 queues=34 objects=35 priorities=6 generations=37") ≡ None
   pub first_worker : entry_text (head One 4) (entry 0 op.Pick reply.Idle) 5 ≡ codes "w0 pick -> idle after 5"
@@ -191,11 +208,18 @@ pub record WorkedHeads : Type 0 where
   pub unanswered : entry_of (head One 4) (codes "w0 finish 911 add 8,9 completed 18 -> ok") ≡ None
   pub no_handle : handle_of (codes "b21.34") ≡ None
   pub handle_read : handle_of (codes "s21.34") ≡ Some (handle 6)
-  pub group_absent : entry_of (head One 4) (codes "c0 task_start 25 - 4 7 1 - -> pending") ≡ Some (entry 3 (op.TaskStart 25 [] 4 (cores 7) true None) reply.Pending, 0)
+  pub group_absent : entry_of (head One 4) (codes "c0 task_start 25 - 4 7 1 - -> pending")
+      ≡ Some (entry 3 (op.TaskStart 25 [] 4 (cores 7) true None) reply.Pending, 0)
 
 -- a journal of two entries
 abbrev pub pair : Layout → Journal
-pair layout = record { layout = layout; settings = (head layout 4).settings; callers = 4; entries = record { entries = entry 3 op.Close reply.Ok ∷ entry 1 op.Pick reply.Stop ∷ []; skipped = 0 ∷ 8 ∷ [] } }
+pair layout = record {
+  layout = layout;
+  settings = (head layout 4).settings;
+  callers = 4;
+  entries =
+      record { entries = entry 3 op.Close reply.Ok ∷ entry 1 op.Pick reply.Stop ∷ []; skipped = 0 ∷ 8 ∷ [] };
+}
 
 -- a head line, and the line feed behind it
 abbrev pub head_line : List ℕ

@@ -19,7 +19,8 @@ const OBJECT_KINDS: [ObjectKind; 8] = [
     ObjectKind::Shmem,
 ];
 
-fn kind_letter(kind: ObjectKind) -> u8
+/// The letter of a kind of object, with which its handles begin.
+pub fn kind_letter(kind: ObjectKind) -> u8
     ensures { result ≡ kind_letter kind }
 {
     match kind {

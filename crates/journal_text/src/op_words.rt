@@ -2,12 +2,13 @@
 ghost use Rattle.std.specs.Prelude.{◌≡◌, IfOk, option_map};
 ghost use Rattle.journal_text.specs.Ops.{op_row, op_word_of, op_spelled, finished_of, node_op, task_op, queue_op, work_op, lock_op, segment_op, op_of, end_of_answer};
 
+use crate::shown::NodeObject;
 use crate::values::{Shape, Value, spelled};
 use action_fn::{ActEnd, Finished, answer_of};
 use mtapi_machine::Op;
 use mtapi_values::{
-    ActionHandle, Args, GroupHandle, Kind, MutexHandle, QueueHandle, RwlHandle, SemHandle,
-    ShmemHandle, TaskEnd, TaskHandle,
+    ActionHandle, Args, GroupHandle, Kind, MutexHandle, ObjectKind, QueueHandle, RwlHandle,
+    SemHandle, ShmemHandle, TaskEnd, TaskHandle,
 };
 use std::alloc::{AllocError, Global};
 
@@ -24,84 +25,85 @@ pub enum OpWord {
     ShmemCreate, ShmemGet, ShmemDelete, ShmemAttach, ShmemDetach, ShmemRead, ShmemWrite,
 }
 
-/// The table, handed to a macro: by families, an op's word, its text, and its fields in order with the shape of each. `finish`, whose
-/// fields are those of an answer, stands beside it in each use.
+/// The table, handed to a macro: by families, an op's word, its text, the word by which runs are shown, which is that of the workload's
+/// statement if there is one, its fields in order with the shape of each, and the kind of object whose handle it answers. `finish`,
+/// whose fields are those of an answer, stands beside it in each use.
 #[rattlefmt::skip]
 macro_rules! ops {
     ($then:ident $args:tt) => { $then! { $args
         nodes {
-            Initialize b"initialize" {}
-            Release b"release" {}
-            Enter b"enter" {}
-            Close b"close" {}
-            Final b"final" {}
-            JobGet b"job_get" { job: Number }
-            ActionCreate b"action_create" { job: Number, kind: Kind, cores: Cores }
-            ActionDelete b"action_delete" { action: Handle(ActionHandle) }
-            ActionDisable b"action_disable" { action: Handle(ActionHandle) }
-            ActionEnable b"action_enable" { action: Handle(ActionHandle) }
+            Initialize b"initialize" "initialize" {}
+            Release b"release" "release" {}
+            Enter b"enter" "enter" {}
+            Close b"close" "close" {}
+            Final b"final" "final" {}
+            JobGet b"job_get" "job_get" { job: Number }
+            ActionCreate b"action_create" "action" { job: Number, kind: Kind, cores: Cores } -> Action
+            ActionDelete b"action_delete" "action_delete" { action: Handle(ActionHandle) }
+            ActionDisable b"action_disable" "action_disable" { action: Handle(ActionHandle) }
+            ActionEnable b"action_enable" "action_enable" { action: Handle(ActionHandle) }
         }
         tasks {
-            TaskStart b"task_start" { job: Number, args: Args, priority: Number, cores: Cores, detached: Flag, group: Group(GroupHandle) }
-            TaskEnqueue b"task_enqueue" { queue: Handle(QueueHandle), args: Args, cores: Cores, detached: Flag, group: Group(GroupHandle) }
-            TaskLook b"task_look" { task: Handle(TaskHandle), last: Flag }
-            TaskCancel b"task_cancel" { task: Handle(TaskHandle) }
-            GroupCreate b"group_create" {}
-            GroupDelete b"group_delete" { group: Handle(GroupHandle) }
-            AllLook b"all_look" { group: Handle(GroupHandle), last: Flag }
-            AnyLook b"any_look" { group: Handle(GroupHandle), last: Flag }
+            TaskStart b"task_start" "start" { job: Number, args: Args, priority: Number, cores: Cores, detached: Flag, group: Group(GroupHandle) } -> Task
+            TaskEnqueue b"task_enqueue" "enqueue" { queue: Handle(QueueHandle), args: Args, cores: Cores, detached: Flag, group: Group(GroupHandle) } -> Task
+            TaskLook b"task_look" "wait" { task: Handle(TaskHandle), last: Flag }
+            TaskCancel b"task_cancel" "cancel" { task: Handle(TaskHandle) }
+            GroupCreate b"group_create" "group" {} -> Group
+            GroupDelete b"group_delete" "group_delete" { group: Handle(GroupHandle) }
+            AllLook b"all_look" "wait_all" { group: Handle(GroupHandle), last: Flag }
+            AnyLook b"any_look" "wait_any" { group: Handle(GroupHandle), last: Flag }
         }
         queues {
-            QueueCreate b"queue_create" { id: Number, job: Number, priority: Number, limit: Number, ordered: Flag, retain: Flag }
-            QueueGet b"queue_get" { id: Number }
-            QueueEnable b"queue_enable" { queue: Handle(QueueHandle) }
-            QueueDisable b"queue_disable" { queue: Handle(QueueHandle) }
-            QueueDelete b"queue_delete" { queue: Handle(QueueHandle) }
+            QueueCreate b"queue_create" "queue" { id: Number, job: Number, priority: Number, limit: Number, ordered: Flag, retain: Flag } -> Queue
+            QueueGet b"queue_get" "queue_get" { id: Number } -> Queue
+            QueueEnable b"queue_enable" "queue_enable" { queue: Handle(QueueHandle) }
+            QueueDisable b"queue_disable" "queue_disable" { queue: Handle(QueueHandle) }
+            QueueDelete b"queue_delete" "queue_delete" { queue: Handle(QueueHandle) }
         }
         work {
-            Pick b"pick" {}
-            Asked b"asked" { task: Handle(TaskHandle) }
-            WatchEnd b"watch_end" { task: Handle(TaskHandle) }
-            TallyLock b"tally_lock" { task: Handle(TaskHandle) }
-            TallyRead b"tally_read" { task: Handle(TaskHandle) }
-            TallyWrite b"tally_write" { task: Handle(TaskHandle), value: Whole }
-            TallyEnd b"tally_end" { task: Handle(TaskHandle) }
+            Pick b"pick" "pick" {}
+            Asked b"asked" "asked" { task: Handle(TaskHandle) }
+            WatchEnd b"watch_end" "watch_end" { task: Handle(TaskHandle) }
+            TallyLock b"tally_lock" "tally_lock" { task: Handle(TaskHandle) }
+            TallyRead b"tally_read" "tally_read" { task: Handle(TaskHandle) }
+            TallyWrite b"tally_write" "tally_write" { task: Handle(TaskHandle), value: Whole }
+            TallyEnd b"tally_end" "tally_end" { task: Handle(TaskHandle) }
         }
         locks {
-            MutexCreate b"mutex_create" { id: Number, recursive: Flag }
-            MutexGet b"mutex_get" { id: Number }
-            MutexDelete b"mutex_delete" { mutex: Handle(MutexHandle) }
-            MutexLook b"mutex_look" { mutex: Handle(MutexHandle), last: Flag }
-            MutexUnlock b"mutex_unlock" { mutex: Handle(MutexHandle), key: Number }
-            SemCreate b"sem_create" { id: Number, limit: Number }
-            SemGet b"sem_get" { id: Number }
-            SemDelete b"sem_delete" { sem: Handle(SemHandle) }
-            SemLook b"sem_look" { sem: Handle(SemHandle), last: Flag }
-            SemUnlock b"sem_unlock" { sem: Handle(SemHandle) }
-            RwlCreate b"rwl_create" { id: Number, limit: Number }
-            RwlGet b"rwl_get" { id: Number }
-            RwlDelete b"rwl_delete" { rwl: Handle(RwlHandle) }
-            RwlLook b"rwl_look" { rwl: Handle(RwlHandle), writer: Flag, last: Flag }
-            RwlUnlock b"rwl_unlock" { rwl: Handle(RwlHandle), writer: Flag }
+            MutexCreate b"mutex_create" "mutex" { id: Number, recursive: Flag } -> Mutex
+            MutexGet b"mutex_get" "mutex_get" { id: Number } -> Mutex
+            MutexDelete b"mutex_delete" "mutex_delete" { mutex: Handle(MutexHandle) }
+            MutexLook b"mutex_look" "lock" { mutex: Handle(MutexHandle), last: Flag }
+            MutexUnlock b"mutex_unlock" "unlock" { mutex: Handle(MutexHandle), key: Number }
+            SemCreate b"sem_create" "sem" { id: Number, limit: Number } -> Sem
+            SemGet b"sem_get" "sem_get" { id: Number } -> Sem
+            SemDelete b"sem_delete" "sem_delete" { sem: Handle(SemHandle) }
+            SemLook b"sem_look" "sem_lock" { sem: Handle(SemHandle), last: Flag }
+            SemUnlock b"sem_unlock" "sem_unlock" { sem: Handle(SemHandle) }
+            RwlCreate b"rwl_create" "rwl" { id: Number, limit: Number } -> Rwl
+            RwlGet b"rwl_get" "rwl_get" { id: Number } -> Rwl
+            RwlDelete b"rwl_delete" "rwl_delete" { rwl: Handle(RwlHandle) }
+            RwlLook b"rwl_look" "rwl_lock" { rwl: Handle(RwlHandle), writer: Flag, last: Flag }
+            RwlUnlock b"rwl_unlock" "rwl_unlock" { rwl: Handle(RwlHandle), writer: Flag }
         }
         segments {
-            ShmemCreate b"shmem_create" { id: Number, cells: Number }
-            ShmemGet b"shmem_get" { id: Number }
-            ShmemDelete b"shmem_delete" { shmem: Handle(ShmemHandle) }
-            ShmemAttach b"shmem_attach" { shmem: Handle(ShmemHandle) }
-            ShmemDetach b"shmem_detach" { shmem: Handle(ShmemHandle) }
-            ShmemRead b"shmem_read" { shmem: Handle(ShmemHandle), cell: Number }
-            ShmemWrite b"shmem_write" { shmem: Handle(ShmemHandle), cell: Number, value: Whole }
+            ShmemCreate b"shmem_create" "shmem" { id: Number, cells: Number } -> Shmem
+            ShmemGet b"shmem_get" "shmem_get" { id: Number } -> Shmem
+            ShmemDelete b"shmem_delete" "shmem_delete" { shmem: Handle(ShmemHandle) }
+            ShmemAttach b"shmem_attach" "attach" { shmem: Handle(ShmemHandle) }
+            ShmemDetach b"shmem_detach" "detach" { shmem: Handle(ShmemHandle) }
+            ShmemRead b"shmem_read" "read" { shmem: Handle(ShmemHandle), cell: Number }
+            ShmemWrite b"shmem_write" "write" { shmem: Handle(ShmemHandle), cell: Number, value: Whole }
         }
     } };
 }
 
 macro_rules! words {
-    (() $($family:ident { $($word:ident $text:literal { $($field:ident: $shape:ident$(($handle:ident))?),* })* })*) => { [$($(OpWord::$word,)*)* OpWord::Finish] };
+    (() $($family:ident { $($word:ident $text:literal $shown:literal { $($field:ident: $shape:ident$(($handle:ident))?),* } $(-> $made:ident)?)* })*) => { [$($(OpWord::$word,)*)* OpWord::Finish] };
 }
 
 macro_rules! rows {
-    (($self:ident) $($family:ident { $($word:ident $text:literal { $($field:ident: $shape:ident$(($handle:ident))?),* })* })*) => {
+    (($self:ident) $($family:ident { $($word:ident $text:literal $shown:literal { $($field:ident: $shape:ident$(($handle:ident))?),* } $(-> $made:ident)?)* })*) => {
         match $self {
             $($(OpWord::$word => ($text, &[$(Shape::$shape),*]),)*)*
             OpWord::Finish => (b"finish", &[Shape::Handle, Shape::Kind, Shape::Args, Shape::End]),
@@ -155,7 +157,7 @@ macro_rules! wrapped {
 }
 
 macro_rules! spell {
-    (($alloc:ident $op:ident) $($family:ident { $($word:ident $text:literal { $($field:ident: $shape:ident$(($handle:ident))?),* })* })*) => {
+    (($alloc:ident $op:ident) $($family:ident { $($word:ident $text:literal $shown:literal { $($field:ident: $shape:ident$(($handle:ident))?),* } $(-> $made:ident)?)* })*) => {
         match $op {
             $($(Op::$word { $($field),* } => spelled($alloc, OpWord::$word, [$(wrapped!($shape$(($handle))? $field)),*]),)*)*
             Op::Finish { task, done } => spelled($alloc, OpWord::Finish, [Value::Handle(task.0), Value::Kind(done.kind()), Value::Args(done.args().again()), Value::End(end_of_answer(&done.end()))]),
@@ -196,7 +198,7 @@ macro_rules! taken {
 }
 
 macro_rules! built {
-    (($self:ident $values:ident) { $($word:ident $text:literal { $($field:ident: $shape:ident$(($handle:ident))?),* })* }) => {
+    (($self:ident $values:ident) { $($word:ident $text:literal $shown:literal { $($field:ident: $shape:ident$(($handle:ident))?),* } $(-> $made:ident)?)* }) => {
         match $self {
             $(OpWord::$word => match $values {
                 [$(Value::$shape($field)),*] => Some(Op::$word { $($field: taken!($shape$(($handle))? $field)),* }),
@@ -297,4 +299,70 @@ pub fn op_of(word: OpWord, values: &[Value]) -> Option<Op>
         return Some(op);
     }
     segment_op(word, values)
+}
+
+macro_rules! shown_words {
+    (($op:ident) $($family:ident { $($word:ident $text:literal $shown:literal { $($field:ident: $shape:ident$(($handle:ident))?),* } $(-> $made:ident)?)* })*) => {
+        match $op {
+            $($(Op::$word { .. } => $shown,)*)*
+            Op::Finish { .. } => "finish",
+        }
+    };
+}
+
+/// The word by which an op is shown: that of the workload's statement, where there is one, and else that of the journal.
+pub fn shown_word(op: &Op) -> &'static str {
+    ops!(shown_words(op))
+}
+
+macro_rules! answered {
+    () => { None };
+    ($made:ident) => { Some(ObjectKind::$made) };
+}
+
+macro_rules! kinds_answered {
+    (($op:ident) $($family:ident { $($word:ident $text:literal $shown:literal { $($field:ident: $shape:ident$(($handle:ident))?),* } $(-> $made:ident)?)* })*) => {
+        match $op {
+            $($(Op::$word { .. } => answered!($($made)?),)*)*
+            Op::Finish { .. } => None,
+        }
+    };
+}
+
+/// The kind of object whose handle an op answers.
+pub fn kind_answered(op: &Op) -> Option<ObjectKind> {
+    ops!(kinds_answered(op))
+}
+
+macro_rules! kind_of {
+    (ActionHandle) => { ObjectKind::Action };
+    (TaskHandle) => { ObjectKind::Task };
+    (GroupHandle) => { ObjectKind::Group };
+    (QueueHandle) => { ObjectKind::Queue };
+    (MutexHandle) => { ObjectKind::Mutex };
+    (SemHandle) => { ObjectKind::Sem };
+    (RwlHandle) => { ObjectKind::Rwl };
+    (ShmemHandle) => { ObjectKind::Shmem };
+}
+
+/// The object that the first handle among the fields names.
+macro_rules! first_named {
+    () => { None };
+    (Handle($handle:ident) $field:ident $($later:tt)*) => { Some(NodeObject { kind: kind_of!($handle), handle: $field.0 }) };
+    ($shape:ident $field:ident $($later:tt)*) => { first_named!($($later)*) };
+    ($shape:ident($handle:ident) $field:ident $($later:tt)*) => { first_named!($($later)*) };
+}
+
+macro_rules! objects_named {
+    (($op:ident) $($family:ident { $($word:ident $text:literal $shown:literal { $($field:ident: $shape:ident$(($handle:ident))?),* } $(-> $made:ident)?)* })*) => {
+        match $op {
+            $($(Op::$word { $($field),* } => first_named!($($shape$(($handle))? $field)*),)*)*
+            Op::Finish { task, .. } => Some(NodeObject { kind: ObjectKind::Task, handle: task.0 }),
+        }
+    };
+}
+
+/// The object that an op names.
+pub fn object_named(op: &Op) -> Option<NodeObject> {
+    ops!(objects_named(op))
 }

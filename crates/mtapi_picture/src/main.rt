@@ -2,33 +2,31 @@
 //! Its stored run draws a run of two workers and two callers with a queue and a group.
 #![tactic(auto)]
 
-mod command;
-
-use byte_io::{StdSink, StdSource};
-use command::{End, draw, tell};
-use std::env;
-use std::io::ErrorKind;
+use journal_reading::{KeptRun, RunText, RunView, program};
+use run_picture::svg_of;
+use std::alloc::{AllocError, Global};
 use std::process::ExitCode;
 
-/// Whether there are words behind the program's name: it takes none.
-fn has_words(rt: &HostRuntime) -> Result<bool, End> {
-    match env::args(rt) {
-        Ok(words) => Ok(words.skip(1).next().is_some()),
-        Err(error) => {
-            if error.kind() == ErrorKind::OutOfMemory {
-                return Err(End::Memory);
-            }
-            Ok(true)
-        }
+/// Makes the SVG of a run.
+struct Picture;
+
+impl RunText for Picture {
+    fn text_of(alloc: Global, run: &KeptRun) -> Result<String, AllocError> {
+        let journal = &run.journal;
+        let workers = journal.settings.workers().min(16);
+        let seats = workers + journal.callers.min(9);
+        let skipped = journal.entries.skipped();
+        svg_of(
+            alloc,
+            run.workload.as_ref(),
+            workers,
+            seats,
+            journal.entries.as_slice(),
+            skipped,
+        )
     }
 }
 
 fn main(rt: HostRuntime) -> ExitCode {
-    let mut out = StdSink::new(rt.stdout());
-    let end = match has_words(&rt) {
-        Ok(false) => draw(rt.alloc(), &mut StdSource::new(rt.stdin()), &mut out),
-        Ok(true) => End::Usage,
-        Err(end) => end,
-    };
-    ExitCode::from(tell(rt.alloc(), end, &mut StdSink::new(rt.stderr())))
+    program::<Picture>(&rt, RunView::Picture)
 }

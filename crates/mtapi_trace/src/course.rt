@@ -1,11 +1,15 @@
 //! The trace of a run, made in one pass over its entries.
 
-use crate::calls::{Object, answer_of, end_of, object_made, object_named, word_of};
-use crate::events::{Count, Details, FlowEnd, PROCESS, Slice, Tasks, Title, Track, push_event};
+use crate::calls::{answer_of, end_of};
+use crate::events::{
+    Count, Details, FlowEnd, PROCESS, Slice, SortIndex, Tasks, Title, Track, TrackPlace, push_event,
+};
 use crate::names::{Binding, Names, name_at};
+use journal_text::{NodeObject, object_made, object_named, shown_word};
 use mtapi_machine::{Entry, Op, Reply};
 use mtapi_values::ObjectKind;
 use node_journals::Journal;
+use run_picture::Withdrawals;
 use std::alloc::{AllocError, Global};
 use std::collections::HashMap;
 use std::str::from_utf8;
@@ -45,7 +49,7 @@ struct Waiting {
 /// How many tasks wait in a queue, or in none.
 #[derive(Clone, Copy, Drop)]
 struct Counter {
-    queue: Option<Object>,
+    queue: Option<NodeObject>,
     retains: bool,
     emptied: u64,
     tasks: u64,
@@ -62,6 +66,7 @@ struct Course<'a> {
     /// The first one counts the tasks of no queue.
     counters: Vec<Counter>,
     queues: HashMap<u64, usize>,
+    withdrawals: Withdrawals,
     out: String,
 }
 
@@ -139,7 +144,10 @@ impl<'a> Course<'a> {
         let place = self.counters.len();
         self.queues.insert(queue, place)?;
         let counter = Counter {
-            queue: Some((ObjectKind::Queue, queue)),
+            queue: Some(NodeObject {
+                kind: ObjectKind::Queue,
+                handle: queue,
+            }),
             retains,
             emptied: 0,
             tasks: 0,
@@ -167,19 +175,53 @@ impl<'a> Course<'a> {
         self.count(time, place, Counter { tasks, ..counter })
     }
 
-    /// A task doesn't wait any more, if it did.
-    fn note_leave(&mut self, time: u64, task: u64) -> Result<(), AllocError> {
-        let Some(waiting) = self.waiting.remove(&task) else {
-            return Ok(());
-        };
+    /// A task doesn't wait any more. Gives where it was counted, if it still was.
+    fn stop_waiting(&mut self, task: u64) -> Option<usize> {
+        let waiting = self.waiting.remove(&task)?;
         match self.counters.get(waiting.place) {
-            Some(counter) if counter.emptied == waiting.emptied => {
-                let tasks = counter.tasks.saturating_sub(1);
+            Some(counter) if counter.emptied == waiting.emptied => Some(waiting.place),
+            _ => None,
+        }
+    }
+
+    /// So many tasks less wait in a queue, or in none.
+    fn lower(&mut self, time: u64, place: usize, fewer: u64) -> Result<(), AllocError> {
+        match self.counters.get(place) {
+            Some(counter) if fewer > 0 => {
+                let tasks = counter.tasks.saturating_sub(fewer);
                 let counter = Counter { tasks, ..*counter };
-                self.count(time, waiting.place, counter)
+                self.count(time, place, counter)
             }
             _ => Ok(()),
         }
+    }
+
+    /// A task doesn't wait any more, if it did.
+    fn note_leave(&mut self, time: u64, task: u64) -> Result<(), AllocError> {
+        match self.stop_waiting(task) {
+            Some(place) => self.lower(time, place, 1),
+            None => Ok(()),
+        }
+    }
+
+    /// The tasks that fail, since an action is deleted or disabled, don't wait any more.
+    fn note_left(&mut self, time: u64, entry: &Entry) -> Result<(), AllocError> {
+        let left = self.withdrawals.note(entry)?;
+        if left.is_empty() {
+            return Ok(());
+        }
+        let mut fewer = vec![in self.alloc; 0u64; self.counters.len()]?;
+        for task in left.as_slice() {
+            if let Some(place) = self.stop_waiting(*task)
+                && place < fewer.len()
+            {
+                fewer[place] = fewer[place].saturating_add(1);
+            }
+        }
+        for (place, fewer) in fewer.iter().enumerate() {
+            self.lower(time, place, *fewer)?;
+        }
+        Ok(())
     }
 
     /// The tasks of a queue don't wait any more: it was deleted, or was disabled and doesn't retain them.
@@ -222,11 +264,20 @@ impl<'a> Course<'a> {
         }
     }
 
+    /// The object that a caller's op names. A task that wasn't enqueued has no other name than that of its statement.
+    fn object_called(&self, entry: &Entry) -> Option<NodeObject> {
+        match &entry.op {
+            Op::TaskEnqueue { .. } => None,
+            op if self.workers <= entry.who => object_named(op),
+            _ => None,
+        }
+    }
+
     /// What a call is called: its word, the object that it makes or names, and a refusal's status. Where there is no such object, since
     /// the call or an earlier one was refused, the name is that of the statement.
     fn label_of(&self, entry: &Entry, binding: Option<Binding<'a>>) -> Result<String, AllocError> {
-        let word = word_of(&entry.op);
-        let object = object_made(&entry.op, &entry.reply).or(object_named(&entry.op));
+        let word = shown_word(&entry.op);
+        let object = object_made(&entry.op, &entry.reply).or(self.object_called(entry));
         let known = match object {
             Some(object) => self.names.binding_of(object),
             None => None,
@@ -286,7 +337,10 @@ impl<'a> Course<'a> {
         let Some((task, from)) = run else {
             return Ok(());
         };
-        let object = (ObjectKind::Task, task);
+        let object = NodeObject {
+            kind: ObjectKind::Task,
+            handle: task,
+        };
         let name = self.names.name_of(self.alloc, object)?;
         let args = Details {
             line: line_of(self.names.binding_of(object)),
@@ -354,6 +408,7 @@ impl<'a> Course<'a> {
                 Some(looks) => *looks,
                 None => 0,
             };
+            self.note_left(time, entry)?;
             let who = entry.who as usize;
             if who < self.seats.len() {
                 let before = self.seats[who];
@@ -366,7 +421,7 @@ impl<'a> Course<'a> {
         Ok(())
     }
 
-    /// The name of each track.
+    /// The name and the place of each track.
     fn push_tracks(&mut self, seats: u32) -> Result<(), AllocError> {
         for seat in 0..seats {
             let name = match seat.checked_sub(self.workers) {
@@ -389,8 +444,21 @@ impl<'a> Course<'a> {
                 },
             };
             push_event(self.alloc, &mut self.out, &track)?;
+            self.push_place(track.tid)?;
         }
         Ok(())
+    }
+
+    /// Viewers that go by names show the tracks by their numbers then.
+    fn push_place(&mut self, track: u32) -> Result<(), AllocError> {
+        let place = TrackPlace {
+            name: "thread_sort_index",
+            ph: "M",
+            pid: PROCESS,
+            tid: track,
+            args: SortIndex { sort_index: track },
+        };
+        push_event(self.alloc, &mut self.out, &place)
     }
 
     /// What the journal doesn't end.
@@ -412,12 +480,16 @@ fn line_of(binding: Option<Binding<'_>>) -> Option<u64> {
     }
 }
 
-/// The trace of the run of a journal, with the names of a workload. It takes one pass over the entries.
+/// The trace of the run of a journal, with the names of its workload, if that is known. It takes one pass over the entries.
 ///
 /// # Errors
 ///
 /// - `AllocError`: memory ran out.
-pub fn trace_of(alloc: Global, load: &Workload, journal: &Journal) -> Result<String, AllocError> {
+pub fn trace_of(
+    alloc: Global,
+    load: Option<&Workload>,
+    journal: &Journal,
+) -> Result<String, AllocError> {
     let entries = journal.entries.as_slice();
     let workers = journal.settings.workers().min(16);
     let seats = workers + journal.callers.min(9);
@@ -440,6 +512,7 @@ pub fn trace_of(alloc: Global, load: &Workload, journal: &Journal) -> Result<Str
         waiting: HashMap::new(alloc),
         counters: vec![in alloc; first; 1]?,
         queues: HashMap::new(alloc),
+        withdrawals: Withdrawals::new(alloc, workers),
         out: String::from_str(alloc, BEGIN)?,
     };
     course.push_tracks(seats)?;

@@ -73,6 +73,21 @@ pub struct Title<'a> {
     pub name: &'a str,
 }
 
+/// The place of a track among the others.
+#[derive(Drop, Serialize)]
+pub struct TrackPlace<'a> {
+    pub name: &'a str,
+    pub ph: &'a str,
+    pub pid: u32,
+    pub tid: u32,
+    pub args: SortIndex,
+}
+
+#[derive(Drop, Serialize)]
+pub struct SortIndex {
+    pub sort_index: u32,
+}
+
 /// Adds an event, in a line of its own.
 pub fn push_event<T: Serialize>(
     alloc: Global,

@@ -1,6 +1,7 @@
 //! The names that a workload gives to the objects of its run.
 
-use crate::calls::{Object, key_of, letter_of, object_made};
+use crate::calls::key_of;
+use journal_text::{NodeObject, handle_word, object_made};
 use mtapi_machine::{Entry, Op, Reply};
 use std::alloc::{AllocError, Global};
 use std::collections::HashMap;
@@ -34,8 +35,11 @@ fn is_call(call: &Call, op: &Op) -> bool {
 
 impl<'a> Names<'a> {
     /// No name yet.
-    pub fn new(alloc: Global, load: &'a Workload) -> Result<Names<'a>, AllocError> {
-        let parts = load.parts.as_slice();
+    pub fn new(alloc: Global, load: Option<&'a Workload>) -> Result<Names<'a>, AllocError> {
+        let parts: &'a [Part] = match load {
+            Some(load) => load.parts.as_slice(),
+            None => &[],
+        };
         let mut bound = Vec::new(alloc);
         for _ in parts {
             bound.push(Vec::new(alloc))?;
@@ -80,7 +84,7 @@ impl<'a> Names<'a> {
     }
 
     /// The statement that bound an object first.
-    pub fn binding_of(&self, object: Object) -> Option<Binding<'a>> {
+    pub fn binding_of(&self, object: NodeObject) -> Option<Binding<'a>> {
         match self.bindings.get(&key_of(object)) {
             Some(binding) => Some(*binding),
             None => None,
@@ -88,16 +92,13 @@ impl<'a> Names<'a> {
     }
 
     /// The name of an object: that of the statement that bound it first, behind that of its part, or else its handle.
-    pub fn name_of(&self, alloc: Global, object: Object) -> Result<String, AllocError> {
+    pub fn name_of(&self, alloc: Global, object: NodeObject) -> Result<String, AllocError> {
         if let Some(binding) = self.binding_of(object) {
             if let Some(name) = name_at(alloc, binding)? {
                 return Ok(name);
             }
         }
-        let letter = letter_of(object.0);
-        let generation = object.1 >> 32;
-        let slot = object.1 & 0xff_ffff;
-        format!(in alloc; "{letter}{generation}.{slot}")
+        handle_word(alloc, object)
     }
 }
 

@@ -4,7 +4,8 @@ use crate::lanes::{end_lanes, note_lanes};
 use crate::lists::at;
 use crate::marks::{Chart, STYLES, Style};
 use crate::seats::{Seat, end_seat, note_seat};
-use crate::tasks::{end_run, note_tasks};
+use crate::tasks::{end_left, end_run, note_tasks};
+use crate::withdrawals::Withdrawals;
 use mtapi_machine::{Entry, Op, Reply};
 use std::alloc::{AllocError, Global};
 use std::collections::HashMap;
@@ -65,17 +66,21 @@ fn note(
     note_seat(chart, place, entry, looks)
 }
 
-/// The chart of these entries, with the number of looks that were left out before each, of a node with so many seats.
+/// The chart of these entries, with the number of looks that were left out before each, of a node with so many workers and seats.
 pub fn chart_of(
     alloc: Global,
+    workers: u32,
     seats: u32,
     entries: &[Entry],
     skipped: &[u64],
 ) -> Result<Chart, AllocError> {
     let mut chart = no_chart(alloc, seats, entries.len())?;
+    let mut withdrawals = Withdrawals::new(alloc, workers);
     for (place, entry) in entries.iter().enumerate() {
         let looks = at(skipped, place).unwrap_or(0);
         note(&mut chart, entries, place, entry, looks)?;
+        let left = withdrawals.note(entry)?;
+        end_left(alloc, &mut chart, place, entry.who, left.as_slice())?;
     }
     for who in 0..seats {
         end_run(

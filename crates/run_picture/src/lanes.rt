@@ -2,9 +2,10 @@
 
 use crate::lists::{at, put};
 use crate::marks::{Chart, Mark, Style, mark_at, push_mark};
-use crate::objects::{Object, Sort, object_of};
+use crate::objects::object_of;
+use journal_text::NodeObject;
 use mtapi_machine::{Entry, Op, Reply};
-use mtapi_values::Kind;
+use mtapi_values::{Kind, ObjectKind};
 use std::alloc::AllocError;
 
 /// How many objects have a row: the first ones.
@@ -13,7 +14,7 @@ const MOST_LANES: usize = 64;
 /// The row of an object, and how the object stands.
 #[derive(Clone, Copy, Drop)]
 pub struct Lane {
-    pub object: Object,
+    pub object: NodeObject,
     /// The id of the object.
     pub id: u32,
     /// Whether it wasn't deleted.
@@ -115,7 +116,7 @@ fn add_lane(lanes: &mut Vec<Lane>, place: usize, entry: &Entry) -> Result<(), Al
 }
 
 /// The number of the lane of an object.
-pub fn lane_of(lanes: &[Lane], object: Object) -> Option<usize> {
+pub fn lane_of(lanes: &[Lane], object: NodeObject) -> Option<usize> {
     for (number, lane) in lanes.iter().enumerate() {
         if lane.object == object {
             return Some(number);
@@ -125,9 +126,9 @@ pub fn lane_of(lanes: &[Lane], object: Object) -> Option<usize> {
 }
 
 /// The number of the lane of the live object of this kind with this id.
-fn lane_named(lanes: &[Lane], sort: Sort, id: i64) -> Option<usize> {
+fn lane_named(lanes: &[Lane], kind: ObjectKind, id: i64) -> Option<usize> {
     for (number, lane) in lanes.iter().enumerate() {
-        if lane.live && lane.object.sort == sort && i64::from(lane.id) == id {
+        if lane.live && lane.object.kind == kind && i64::from(lane.id) == id {
             return Some(number);
         }
     }
@@ -316,8 +317,8 @@ fn note_tally(
     let Some((mutex, segment)) = tally_ids(picked) else {
         return Ok(());
     };
-    let mutex = lane_named(chart.lanes.as_slice(), Sort::Mutex, mutex);
-    let segment = lane_named(chart.lanes.as_slice(), Sort::Segment, segment);
+    let mutex = lane_named(chart.lanes.as_slice(), ObjectKind::Mutex, mutex);
+    let segment = lane_named(chart.lanes.as_slice(), ObjectKind::Shmem, segment);
     match (&entry.op, &entry.reply, mutex, segment) {
         (Op::TallyLock { .. }, Reply::Asked(true), Some(mutex), Some(segment)) => {
             take(chart, mutex, entry.who, place)?;

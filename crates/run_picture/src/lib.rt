@@ -15,6 +15,8 @@ mod seats;
 mod sheet;
 mod tasks;
 mod titles;
+mod withdrawals;
 mod words;
 
 pub use page::svg_of;
+pub use withdrawals::Withdrawals;

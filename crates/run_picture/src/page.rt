@@ -6,11 +6,11 @@ use crate::lanes::Lane;
 use crate::lists::at;
 use crate::marks::{Chart, Style, counted};
 use crate::names::{names_of, seat_name};
-use crate::objects::Sort;
 use crate::seats::Seat;
 use crate::sheet::{LEFT, Place, Row, WIDTH, bottom, middle, rows_of};
 use crate::titles::{Scene, lane_name};
 use mtapi_machine::Entry;
+use mtapi_values::ObjectKind;
 use std::alloc::{AllocError, Global};
 use workload_file::Workload;
 
@@ -296,8 +296,8 @@ fn push_seat_lines(scene: &Scene, out: &mut String, top: u64) -> Result<(), Allo
 fn push_lane_line(scene: &Scene, out: &mut String, lane: &Lane, y: u64) -> Result<(), AllocError> {
     let name = lane_name(scene, lane.object)?;
     let (id, most, longest) = (lane.id, lane.most, lane.longest);
-    let words = match lane.object.sort {
-        Sort::Queue => format!(in scene.alloc; "{name} (id {id}): at most {most} waiting")?,
+    let words = match lane.object.kind {
+        ObjectKind::Queue => format!(in scene.alloc; "{name} (id {id}): at most {most} waiting")?,
         _ => format!(in scene.alloc;
             "{name} (id {id}): at most {most} at a time, longest wait {longest} looks"
         )?,
@@ -369,7 +369,7 @@ pub fn svg_of(
     skipped: &[u64],
 ) -> Result<String, AllocError> {
     let names = names_of(alloc, load, workers, entries)?;
-    let chart = chart_of(alloc, seats, entries, skipped)?;
+    let chart = chart_of(alloc, workers, seats, entries, skipped)?;
     let rows = rows_of(alloc, &chart)?;
     drawn(&Scene {
         alloc,

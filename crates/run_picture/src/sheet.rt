@@ -3,7 +3,7 @@
 use crate::lanes::Lane;
 use crate::lists::at;
 use crate::marks::{Chart, Mark, Style, cell, cells};
-use crate::objects::Sort;
+use mtapi_values::ObjectKind;
 use std::alloc::{AllocError, Global};
 
 /// Where rows begin.
@@ -32,8 +32,8 @@ pub struct Place {
 
 /// The row of an object, at this height: each seat that holds it at a time has a part.
 fn lane_row(top: u64, lane: &Lane) -> Row {
-    let parts = match lane.object.sort {
-        Sort::Queue => 1,
+    let parts = match lane.object.kind {
+        ObjectKind::Queue => 1,
         _ => lane.most.max(1),
     };
     let part = (20 / parts.max(1)).max(11);

@@ -3,11 +3,11 @@
 use crate::lanes::{Lane, lane_of, set_level};
 use crate::lists::{at, put};
 use crate::marks::{Chart, Mark, Style, mark_at, push_mark};
-use crate::objects::{Object, Sort};
 use action_fn::ActEnd;
+use journal_text::NodeObject;
 use mtapi_machine::{Entry, Op, Reply};
-use mtapi_values::TaskEnd;
-use std::alloc::AllocError;
+use mtapi_values::{ObjectKind, TaskEnd};
+use std::alloc::{AllocError, Global};
 
 /// A task.
 #[derive(Clone, Copy, Drop)]
@@ -29,8 +29,8 @@ pub struct Queued {
 
 /// Puts a task into a queue's lane.
 fn join_queue(chart: &mut Chart, place: usize, queue: u64) -> Result<Option<Queued>, AllocError> {
-    let object = Object {
-        sort: Sort::Queue,
+    let object = NodeObject {
+        kind: ObjectKind::Queue,
         handle: queue,
     };
     let Some(number) = lane_of(chart.lanes.as_slice(), object) else {
@@ -54,31 +54,40 @@ fn is_emptied(lanes: &[Lane], queue: Queued) -> bool {
     }
 }
 
-/// A task waits no longer. Whether it did.
-fn leave(chart: &mut Chart, place: usize, handle: u64) -> Result<bool, AllocError> {
+/// A task waits no longer. Gives it, if it did.
+fn stop_waiting(chart: &mut Chart, handle: u64) -> Result<Option<Task>, AllocError> {
     let task = match chart.tasks.get(&handle) {
         Some(task) => *task,
-        None => return Ok(false),
+        None => return Ok(None),
     };
-    chart.tasks.insert(
-        handle,
-        Task {
-            waits: false,
-            ..task
-        },
-    )?;
-    match task.queue {
-        Some(queue) => {
-            if !task.waits || is_emptied(chart.lanes.as_slice(), queue) {
-                return Ok(false);
-            }
-            if let Some(lane) = at(chart.lanes.as_slice(), queue.lane) {
-                set_level(chart, queue.lane, place, lane.count.saturating_sub(1))?;
-            }
-            Ok(true)
+    let waits = false;
+    chart.tasks.insert(handle, Task { waits, ..task })?;
+    let waited = match task.queue {
+        Some(queue) => task.waits && !is_emptied(chart.lanes.as_slice(), queue),
+        None => task.waits,
+    };
+    Ok(if waited { Some(task) } else { None })
+}
+
+/// So many tasks wait no longer in a queue's lane.
+fn lower(chart: &mut Chart, place: usize, number: usize, fewer: u64) -> Result<(), AllocError> {
+    match at(chart.lanes.as_slice(), number) {
+        Some(lane) if fewer > 0 => {
+            set_level(chart, number, place, lane.count.saturating_sub(fewer))
         }
-        None => Ok(task.waits),
+        _ => Ok(()),
     }
+}
+
+/// A task waits no longer. Whether it did.
+fn leave(chart: &mut Chart, place: usize, handle: u64) -> Result<bool, AllocError> {
+    let Some(task) = stop_waiting(chart, handle)? else {
+        return Ok(false);
+    };
+    if let Some(queue) = task.queue {
+        lower(chart, place, queue.lane, 1)?;
+    }
+    Ok(true)
 }
 
 /// Where the tasks of a queue ended, how many did and how.
@@ -89,8 +98,8 @@ fn empty(
     queue: u64,
     style: Style,
 ) -> Result<(), AllocError> {
-    let object = Object {
-        sort: Sort::Queue,
+    let object = NodeObject {
+        kind: ObjectKind::Queue,
         handle: queue,
     };
     let Some(number) = lane_of(chart.lanes.as_slice(), object) else {
@@ -138,6 +147,38 @@ fn end_waiting(
 ) -> Result<(), AllocError> {
     if leave(chart, place, task)? {
         push_mark(chart, mark_at(style, who, place))?;
+    }
+    Ok(())
+}
+
+/// These tasks failed by this entry, those of them that still waited.
+pub fn end_left(
+    alloc: Global,
+    chart: &mut Chart,
+    place: usize,
+    who: u32,
+    tasks: &[u64],
+) -> Result<(), AllocError> {
+    if tasks.is_empty() {
+        return Ok(());
+    }
+    let mut count = 0u64;
+    let mut fewer = vec![in alloc; 0u64; chart.lanes.len()]?;
+    for handle in tasks {
+        if let Some(task) = stop_waiting(chart, *handle)? {
+            count = count.saturating_add(1);
+            if let Some(queue) = task.queue {
+                let more = at(fewer.as_slice(), queue.lane).unwrap_or(0);
+                put(&mut fewer, queue.lane, more.saturating_add(1));
+            }
+        }
+    }
+    for (number, fewer) in fewer.iter().enumerate() {
+        lower(chart, place, number, *fewer)?;
+    }
+    if count > 0 {
+        let mark = mark_at(Style::NeverFailed, who, place);
+        push_mark(chart, Mark { count, ..mark })?;
     }
     Ok(())
 }

@@ -4,10 +4,12 @@ use crate::lanes::lane_of;
 use crate::lists::at;
 use crate::marks::{Chart, Mark, Style};
 use crate::names::{Names, name_bound, seat_name, statement_of};
-use crate::objects::{Object, Sort, handle_text, named_by, object_of};
+use crate::objects::object_of;
 use crate::sheet::Row;
-use crate::words::{call_word, note_of, sort_word, told};
-use mtapi_machine::Entry;
+use crate::words::{call_word, kind_word, note_of, told};
+use journal_text::{NodeObject, handle_word, object_named};
+use mtapi_machine::{Entry, Op};
+use mtapi_values::ObjectKind;
 use std::alloc::{AllocError, Global};
 use std::collections::HashMap;
 
@@ -31,11 +33,11 @@ fn found(map: &HashMap<u64, usize>, handle: u64) -> Option<usize> {
 }
 
 /// The place at which an object was made, if an entry made it.
-fn place_made(chart: &Chart, object: Object) -> Option<usize> {
-    match object.sort {
-        Sort::Action => found(&chart.actions, object.handle),
-        Sort::Group => found(&chart.groups, object.handle),
-        Sort::Task => match chart.tasks.get(&object.handle) {
+fn place_made(chart: &Chart, object: NodeObject) -> Option<usize> {
+    match object.kind {
+        ObjectKind::Action => found(&chart.actions, object.handle),
+        ObjectKind::Group => found(&chart.groups, object.handle),
+        ObjectKind::Task => match chart.tasks.get(&object.handle) {
             Some(task) => Some(task.made),
             None => None,
         },
@@ -50,7 +52,7 @@ fn place_made(chart: &Chart, object: Object) -> Option<usize> {
 }
 
 /// The name of an object: that by which the workload made it, and else its handle.
-pub fn object_name(scene: &Scene, object: Object) -> Result<String, AllocError> {
+pub fn object_name(scene: &Scene, object: NodeObject) -> Result<String, AllocError> {
     if let Some(place) = place_made(scene.chart, object)
         && let Some(entry) = scene.entries.get(place)
     {
@@ -59,11 +61,11 @@ pub fn object_name(scene: &Scene, object: Object) -> Result<String, AllocError> 
             return Ok(name);
         }
     }
-    handle_text(scene.alloc, object)
+    handle_word(scene.alloc, object)
 }
 
 /// The object of the row in which a mark stands, if that is one of an object.
-fn object_of_row(chart: &Chart, row: usize) -> Option<Object> {
+fn object_of_row(chart: &Chart, row: usize) -> Option<NodeObject> {
     match row.checked_sub(chart.seats.len()) {
         Some(number) => match at(chart.lanes.as_slice(), number) {
             Some(lane) => Some(lane.object),
@@ -74,17 +76,17 @@ fn object_of_row(chart: &Chart, row: usize) -> Option<Object> {
 }
 
 /// The name of the row of an object.
-pub fn lane_name(scene: &Scene, object: Object) -> Result<String, AllocError> {
-    let word = sort_word(object.sort);
+pub fn lane_name(scene: &Scene, object: NodeObject) -> Result<String, AllocError> {
+    let word = kind_word(object.kind);
     let name = object_name(scene, object)?;
     format!(in scene.alloc; "{word} {name}")
 }
 
 /// The object that a mark is of: that of its row, that for which a seat waits, or that of which its entry speaks.
-fn object_of_mark(scene: &Scene, mark: &Mark, entry: &Entry) -> Option<Object> {
+fn object_of_mark(scene: &Scene, mark: &Mark, entry: &Entry) -> Option<NodeObject> {
     match (object_of_row(scene.chart, mark.row), mark.style) {
         (Some(object), _) => Some(object),
-        (None, Style::Wait) => named_by(&entry.op),
+        (None, Style::Wait) => object_named(&entry.op),
         (None, _) => object_of(entry),
     }
 }
@@ -101,7 +103,7 @@ fn object_words(scene: &Scene, mark: &Mark, entry: &Entry) -> Result<String, All
 fn asked(mark: &Mark, entry: &Entry) -> &'static str {
     match mark.style {
         Style::Refusal | Style::Told | Style::Timeout | Style::Call => call_word(&entry.op),
-        Style::Wait if named_by(&entry.op).is_none() => call_word(&entry.op),
+        Style::Wait if object_named(&entry.op).is_none() => call_word(&entry.op),
         _ => "",
     }
 }
@@ -121,14 +123,29 @@ pub fn subject(scene: &Scene, mark: &Mark) -> Result<String, AllocError> {
     format!(in scene.alloc; "{asked}{between}{name}")
 }
 
+/// Whether the call of a mark ends all tasks of a queue, or of an action.
+fn ends_several(scene: &Scene, mark: &Mark) -> bool {
+    match scene.entries.get(mark.entry) {
+        Some(entry) => matches!(
+            entry.op,
+            Op::QueueDisable { .. }
+                | Op::QueueDelete { .. }
+                | Op::ActionDisable { .. }
+                | Op::ActionDelete { .. }
+        ),
+        None => false,
+    }
+}
+
 /// What stands behind the seat in the title of a mark.
 fn note(scene: &Scene, mark: &Mark) -> Result<String, AllocError> {
     let count = mark.count;
     match mark.style {
         Style::Wait if mark.count == 0 => Ok(String::new(scene.alloc)),
         Style::Wait => format!(in scene.alloc; " ({count} looks left out)"),
-        Style::NeverCancelled | Style::NeverFailed if mark.count > 1 => {
-            format!(in scene.alloc; " ({count} tasks)")
+        Style::NeverCancelled | Style::NeverFailed if ends_several(scene, mark) => {
+            let tasks = if count == 1 { "task" } else { "tasks" };
+            format!(in scene.alloc; " ({count} {tasks})")
         }
         _ => match scene.entries.get(mark.entry) {
             Some(entry) => {

@@ -1,9 +1,9 @@
 //! The words of a picture.
 
 use crate::marks::Style;
-use crate::objects::Sort;
+use journal_text::{end_word, shown_word};
 use mtapi_machine::{Entry, Op, Reply};
-use mtapi_values::TaskEnd;
+use mtapi_values::ObjectKind;
 
 /// What a mark says of its object, before the name of its seat.
 pub fn told(style: Style) -> &'static str {
@@ -54,25 +54,16 @@ pub fn class_of(style: Style) -> &'static str {
 }
 
 /// The word for an object's kind, as the name of its row begins.
-pub fn sort_word(sort: Sort) -> &'static str {
-    match sort {
-        Sort::Action => "action",
-        Sort::Task => "task",
-        Sort::Group => "group",
-        Sort::Queue => "queue",
-        Sort::Mutex => "mutex",
-        Sort::Semaphore => "sem",
-        Sort::Lock => "rwl",
-        Sort::Segment => "shmem",
-    }
-}
-
-/// How a task ended.
-fn end_word(end: &TaskEnd) -> &'static str {
-    match end {
-        TaskEnd::Completed(_) => "completed",
-        TaskEnd::Cancelled => "cancelled",
-        TaskEnd::Failed(status) => status.name(),
+pub fn kind_word(kind: ObjectKind) -> &'static str {
+    match kind {
+        ObjectKind::Action => "action",
+        ObjectKind::Task => "task",
+        ObjectKind::Group => "group",
+        ObjectKind::Queue => "queue",
+        ObjectKind::Mutex => "mutex",
+        ObjectKind::Sem => "sem",
+        ObjectKind::Rwl => "rwl",
+        ObjectKind::Shmem => "shmem",
     }
 }
 
@@ -92,60 +83,11 @@ pub fn note_of(entry: &Entry) -> &'static str {
     }
 }
 
-/// The word of a call of tasks, groups and queues, as a workload has it.
-fn work_word(op: &Op) -> &'static str {
-    match op {
-        Op::ActionCreate { .. } => "action",
-        Op::ActionDelete { .. } => "action_delete",
-        Op::ActionDisable { .. } => "action_disable",
-        Op::ActionEnable { .. } => "action_enable",
-        Op::TaskStart { .. } => "start",
-        Op::TaskEnqueue { .. } => "enqueue",
-        Op::TaskLook { .. } => "wait",
-        Op::TaskCancel { .. } => "cancel",
-        Op::GroupCreate => "group",
-        Op::JobGet { .. } => "job_get",
-        Op::GroupDelete { .. } => "group_delete",
-        Op::AllLook { .. } => "wait_all",
-        Op::AnyLook { .. } => "wait_any",
-        Op::QueueCreate { .. } => "queue",
-        Op::QueueGet { .. } => "queue_get",
-        Op::QueueEnable { .. } => "queue_enable",
-        Op::QueueDisable { .. } => "queue_disable",
-        Op::QueueDelete { .. } => "queue_delete",
-        Op::Initialize => "initialize",
-        Op::Close => "close",
-        Op::Final => "finalize",
-        _ => "call",
-    }
-}
-
-/// The word of a call, as a workload has it.
+/// The word of a call, as a workload has it, which says `begin` and `finalize`.
 pub fn call_word(op: &Op) -> &'static str {
     match op {
         Op::Release | Op::Enter => "begin",
-        Op::MutexCreate { .. } => "mutex",
-        Op::MutexGet { .. } => "mutex_get",
-        Op::MutexDelete { .. } => "mutex_delete",
-        Op::MutexLook { .. } => "lock",
-        Op::MutexUnlock { .. } => "unlock",
-        Op::SemCreate { .. } => "sem",
-        Op::SemGet { .. } => "sem_get",
-        Op::SemDelete { .. } => "sem_delete",
-        Op::SemLook { .. } => "sem_lock",
-        Op::SemUnlock { .. } => "sem_unlock",
-        Op::RwlCreate { .. } => "rwl",
-        Op::RwlGet { .. } => "rwl_get",
-        Op::RwlDelete { .. } => "rwl_delete",
-        Op::RwlLook { .. } => "rwl_lock",
-        Op::RwlUnlock { .. } => "rwl_unlock",
-        Op::ShmemCreate { .. } => "shmem",
-        Op::ShmemGet { .. } => "shmem_get",
-        Op::ShmemDelete { .. } => "shmem_delete",
-        Op::ShmemAttach { .. } => "attach",
-        Op::ShmemDetach { .. } => "detach",
-        Op::ShmemRead { .. } => "read",
-        Op::ShmemWrite { .. } => "write",
-        _ => work_word(op),
+        Op::Final => "finalize",
+        _ => shown_word(op),
     }
 }

@@ -11,6 +11,7 @@ returns c =
     let objects = setting_text (codes "objects=") s.objects in
     let priorities = setting_text (codes "priorities=") s.priorities in
     let generations = setting_text (codes "generations=") s.generations in
-    let one = words_two r _ _ new (priorities ∷ []) (generations ∷ []) (rw c.priorities.ensures.value at c.in_ok-push_setting-3.ensures) (rw c.generations.ensures.value at c.push_setting-4.ensures) in
+    let one = words_two r _ _ new (priorities ∷ []) (generations
+    ∷ []) (rw c.priorities.ensures.value at c.in_ok-push_setting-3.ensures) (rw c.generations.ensures.value at c.push_setting-4.ensures) in
     let two = words_two r _ _ new (objects ∷ []) (priorities ∷ generations ∷ []) (rw c.objects.ensures.value at c.in_ok-push_setting-2.ensures) one in
     words_two r _ _ new (queues ∷ []) (objects ∷ priorities ∷ generations ∷ []) (rw c.queues.ensures.value at c.in_ok-push_setting.ensures) two

@@ -16,10 +16,12 @@ returns-in-Err-clause-value c =
 pub returns-in-Ok-entries_from : goal.returns-in-Ok-entries_from
 returns-in-Ok-entries_from c =
     let first = rw c.in-Some.is at c.cut_at.ensures.parts in
-    let read = journal_read c.args.bytes.now c.cut_at.result.0.now c.in-Some.rest.now c.in-Ok.head c.in-Ok-entries_from.entries first c.in-Ok.ensures.value c.in-Ok-entries_from.ensures in
+    let read = journal_read c.args.bytes.now c.cut_at.result.0.now c.in-Some.rest.now c.in-Ok.head c.in-Ok-entries_from.entries first c.in-Ok.ensures.value
+    c.in-Ok-entries_from.ensures in
     record { value = read; same = text_spelled c.args.bytes.now _ read }
 
 pub returns-in-Err-entries_from-clause-value : goal.returns-in-Err-entries_from-clause-value
 returns-in-Err-entries_from-clause-value c =
     let first = rw c.in-Some.is at c.cut_at.ensures.parts in
-    journal_fails c.in-Err-entries_from.error c.args.bytes.now c.cut_at.result.0.now c.in-Some.rest.now c.in-Ok.head first c.in-Ok.ensures.value c.in-Err-entries_from.ensures
+    journal_fails c.in-Err-entries_from.error c.args.bytes.now c.cut_at.result.0.now c.in-Some.rest.now c.in-Ok.head first c.in-Ok.ensures.value
+    c.in-Err-entries_from.ensures

@@ -1,0 +1,132 @@
+-- How a program that shows a run ends, and what each end says of the input.
+use Rattle.std.specs.Prelude.{◌≡◌, ◌⊎◌, ℕ, ◌≤◌, ◌<◌, Bool, true, false, List, [], ◌∷◌, ◌++◌, length, codes, Option, Some, None, Result, Ok, Err}
+use Rattle.std.specs.Fmt.{decimal}
+use Rattle.std.specs.Io.KnownBytes.{Appends}
+use Rattle.byte_io.specs.Causes.{AppendsFront, WritesText}
+use Rattle.node_journals.specs.declared.entries.Journal.{Journal}
+use Rattle.workload_file.specs.declared.workload.Workload.{Workload}
+use Rattle.workload_file.specs.Causes.{cause_text}
+use Rattle.workload_file.specs.Reading.{workload_of}
+use Rattle.journal_text.specs.declared.faults.TextError.TheVariants as errors
+use Rattle.journal_text.specs.Journals.{journal_of}
+use Rattle.journal_text.specs.Splits.{OfParts}
+use Rattle.journal_reading.specs.declared.ends.RunView.{RunView}
+use Rattle.journal_reading.specs.declared.ends.ShowEnd.{ShowEnd}
+use Rattle.journal_reading.specs.declared.ends.ShowEnd.TheVariants as end
+
+-- why the part of an input before its first journal line is no workload
+abbrev pub FrontFails : List ℕ → ShowEnd → Type 0
+FrontFails front (end.Refused line cause) = (length front ≤ 1048576) × (workload_of front ≡ Err (record { line = line; cause = cause }))
+FrontFails front end.WorkloadTooLong = 1048576 < length front
+FrontFails front end.Memory = Unit {0}
+FrontFails front _ = ⊥
+
+-- the part before the first journal line is a workload
+abbrev pub IsWorkload : List ℕ → Type 0
+IsWorkload front = (length front ≤ 1048576) × (load : Workload) × (workload_of front ≡ Ok load)
+
+-- what may stand there: before a picture's journal anything, before a trace's a workload
+abbrev pub IsFront : RunView → List ℕ → Type 0
+IsFront RunView.Picture front = Unit {0}
+IsFront RunView.Trace front = IsWorkload front
+
+-- what stands there is refused: for a trace, or for want of memory
+abbrev pub IsRefused : RunView → List ℕ → ShowEnd → Type 0
+IsRefused RunView.Picture front e = e ≡ end.Memory
+IsRefused RunView.Trace front e = FrontFails front e
+
+-- the workload that stands there, if it is one, or why it is refused
+abbrev pub FrontGives : RunView → List ℕ → Result (Option Workload) ShowEnd → Type 0
+FrontGives view front (Ok (Some load)) = (length front ≤ 1048576) × (workload_of front ≡ Ok load)
+FrontGives view front (Ok None) = view ≡ RunView.Picture
+FrontGives view front (Err e) = IsRefused view front e
+
+-- why what stands in an input from its first journal line on is no journal
+abbrev pub RestFails : List ℕ → ShowEnd → Type 0
+RestFails rest (end.BadLine line) = journal_of rest ≡ Err (errors.BadLine line)
+RestFails rest end.CutShort = journal_of rest ≡ Err errors.PartialEnd
+RestFails rest end.Memory = Unit {0}
+RestFails rest _ = ⊥
+
+-- the journal that stands there, or why it is none
+abbrev pub RestGives : List ℕ → Result Journal ShowEnd → Type 0
+RestGives rest (Ok j) = journal_of rest ≡ Ok j
+RestGives rest (Err e) = RestFails rest e
+
+-- what stands there is a journal
+abbrev pub IsJournal : List ℕ → Type 0
+IsJournal rest = (j : Journal) × (journal_of rest ≡ Ok j)
+
+-- the input is a journal behind what may stand before it
+abbrev pub IsInput : RunView → List ℕ → Type 0
+IsInput view bytes = OfParts bytes (λ front rest. IsFront view front × IsJournal rest)
+
+-- why an input is none: by its first part, or where that may stand there, by the rest
+abbrev pub InputFails : RunView → List ℕ → ShowEnd → Type 0
+InputFails view bytes e = OfParts bytes (λ front rest. IsRefused view front e ⊎ (IsFront view front × RestFails rest e))
+
+-- An input that isn't too long is shown, and what the output held has grown by a text, or by a front of one where a write failed; or
+-- else it is refused so.
+abbrev pub EndsOf : RunView → Option (List ℕ) → Option (List ℕ) → List ℕ → ShowEnd → Type 0
+EndsOf view old new bytes end.Done = IsInput view bytes × ((text : List ℕ) × Appends old new text)
+EndsOf view old new bytes end.WriteFault = IsInput view bytes × ((text : List ℕ) × AppendsFront old new text)
+EndsOf view old new bytes e = InputFails view bytes e
+
+-- what an end says of the bytes of the input and of the output before and after; want of memory and a failed read say nothing
+abbrev pub Shows : RunView → Option (List ℕ) → Option (List ℕ) → List ℕ → ShowEnd → Type 0
+Shows view old new bytes end.TooLong = 67108864 < length bytes
+Shows view old new bytes end.Memory = Unit {0}
+Shows view old new bytes end.ReadFault = Unit {0}
+Shows view old new bytes e = (length bytes ≤ 67108864) × EndsOf view old new bytes e
+
+-- the status of an end
+abbrev pub status_of : ShowEnd → ℕ
+status_of end.Done = 0
+status_of end.Usage = 2
+status_of end.TooLong = 3
+status_of (end.Refused line cause) = 3
+status_of end.WorkloadTooLong = 3
+status_of (end.BadLine line) = 3
+status_of end.CutShort = 3
+status_of end.ReadFault = 4
+status_of end.WriteFault = 5
+status_of end.Memory = 6
+
+-- the text was written, or a write of it failed
+abbrev pub Writes : ShowEnd → Type 0
+Writes end.Done = Unit {0}
+Writes end.WriteFault = Unit {0}
+Writes _ = ⊥
+
+-- the input isn't too long, and is a journal behind what may stand before it
+abbrev pub HasInput : RunView → List ℕ → Type 0
+HasInput view bytes = (length bytes ≤ 67108864) × IsInput view bytes
+
+-- what is said of the words that a program takes
+unfoldable pub usage : RunView → List ℕ
+usage RunView.Picture = codes "usage: mtapi picture" ++ 10 ∷ []
+usage RunView.Trace = codes "usage: mtapi trace" ++ 10 ∷ []
+
+-- what is said on the error output
+unfoldable pub message : RunView → ShowEnd → List ℕ
+message view end.Done = []
+message view end.Usage = usage view
+message view end.TooLong = codes "mtapi: input too long" ++ 10 ∷ []
+message view (end.Refused line cause) = codes "mtapi: line " ++ (decimal line ++ (codes ": " ++ (cause_text cause ++ 10 ∷ [])))
+message view end.WorkloadTooLong = codes "mtapi: workload too long" ++ 10 ∷ []
+message view (end.BadLine line) = codes "mtapi: journal line " ++ (decimal line ++ 10 ∷ [])
+message view end.CutShort = codes "mtapi: journal cut short" ++ 10 ∷ []
+message view end.ReadFault = codes "mtapi: read fault" ++ 10 ∷ []
+message view end.WriteFault = codes "mtapi: write fault" ++ 10 ∷ []
+message view end.Memory = codes "mtapi: out of memory" ++ 10 ∷ []
+
+-- the message names a line
+abbrev pub has_line : ShowEnd → Bool
+has_line (end.Refused line cause) = true
+has_line (end.BadLine line) = true
+has_line _ = false
+
+-- the end is told by its status, and by its message on the error output
+pub record IsTold (view : RunView) (e : ShowEnd) (before now : ℕ) (old new : Option (List ℕ)) (status : ℕ) : Type 0 where
+  pub answered : status ≡ status_of e
+  pub said : WritesText before now old new (message view e)

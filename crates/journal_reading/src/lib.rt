@@ -1,0 +1,13 @@
+//! What the programs share that show a kept run: the input is read and judged, a program makes its text, and the end is told. A program
+//! says only how the text is made, and which program it is.
+#![tactic(auto)]
+
+mod ends;
+mod reading;
+mod showing;
+mod streams;
+
+pub use ends::{RunView, ShowEnd, tell};
+pub use reading::KeptRun;
+pub use showing::{RunText, show};
+pub use streams::program;
