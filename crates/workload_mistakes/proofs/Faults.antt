@@ -8,7 +8,8 @@ after_one [] m text = refl
 after_one (first ∷ ms) m text = after_one ms m (mended first text)
 
 -- one line more is faulty
-one_more : (ms : List Mistake) (m : Mistake) (text : List ℕ) → AreFaulty ms text → workload_of (after ms text) ≡ Err (fault_of m) → AreFaulty (ms ++ m ∷ []) text
+one_more : (ms : List Mistake) (m : Mistake) (text : List ℕ) → AreFaulty ms text → workload_of (after ms text) ≡ Err (fault_of m)
+    → AreFaulty (ms ++ m ∷ []) text
 one_more [] m text old new = (new, tt)
 one_more (first ∷ ms) m text old new = (old.0, one_more ms m (mended first text) old.1 new)
 
@@ -33,7 +34,8 @@ none_left [] bytes text faulty same load = (λ e. (load.0, rw (sym same) load.1)
 none_left (m ∷ ms) bytes text faulty same load = (λ e. absurd cc, λ l. absurd (no_workload m ms bytes faulty l))
 
 -- the text is within the limit, so a longer one has some line mended
-pub none_too_long : (ms : List Mistake) (bytes text : List ℕ) → AreFaulty ms bytes → text ≡ after ms bytes → length bytes ≤ 1048576 → 1048576 < length text → (ms ≡ []) ↔ IsWorkload bytes
+pub none_too_long : (ms : List Mistake) (bytes text : List ℕ) → AreFaulty ms bytes → text ≡ after ms bytes → length bytes ≤ 1048576 → 1048576 < length text
+    → (ms ≡ []) ↔ IsWorkload bytes
 none_too_long [] bytes text faulty same short long = let e : length text ≡ length bytes = ap length same in absurd (omega (arith, e))
 none_too_long (m ∷ ms) bytes text faulty same short long = (λ e. absurd cc, λ l. absurd (no_workload m ms bytes faulty l))
 

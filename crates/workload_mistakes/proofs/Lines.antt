@@ -1,8 +1,9 @@
 -- Lines that are written one after the other.
-use Rattle.workload_mistakes.proofs.Names.{◌≡◌, ℕ, ◌+◌, ◌≤◌, List, [], ◌∷◌, ◌++◌, Bool, length, Option, Some, None, refl, ◌∙◌, arith, append_assoc, ◌==◌, is_some, if◌then◌else◌, join_with_byte, between, pieces_of}
+use Rattle.workload_mistakes.proofs.Names.{◌≡◌, ℕ, ◌+◌, ◌≤◌, List, [], ◌∷◌, ◌++◌, Bool, length, Option, Some, None, refl, ◌∙◌, arith, append_assoc, ◌==◌, is_some, if◌then◌else◌, join_with_byte, between, pieces_of, ap, replicate}
 use Rattle.std.proofs.lemmas.List.{append-nil}
 use Rattle.std.proofs.lemmas.List.Splits.{length-slice_split}
 use Rattle.workload_mistakes.specs.Mending.{with_line}
+use lib.ListN.{replicate-append-replicate}
 use denote.Ref.{Bor}
 
 -- the first of some lines, and a line feed
@@ -29,10 +30,17 @@ line_written out new at number mend line None ends whole known e h =
 line_written out new at number mend line (Some rest) ends whole known e h =
     let some : 1 ≤ length (between 10 rest.now) = omega (arith, length-slice_split (λ b. b == 10) rest.now) in
     let cut = more (at + 1) number mend (if at == number then mend line else line) (between 10 rest.now) some in
-    rw (e, known) (next_step out (if at == number then mend line else line) (join_with_byte 10 (with_line (at + 1) number mend (between 10 rest.now))) whole (rw cut at h))
+    rw (e, known) (next_step out (if at == number then mend line
+    else line) (join_with_byte 10 (with_line (at + 1) number mend (between 10 rest.now))) whole (rw cut at h))
 
 -- all were written
 pub lines_written : (out : List ℕ) (at number : ℕ) (mend : List ℕ → List ℕ) (whole : List ℕ)
     → out ++ join_with_byte 10 (with_line at number mend []) ≡ whole → out ≡ whole
 unfolding with_line
 lines_written out at number mend whole h = rw (append-nil out) at h
+
+-- one space more was written
+pub space_more : (new out initial : List ℕ) (count : ℕ) → out ≡ initial ++ replicate count 32 → new ≡ out ++ 32 ∷ [] → new ≡ initial ++ replicate (count + 1) 32
+space_more new out initial count h n =
+    n ∙ ap (λ (v : List ℕ). v ++ 32 ∷ []) h ∙ append_assoc initial (replicate count 32) (32 ∷ [])
+    ∙ ap (λ (v : List ℕ). initial ++ v) (replicate-append-replicate count 1 32)

@@ -8,10 +8,10 @@ use number_text::push_number;
 use std::alloc::{AllocError, Global};
 use workload_file::Cause;
 
-/// A place in a line, from 1, and what is said of it.
+/// A place in a line, from 0, and what is said of it.
 #[derive(Drop)]
 pub struct Hint {
-    pub at: u64,
+    pub at: usize,
     pub text: Vec<u8>,
 }
 
@@ -27,10 +27,7 @@ pub fn hint_at(
     out.extend_from_slice(word)?;
     out.extend_from_slice(text)?;
     out.extend_from_slice(more)?;
-    Ok(Hint {
-        at: (at as u64).saturating_add(1),
-        text: out,
-    })
+    Ok(Hint { at, text: out })
 }
 
 /// The hint with a line's number behind it.
@@ -102,11 +99,11 @@ fn taken_hint(alloc: Global, text: &[u8], number: u64) -> Result<Hint, AllocErro
     }
 }
 
-/// The word of a line that names something unknown, and the name in it: the value of `queue` or `group` that isn't bound to such a
+/// The word of a line that names something unknown, and the name in it: the value of `group` or `queue` that isn't bound to such a
 /// thing, or else the second word.
 fn unknown_name<'a>(text: &[u8], number: u64, pieces: &[Piece<'a>]) -> Piece<'a> {
-    for piece in pieces {
-        for key in [b"queue=".as_slice(), b"group="] {
+    for key in [b"group=".as_slice(), b"queue="] {
+        for piece in pieces {
             if let Some(name) = piece.text.strip_prefix(key) {
                 let is_bound = match binding_before(text, number, name, false) {
                     Some(binding) => key.starts_with(binding.binds.as_bytes()),
@@ -165,12 +162,19 @@ fn unknown_hint(
     )
 }
 
-/// What is said of a line that has this cause.
-pub fn hint_of(alloc: Global, text: &[u8], number: u64, cause: Cause) -> Result<Hint, AllocError> {
-    let whole = line_of(text, number);
+/// What is said of a line that has this cause, where the line itself, and others before it, may be mended by now.
+pub fn hint_of(
+    alloc: Global,
+    original: &[u8],
+    text: &[u8],
+    number: u64,
+    cause: Cause,
+) -> Result<Hint, AllocError> {
+    let whole = line_of(original, number);
+    let mended = line_of(text, number);
     // Only a line that is too long has more.
     let line = &whole[..whole.len().min(512)];
-    let pieces = pieces_of(alloc, line)?;
+    let pieces = pieces_of(alloc, &mended[..mended.len().min(512)])?;
     let (first, second) = first_two(line);
     match cause {
         Cause::LineTooLong => hint_at(alloc, 512, b"512 bytes are allowed", b"", b""),
@@ -196,7 +200,7 @@ pub fn hint_of(alloc: Global, text: &[u8], number: u64, cause: Cause) -> Result<
         Cause::OptionTwice => twice_hint(alloc, &pieces),
         Cause::BadValue => value_hint(alloc, &pieces),
         Cause::OptionMissing => missing_hint(alloc, line.len(), &pieces),
-        Cause::NameTaken => taken_hint(alloc, text, number),
-        Cause::NameUnknown => unknown_hint(alloc, text, number, &pieces),
+        Cause::NameTaken => taken_hint(alloc, original, number),
+        Cause::NameUnknown => unknown_hint(alloc, original, number, &pieces),
     }
 }

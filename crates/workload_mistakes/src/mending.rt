@@ -1,8 +1,8 @@
 //! The text in which a faulty line is mended.
-ghost use Rattle.std.specs.Prelude.{◌≡◌, ◌++◌, ◌==◌, ◌∷◌, [], if◌then◌else◌, take, drop, IfOk, OnOk};
-ghost use Rattle.workload_mistakes.specs.Mending.{binding, stand_in, mended};
+ghost use Rattle.std.specs.Prelude.{◌≡◌, ◌++◌, ◌==◌, ◌∷◌, [], if◌then◌else◌, length, take, drop, replicate, IfOk, OnOk};
+ghost use Rattle.workload_mistakes.specs.Mending.{binding, blanked, over, part_in, usual_text, read_for, mended};
 
-use crate::mistakes::{Meant, Mistake};
+use crate::mistakes::{Meant, Mend, Mistake, Part};
 use number_text::cut_at;
 use std::alloc::{AllocError, Global};
 
@@ -34,30 +34,92 @@ fn push_bound(out: &mut Vec<u8>, front: &[u8], name: &[u8], back: &[u8]) -> Resu
     out.extend_from_slice(back)
 }
 
-/// The part of a line from a place on, of so many bytes or of as many as there are.
-fn part_of(line: &[u8], from: u64, long: u64) -> &[u8]
-    ensures { result.now ≡ take long (drop from line.now) }
+/// What may stand in for a word: options that the reader takes, and letters that are a name.
+#[tactic(auto, unfolding(crate::specs::Mending::usual_text))]
+pub fn usual_text() -> &'static [u8]
+    ensures { result.now ≡ usual_text }
 {
-    let rest = match line.get(from as usize..) {
+    b" job=1 kind=add timeout=nowait id=0 key=0 limit=1 mode=reader cells=1 cell=0 value=0 abcdefghijklmnopqrstuvwxyzabcdefghijklmno"
+}
+
+/// So many bytes of a line, or as many as there are.
+fn front_of(line: &[u8], long: u64) -> &[u8]
+    ensures { result.now ≡ take long line.now }
+{
+    &line[..line.len().min(long as usize)]
+}
+
+/// A line without so many bytes, or as many as there are.
+fn rest_of(line: &[u8], from: u64) -> &[u8]
+    ensures { result.now ≡ drop from line.now }
+{
+    match line.get(from as usize..) {
         Some(rest) => rest,
         None => &[],
-    };
-    &rest[..rest.len().min(long as usize)]
+    }
+}
+
+fn part_in(part: Part, text: &[u8]) -> &[u8]
+    ensures { result.now ≡ part_in part text.now }
+{
+    front_of(rest_of(text, part.from), part.long)
+}
+
+fn push_spaces(out: &mut Vec<u8>, count: u64) -> Result<(), AllocError>
+    ensures { OnOk result (out.new.items ≡ out.old.items ++ replicate count 32) }
+{
+    'spaces: for _ in 0..count {
+        out.push(b' ')?;
+    }
+    Ok(())
+}
+
+/// The line with spaces in place of a part.
+fn blanked(alloc: Global, word: Part, line: &[u8]) -> Result<Vec<u8>, AllocError>
+    ensures { IfOk result (λ v. v.items ≡ blanked word line.now) }
+{
+    let mut out = Vec::new(alloc);
+    out.extend_from_slice(front_of(line, word.from))?;
+    push_spaces(&mut out, word.long)?;
+    out.extend_from_slice(rest_of(rest_of(line, word.from), word.long))?;
+    Ok(out)
+}
+
+/// Appends a line with a text over what stands from a place on.
+fn push_over(out: &mut Vec<u8>, at: u64, put: &[u8], line: &[u8]) -> Result<(), AllocError>
+    ensures { OnOk result (out.new.items ≡ out.old.items ++ over at put.now line.now) }
+{
+    out.extend_from_slice(front_of(line, at))?;
+    out.extend_from_slice(put)?;
+    out.extend_from_slice(rest_of(rest_of(line, at), put.len() as u64))
+}
+
+/// Appends what is read in place of a faulty line.
+fn push_read(alloc: Global, out: &mut Vec<u8>, mend: Mend, line: &[u8]) -> Result<(), AllocError>
+    ensures { OnOk result (out.new.items ≡ out.old.items ++ read_for mend line.now) }
+{
+    match mend {
+        Mend::Line(meant, name) => push_binding(out, meant, part_in(name, line)),
+        Mend::Word(word, at, usual) => {
+            let line = blanked(alloc, word, line)?;
+            push_over(out, at, part_in(usual, usual_text()), &line)
+        }
+    }
 }
 
 /// Appends a line, or what is read in its place where it is that of the mistake; and a line feed where one ends it.
 fn push_line(
+    alloc: Global,
     out: &mut Vec<u8>,
     mistake: &Mistake,
     number: u64,
     line: &[u8],
     ends: bool,
 ) -> Result<(), AllocError>
-    ensures { OnOk result (out.new.items ≡ out.old.items ++ ((if number == mistake.now.line then stand_in mistake.now line.now else line.now) ++ (if ends then 10 ∷ [] else []))) }
+    ensures { OnOk result (out.new.items ≡ out.old.items ++ ((if number == mistake.now.line then read_for mistake.now.mend line.now else line.now) ++ (if ends then 10 ∷ [] else []))) }
 {
     if number == mistake.line {
-        let name = part_of(line, mistake.from, mistake.long);
-        push_binding(out, mistake.meant, name)?;
+        push_read(alloc, out, mistake.mend, line)?;
     } else {
         out.extend_from_slice(line)?;
     }
@@ -76,7 +138,7 @@ pub fn mended(alloc: Global, text: &[u8], mistake: &Mistake) -> Result<Vec<u8>, 
     let mut number = 1u64;
     'lines: while let Some(rest) = left {
         let (line, after) = cut_at(rest, b'\n');
-        push_line(&mut out, mistake, number, line, after.is_some())?;
+        push_line(alloc, &mut out, mistake, number, line, after.is_some())?;
         number += 1;
         left = after;
     }

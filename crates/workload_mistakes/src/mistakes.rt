@@ -1,8 +1,7 @@
 //! What is told of a faulty line.
 use workload_file::Cause;
 
-/// What is read in place of a faulty line, so that one mistake doesn't make others: nothing, or a line that binds its name to what
-/// it seems to bind it to.
+/// What a faulty line seems to be.
 #[derive(Clone, Copy, Drop)]
 pub enum Meant {
     Nothing,
@@ -19,10 +18,29 @@ pub enum Meant {
     Shmem,
 }
 
-/// A faulty line.
+/// A part of a text.
+#[derive(Clone, Copy, Drop)]
+pub struct Part {
+    /// The place where it begins, from 0.
+    pub from: u64,
+    /// How many bytes it has.
+    pub long: u64,
+}
+
+/// What is read in place of a faulty line, so that one mistake doesn't make others.
+#[derive(Clone, Copy, Drop)]
+pub enum Mend {
+    /// Nothing, or a line that binds this part of the line to what was meant.
+    Line(Meant, Part),
+    /// The line with spaces in place of this part, and behind that, from this place on, this part of the usual text over what
+    /// stands there.
+    Word(Part, u64, Part),
+}
+
+/// A mistake in a line.
 #[derive(Drop)]
 pub struct Mistake {
-    /// Its number, from 1.
+    /// The number of the line, from 1.
     pub line: u64,
     /// The reader's cause.
     pub cause: Cause,
@@ -30,15 +48,11 @@ pub struct Mistake {
     pub column: u64,
     /// What is wrong there, and what is allowed.
     pub hint: Vec<u8>,
-    /// What is read in its place.
-    pub meant: Meant,
-    /// Where the name begins that it is to bind.
-    pub from: u64,
-    /// How many bytes that name has.
-    pub long: u64,
+    /// What is read in place of the line.
+    pub mend: Mend,
 }
 
-/// The faulty lines of a text, the first first.
+/// The mistakes of a text: line by line, and in a line in the order in which the reader finds them.
 #[derive(Drop)]
 pub struct Mistakes {
     pub told: Vec<Mistake>,

@@ -7,15 +7,20 @@ use std::alloc::{AllocError, Global};
 use workload_file::Cause;
 
 /// The key of an option: what stands before `=`.
-fn key_of(word: &[u8]) -> &[u8] {
+pub fn key_of(word: &[u8]) -> &[u8] {
     match word.iter().position(|b| *b == b'=') {
         Some(at) => word.get(..at).unwrap_or(word),
         None => word,
     }
 }
 
+/// Whether a word is `key=value`.
+pub fn has_key(word: &[u8]) -> bool {
+    word.contains(&b'=') && !word.starts_with(b"=")
+}
+
 /// The options of a statement.
-fn options_in<'a, 'b>(pieces: &'b [Piece<'a>]) -> &'b [Piece<'a>] {
+pub fn options_in<'a, 'b>(pieces: &'b [Piece<'a>]) -> &'b [Piece<'a>] {
     match pieces {
         [first, _, rest @ ..] if is_named(first) => rest,
         [_, rest @ ..] => rest,
@@ -54,7 +59,8 @@ fn is_refused(
     }
 }
 
-/// The first option for which the reader refuses a statement so, and the word before it.
+/// The first option for which the reader refuses a statement so, and the word before it; a queue only where there is no other, since
+/// nothing stands in for one.
 fn refused_option<'a>(
     alloc: Global,
     pieces: &[Piece<'a>],
@@ -62,13 +68,17 @@ fn refused_option<'a>(
 ) -> Result<(Piece<'a>, Piece<'a>), AllocError> {
     let none = Piece { at: 0, text: &[] };
     let mut before = none;
+    let mut found = (none, none);
     for option in options_in(pieces) {
         if is_refused(alloc, pieces, *option, cause)? {
-            return Ok((*option, before));
+            found = (*option, before);
+            if !option.text.starts_with(b"queue=") {
+                return Ok(found);
+            }
         }
         before = *option;
     }
-    Ok((none, before))
+    Ok(found)
 }
 
 /// What a statement takes.
@@ -80,6 +90,33 @@ fn usage_of(pieces: &[Piece]) -> &'static [u8] {
         },
         [] => b"",
     }
+}
+
+/// The key of a statement of which this one is the front, or a letter away.
+pub fn key_like(pieces: &[Piece], key: &[u8]) -> Option<&'static [u8]> {
+    let option = option_like(pieces, key)?;
+    Some(key_of(option))
+}
+
+/// Whether a statement must have an option of this key.
+pub fn is_required(pieces: &[Piece], key: &[u8]) -> bool {
+    usage_of(pieces)
+        .split(is_space)
+        .any(|word| word.ends_with(b"=") && key_of(word) == key)
+}
+
+fn is_space(b: &u8) -> bool {
+    *b == b' '
+}
+
+/// The first key that a statement must have and doesn't, or nothing.
+pub fn missing_key(pieces: &[Piece]) -> &'static [u8] {
+    for word in usage_of(pieces).split(is_space) {
+        if word.ends_with(b"=") && !pieces.iter().any(|piece| piece.text.starts_with(word)) {
+            return key_of(word);
+        }
+    }
+    b""
 }
 
 /// The option of a statement of whose key this one is the front, or a letter away.
@@ -118,7 +155,7 @@ pub fn option_hint(alloc: Global, pieces: &[Piece]) -> Result<Hint, AllocError> 
             b"",
         );
     }
-    if !word.contains(&b'=') || word.starts_with(b"=") {
+    if !has_key(word) {
         return hint_at(
             alloc,
             at,
@@ -190,26 +227,7 @@ pub fn value_hint(alloc: Global, pieces: &[Piece]) -> Result<Hint, AllocError> {
 
 /// What is said of a line of this length in which an option is missing.
 pub fn missing_hint(alloc: Global, long: usize, pieces: &[Piece]) -> Result<Hint, AllocError> {
-    let [first, ..] = pieces else {
-        return hint_at(alloc, long, b"", b"", b"");
-    };
-    if let Some(row) = row_of(first.text) {
-        for word in row.usage.split(' ') {
-            if word.ends_with('=')
-                && !pieces
-                    .iter()
-                    .any(|piece| piece.text.starts_with(word.as_bytes()))
-            {
-                let key = key_of(word.as_bytes());
-                return hint_at(
-                    alloc,
-                    long,
-                    word.as_bytes(),
-                    b": has to be there: ",
-                    value_text(key).as_bytes(),
-                );
-            }
-        }
-    }
-    hint_at(alloc, long, b"", b"", b"")
+    let key = missing_key(pieces);
+    let said = value_text(key).as_bytes();
+    hint_at(alloc, long, key, b"=: has to be there: ", said)
 }

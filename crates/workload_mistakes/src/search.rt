@@ -3,46 +3,49 @@ ghost use Rattle.std.specs.Prelude.{◌≡◌, ◌≤◌, ◌↔◌, [], true, f
 ghost use Rattle.workload_mistakes.specs.Mending.{after};
 ghost use Rattle.workload_mistakes.specs.Told.{AreFaulty, IsCut, IsWorkload, ends};
 
-use crate::guesses::stand_in_of;
+use crate::guesses::{NOTHING, mend_of};
 use crate::hints::hint_of;
 use crate::mending::mended;
-use crate::mistakes::{Mistake, Mistakes};
+use crate::mistakes::{Mend, Mistake, Mistakes};
 use crate::reading::{Verdict, verdict_on};
 use std::alloc::{AllocError, Global};
 use workload_file::Cause;
 
-/// The most faulty lines that are told.
+/// The most mistakes that are told.
 const MOST: usize = 50;
 
-/// The number of the last faulty line, or 0.
-fn last_line(told: &[Mistake]) -> u64 {
+/// Whether something was read in place of this whole line, and so was the last that did.
+fn is_replaced(told: &[Mistake], line: u64) -> bool {
     match told {
-        [] => 0,
-        [.., last] => last.line,
+        [] => false,
+        [.., last] => last.line == line && matches!(last.mend, Mend::Line(..)),
     }
 }
 
-/// What is told of a faulty line.
+/// What is told of a line, and how it is mended, where those told before are.
 fn mistake_at(
     alloc: Global,
     bytes: &[u8],
+    text: &[u8],
     line: u64,
     cause: Cause,
-    again: bool,
+    told: &[Mistake],
 ) -> Result<Mistake, AllocError>
     ensures line { IfOk result (λ m. m.line ≡ line) }
     ensures cause { IfOk result (λ m. m.cause ≡ cause) }
 {
-    let hint = hint_of(alloc, bytes, line, cause)?;
-    let stand_in = stand_in_of(bytes, line, cause, again);
+    let hint = hint_of(alloc, bytes, text, line, cause)?;
+    let mend = if is_replaced(told, line) {
+        NOTHING
+    } else {
+        mend_of(alloc, bytes, text, line, cause, hint.at)?
+    };
     Ok(Mistake {
         line,
         cause,
-        column: hint.at,
+        column: (hint.at as u64).saturating_add(1),
         hint: hint.text,
-        meant: stand_in.meant,
-        from: stand_in.from,
-        long: stand_in.long,
+        mend,
     })
 }
 
@@ -53,7 +56,7 @@ fn is_last(cause: Cause) -> bool
     matches!(cause, Cause::TooManyStatements | Cause::TooManyCallers)
 }
 
-/// The faulty lines of a text, 50 at most, each as the text stands when those before it are mended.
+/// The mistakes of a text, 50 at most, each as the text stands when those before it are mended.
 ///
 /// # Errors
 ///
@@ -78,8 +81,7 @@ pub fn mistakes_of(alloc: Global, bytes: &[u8]) -> Result<Mistakes, AllocError>
             Verdict::TooLong => return Ok(Mistakes { told, more: true }),
             Verdict::Memory => return Err(AllocError),
             Verdict::Faulty(line, cause) => {
-                let again = line == last_line(&told);
-                let mistake = mistake_at(alloc, bytes, line, cause, again)?;
+                let mistake = mistake_at(alloc, bytes, &text, line, cause, &told)?;
                 text = mended(alloc, &text, &mistake)?;
                 told.push(mistake)?;
                 if is_last(cause) {

@@ -4,11 +4,13 @@ use Rattle.workload_mistakes.proofs.search.mistakes_of.Goals as goal
 
 pub returns-in-Workload-clause-none : goal.returns-in-Workload-clause-none
 returns-in-Workload-clause-none c =
-    none_left c.reading.told.items c.args.bytes.now c.reading.text.items c.reading.invariant.each c.reading.invariant.text (rw c.deref.ensures.value at c.in-Workload.ensures)
+    none_left c.reading.told.items c.args.bytes.now c.reading.text.items c.reading.invariant.each c.reading.invariant.text
+    (rw c.deref.ensures.value at c.in-Workload.ensures)
 
 pub returns-in-TooLong-clause-none : goal.returns-in-TooLong-clause-none
 returns-in-TooLong-clause-none c =
-    none_too_long c.reading.told.items c.args.bytes.now c.reading.text.items c.reading.invariant.each c.reading.invariant.text c.requires (rw c.deref.ensures.value at c.in-TooLong.ensures)
+    none_too_long c.reading.told.items c.args.bytes.now c.reading.text.items c.reading.invariant.each c.reading.invariant.text c.requires
+    (rw c.deref.ensures.value at c.in-TooLong.ensures)
 
 pub returns-then-is_last-clause-each : goal.returns-then-is_last-clause-each
 returns-then-is_last-clause-each c =
@@ -24,12 +26,13 @@ pub reading-preserved : goal.reading-preserved
 reading-preserved c =
     let m = c.in_ok-mistake-in-Faulty in
     let told = c.reading.told.items in
-    let same = c.deref-in-Faulty-2.ensures.value ∙ c.reading.invariant.text in
+    let same = c.deref-in-Faulty-3.ensures.value ∙ c.reading.invariant.text in
     record {
       few = omega (arith, c.in_ok-push-in-Faulty.ensures.len);
       each = rw c.in_ok-push-in-Faulty.ensures.items (one_told told m.mistake c.in-Faulty.line c.in-Faulty.cause c.args.bytes.now c.reading.text.items
           c.reading.invariant.each c.reading.invariant.text (rw c.deref.ensures.value at c.in-Faulty.ensures) m.ensures.line m.ensures.cause);
-      text = rw c.in_ok-push-in-Faulty.ensures.items (c.in_ok-text-in-Faulty.ensures ∙ ap (λ (t : List ℕ). mended m.mistake t) same ∙ sym (after_one told m.mistake c.args.bytes.now));
+      text = rw c.in_ok-push-in-Faulty.ensures.items (c.in_ok-text-in-Faulty.ensures ∙ ap (λ (t : List ℕ). mended m.mistake t) same
+          ∙ sym (after_one told m.mistake c.args.bytes.now));
     }
 
 pub returns-clause-none : goal.returns-clause-none
