@@ -6,15 +6,13 @@ use std::sync::atomic::{AtomicUsize, Ordering};
 use std::sync::Mutex;
 use std::{env, io, thread};
 
-type Counts = [u64; 26];
+type Counts = [u64; 256];
 
+/// How often each byte stands in this part, where a large letter counts as a small one.
 fn count(part: &[u8]) -> Counts {
-    let mut counts = [0u64; 26];
+    let mut counts = [0u64; 256];
     for byte in part {
-        let letter = byte.to_ascii_lowercase();
-        if letter.is_ascii_lowercase() {
-            counts[(letter - b'a') as usize] += 1;
-        }
+        counts[byte.to_ascii_lowercase() as usize] += 1;
     }
     counts
 }
@@ -22,7 +20,7 @@ fn count(part: &[u8]) -> Counts {
 /// The counts of each part, at its place. Each thread takes the next part that none has taken.
 fn counted(parts: &[&[u8]], threads: usize) -> Vec<Counts> {
     let next = AtomicUsize::new(0);
-    let results = Mutex::new(vec![[0; 26]; parts.len()]);
+    let results = Mutex::new(vec![[0; 256]; parts.len()]);
     thread::scope(|scope| {
         for _ in 0..threads {
             scope.spawn(|| {
@@ -43,13 +41,14 @@ fn main() -> io::Result<()> {
     let mut text = Vec::new();
     io::stdin().read_to_end(&mut text)?;
     let parts: Vec<&[u8]> = text.chunks(text.len() / 64 + 1).collect();
-    let mut sum = [0; 26];
+    let mut sum = [0; 256];
     for counts in counted(&parts, threads) {
         for (all, some) in sum.iter_mut().zip(counts) {
             *all += some;
         }
     }
-    for (letter, count) in (b'a'..).zip(sum) {
+    for letter in b'a'..=b'z' {
+        let count = sum[letter as usize];
         if count > 0 {
             println!("{}: {count}", letter as char);
         }

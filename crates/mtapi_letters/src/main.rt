@@ -10,29 +10,27 @@ use std::thread::Threads;
 use std::{env, io};
 use typed_pieces::{Unfinished, map_pieces};
 
-// How often each letter from a to z stands in this part, be it large or small.
-fn letters_of(part: &[u8]) -> [u64; 26] {
-    let mut counts = [0u64; 26];
+// How often each byte stands in this part, where a large letter counts as a small one.
+fn counts_of(part: &[u8]) -> [u64; 256] {
+    let mut counts = [0u64; 256];
     for byte in part {
-        let letter = byte.to_ascii_lowercase().wrapping_sub(b'a') as usize;
-        if letter < 26 {
-            counts[letter] = counts[letter].wrapping_add(1);
-        }
+        let letter = byte.to_ascii_lowercase() as usize;
+        counts[letter] = counts[letter].wrapping_add(1);
     }
     counts
 }
 
-// The letters of each of at most 64 parts.
+// The counts of each of at most 64 parts.
 fn count<R: Threads + Wait + Sync>(
     rt: &R,
     alloc: Global,
     text: &[u8],
     workers: u64,
-) -> Result<Vec<[u64; 26]>, Unfinished> {
+) -> Result<Vec<[u64; 256]>, Unfinished> {
     let mut settings = NodeAttr::new();
     settings.set(NodeAttr::WORKERS, workers)?;
     let parts = text.chunks(text.len() / 64 + 1).collect(alloc)?;
-    Ok(map_pieces(rt, alloc, settings, parts, &letters_of)?.results)
+    Ok(map_pieces(rt, alloc, settings, parts, &counts_of)?.results)
 }
 
 fn main(rt: HostRuntime) -> io::Result<()> {
@@ -46,11 +44,11 @@ fn main(rt: HostRuntime) -> io::Result<()> {
         Ok(parts) => parts,
         Err(unfinished) => return println!(rt; "{unfinished}"),
     };
-    for letter in 0..26u8 {
+    for letter in b'a'..=b'z' {
         let all = parts.iter().map(|counts| counts[letter as usize]);
         let count = all.fold(0u64, |sum, count| sum.saturating_add(count));
         if count > 0 {
-            println!(rt; "{}: {count}", (b'a' + letter) as char)?;
+            println!(rt; "{}: {count}", letter as char)?;
         }
     }
     Ok(())

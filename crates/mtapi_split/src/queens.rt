@@ -3,7 +3,7 @@
 ghost use Rattle.std.specs.Prelude.{◌≡◌, IfSome};
 
 use crate::settings;
-use std::alloc::{AllocError, Global};
+use std::alloc::Global;
 use std::sync::Wait;
 use std::thread::Threads;
 use typed_pieces::{Outcome, Split, SplitFailure, TaskContext, run_split};
@@ -11,13 +11,11 @@ use typed_pieces::{Outcome, Split, SplitFailure, TaskContext, run_split};
 // Boards with more free rows than this split.
 const GRAIN: u32 = 6;
 
-/// A board with so many free rows. Each of the next row's columns is attacked or free, by the bits of three words.
+/// A board with so many free rows. Three words have the columns of the next row that are attacked straight, from the right and from the left.
 #[derive(Clone, Copy, Drop)]
 struct Board {
     rows: u32,
-    straight: u32,
-    left: u32,
-    right: u32,
+    attacked: [u32; 3],
 }
 
 impl Board {
@@ -26,15 +24,12 @@ impl Board {
         ensures { IfSome result (λ board. board.rows ≡ rows) }
     {
         let queen = 1u32.wrapping_shl(column);
-        if (self.straight | self.left | self.right) & queen != 0 {
+        let [straight, left, right] = self.attacked;
+        if (straight | left | right) & queen != 0 {
             return None;
         }
-        Some(Board {
-            rows,
-            straight: self.straight | queen,
-            left: (self.left | queen).wrapping_shl(1),
-            right: (self.right | queen) / 2,
-        })
+        let attacked = [straight | queen, (left | queen) << 1, (right | queen) >> 1];
+        Some(Board { rows, attacked })
     }
 
     fn count(self) -> u64 {
@@ -55,18 +50,6 @@ impl Board {
 #[derive(Drop)]
 struct Placings(Board, Global);
 
-impl Placings {
-    fn parts(&self, rows: u32) -> Result<Vec<Placings>, AllocError> {
-        let mut parts = Vec::new(self.1);
-        for column in 0..8 {
-            if let Some(board) = self.0.with_queen(rows, column) {
-                parts.push(Placings(board, self.1))?;
-            }
-        }
-        Ok(parts)
-    }
-}
-
 impl Split for Placings {
     type Done = u64;
 
@@ -77,32 +60,27 @@ impl Split for Placings {
     ghost joined = { λ _ _ _. Unit {0} };
 
     fn go<R: Wait>(self, _rt: &R, _task: &TaskContext) -> Outcome<Placings, u64, ()> {
-        if self.0.rows > GRAIN {
-            if let Ok(parts) = self.parts(self.0.rows - 1) {
+        let Placings(board, alloc) = self;
+        if board.rows > GRAIN {
+            let rows = board.rows - 1;
+            let boards = (0..8).filter_map(|column| board.with_queen(rows, column));
+            if let Ok(parts) = boards.map(|board| Placings(board, alloc)).collect(alloc) {
                 return Outcome::Parts { parts, join: () };
             }
         }
-        Outcome::Done(self.0.count())
+        Outcome::Done(board.count())
     }
 
     fn join(_join: (), results: Vec<u64>) -> u64
         ensures { Unit {0} }
     {
-        let mut sum = 0u64;
-        for placings in results {
-            sum = sum.saturating_add(placings);
-        }
-        sum
+        results.iter().fold(0, |sum, one| sum.saturating_add(*one))
     }
 }
 
 /// How many ways there are to place eight queens so that none attacks another.
 pub fn eight_queens<R: Threads + Wait + Sync>(rt: &R, alloc: Global) -> Result<u64, SplitFailure> {
-    let board = Board {
-        rows: 8,
-        straight: 0,
-        left: 0,
-        right: 0,
-    };
-    Ok(run_split(rt, alloc, settings()?, Placings(board, alloc))?.result)
+    let (rows, attacked) = (8, [0; 3]);
+    let root = Placings(Board { rows, attacked }, alloc);
+    Ok(run_split(rt, alloc, settings()?, root)?.result)
 }

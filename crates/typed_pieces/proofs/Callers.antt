@@ -18,7 +18,8 @@ use Rattle.node_with_workers.specs.declared.failure.Failure.TheVariants as failu
 abbrev pub Says : {D B U : Type 0} → (D → Seat → Seat → U → Type 0) → (B → Seat → Seat → U → Type 0) → (B → D) → Type 0
 Says {D} {B} {U} inner outer of = (b : B) (a z : Seat) (u : U) → outer b a z u → inner (of b) a z u
 
-has_called : {D B U : Type 0} (opens : ℕ → List NodeEntry → Type 0) (inner : D → Seat → Seat → U → Type 0) (outer : B → Seat → Seat → U → Type 0) (of : B → D) → Says inner outer of
+has_called : {D B U : Type 0} (opens : ℕ → List NodeEntry → Type 0) (inner : D → Seat → Seat → U → Type 0) (outer : B → Seat → Seat → U → Type 0) (of : B → D)
+    → Says inner outer of
     → (b : B) (t : Terms) (who : ℕ) (told : U) (es : List NodeEntry) → HasCalled opens outer b t who told es → HasCalled opens inner (of b) t who told es
 has_called opens inner outer of says b t who told es h =
     record {
@@ -34,7 +35,8 @@ has_called opens inner outer of says b t who told es h =
     }
 
 have_called : {D B U : Type 0} (inner : D → Seat → Seat → U → Type 0) (outer : B → Seat → Seat → U → Type 0) (of : B → D) → Says inner outer of
-    → (t : Terms) (history : List NodeEntry) (who : ℕ) (bs : List B) (us : List U) → HaveCalled outer t history who bs us → HaveCalled inner t history who (map of bs) us
+    → (t : Terms) (history : List NodeEntry) (who : ℕ) (bs : List B) (us : List U) → HaveCalled outer t history who bs us
+    → HaveCalled inner t history who (map of bs) us
 have_called inner outer of says t history who [] [] h = tt
 have_called inner outer of says t history who [] (u ∷ us) h = absurd h
 have_called inner outer of says t history who (b ∷ bs) [] h = absurd h
@@ -53,7 +55,8 @@ run_of_all inner outer of says further beside each also b others es settings tol
       legal = subst (λ n. Legal (terms_among settings n) r.history) same r.legal;
       kept = subst (λ n. KeptAs (terms_among settings n) j r.history) same r.kept;
       mine = r.mine;
-      called = subst (λ n. HasCalled MainOpens inner (of b) (terms_among settings n) settings.workers told r.mine) same (has_called MainOpens inner outer of says b (terms_among settings (length es)) settings.workers told r.mine r.called);
+      called = subst (λ n. HasCalled MainOpens inner (of b) (terms_among settings n) settings.workers told r.mine) same (has_called MainOpens inner outer of
+          says b (terms_among settings (length es)) settings.workers told r.mine r.called);
       ended = r.ended;
       others_called =
           subst (λ l. HaveCalled further (terms_among settings (length others)) r.history (settings.workers + 1) l us) are
@@ -64,11 +67,13 @@ run_of_all inner outer of says further beside each also b others es settings tol
 refused_one : {C B T : Type 0} (inner : C → Seat → Seat → T → Type 0) (outer : B → Seat → Seat → T → Type 0) (of : B → C) → Says inner outer of
     → (b : B) (n : ℕ) (settings : NodeSettings) (status : MtapiStatus) → RefusesOne outer b n settings status → RefusesOne inner (of b) n settings status
 refused_one inner outer of says b n settings status (inl a) = inl a
-refused_one inner outer of says b n settings status (inr r) = inr (r.0, r.1, has_called MainOpens inner outer of says b (terms_among settings n) settings.workers r.0 r.1 r.2, r.3)
+refused_one inner outer of says b n settings status (inr r) =
+    inr (r.0, r.1, has_called MainOpens inner outer of says b (terms_among settings n) settings.workers r.0 r.1 r.2, r.3)
 
 -- and so is a refusal
 pub refused_of_all : {C B T : Type 0} (inner : C → Seat → Seat → T → Type 0) (outer : B → Seat → Seat → T → Type 0) (of : B → C) → Says inner outer of
-    → (b : B) (n m : ℕ) (settings : NodeSettings) (f : Failure) → n ≡ m → IfRefused f (RefusesOne outer b n settings) → IfRefused f (RefusesOne inner (of b) m settings)
+    → (b : B) (n m : ℕ) (settings : NodeSettings) (f : Failure) → n ≡ m → IfRefused f (RefusesOne outer b n settings)
+    → IfRefused f (RefusesOne inner (of b) m settings)
 refused_of_all inner outer of says b n m settings (failure.Refused status) same r =
     subst (λ k. RefusesOne inner (of b) k settings status) same (refused_one inner outer of says b n settings status r)
 refused_of_all inner outer of says b n m settings failure.Memory same r = tt

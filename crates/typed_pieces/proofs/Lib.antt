@@ -5,3 +5,4 @@ pub mod Places
 pub mod Runs
 pub mod SplitRuns
 pub mod Told
+pub mod WorkedRows

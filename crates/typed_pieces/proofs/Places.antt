@@ -13,7 +13,8 @@ get_set (z ∷ zs) zero (suc k) x y e = inr e
 get_set (z ∷ zs) (suc i) zero x y e = inr e
 get_set (z ∷ zs) (suc i) (suc k) x y e = ⊎_elim (λ p. inl (ap suc p.0, p.1)) (λ q. inr q) (get_set zs i k x y e)
 
-kept_set : {J D : Type 0} (p : J → D → Type 0) (hs : List J) (xs : List (Option D)) (i : ℕ) (d : D) → ((j : J) → slice_get hs i ≡ Some j → p j d) → AreKept p hs xs → AreKept p hs (slice_set xs i (Some d))
+kept_set : {J D : Type 0} (p : J → D → Type 0) (hs : List J) (xs : List (Option D)) (i : ℕ) (d : D) → ((j : J) → slice_get hs i ≡ Some j → p j d)
+    → AreKept p hs xs → AreKept p hs (slice_set xs i (Some d))
 kept_set {J} {D} p hs xs i d here old k j e at is =
     ⊎_elim
     (λ q. subst (λ v. p j v) (same_Some d e q.1) (here j (subst (λ n. slice_get hs n ≡ Some j) q.0 at)))
@@ -21,7 +22,8 @@ kept_set {J} {D} p hs xs i d here old k j e at is =
     (get_set xs i k (Some d) (Some e) is)
 
 -- the results keep what they promise when the result of one more piece comes
-pub merely_kept_set : {J D : Type 0} (p : J → D → Type 0) (hs : List J) (xs : List (Option D)) (i : ℕ) (d : D) → ((j : J) → slice_get hs i ≡ Some j → p j d) → ∥ AreKept p hs xs ∥₁ → ∥ AreKept p hs (slice_set xs i (Some d)) ∥₁
+pub merely_kept_set : {J D : Type 0} (p : J → D → Type 0) (hs : List J) (xs : List (Option D)) (i : ℕ) (d : D) → ((j : J) → slice_get hs i ≡ Some j → p j d)
+    → ∥ AreKept p hs xs ∥₁ → ∥ AreKept p hs (slice_set xs i (Some d)) ∥₁
 merely_kept_set p hs xs i d here old = ∥∥₁_map old (kept_set p hs xs i d here)
 
 all_from : {J : Type 0} (hs : List J) → AreFrom hs (map Some hs)
@@ -33,10 +35,12 @@ all_from (h ∷ hs) (suc i) j e = all_from hs i j e
 kept_clear : {J D : Type 0} (p : J → D → Type 0) (hs : List J) (xs : List (Option D)) (i : ℕ) → AreKept p hs xs → AreKept p hs (slice_set xs i None)
 kept_clear p hs xs i old k j e at is = ⊎_elim (λ q. absurd (none-some e q.1)) (λ q. old k j e at q) (get_set xs i k None (Some e) is)
 
-pub merely_kept_clear : {J D : Type 0} (p : J → D → Type 0) (hs : List J) (xs : List (Option D)) (i : ℕ) (y : Option D) → y ≡ None → ∥ AreKept p hs xs ∥₁ → ∥ AreKept p hs (slice_set xs i y) ∥₁
+pub merely_kept_clear : {J D : Type 0} (p : J → D → Type 0) (hs : List J) (xs : List (Option D)) (i : ℕ) (y : Option D) → y ≡ None → ∥ AreKept p hs xs ∥₁
+    → ∥ AreKept p hs (slice_set xs i y) ∥₁
 merely_kept_clear p hs xs i y none old = subst (λ z. ∥ AreKept p hs (slice_set xs i z) ∥₁) (sym none) (∥∥₁_map old (kept_clear p hs xs i))
 
-pub taken_kept : {J D : Type 0} (p : J → D → Type 0) (hs : List J) (xs : List (Option D)) (i : ℕ) (r : Option D) → slice_get xs i ≡ Some r → ∥ AreKept p hs xs ∥₁ → IfSome r (λ d. ∥ IsKeptAt p hs i d ∥₁)
+pub taken_kept : {J D : Type 0} (p : J → D → Type 0) (hs : List J) (xs : List (Option D)) (i : ℕ) (r : Option D) → slice_get xs i ≡ Some r
+    → ∥ AreKept p hs xs ∥₁ → IfSome r (λ d. ∥ IsKeptAt p hs i d ∥₁)
 taken_kept p hs xs i None is old = tt
 taken_kept p hs xs i (Some d) is old = ∥∥₁_map old (λ all j at. all i j d at is)
 
@@ -58,7 +62,8 @@ pub all_ready : {J : Type 0} (P : J → Type 0) (hs ps : List J) → hs ≡ ps �
 all_ready P hs ps same all = ∣ subst (λ l. All P l) (sym same) all ∣₁
 
 -- and of the one that was taken of its place
-pub taken_ready : {J : Type 0} (P : J → Type 0) (hs : List J) (xs : List (Option J)) (i : ℕ) (r : Option J) → AreFrom hs xs → slice_get xs i ≡ Some r → ∥ All P hs ∥₁ → IfSome r (λ j. ∥ P j ∥₁)
+pub taken_ready : {J : Type 0} (P : J → Type 0) (hs : List J) (xs : List (Option J)) (i : ℕ) (r : Option J) → AreFrom hs xs → slice_get xs i ≡ Some r
+    → ∥ All P hs ∥₁ → IfSome r (λ j. ∥ P j ∥₁)
 taken_ready P hs xs i None from at all = tt
 taken_ready P hs xs i (Some j) from at all =
     let here = from i j at in

@@ -29,7 +29,8 @@ use Rattle.node_with_workers.proofs.Calls.{begins_more, begins_same}
 use Rattle.node_with_workers.proofs.Told.{then_given, went_none}
 use Rattle.typed_pieces.specs.Runs.{EndsRefused, HasAwaited, HasRun, HasRunAll, HasStarted, RefusesPieces, every_worker, starts_of}
 
-pub has_run : {C T : Type 0} (promise : C → Seat → Seat → T → Type 0) (client : C) (settings : NodeSettings) (told : T) (j : Journal) → IsRun promise client settings told j → HasRun settings j
+pub has_run : {C T : Type 0} (promise : C → Seat → Seat → T → Type 0) (client : C) (settings : NodeSettings) (told : T) (j : Journal)
+    → IsRun promise client settings told j → HasRun settings j
 has_run promise client settings told j r =
     let c = r.called in
     record {
@@ -37,7 +38,18 @@ has_run promise client settings told j r =
       legal = r.legal;
       kept = r.kept;
       mine = r.mine;
-      called = record { before = c.before; number = c.number; terms = c.terms; opened = c.opened; after = c.after; same = c.same; goes_on = c.goes_on; promised = tt; begins = c.begins };
+      called = record {
+        before = c.before;
+        number = c.number;
+        terms = c.terms;
+        opened = c.opened;
+        after = c.after;
+        same = c.same;
+        goes_on =
+            c.goes_on;
+        promised = tt;
+        begins = c.begins;
+      };
       ended = r.ended;
     }
 
@@ -45,7 +57,8 @@ refused_done : (r : Reply) (status : MtapiStatus) → Answers mtapi done r (Err 
 refused_done r status e1 = grind (arith, nat_tests)
 
 -- a wait that is refused ends by a look that was
-pub waited_refused : (w : Wanted) (limit : Option ℕ) (old new : Seat) (x : Result (Unit {0}) MtapiStatus) → Waited mtapi done w limit old new x → IfErr x (λ status. EndsRefused status new)
+pub waited_refused : (w : Wanted) (limit : Option ℕ) (old new : Seat) (x : Result (Unit {0}) MtapiStatus) → Waited mtapi done w limit old new x
+    → IfErr x (λ status. EndsRefused status new)
 waited_refused w limit old new (Ok u) a = tt
 waited_refused w limit old new (Err status) (inl a) =
     let l = a.1 in
@@ -62,22 +75,26 @@ waited_refused w limit old new (Err status) (inr a) = inr (cc, a.0.shown)
 -- The calls of the client of all pieces
 
 starts_more : (who : ℕ) (g : GroupHandle) (place : ℕ) (tasks : List ℕ) (task : ℕ) (n : ℕ) → length tasks + place ≡ n
-    → starts_of who g place tasks ++ entry who (TaskStart 1 (pos n ∷ []) 0 every_worker false (Some g)) (reply.Handle task) ∷ [] ≡ starts_of who g place (tasks ++ task ∷ [])
+    → starts_of who g place tasks ++ entry who (TaskStart 1 (pos n ∷ []) 0 every_worker false (Some g)) (reply.Handle task) ∷ []
+    ≡ starts_of who g place (tasks ++ task ∷ [])
 starts_more who g place [] task n is =
     let here : n ≡ place = omega (arith, is) in
     ap (λ (k : ℕ). entry who (TaskStart 1 (pos k ∷ []) 0 every_worker false (Some g)) (reply.Handle task) ∷ []) here
 starts_more who g place (t ∷ tasks) task n is =
-    ap (λ (l : List NodeEntry). entry who (TaskStart 1 (pos place ∷ []) 0 every_worker false (Some g)) (reply.Handle t) ∷ l) (starts_more who g (suc place) tasks task n (omega (arith, is)))
+    ap (λ (l : List NodeEntry). entry who (TaskStart 1 (pos place ∷ []) 0 every_worker false (Some g)) (reply.Handle t)
+    ∷ l) (starts_more who g (suc place) tasks task n (omega (arith, is)))
 
 pub started_none : (g : GroupHandle) (a b c : Seat) (x : Result ActionHandle MtapiStatus) (h : ActionHandle) (y : Result GroupHandle MtapiStatus)
-    → Called mtapi handle (ActionCreate 1 Echo every_worker) a b (with_number (λ k. k.0) x) → x ≡ Ok h → Called mtapi handle GroupCreate b c (with_number (λ k. k.0) y) → y ≡ Ok g → HasStarted g 0 a c
+    → Called mtapi handle (ActionCreate 1 Echo every_worker) a b (with_number (λ k. k.0) x) → x ≡ Ok h
+    → Called mtapi handle GroupCreate b c (with_number (λ k. k.0) y) → y ≡ Ok g → HasStarted g 0 a c
 started_none g a b c x h y made is grouped was =
     let create = ActionCreate 1 Echo every_worker in
     record {
       action = h.0;
       tasks = [];
       many = refl;
-      asked = then_given (λ (k : GroupHandle). k.0) (entry a.number create (reply.Handle h.0) ∷ []) GroupCreate a b c y g (then_given (λ (k : ActionHandle). k.0) [] create a a b x h (went_none a) made is) grouped was;
+      asked = then_given (λ (k : GroupHandle). k.0) (entry a.number create (reply.Handle h.0)
+          ∷ []) GroupCreate a b c y g (then_given (λ (k : ActionHandle). k.0) [] create a a b x h (went_none a) made is) grouped was;
     }
 
 pub started_more : (g : GroupHandle) (n : ℕ) (attr : TaskAttributes) (a b c : Seat) (x : Result TaskHandle MtapiStatus) (t : TaskHandle)
@@ -86,7 +103,8 @@ pub started_more : (g : GroupHandle) (n : ℕ) (attr : TaskAttributes) (a b c : 
 started_more g n attr a b c x t usual s called is =
     let before = entry a.number (ActionCreate 1 Echo every_worker) (reply.Handle s.action) ∷ entry a.number GroupCreate (reply.Handle g.0) ∷ [] in
     let start = TaskStart 1 (pos n ∷ []) 0 every_worker false (Some g) in
-    let so : Called mtapi handle start b c (with_number (λ k. k.0) x) = subst (λ (u : TaskAttributes). Called mtapi handle (start_of 1 (pos n ∷ []) u (Some g)) b c (with_number (λ k. k.0) x)) usual called in
+    let so : Called mtapi handle start b c (with_number (λ k. k.0) x) =
+    subst (λ (u : TaskAttributes). Called mtapi handle (start_of 1 (pos n ∷ []) u (Some g)) b c (with_number (λ k. k.0) x)) usual called in
     record {
       action = s.action;
       tasks = s.tasks ++ t.0 ∷ [];
@@ -102,10 +120,12 @@ goes_on g n a b s =
     let w = s.asked in
     (w.same, subst (λ (es : List NodeEntry). take (length a.mine) es ≡ a.mine) (sym w.mine) (begins_more a.mine a.mine w.more (begins_same a.mine)), s)
 
-all_told : (g : GroupHandle) (old new : Seat) (x : Result (Unit {0}) MtapiStatus) → Waited mtapi done (AllMembers g) None old new x → IfOk x (λ _. WentOn (entry old.number (AllLook g false) reply.Ok ∷ []) old new)
+all_told : (g : GroupHandle) (old new : Seat) (x : Result (Unit {0}) MtapiStatus) → Waited mtapi done (AllMembers g) None old new x
+    → IfOk x (λ _. WentOn (entry old.number (AllLook g false) reply.Ok ∷ []) old new)
 all_told g old new x e1 = grind (arith, nat_tests)
 
-pub awaited : (g : GroupHandle) (n m : ℕ) (a b c : Seat) (x : Result (Unit {0}) MtapiStatus) → n ≡ m → HasStarted g n a b → Waited mtapi done (AllMembers g) None b c x → IfOk x (λ _. HasAwaited m a c)
+pub awaited : (g : GroupHandle) (n m : ℕ) (a b c : Seat) (x : Result (Unit {0}) MtapiStatus) → n ≡ m → HasStarted g n a b
+    → Waited mtapi done (AllMembers g) None b c x → IfOk x (λ _. HasAwaited m a c)
 awaited g n m a b c (Err e) same s w = tt
 awaited g n m a b c (Ok u) same s w = record { group = g; before = b; started = subst (λ (k : ℕ). HasStarted g k a b) same s; waited = all_told g b c (Ok u) w }
 

@@ -1,12 +1,13 @@
 -- Of the levels of work that splits.
-use Rattle.std.proofs.Common.{◌≡◌, ◌≤◌, ◌<◌, ℕ, ◌+◌, ◌∙◌, List, [], ◌∷◌, ◌++◌, ap, subst, sym, arith, length, Vec}
+use Rattle.std.proofs.Common.{◌≡◌, ◌≤◌, ◌<◌, ℕ, ◌+◌, ◌∙◌, List, [], ◌∷◌, ◌++◌, ap, subst, sym, arith, length, map, Vec}
+use Rattle.std.proofs.lemmas.List.{map-append}
 use Rattle.std.specs.declared.alloc.Global.{Global}
 use Rattle.std.proofs.lemmas.List.Elements.{All-nil, All-push}
 use Rattle.std.proofs.lemmas.List.Sums.{sum_by-append}
 use Rattle.mtapi_values.specs.Attributes.{NodeSettings}
 use Rattle.typed_pieces.specs.Runs.{HasRunAll}
 use Rattle.typed_pieces.specs.Levels.{AreOpen}
-use Rattle.typed_pieces.specs.SplitRuns.{HaveRun, IsOver, SplitFails, pieces_of}
+use Rattle.typed_pieces.specs.SplitRuns.{AreCounted, HaveRun, IsOver, SplitFails, pieces_of}
 use Rattle.typed_pieces.specs.declared.level.Pending.{Pending}
 use Rattle.typed_pieces.specs.declared.split_failure.SplitFailure.{SplitFailure}
 use Rattle.typed_pieces.specs.declared.split_failure.SplitFailure.TheVariants as failure
@@ -42,20 +43,40 @@ ran_more settings most before after levels more level is here next within r =
       few = within;
     }
 
+-- where no level has run, none is counted
+pub counted_none : {D J : Type 0} (levels : List LevelRun) (waiting : List (Vec (Pending D J) Global)) → levels ≡ [] → waiting ≡ [] → AreCounted levels waiting
+counted_none {D} {J} levels waiting none empty =
+    ap (λ (l : List LevelRun). map (λ x. x.pieces) l) none ∙ sym (ap (λ (l : List (Vec (Pending D J) Global)). map (λ x. length x.items) l) empty)
+
+-- one more level is
+pub counted_more : {D J : Type 0} (levels more : List LevelRun) (waiting further : List (Vec (Pending D J) Global)) (level : LevelRun)
+    (pending : Vec (Pending D J) Global)
+    → more ≡ levels ++ level ∷ [] → further ≡ waiting ++ pending ∷ [] → level.pieces ≡ length pending.items → AreCounted levels waiting
+    → AreCounted more further
+counted_more {D} {J} levels more waiting further level pending is also here counted =
+    let count = λ (l : List LevelRun). map (λ x. x.pieces) l in
+    let wait = λ (l : List (Vec (Pending D J) Global)). map (λ x. length x.items) l in
+    let all : count (levels ++ level ∷ []) ≡ wait (waiting ++ pending ∷ []) =
+    map-append (λ (x : LevelRun). x.pieces) levels (level ∷ [])
+    ∙ (ap (λ l. l ++ level.pieces ∷ []) counted
+    ∙ (ap (λ n. wait waiting ++ n ∷ []) here ∙ sym (map-append (λ (x : Vec (Pending D J) Global). length x.items) waiting (pending ∷ [])))) in
+    ap count is ∙ (all ∙ sym (ap wait also))
+
 -- with the parts of the last level there would be too many
 pub is_over : {P D J : Type 0} (promise : P → D → Type 0) (joined : J → List D → D → Type 0) (settings : NodeSettings) (root : P) (most before parts : ℕ)
     (levels : List LevelRun) (waiting : List (Vec (Pending D J) Global)) (next : List P)
-    → Ran settings most before levels → AreOpen promise joined (root ∷ []) waiting next → length next ≡ parts
+    → Ran settings most before levels → AreOpen promise joined (root ∷ []) waiting next → AreCounted levels waiting → length next ≡ parts
     → (e : SplitFailure) (Why : Unfinished → Type 0) → SplitFails e (λ _. ⊥) (λ ran over. (ran ≡ before) × (over ≡ parts) × (most < before + parts))
     → SplitFails e Why (IsOver promise joined settings root most)
-is_over promise joined settings root most before parts levels waiting next r waits many (failure.Run u) Why limit = absurd limit
-is_over promise joined settings root most before parts levels waiting next r waits many (failure.Limit ran more) Why limit =
+is_over promise joined settings root most before parts levels waiting next r waits counted many (failure.Run u) Why limit = absurd limit
+is_over promise joined settings root most before parts levels waiting next r waits counted many (failure.Limit ran more) Why limit =
     record {
       levels = levels;
       waiting = waiting;
       next = next;
       ran = r.ran;
       waits = waits;
+      counts = counted;
       had_run = r.many ∙ sym limit.0;
       many = many ∙ sym limit.1;
       over = subst (λ n. most < n + more) (sym limit.0) (subst (λ n. most < before + n) (sym limit.1) limit.2);

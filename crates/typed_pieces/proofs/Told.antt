@@ -26,7 +26,8 @@ place_told r member e1 = grind (arith, nat_tests)
 refusal_told : (r : Reply) (status : MtapiStatus) → Answers mtapi given r (Err status) → Answers mtapi first_place r (Err status)
 refusal_told r status e1 = grind (arith, nat_tests)
 
-place_waited : (w : Wanted) (limit : Option ℕ) (old new : Seat) (x : Result (TaskHandle × TaskEnd) MtapiStatus) → Waited mtapi given w limit old new x → Waited mtapi first_place w limit old new (place_alone x)
+place_waited : (w : Wanted) (limit : Option ℕ) (old new : Seat) (x : Result (TaskHandle × TaskEnd) MtapiStatus) → Waited mtapi given w limit old new x
+    → Waited mtapi first_place w limit old new (place_alone x)
 place_waited w limit old new (Ok member) (inl a) = inl (a.0, a.1, place_told a.0 member a.2)
 place_waited w limit old new (Ok member) (inr a) = absurd cc
 place_waited w limit old new (Err status) (inl a) = inl (a.0, a.1, refusal_told a.0 status a.2)
@@ -35,4 +36,5 @@ place_waited w limit old new (Err status) (inr a) = inr (a.0, cc)
 -- a wait for any member of a group, with the place alone
 pub waited : (w : Wanted) (limit : Option ℕ) (old new : Seat) (x : Result (TaskHandle × TaskEnd) MtapiStatus) (y : Result (Option ℕ) MtapiStatus)
     → Waited mtapi given w limit old new x → y ≡ place_alone x → Waited mtapi first_place w limit old new y
-waited w limit old new x y a is = subst (λ (z : Result (Option ℕ) MtapiStatus). Waited mtapi first_place w limit old new z) (sym is) (place_waited w limit old new x a)
+waited w limit old new x y a is = subst (λ (z : Result (Option ℕ) MtapiStatus). Waited mtapi first_place w limit old new z) (sym is)
+    (place_waited w limit old new x a)

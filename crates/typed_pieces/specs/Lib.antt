@@ -4,3 +4,4 @@ pub mod Runs
 pub mod Split
 pub mod SplitRuns
 pub mod Told
+pub mod Worked

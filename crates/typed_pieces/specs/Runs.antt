@@ -39,7 +39,8 @@ pub record HasStarted (group : GroupHandle) (places : ℕ) (old new : Seat) : Ty
   pub action : ℕ
   pub tasks : List ℕ
   pub many : length tasks ≡ places
-  pub asked : WentOn (entry old.number (ActionCreate 1 Echo every_worker) (reply.Handle action) ∷ entry old.number GroupCreate (reply.Handle group.0) ∷ starts_of old.number group 0 tasks) old new
+  pub asked : WentOn (entry old.number (ActionCreate 1 Echo every_worker) (reply.Handle action) ∷ entry old.number GroupCreate (reply.Handle group.0)
+      ∷ starts_of old.number group 0 tasks) old new
 
 -- the same, and then a wait that was told that all tasks of the group have ended
 pub record HasAwaited (places : ℕ) (old new : Seat) : Type 0 where

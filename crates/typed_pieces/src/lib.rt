@@ -19,6 +19,7 @@ pub mod split_failure;
 pub mod split_run;
 pub mod table;
 pub mod unfinished;
+pub mod worked;
 pub mod workers;
 
 pub use client::PieceClient;

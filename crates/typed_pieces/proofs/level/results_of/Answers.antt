@@ -11,4 +11,5 @@ loop-pending-preserved g c =
     joining_more _ _ _ _ _ _ _ _ _ _ _ (search rules) (search rules) c.in_ok-result_of.ensures (c.loop-pending.invariant pieces parts waits there)
 
 pub returns : goal.returns
-returns g c = λ pieces parts waits there. joining_all _ _ _ _ _ _ (search (rules, c.loop-pending.pending-iterator.rest.ok.0)) (c.loop-pending.invariant pieces parts waits there)
+returns g c = λ pieces parts waits there. joining_all _ _ _ _ _ _ (search (rules, c.loop-pending.pending-iterator.rest.ok.0))
+    (c.loop-pending.invariant pieces parts waits there)

@@ -8,5 +8,6 @@ returns-clause-run g c =
 
 pub returns-in_err-worked-clause-causes : goal.returns-in_err-worked-clause-causes
 returns-in_err-worked-clause-causes g c =
-    let r = causes_alone (λ x. g.C.PieceClient.promise x c.args.pieces.items) c.args.client _ c.args.settings _ c.new-nobody.ensures.len c.in_err-worked.ensures.causes in
+    let r = causes_alone (λ x. g.C.PieceClient.promise x c.args.pieces.items) c.args.client _ c.args.settings _ c.new-nobody.ensures.len
+    c.in_err-worked.ensures.causes in
     search rules

@@ -12,3 +12,6 @@ unreachable-requires g c =
 pub returns-clause-kept : goal.returns-clause-kept
 returns-clause-kept g c =
     kept_last g.P.Split.promise _ _ _ _ (c.in_ok-results.ensures (c.args.root ∷ []) c.in_ok-opened.ensures.waits) c.in-Some.ensures.items
+
+pub returns-clause-levels : goal.returns-clause-levels
+returns-clause-levels g c = record { waiting = c.in_ok-opened.opened.items; waits = c.in_ok-opened.ensures.waits; counts = c.in_ok-opened.ensures.counts }
