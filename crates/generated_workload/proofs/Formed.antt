@@ -53,7 +53,8 @@ other_name i j lt few =
 unbound : (i j : ℕ) → i ≤ j → j < 19000 → list_any (λ s. is_called (task_name j) s.name) (tasks i) ≡ false
 unfolding tasks
 unbound zero j le few = refl
-unbound (suc i) j le few = any_push (λ s. is_called (task_name j) s.name) (tasks i) (task_statement i) (unbound i j (omega arith) few) (other_name i j (omega arith) few)
+unbound (suc i) j le few = any_push (λ s. is_called (task_name j) s.name) (tasks i) (task_statement i) (unbound i j (omega arith) few)
+    (other_name i j (omega arith) few)
 
 -- neither an action nor the group has it
 pub is_new : (i : ℕ) → i < 19000 → IsNew (first_statements ++ tasks i) (task_name i)
@@ -69,7 +70,8 @@ record Good (xs : List Statement) (line : ℕ) : Type 0 where
   below : Below line (1 ∷ map (λ s. s.line) xs)
   count : length xs + 2 ≡ line
 
-pushed : (xs : List Statement) (s : Statement) (line : ℕ) → Good xs line → IsStatement xs s → s.line ≡ line → is_begin s.deed ≡ false → Good (xs ++ s ∷ []) (line + 1)
+pushed : (xs : List Statement) (s : Statement) (line : ℕ) → Good xs line → IsStatement xs s → s.line ≡ line → is_begin s.deed ≡ false
+    → Good (xs ++ s ∷ []) (line + 1)
 pushed xs s line g is at other = record {
   are = push_statement [] xs s g.are is;
   begins = begins_push xs s ∙ (rw (g.begins, other) refl);
@@ -86,7 +88,8 @@ group_bound xs = (omega arith, refl)
 pub fits : (n : ℕ) → n < 2 ^ 63 → FitsSigned w64 (pos n)
 fits n lt = search rules
 
-start_is : (before : List Statement) (line : ℕ) (name : List ℕ) (job : ℕ) (args : List ℤ) → 1 ≤ job → job ≤ 65535 → length args ≤ 16 → AllByRecursion (FitsSigned w64) args → IsNew before name → IsBoundAt sort.Group before 2 → IsStatement before (binding line name (start job args))
+start_is : (before : List Statement) (line : ℕ) (name : List ℕ) (job : ℕ) (args : List ℤ) → 1 ≤ job → job ≤ 65535 → length args ≤ 16
+    → AllByRecursion (FitsSigned w64) args → IsNew before name → IsBoundAt sort.Group before 2 → IsStatement before (binding line name (start job args))
 unfolding row deed_spelled
 start_is before line name job args low high few fit new group = record {
   named = refl;
@@ -98,9 +101,12 @@ start_is before line name job args low high few fit new group = record {
 task_is : (i : ℕ) → i < 19000 → IsStatement (first_statements ++ tasks i) (task_statement i)
 task_is i lt = by (eqb (i % 2) 0)
   where
-    by : (b : Bool) → IsStatement (first_statements ++ tasks i) (binding (i + 5) (task_name i) (cond b (start 1 (pos i ∷ pos 7 ∷ [])) (start 2 (pos (i % 64) ∷ []))))
-    by true = start_is _ (i + 5) (task_name i) 1 (pos i ∷ pos 7 ∷ []) (omega arith) (omega arith) (omega arith) (fits i (omega arith), (fits 7 (omega arith), tt)) (is_new i lt) (group_bound (tasks i))
-    by false = start_is _ (i + 5) (task_name i) 2 (pos (i % 64) ∷ []) (omega arith) (omega arith) (omega arith) (fits (i % 64) (omega arith), tt) (is_new i lt) (group_bound (tasks i))
+    by : (b : Bool) → IsStatement (first_statements
+        ++ tasks i) (binding (i + 5) (task_name i) (cond b (start 1 (pos i ∷ pos 7 ∷ [])) (start 2 (pos (i % 64) ∷ []))))
+    by true = start_is _ (i + 5) (task_name i) 1 (pos i ∷ pos 7
+        ∷ []) (omega arith) (omega arith) (omega arith) (fits i (omega arith), (fits 7 (omega arith), tt)) (is_new i lt) (group_bound (tasks i))
+    by false = start_is _ (i + 5) (task_name i) 2 (pos (i % 64)
+        ∷ []) (omega arith) (omega arith) (omega arith) (fits (i % 64) (omega arith), tt) (is_new i lt) (group_bound (tasks i))
 
 task_no_begin : (i : ℕ) → is_begin (task_deed i) ≡ false
 unfolding is_begin
@@ -163,21 +169,37 @@ is_formed n w some few workers most =
       main = (record { line = refl; name = refl; begin = omega (arith, g.begins) }, tt);
       names = (refl, tt);
       parts = (record { name = refl; statements = g.are }, tt);
-      statements = subst (λ (lines : List ℕ). length lines ≤ 20000) (sym (lines_are n w)) (few_lines (first_statements ++ (tasks n ++ last_statement n ∷ [])) (omega (arith, g.count)));
+      statements = subst (λ (lines : List ℕ). length lines
+          ≤ 20000) (sym (lines_are n w)) (few_lines (first_statements ++ (tasks n ++ last_statement n ∷ [])) (omega (arith, g.count)));
       lines = subst (λ (lines : List ℕ). Rise 0 lines) (sym (lines_are n w)) g.rise;
       usual = λ e. absurd (omega (arith, e));
-      settings = ((workers, most), ((some, omega arith), ((omega arith, omega arith), ((omega arith, omega arith), ((omega arith, omega arith), ((omega arith, omega arith), ((omega arith, omega arith), ((omega arith, omega arith), tt))))))));
+      settings = (
+        (workers, most),
+        (
+          (some, omega arith),
+          (
+            (omega arith, omega arith),
+            (
+              (omega arith, omega arith),
+              ((omega arith, omega arith), ((omega arith, omega arith), ((omega arith, omega arith), ((omega arith, omega arith), tt)))),
+            ),
+          ),
+        ),
+      );
     }
 
 next_number : (i : ℕ) → suc i ≡ i + 1
 next_number i = omega arith
 
 -- a list with one more task
-pub one_more : (before list : List Statement) (i : ℕ) (next : List Statement) → list ≡ before ++ tasks i → next ≡ list ++ task_statement i ∷ [] → next ≡ before ++ tasks (i + 1)
+pub one_more : (before list : List Statement) (i : ℕ) (next : List Statement) → list ≡ before ++ tasks i → next ≡ list ++ task_statement i ∷ []
+    → next ≡ before ++ tasks (i + 1)
 unfolding tasks
-one_more before list i next e f = f ∙ ap (λ (xs : List Statement). xs ++ task_statement i ∷ []) e ∙ append_assoc before (tasks i) (task_statement i ∷ []) ∙ ap (λ (k : ℕ). before ++ tasks k) (next_number i)
+one_more before list i next e f = f ∙ ap (λ (xs : List Statement). xs ++ task_statement i ∷ []) e ∙ append_assoc before (tasks i) (task_statement i ∷ [])
+    ∙ ap (λ (k : ℕ). before ++ tasks k) (next_number i)
 
 -- what was made is well formed
-pub formed_of : (n w : ℕ) (r : Result Workload AllocError) → 1 ≤ n → n ≤ 19000 → 1 ≤ w → w ≤ 16 → IfOk r (λ load. load ≡ generated n w) → IfOk r (λ load. WellFormed load)
+pub formed_of : (n w : ℕ) (r : Result Workload AllocError) → 1 ≤ n → n ≤ 19000 → 1 ≤ w → w ≤ 16 → IfOk r (λ load. load ≡ generated n w)
+    → IfOk r (λ load. WellFormed load)
 formed_of n w (Ok load) some few workers most e = subst (λ (l : Workload). WellFormed l) (sym e) (is_formed n w some few workers most)
 formed_of n w (Err a) some few workers most e = tt

@@ -50,13 +50,26 @@ node_is n w a b c d = record {
   bound = refl;
 }
 
-node_values : (n w : ℕ) → 1 ≤ n → n ≤ 19000 → 1 ≤ w → w ≤ 16 → values_in start.current.statements (options n w) (fields word.Node) ≡ setting_values (generated_settings n w)
+node_values : (n w : ℕ) → 1 ≤ n → n ≤ 19000 → 1 ≤ w → w ≤ 16
+    → values_in start.current.statements (options n w) (fields word.Node) ≡ setting_values (generated_settings n w)
 unfolding start row key_text text_of value_given value_absent
 node_values n w a b c d = rw (within_decimal 1 16 w c d (omega arith), within_decimal 1 65536 n a (omega arith) (omega arith)) refl
 
 settings_fit : (n w : ℕ) → 1 ≤ n → n ≤ 19000 → 1 ≤ w → w ≤ 16 → AllFit [] (fields word.Node) (setting_values (generated_settings n w))
 unfolding row
-settings_fit n w a b c d = ((c, d), ((a, omega arith), ((omega arith, omega arith), ((omega arith, omega arith), ((omega arith, omega arith), ((omega arith, omega arith), ((omega arith, omega arith), ((omega arith, omega arith), tt))))))))
+settings_fit n w a b c d = (
+  (c, d),
+  (
+    (a, omega arith),
+    (
+      (omega arith, omega arith),
+      (
+        (omega arith, omega arith),
+        ((omega arith, omega arith), ((omega arith, omega arith), ((omega arith, omega arith), ((omega arith, omega arith), tt)))),
+      ),
+    ),
+  ),
+)
 
 node_state : (n w : ℕ) → with_change start 1 (Some (change.Node (generated_settings n w))) ≡ state n w [] 1
 unfolding start with_change
@@ -78,7 +91,8 @@ node_good n w le most =
 
 node_change : (n w : ℕ) → 1 ≤ n → n ≤ 19000 → 1 ≤ w → w ≤ 16 → change_of start 1 word.Node [] (options n w) ≡ change.Node (generated_settings n w)
 unfolding change_with
-node_change n w a b c d = ap (λ (vs : List OptionValue). change.Node (settings_by vs)) (node_values n w a b c d) ∙ ap change.Node (node_settings [] (generated_settings n w) (settings_fit n w a b c d))
+node_change n w a b c d = ap (λ (vs : List OptionValue). change.Node (settings_by vs)) (node_values n w a b c d)
+    ∙ ap change.Node (node_settings [] (generated_settings n w) (settings_fit n w a b c d))
 
 node_adds : (n w : ℕ) → 1 ≤ n → n ≤ 19000 → 1 ≤ w → w ≤ 16 → line_adds start 1 (line_text (node_words n w)) ≡ Ok (state n w [] 1)
 node_adds n w a b c d =
@@ -95,15 +109,18 @@ abbrev pub triangle : Statement
 triangle = binding 3 (codes "b") (deed.Action 2 kind.Triangle all_cores)
 
 add_adds : (n w : ℕ) → line_adds (state n w [] 1) 2 (codes "action a job=1 kind=add") ≡ Ok (state n w (add ∷ []) 2)
-unfolding line_adds line_gives words_of is_faulty row key_text word_of is_ninth_caller is_misplaced is_name has_twice is_taken change_with text_of value_given value_absent deed_with number_in kind_in cores_in with_change kind_named number_within number wide_within wide_number
+unfolding line_adds line_gives words_of is_faulty row key_text word_of is_ninth_caller is_misplaced is_name has_twice is_taken change_with text_of value_given
+    value_absent deed_with number_in kind_in cores_in with_change kind_named number_within number wide_within wide_number
 add_adds n w = refl
 
 triangle_adds : (n w : ℕ) → line_adds (state n w (add ∷ []) 2) 3 (codes "action b job=2 kind=triangle") ≡ Ok (state n w (add ∷ triangle ∷ []) 3)
-unfolding line_adds line_gives words_of is_faulty row key_text word_of is_ninth_caller is_misplaced is_name has_twice is_taken change_with text_of value_given value_absent deed_with number_in kind_in cores_in with_change kind_named number_within number wide_within wide_number
+unfolding line_adds line_gives words_of is_faulty row key_text word_of is_ninth_caller is_misplaced is_name has_twice is_taken change_with text_of value_given
+    value_absent deed_with number_in kind_in cores_in with_change kind_named number_within number wide_within wide_number
 triangle_adds n w = refl
 
 group_adds : (n w : ℕ) → line_adds (state n w (add ∷ triangle ∷ []) 3) 4 (codes "group g") ≡ Ok (state n w first_statements 4)
-unfolding line_adds line_gives words_of is_faulty row key_text word_of is_ninth_caller is_misplaced is_name has_twice is_taken change_with text_of value_given value_absent deed_with number_in kind_in cores_in with_change
+unfolding line_adds line_gives words_of is_faulty row key_text word_of is_ninth_caller is_misplaced is_name has_twice is_taken change_with text_of value_given
+    value_absent deed_with number_in kind_in cores_in with_change
 group_adds n w = refl
 
 pub first_add : (n w : ℕ) → 1 ≤ n → n ≤ 19000 → 1 ≤ w → w ≤ 16 → lines_add start 1 (first_lines n w) ≡ Ok (state n w first_statements 4)

@@ -52,14 +52,17 @@ joined_total byte x xs = sym (led_length byte x xs) ∙ led_total byte (x ∷ xs
 -- ---- lines
 
 -- a statement by its words
-pub words_add : (r : Reading) (line : ℕ) (first : List ℕ) (rest : List (List ℕ)) (w : Word) (name : List ℕ) (options : List (List ℕ)) → list_all is_word (first ∷ rest) ≡ true → total (first ∷ rest) ≤ 513 → IsRead r first rest w name options → line_adds r line (line_text (first ∷ rest)) ≡ Ok (with_change r line (Some (change_of r line w name options)))
+pub words_add : (r : Reading) (line : ℕ) (first : List ℕ) (rest : List (List ℕ)) (w : Word) (name : List ℕ) (options : List (List ℕ))
+    → list_all is_word (first ∷ rest) ≡ true → total (first ∷ rest) ≤ 513 → IsRead r first rest w name options
+    → line_adds r line (line_text (first ∷ rest)) ≡ Ok (with_change r line (Some (change_of r line w name options)))
 unfolding line_adds
 words_add r line first rest w name options words few read =
     let size = joined_total 32 first rest in
     let plain : IsPlain (line_text (first ∷ rest)) = record { short = omega (arith, size, few); printable = line_printable first rest words } in
     rw (states r line (line_text (first ∷ rest)) first rest w name options plain (words_again first rest words) read) refl
 
-pub more : (r mid s : Reading) (line : ℕ) (text : List ℕ) (texts : List (List ℕ)) → line_adds r line text ≡ Ok mid → lines_add mid (line + 1) texts ≡ Ok s → lines_add r line (text ∷ texts) ≡ Ok s
+pub more : (r mid s : Reading) (line : ℕ) (text : List ℕ) (texts : List (List ℕ)) → line_adds r line text ≡ Ok mid → lines_add mid (line + 1) texts ≡ Ok s
+    → lines_add r line (text ∷ texts) ≡ Ok s
 unfolding lines_add
 more r mid s line text texts e h = rw e h
 
@@ -68,7 +71,8 @@ unfolding lines_add
 one r s line text e = rw e refl
 
 -- one line more
-pub push : (texts : List (List ℕ)) (r s t : Reading) (line : ℕ) (text : List ℕ) → lines_add r line texts ≡ Ok s → line_adds s (line + length texts) text ≡ Ok t → lines_add r line (texts ++ text ∷ []) ≡ Ok t
+pub push : (texts : List (List ℕ)) (r s t : Reading) (line : ℕ) (text : List ℕ) → lines_add r line texts ≡ Ok s → line_adds s (line + length texts) text ≡ Ok t
+    → lines_add r line (texts ++ text ∷ []) ≡ Ok t
 unfolding lines_add
 push [] r s t line text e f =
     let at : line + 0 ≡ line = omega arith in

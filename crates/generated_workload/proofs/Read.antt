@@ -13,7 +13,8 @@ use Rattle.workload_file.specs.Faulty.{is_printable}
 -- ---- lines one behind the other
 
 -- lines without a line feed in them, joined and cut again
-between_lines : (first : List ℕ) (rest : List (List ℕ)) → list_all (λ t. list_all is_printable t) (first ∷ rest) ≡ true → between 10 (join_with_byte 10 (first ∷ rest)) ≡ first ∷ rest
+between_lines : (first : List ℕ) (rest : List (List ℕ)) → list_all (λ t. list_all is_printable t) (first ∷ rest) ≡ true
+    → between 10 (join_with_byte 10 (first ∷ rest)) ≡ first ∷ rest
 between_lines first [] h =
     let both = and_parts (list_all is_printable first) _ h in
     slice_split_none (λ b. eqb b 10) first (printable_lacks first both.0)
@@ -27,12 +28,14 @@ unfolding task_lines
 task_count zero = refl
 task_count (suc n) = let rest = task_count n in omega (arith, rest, length-append (task_lines n) (line_text (task_words n) ∷ []))
 
-tasks_add : (n w m : ℕ) → 1 ≤ n → n ≤ 19000 → 1 ≤ w → w ≤ 16 → m ≤ 19000 → lines_add start 1 (first_lines n w ++ task_lines m) ≡ Ok (state n w (first_statements ++ tasks m) (m + 4))
+tasks_add : (n w m : ℕ) → 1 ≤ n → n ≤ 19000 → 1 ≤ w → w ≤ 16 → m ≤ 19000
+    → lines_add start 1 (first_lines n w ++ task_lines m) ≡ Ok (state n w (first_statements ++ tasks m) (m + 4))
 unfolding task_lines tasks
 tasks_add n w zero a b c d le = first_add n w a b c d
 tasks_add n w (suc m) a b c d le =
     let at : 1 + length (first_lines n w ++ task_lines m) ≡ m + 5 = omega (arith, task_count m) in
-    push (first_lines n w ++ task_lines m) start (state n w (first_statements ++ tasks m) (m + 4)) _ 1 (line_text (task_words m)) (tasks_add n w m a b c d (omega arith))
+    push (first_lines n w ++ task_lines m) start (state n w (first_statements ++ tasks m) (m + 4)) _ 1 (line_text (task_words m))
+    (tasks_add n w m a b c d (omega arith))
     (rw at (task_adds n w m (omega arith)))
 
 abbrev last_state : ℕ → ℕ → Reading
@@ -52,7 +55,8 @@ words_printable (first ∷ rest) g = line_printable first rest g.good
 tasks_printable : (n : ℕ) → n ≤ 19000 → list_all (λ t. list_all is_printable t) (task_lines n) ≡ true
 unfolding task_lines
 tasks_printable zero le = refl
-tasks_printable (suc n) le = all_append (λ t. list_all is_printable t) (task_lines n) (line_text (task_words n) ∷ []) (tasks_printable n (omega arith)) (and_from _ _ (words_printable (task_words n) (task_good n (omega arith))) refl)
+tasks_printable (suc n) le = all_append (λ t. list_all is_printable t) (task_lines n) (line_text (task_words n)
+    ∷ []) (tasks_printable n (omega arith)) (and_from _ _ (words_printable (task_words n) (task_good n (omega arith))) refl)
 
 all_printable : (n w : ℕ) → n ≤ 19000 → w ≤ 16 → list_all (λ t. list_all is_printable t) (first_lines n w ++ (task_lines n ++ last_line ∷ [])) ≡ true
 all_printable n w le most =
@@ -63,7 +67,8 @@ pub text_read : (n w : ℕ) → 1 ≤ n → n ≤ 19000 → 1 ≤ w → w ≤ 16
 unfolding workload_of
 text_read n w a b c d =
     let at : 1 + length (first_lines n w ++ task_lines n) ≡ n + 5 = omega (arith, task_count n) in
-    let all = push (first_lines n w ++ task_lines n) start (state n w (first_statements ++ tasks n) (n + 4)) (last_state n w) 1 last_line (tasks_add n w n a b c d b) (rw at (last_adds n w b)) in
+    let all = push (first_lines n w ++ task_lines n) start (state n w (first_statements ++ tasks n) (n + 4)) (last_state n w) 1 last_line
+    (tasks_add n w n a b c d b) (rw at (last_adds n w b)) in
     let cut = between_lines (line_text (node_words n w)) (drop 1 (first_lines n w) ++ (task_lines n ++ last_line ∷ [])) (all_printable n w b d) in
     rw (cut, all) (ap Ok (end_is n w))
 
@@ -86,11 +91,21 @@ pub text_short : (n w : ℕ) → n ≤ 19000 → w ≤ 16 → length (generated_
 unfolding total
 text_short n w le most =
     let first = line_total (node_words n w) (node_good n w le most) in
-    let whole = joined_total 10 (line_text (node_words n w)) (codes "action a job=1 kind=add" ∷ codes "action b job=2 kind=triangle" ∷ codes "group g" ∷ (task_lines n ++ last_line ∷ [])) in
+    let whole = joined_total 10 (line_text (node_words n w)) (codes "action a job=1 kind=add" ∷ codes "action b job=2 kind=triangle" ∷ codes "group g"
+    ∷ (task_lines n ++ last_line ∷ [])) in
     omega (arith, first, whole, tasks_total n le, total_append (task_lines n) (last_line ∷ []))
 
 -- ---- a row
 
-pub text_row : generated_text 3 4 ≡ codes "node workers=4 max_tasks=3\naction a job=1 kind=add\naction b job=2 kind=triangle\ngroup g\nstart t0 job=1 args=0,7 group=g\nstart t1 job=2 args=1 group=g\nstart t2 job=1 args=2,7 group=g\nwait_all g timeout=inf"
+pub text_row : generated_text 3 4 ≡ codes
+    "node workers=4 max_tasks=3\naction a job=1 kind=add\naction b job=2 kind=triangle\ngroup g\nstart t0 job=1 args=0,7 group=g\nstart t1 job=2 args=1 group=g\nstart t2 job=1 args=2,7 group=g\nwait_all g timeout=inf"
 unfolding task_lines
-text_row = rw (decimal_digit 4 (omega arith), decimal_digit 3 (omega arith), decimal_digit 0 (omega arith), decimal_digit 1 (omega arith), decimal_digit 2 (omega arith), decimal_digit 7 (omega arith)) refl
+text_row = rw (
+  decimal_digit 4 (omega arith),
+  decimal_digit 3 (omega arith),
+  decimal_digit 0 (omega arith),
+  decimal_digit 1 (omega arith),
+  decimal_digit 2
+      (omega arith),
+  decimal_digit 7 (omega arith),
+) refl

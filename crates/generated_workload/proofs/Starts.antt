@@ -53,7 +53,9 @@ record Fit (name : List ℕ) (job : ℕ) (args : List ℤ) : Type 0 where
   list : list_of (list_text args) ≡ Some args
   named : is_name name ≡ true
 
-start_is : (r : Reading) (name : List ℕ) (job : ℕ) (args : List ℤ) → Fit name job args → nat_le 20000 r.count ≡ false → bound_at name r.current.statements ≡ None → place_of sort.Group (codes "g") r.current.statements ≡ Some 2 → IsRead r (codes "start") (name ∷ options job args) word.Start name (options job args)
+start_is : (r : Reading) (name : List ℕ) (job : ℕ) (args : List ℤ) → Fit name job args → nat_le 20000 r.count ≡ false
+    → bound_at name r.current.statements ≡ None → place_of sort.Group (codes "g") r.current.statements ≡ Some 2
+    → IsRead r (codes "start") (name ∷ options job args) word.Start name (options job args)
 unfolding row key_text word_of is_ninth_caller is_misplaced has_twice is_taken is_name text_of value_given value_absent
 start_is r name job args f few new group = record {
   comment = refl;
@@ -71,26 +73,34 @@ start_is r name job args f few new group = record {
   bound = refl;
 }
 
-start_values : (before : List Statement) (name : List ℕ) (job : ℕ) (args : List ℤ) → Fit name job args → place_of sort.Group (codes "g") before ≡ Some 2 → values_in before (options job args) (fields word.Start) ≡ values job args
+start_values : (before : List Statement) (name : List ℕ) (job : ℕ) (args : List ℤ) → Fit name job args → place_of sort.Group (codes "g") before ≡ Some 2
+    → values_in before (options job args) (fields word.Start) ≡ values job args
 unfolding row key_text is_name text_of value_given value_absent
 start_values before name job args f group = rw (within_decimal 1 65535 job f.low f.high (omega (arith, f.high)), f.list, group) refl
 
-start_made : (line : ℕ) (name : List ℕ) (job : ℕ) (args : List ℤ) (place : Option ℕ) → change_with line word.Start name place (values job args) ≡ change.Statement (binding line name (start job args))
+start_made : (line : ℕ) (name : List ℕ) (job : ℕ) (args : List ℤ) (place : Option ℕ)
+    → change_with line word.Start name place (values job args) ≡ change.Statement (binding line name (start job args))
 unfolding row change_with deed_with number_in args_in cores_in flag_in place_in
 start_made line name job args place = refl
 
-start_change : (r : Reading) (line : ℕ) (name : List ℕ) (job : ℕ) (args : List ℤ) → values_in r.current.statements (options job args) (fields word.Start) ≡ values job args → change_of r line word.Start name (options job args) ≡ change.Statement (binding line name (start job args))
+start_change : (r : Reading) (line : ℕ) (name : List ℕ) (job : ℕ) (args : List ℤ)
+    → values_in r.current.statements (options job args) (fields word.Start) ≡ values job args
+    → change_of r line word.Start name (options job args) ≡ change.Statement (binding line name (start job args))
 start_change r line name job args e =
     let place = use_in r.current.statements (naming word.Start) name in
     ap (λ (vs : List OptionValue). change_with line word.Start name place vs) e ∙ start_made line name job args place
 
-start_adds : (n w i : ℕ) (name : List ℕ) (job : ℕ) (args : List ℤ) → i < 19000 → Fit name job args → bound_at name (first_statements ++ tasks i) ≡ None → list_all is_word (start_words name job args) ≡ true → total (start_words name job args) ≤ 513 → line_adds (state n w (first_statements ++ tasks i) (i + 4)) (i + 5) (line_text (start_words name job args)) ≡ Ok (with_change (state n w (first_statements ++ tasks i) (i + 4)) (i + 5) (Some (change.Statement (binding (i + 5) name (start job args)))))
+start_adds : (n w i : ℕ) (name : List ℕ) (job : ℕ) (args : List ℤ) → i < 19000 → Fit name job args → bound_at name (first_statements ++ tasks i) ≡ None
+    → list_all is_word (start_words name job args) ≡ true → total (start_words name job args) ≤ 513
+    → line_adds (state n w (first_statements ++ tasks i) (i + 4)) (i + 5) (line_text (start_words name job args))
+    ≡ Ok (with_change (state n w (first_statements ++ tasks i) (i + 4)) (i + 5) (Some (change.Statement (binding (i + 5) name (start job args)))))
 start_adds n w i name job args lt f new words few =
     let r = state n w (first_statements ++ tasks i) (i + 4) in
     let room : nat_le 20000 (i + 4) ≡ false = lt-leb 20000 (i + 4) (omega arith) in
     let group = group_place (tasks i) in
     words_add r (i + 5) (codes "start") (name ∷ options job args) word.Start name (options job args) words few (start_is r name job args f room new group)
-    ∙ ap (λ (x : LineEffect). Ok (with_change r (i + 5) (Some x))) (start_change r (i + 5) name job args (start_values r.current.statements name job args f group))
+    ∙ ap (λ (x : LineEffect). Ok (with_change r (i + 5) (Some x)))
+    (start_change r (i + 5) name job args (start_values r.current.statements name job args f group))
 
 -- ---- a task
 
@@ -100,7 +110,8 @@ two_numbers a b la lb = list_written (pos a ∷ pos b ∷ []) (omega arith) (ome
 one_number : (a : ℕ) → a < 2 ^ 63 → list_of (list_text (pos a ∷ [])) ≡ Some (pos a ∷ [])
 one_number a la = list_written (pos a ∷ []) (omega arith) (omega arith) (fits a la, tt)
 
-start_good : (i job : ℕ) (args : List ℤ) → i < 19000 → job ≤ 9 → list_all is_inner (list_text args) ≡ true → length (list_text args) ≤ 7 → Good (start_words (task_name i) job args)
+start_good : (i job : ℕ) (args : List ℤ) → i < 19000 → job ≤ 9 → list_all is_inner (list_text args) ≡ true → length (list_text args) ≤ 7
+    → Good (start_words (task_name i) job args)
 unfolding total
 start_good i job args lt le inner short =
     let name = inner_word 116 (decimal i) (decimal_inner i (omega arith)) in
@@ -114,7 +125,9 @@ even_good : (i : ℕ) → i < 19000 → Good (start_words (task_name i) 1 (pos i
 even_good i lt =
     let a = length-decimal-le 5 i (omega arith) (omega arith) (omega arith) in
     let b = length-decimal-le 1 7 (omega arith) (omega arith) (omega arith) in
-    start_good i 1 (pos i ∷ pos 7 ∷ []) lt (omega arith) (all_append is_inner (decimal i) (44 ∷ decimal 7) (decimal_inner i (omega arith)) (decimal_inner 7 (omega arith))) (omega (arith, a, b, length-append (decimal i) (44 ∷ decimal 7)))
+    start_good i 1 (pos i ∷ pos 7 ∷ []) lt (omega arith)
+    (all_append is_inner (decimal i) (44 ∷ decimal 7) (decimal_inner i (omega arith)) (decimal_inner 7 (omega arith)))
+    (omega (arith, a, b, length-append (decimal i) (44 ∷ decimal 7)))
 
 odd_good : (i : ℕ) → i < 19000 → Good (start_words (task_name i) 2 (pos (i % 64) ∷ []))
 odd_good i lt =
@@ -128,19 +141,30 @@ task_good i lt = by (eqb (i % 2) 0)
     by true = even_good i lt
     by false = odd_good i lt
 
-next_state : (n w i : ℕ) → with_change (state n w (first_statements ++ tasks i) (i + 4)) (i + 5) (Some (change.Statement (task_statement i))) ≡ state n w (first_statements ++ tasks (suc i)) (suc i + 4)
+next_state : (n w i : ℕ) → with_change (state n w (first_statements ++ tasks i) (i + 4)) (i + 5) (Some (change.Statement (task_statement i)))
+    ≡ state n w (first_statements ++ tasks (suc i)) (suc i + 4)
 unfolding with_change tasks
 next_state n w i = let e : i + 4 + 1 ≡ suc i + 4 = omega arith in ap (λ (c : ℕ). state n w (first_statements ++ (tasks i ++ task_statement i ∷ [])) c) e
 
-task_adds_by : (n w i : ℕ) (b : Bool) → i < 19000 → line_adds (state n w (first_statements ++ tasks i) (i + 4)) (i + 5) (line_text (cond b (start_words (task_name i) 1 (pos i ∷ pos 7 ∷ [])) (start_words (task_name i) 2 (pos (i % 64) ∷ [])))) ≡ Ok (with_change (state n w (first_statements ++ tasks i) (i + 4)) (i + 5) (Some (change.Statement (binding (i + 5) (task_name i) (cond b (start 1 (pos i ∷ pos 7 ∷ [])) (start 2 (pos (i % 64) ∷ [])))))))
+task_adds_by : (n w i : ℕ) (b : Bool) → i < 19000
+    → line_adds (state n w (first_statements ++ tasks i) (i + 4)) (i
+    + 5) (line_text (cond b (start_words (task_name i) 1 (pos i ∷ pos 7 ∷ [])) (start_words (task_name i) 2 (pos (i % 64) ∷ []))))
+    ≡ Ok (with_change (state n w (first_statements ++ tasks i) (i + 4)) (i
+    + 5) (Some (change.Statement (binding (i + 5) (task_name i) (cond b (start 1 (pos i ∷ pos 7 ∷ [])) (start 2 (pos (i % 64) ∷ [])))))))
 task_adds_by n w i true lt =
     let g = even_good i lt in
-    start_adds n w i (task_name i) 1 (pos i ∷ pos 7 ∷ []) lt (record { low = omega arith; high = omega arith; list = two_numbers i 7 (omega arith) (omega arith); named = is_task_name i lt }) (not_bound i lt) g.good (omega (arith, g.few))
+    start_adds n w i (task_name i) 1 (pos i ∷ pos 7
+    ∷ []) lt (record { low = omega arith; high = omega arith; list = two_numbers i 7 (omega arith) (omega arith); named = is_task_name i lt })
+    (not_bound i lt) g.good (omega (arith, g.few))
 task_adds_by n w i false lt =
     let g = odd_good i lt in
-    start_adds n w i (task_name i) 2 (pos (i % 64) ∷ []) lt (record { low = omega arith; high = omega arith; list = one_number (i % 64) (omega arith); named = is_task_name i lt }) (not_bound i lt) g.good (omega (arith, g.few))
+    start_adds n w i (task_name i) 2 (pos (i % 64)
+    ∷ []) lt (record { low = omega arith; high = omega arith; list = one_number (i % 64) (omega arith); named = is_task_name i lt }) (not_bound i lt) g.good
+    (omega (arith, g.few))
 
-pub task_adds : (n w i : ℕ) → i < 19000 → line_adds (state n w (first_statements ++ tasks i) (i + 4)) (i + 5) (line_text (task_words i)) ≡ Ok (state n w (first_statements ++ tasks (suc i)) (suc i + 4))
+pub task_adds : (n w i : ℕ) → i < 19000
+    → line_adds (state n w (first_statements ++ tasks i) (i + 4)) (i + 5) (line_text (task_words i))
+    ≡ Ok (state n w (first_statements ++ tasks (suc i)) (suc i + 4))
 task_adds n w i lt = task_adds_by n w i (eqb (i % 2) 0) lt ∙ ap Ok (next_state n w i)
 
 -- ---- the wait for all tasks
@@ -148,9 +172,25 @@ task_adds n w i lt = task_adds_by n w i (eqb (i % 2) 0) lt ∙ ap Ok (next_state
 abbrev waits : List (List ℕ)
 waits = codes "timeout=inf" ∷ []
 
-last_is : (r : Reading) → nat_le 20000 r.count ≡ false → place_of sort.Group (codes "g") r.current.statements ≡ Some 2 → IsRead r (codes "wait_all") (codes "g" ∷ waits) word.WaitAll (codes "g") waits
+last_is : (r : Reading) → nat_le 20000 r.count ≡ false → place_of sort.Group (codes "g") r.current.statements ≡ Some 2
+    → IsRead r (codes "wait_all") (codes "g" ∷ waits) word.WaitAll (codes "g") waits
 unfolding row key_text word_of is_ninth_caller is_misplaced has_twice is_taken is_name timeout_of text_of value_given
-last_is r few group = record { comment = refl; word = refl; name_is = refl; options_are = refl; few = few; callers = refl; placed = refl; named = refl; known = refl; once = refl; sound = refl; free = refl; bound = rw group refl }
+last_is r few group = record {
+  comment = refl;
+  word = refl;
+  name_is = refl;
+  options_are = refl;
+  few = few;
+  callers = refl;
+  placed = refl;
+  named = refl;
+  known =
+      refl;
+  once = refl;
+  sound = refl;
+  free = refl;
+  bound = rw group refl;
+}
 
 last_values : (before : List Statement) → values_in before waits (fields word.WaitAll) ≡ given.Timeout timeout.Infinite ∷ []
 unfolding row key_text text_of value_given timeout_of
@@ -164,18 +204,22 @@ last_made : (n : ℕ) → change_with (n + 5) word.WaitAll (codes "g") (Some 2) 
 unfolding row change_with deed_with timeout_in
 last_made n = refl
 
-last_change : (r : Reading) (n : ℕ) → place_of sort.Group (codes "g") r.current.statements ≡ Some 2 → change_of r (n + 5) word.WaitAll (codes "g") waits ≡ change.Statement (last_statement n)
+last_change : (r : Reading) (n : ℕ) → place_of sort.Group (codes "g") r.current.statements ≡ Some 2
+    → change_of r (n + 5) word.WaitAll (codes "g") waits ≡ change.Statement (last_statement n)
 last_change r n group =
-    ap (λ (o : Option ℕ). change_with (n + 5) word.WaitAll (codes "g") o (values_in r.current.statements waits (fields word.WaitAll))) (last_used r.current.statements group)
+    ap (λ (o : Option ℕ). change_with (n + 5) word.WaitAll (codes "g") o (values_in r.current.statements waits (fields word.WaitAll)))
+    (last_used r.current.statements group)
     ∙ (ap (λ (vs : List OptionValue). change_with (n + 5) word.WaitAll (codes "g") (Some 2) vs) (last_values r.current.statements) ∙ last_made n)
 
 last_few : total (codes "wait_all" ∷ codes "g" ∷ waits) ≤ 513
 unfolding total
 last_few = omega arith
 
-pub last_adds : (n w : ℕ) → n ≤ 19000 → line_adds (state n w (first_statements ++ tasks n) (n + 4)) (n + 5) last_line ≡ Ok (with_change (state n w (first_statements ++ tasks n) (n + 4)) (n + 5) (Some (change.Statement (last_statement n))))
+pub last_adds : (n w : ℕ) → n ≤ 19000 → line_adds (state n w (first_statements ++ tasks n) (n + 4)) (n + 5) last_line
+    ≡ Ok (with_change (state n w (first_statements ++ tasks n) (n + 4)) (n + 5) (Some (change.Statement (last_statement n))))
 last_adds n w le =
     let r = state n w (first_statements ++ tasks n) (n + 4) in
     let group = group_place (tasks n) in
-    words_add r (n + 5) (codes "wait_all") (codes "g" ∷ waits) word.WaitAll (codes "g") waits refl last_few (last_is r (lt-leb 20000 (n + 4) (omega arith)) group)
+    words_add r (n + 5) (codes "wait_all") (codes "g"
+    ∷ waits) word.WaitAll (codes "g") waits refl last_few (last_is r (lt-leb 20000 (n + 4) (omega arith)) group)
     ∙ ap (λ (x : LineEffect). Ok (with_change r (n + 5) (Some x))) (last_change r n group)

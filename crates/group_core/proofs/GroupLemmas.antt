@@ -26,11 +26,13 @@ module _ (pool : Slots (Unit {0})) (unended ended : HandleLists) (g : ℕ) where
       get-beside and_ended (pool_beside of_unended pool unended.lists) ended.lists g
       ∙ (rw (get-beside of_unended pool unended.lists g) (by_value (slot_value pool g)))
     where
-      by_value : (o : Option (Unit {0})) → option_map (λ v. and_ended v (list_at ended.lists (slot_of g))) (option_map (λ v. of_unended v (list_at unended.lists (slot_of g))) o) ≡ option_map (λ (u : Unit {0}). members_at unended ended g) o
+      by_value : (o : Option (Unit {0})) → option_map (λ v. and_ended v (list_at ended.lists (slot_of g)))
+          (option_map (λ v. of_unended v (list_at unended.lists (slot_of g))) o) ≡ option_map (λ (u : Unit {0}). members_at unended ended g) o
       by_value None = refl
       by_value (Some u) = refl
 
-  pub get-live : (old : GroupTable) → table_of pool unended ended ≡ old → slot_value pool g ≡ Some tt → slot_value old.pool g ≡ Some (members_at unended ended g)
+  pub get-live : (old : GroupTable) → table_of pool unended ended ≡ old → slot_value pool g ≡ Some tt
+      → slot_value old.pool g ≡ Some (members_at unended ended g)
   get-live old is live = let P : GroupTable → Type 0 = λ o. slot_value o.pool g ≡ Some (members_at unended ended g) in subst P is (get-members ∙ rw live refl)
 
   pub get-dead : (old : GroupTable) → table_of pool unended ended ≡ old → slot_value pool g ≡ None → slot_value old.pool g ≡ None
@@ -44,7 +46,8 @@ module _ (pool : Slots (Unit {0})) (unended ended : HandleLists) (g : ℕ) where
       by_value None found = absurd (false≢true (rw (get-dead old is found) at some))
 
   -- a member that hasn't ended is in the group's list
-  pub member_from : (old : GroupTable) (t : ℕ) → table_of pool unended ended ≡ old → IsUnendedMember t (slot_value old.pool g) → (slot_value pool g ≡ Some tt) × (has_handle t (list_at unended.lists (slot_of g)) ≡ true)
+  pub member_from : (old : GroupTable) (t : ℕ) → table_of pool unended ended ≡ old → IsUnendedMember t (slot_value old.pool g)
+      → (slot_value pool g ≡ Some tt) × (has_handle t (list_at unended.lists (slot_of g)) ≡ true)
   member_from old t is member = by_value (slot_value pool g) refl
     where
       by_value : (o : Option (Unit {0})) → slot_value pool g ≡ o → (slot_value pool g ≡ Some tt) × (has_handle t (list_at unended.lists (slot_of g)) ≡ true)
@@ -65,14 +68,17 @@ module _ (pool : Slots (Unit {0})) (unended ended : HandleLists) (g : ℕ) where
     get-first = get-beside of_unended pool unended.lists g ∙ rw live refl
 
     -- another list of members that haven't ended
-    pub unended-changed : (list : List ℕ) → members_in pool (with_list unended (slot_of g) list) ended ≡ with_value (members_in pool unended ended) g (record { unended = list; ended = list_at ended.lists (slot_of g) })
+    pub unended-changed : (list : List ℕ) → members_in pool (with_list unended (slot_of g) list) ended
+        ≡ with_value (members_in pool unended ended) g (record { unended = list; ended = list_at ended.lists (slot_of g) })
     unended-changed list =
         ap (λ (q : Slots Members). pool_beside and_ended q ended.lists) (list-beside of_unended pool unended.lists g tt list are.unended_beside live)
         ∙ with_value-beside and_ended (pool_beside of_unended pool unended.lists) ended.lists g (of_unended tt list)
 
     -- another list of members that have
-    pub ended-changed : (list : List ℕ) → members_in pool unended (with_list ended (slot_of g) list) ≡ with_value (members_in pool unended ended) g (record { unended = list_at unended.lists (slot_of g); ended = list })
-    ended-changed list = list-beside and_ended (pool_beside of_unended pool unended.lists) ended.lists g (of_unended tt (list_at unended.lists (slot_of g))) list are.ended_beside get-first
+    pub ended-changed : (list : List ℕ) → members_in pool unended (with_list ended (slot_of g) list)
+        ≡ with_value (members_in pool unended ended) g (record { unended = list_at unended.lists (slot_of g); ended = list })
+    ended-changed list = list-beside and_ended (pool_beside of_unended pool unended.lists) ended.lists g
+        (of_unended tt (list_at unended.lists (slot_of g))) list are.ended_beside get-first
 
     pub unended_beside-changed : (list : List ℕ) → AreBeside pool.slots (with_list unended (slot_of g) list).lists
     unended_beside-changed list = AreBeside-list pool unended.lists g tt list live are.unended_beside
@@ -80,21 +86,28 @@ module _ (pool : Slots (Unit {0})) (unended ended : HandleLists) (g : ℕ) where
     pub ended_beside-kept : (list : List ℕ) → AreBeside (beside of_unended pool.slots (with_list unended (slot_of g) list).lists) ended.lists
     ended_beside-kept list =
         let P : Slots Members → Type 0 = λ q. AreBeside q.slots ended.lists in
-        subst P (sym (list-beside of_unended pool unended.lists g tt list are.unended_beside live)) (AreBeside-value (pool_beside of_unended pool unended.lists) ended.lists g (of_unended tt list) are.ended_beside)
+        subst P (sym (list-beside of_unended pool unended.lists g tt list are.unended_beside live))
+        (AreBeside-value (pool_beside of_unended pool unended.lists) ended.lists g (of_unended tt list) are.ended_beside)
 
     pub ended_beside-changed : (list : List ℕ) → AreBeside (beside of_unended pool.slots unended.lists) (with_list ended (slot_of g) list).lists
-    ended_beside-changed list = AreBeside-list (pool_beside of_unended pool unended.lists) ended.lists g (of_unended tt (list_at unended.lists (slot_of g))) list get-first are.ended_beside
+    ended_beside-changed list = AreBeside-list (pool_beside of_unended pool unended.lists) ended.lists g
+        (of_unended tt (list_at unended.lists (slot_of g))) list get-first are.ended_beside
 
     -- the groups once the members of this one have changed
-    pub view_changed : (old : GroupTable) (after others : HandleLists) (f : Members → Members) → table_of pool unended ended ≡ old → members_in pool after others ≡ with_value (members_in pool unended ended) g (f (members_at unended ended g)) → after.places ≡ unended.places → table_of pool after others ≡ record old { pool = changed old.pool g f }
+    pub view_changed : (old : GroupTable) (after others : HandleLists) (f : Members → Members) → table_of pool unended ended ≡ old
+        → members_in pool after others ≡ with_value (members_in pool unended ended) g (f (members_at unended ended g)) → after.places ≡ unended.places
+        → table_of pool after others ≡ record old { pool = changed old.pool g f }
     view_changed old after others f is moved places =
         let found : slot_value (members_in pool unended ended) g ≡ Some (members_at unended ended g) = get-members ∙ rw live refl in
-        let is_changed : changed (members_in pool unended ended) g f ≡ with_value (members_in pool unended ended) g (f (members_at unended ended g)) = rw found refl in
+        let is_changed : changed (members_in pool unended ended) g f ≡ with_value (members_in pool unended ended) g (f (members_at unended ended g)) =
+        rw found refl in
         let P : GroupTable → Type 0 = λ o. table_of pool after others ≡ record o { pool = changed o.pool g f } in
         subst P is (rw (moved, places, is_changed) refl)
 
     -- what a part of a list that has become the whole holds, stood there before
-    stands-part : (lists : List (List ℕ)) (list : List ℕ) (i slot : ℕ) → slot_of g < length lists → ((q : ℕ) → stands_at q list ≡ true → stands_at q (list_at lists (slot_of g)) ≡ true) → stands_at slot (list_at (set lists (slot_of g) list) i) ≡ true → stands_at slot (list_at lists i) ≡ true
+    stands-part : (lists : List (List ℕ)) (list : List ℕ) (i slot : ℕ) → slot_of g < length lists
+        → ((q : ℕ) → stands_at q list ≡ true → stands_at q (list_at lists (slot_of g)) ≡ true) → stands_at slot (list_at (set lists (slot_of g) list) i) ≡ true
+        → stands_at slot (list_at lists i) ≡ true
     stands-part lists list i slot within part stands =
         elim (cases_eq i (slot_of g)) [
           | inl same ↦
@@ -103,7 +116,8 @@ module _ (pool : Slots (Unit {0})) (unended ended : HandleLists) (g : ℕ) where
           | inr differs ↦ rw (list_at-set_other lists (slot_of g) i list differs) at stands
         ]
 
-    pub AreGroups-fewer : (list : List ℕ) → ((q : ℕ) → stands_at q list ≡ true → stands_at q (list_at unended.lists (slot_of g)) ≡ true) → AreGroups pool (with_list unended (slot_of g) list) ended
+    pub AreGroups-fewer : (list : List ℕ) → ((q : ℕ) → stands_at q list ≡ true → stands_at q (list_at unended.lists (slot_of g)) ≡ true)
+        → AreGroups pool (with_list unended (slot_of g) list) ended
     AreGroups-fewer list part = record {
       unended_beside = unended_beside-changed list;
       ended_beside = ended_beside-kept list;
@@ -112,7 +126,8 @@ module _ (pool : Slots (Unit {0})) (unended ended : HandleLists) (g : ℕ) where
       few = are.few;
     }
 
-    pub AreGroups-taken : (list : List ℕ) → ((q : ℕ) → stands_at q list ≡ true → stands_at q (list_at ended.lists (slot_of g)) ≡ true) → AreGroups pool unended (with_list ended (slot_of g) list)
+    pub AreGroups-taken : (list : List ℕ) → ((q : ℕ) → stands_at q list ≡ true → stands_at q (list_at ended.lists (slot_of g)) ≡ true)
+        → AreGroups pool unended (with_list ended (slot_of g) list)
     AreGroups-taken list part = record {
       unended_beside = are.unended_beside;
       ended_beside = ended_beside-changed list;
@@ -128,7 +143,8 @@ module _ (pool : Slots (Unit {0})) (unended ended : HandleLists) (g : ℕ) where
               | inr none ↦ none
             ]
 
-    pub AreGroups-enter : (t : ℕ) → NowhereAt (slot_of t) ended.lists → AreGroups pool (with_list unended (slot_of g) (list_at unended.lists (slot_of g) ++ t ∷ [])) ended
+    pub AreGroups-enter : (t : ℕ) → NowhereAt (slot_of t) ended.lists
+        → AreGroups pool (with_list unended (slot_of g) (list_at unended.lists (slot_of g) ++ t ∷ [])) ended
     AreGroups-enter t nowhere = record {
       unended_beside = unended_beside-changed (list_at unended.lists (slot_of g) ++ t ∷ []);
       ended_beside = ended_beside-kept (list_at unended.lists (slot_of g) ++ t ∷ []);
@@ -137,20 +153,24 @@ module _ (pool : Slots (Unit {0})) (unended ended : HandleLists) (g : ℕ) where
       few = are.few;
     }
       where
-        apart : (i j slot : ℕ) → stands_at slot (list_at (set unended.lists (slot_of g) (list_at unended.lists (slot_of g) ++ t ∷ [])) i) ≡ true → stands_at slot (list_at ended.lists j) ≡ false
+        apart : (i j slot : ℕ) → stands_at slot (list_at (set unended.lists (slot_of g) (list_at unended.lists (slot_of g) ++ t ∷ [])) i) ≡ true
+            → stands_at slot (list_at ended.lists j) ≡ false
         apart i j slot stands =
             elim (cases_eq i (slot_of g)) [
               | inl same ↦
-                  let here : stands_at slot (list_at unended.lists (slot_of g) ++ t ∷ []) ≡ true = rw (same, list_at-set_same unended.lists (slot_of g) (list_at unended.lists (slot_of g) ++ t ∷ []) within_unended) at stands in
+                  let here : stands_at slot (list_at unended.lists (slot_of g) ++ t ∷ []) ≡ true =
+                  rw (same, list_at-set_same unended.lists (slot_of g) (list_at unended.lists (slot_of g) ++ t ∷ []) within_unended) at stands in
                   elim (stands-either slot (list_at unended.lists (slot_of g)) (t ∷ []) here) [
                     | inl old ↦ are.apart (slot_of g) j slot old
                     | inr new ↦ let P : ℕ → Type 0 = λ q. stands_at q (list_at ended.lists j) ≡ false in subst P (sym (alone slot t new)) (nowhere j)
                   ]
-              | inr differs ↦ are.apart i j slot (rw (list_at-set_other unended.lists (slot_of g) i (list_at unended.lists (slot_of g) ++ t ∷ []) differs) at stands)
+              | inr differs ↦ are.apart i j slot (rw (list_at-set_other unended.lists (slot_of g) i (list_at unended.lists (slot_of g) ++ t
+                  ∷ []) differs) at stands)
             ]
 
     -- a task that stands in no list of members that haven't ended comes to those that have
-    pub AreGroups-ended : (t : ℕ) → NowhereAt (slot_of t) unended.lists → AreGroups pool unended (with_list ended (slot_of g) (list_at ended.lists (slot_of g) ++ t ∷ []))
+    pub AreGroups-ended : (t : ℕ) → NowhereAt (slot_of t) unended.lists
+        → AreGroups pool unended (with_list ended (slot_of g) (list_at ended.lists (slot_of g) ++ t ∷ []))
     AreGroups-ended t nowhere = record {
       unended_beside = are.unended_beside;
       ended_beside = ended_beside-changed (list_at ended.lists (slot_of g) ++ t ∷ []);
@@ -159,15 +179,18 @@ module _ (pool : Slots (Unit {0})) (unended ended : HandleLists) (g : ℕ) where
       few = are.few;
     }
       where
-        apart : (i j slot : ℕ) → stands_at slot (list_at unended.lists i) ≡ true → stands_at slot (list_at (set ended.lists (slot_of g) (list_at ended.lists (slot_of g) ++ t ∷ [])) j) ≡ false
+        apart : (i j slot : ℕ) → stands_at slot (list_at unended.lists i) ≡ true
+            → stands_at slot (list_at (set ended.lists (slot_of g) (list_at ended.lists (slot_of g) ++ t ∷ [])) j) ≡ false
         apart i j slot stands =
             elim (stands_cases slot (list_at (set ended.lists (slot_of g) (list_at ended.lists (slot_of g) ++ t ∷ [])) j)) [
               | inr none ↦ none
               | inl there ↦
                   elim (cases_eq j (slot_of g)) [
-                    | inr differs ↦ absurd (false≢true (sym (are.apart i j slot stands) ∙ (rw (list_at-set_other ended.lists (slot_of g) j (list_at ended.lists (slot_of g) ++ t ∷ []) differs) at there)))
+                    | inr differs ↦ absurd (false≢true (sym (are.apart i j slot stands)
+                        ∙ (rw (list_at-set_other ended.lists (slot_of g) j (list_at ended.lists (slot_of g) ++ t ∷ []) differs) at there)))
                     | inl same ↦
-                        let here : stands_at slot (list_at ended.lists (slot_of g) ++ t ∷ []) ≡ true = rw (same, list_at-set_same ended.lists (slot_of g) (list_at ended.lists (slot_of g) ++ t ∷ []) within_ended) at there in
+                        let here : stands_at slot (list_at ended.lists (slot_of g) ++ t ∷ []) ≡ true =
+                        rw (same, list_at-set_same ended.lists (slot_of g) (list_at ended.lists (slot_of g) ++ t ∷ []) within_ended) at there in
                         elim (stands-either slot (list_at ended.lists (slot_of g)) (t ∷ []) here) [
                           | inl old ↦ absurd (false≢true (sym (are.apart i (slot_of g) slot stands) ∙ old))
                           | inr new ↦
@@ -184,8 +207,10 @@ module _ (pool : Slots (Unit {0})) (unended ended : HandleLists) (g : ℕ) where
       ended_beside =
           let P : Slots Members → Type 0 = λ q. AreBeside q.slots (set ended.lists (slot_of g) []) in
           subst P (sym (without-beside of_unended pool unended.lists g tt are.unended_beside live))
-          (AreBeside-remove (pool_beside of_unended pool unended.lists) ended.lists g (of_unended tt (list_at unended.lists (slot_of g))) get-first are.ended_beside);
-      apart = λ i j slot stands. (AreGroups-taken [] (none_part (list_at ended.lists (slot_of g)))).apart i j slot (stands-part unended.lists [] i slot within_unended (none_part (list_at unended.lists (slot_of g))) stands);
+          (AreBeside-remove (pool_beside of_unended pool unended.lists) ended.lists g
+          (of_unended tt (list_at unended.lists (slot_of g))) get-first are.ended_beside);
+      apart = λ i j slot stands. (AreGroups-taken [] (none_part (list_at ended.lists (slot_of g)))).apart i j slot
+          (stands-part unended.lists [] i slot within_unended (none_part (list_at unended.lists (slot_of g))) stands);
       places = are.places;
       few = are.few;
     }
@@ -193,14 +218,18 @@ module _ (pool : Slots (Unit {0})) (unended ended : HandleLists) (g : ℕ) where
         none_part : (list : List ℕ) (q : ℕ) → stands_at q [] ≡ true → stands_at q list ≡ true
         none_part list q stands = absurd (false≢true stands)
 
-    pub members-delete : members_in (without pool g) (with_list unended (slot_of g) []) (with_list ended (slot_of g) []) ≡ without (members_in pool unended ended) g
+    pub members-delete : members_in (without pool g) (with_list unended (slot_of g) []) (with_list ended (slot_of g) [])
+        ≡ without (members_in pool unended ended) g
     members-delete =
-        ap (λ (q : Slots Members). pool_beside and_ended q (set ended.lists (slot_of g) [])) (without-beside of_unended pool unended.lists g tt are.unended_beside live)
-        ∙ without-beside and_ended (pool_beside of_unended pool unended.lists) ended.lists g (of_unended tt (list_at unended.lists (slot_of g))) are.ended_beside get-first
+        ap (λ (q : Slots Members). pool_beside and_ended q (set ended.lists (slot_of g) []))
+        (without-beside of_unended pool unended.lists g tt are.unended_beside live)
+        ∙ without-beside and_ended (pool_beside of_unended pool unended.lists) ended.lists g
+        (of_unended tt (list_at unended.lists (slot_of g))) are.ended_beside get-first
 
 module _ (pool : Slots (Unit {0})) (unended ended : HandleLists) where
   pub live_count-members : live_count (members_in pool unended ended) ≡ live_count pool
-  live_count-members = live_count-beside and_ended (pool_beside of_unended pool unended.lists).slots ended.lists ∙ live_count-beside of_unended pool.slots unended.lists
+  live_count-members = live_count-beside and_ended (pool_beside of_unended pool unended.lists).slots ended.lists
+      ∙ live_count-beside of_unended pool.slots unended.lists
 
   pub IsFull-members : IsFull (members_in pool unended ended) ↔ IsFull pool
   IsFull-members =
@@ -211,34 +240,44 @@ module _ (pool : Slots (Unit {0})) (unended ended : HandleLists) where
   pub AreGroups-create : (new : Slots (Unit {0})) (g : ℕ) → Inserts pool new g tt → AreGroups pool unended ended → AreGroups new unended ended
   AreGroups-create new g inserts are = record {
     unended_beside = AreBeside-insert pool new unended.lists g tt inserts are.unended_beside;
-    ended_beside = AreBeside-insert (pool_beside of_unended pool unended.lists) (pool_beside of_unended new unended.lists) ended.lists g (of_unended tt []) (Inserts-beside of_unended pool new unended.lists g tt are.unended_beside inserts) are.ended_beside;
+    ended_beside = AreBeside-insert (pool_beside of_unended pool unended.lists) (pool_beside of_unended new unended.lists) ended.lists g (of_unended tt [])
+        (Inserts-beside of_unended pool new unended.lists g tt are.unended_beside inserts) are.ended_beside;
     apart = are.apart;
     places = are.places;
     few = are.few;
   }
 
-  pub Inserts-members : (new : Slots (Unit {0})) (g : ℕ) → Inserts pool new g tt → AreGroups pool unended ended → Inserts (members_in pool unended ended) (members_in new unended ended) g no_members
+  pub Inserts-members : (new : Slots (Unit {0})) (g : ℕ) → Inserts pool new g tt → AreGroups pool unended ended
+      → Inserts (members_in pool unended ended) (members_in new unended ended) g no_members
   Inserts-members new g inserts are =
-      Inserts-beside and_ended (pool_beside of_unended pool unended.lists) (pool_beside of_unended new unended.lists) ended.lists g (of_unended tt []) are.ended_beside (Inserts-beside of_unended pool new unended.lists g tt are.unended_beside inserts)
+      Inserts-beside and_ended (pool_beside of_unended pool unended.lists) (pool_beside of_unended new unended.lists) ended.lists g
+      (of_unended tt []) are.ended_beside (Inserts-beside of_unended pool new unended.lists g tt are.unended_beside inserts)
 
   -- a slot that no member has stands in no list
-  pub nowhere_unended : (old : GroupTable) (q : ℕ) → table_of pool unended ended ≡ old → AreGroups pool unended ended → NoMemberAt q old.pool → NowhereAt q unended.lists
+  pub nowhere_unended : (old : GroupTable) (q : ℕ) → table_of pool unended ended ≡ old → AreGroups pool unended ended → NoMemberAt q old.pool
+      → NowhereAt q unended.lists
   nowhere_unended old q is are none =
       NowhereAt-beside pool unended.lists q are.unended_beside (λ h v live. (none h (members_at unended ended h) (get-live pool unended ended h old is live)).0)
 
-  pub nowhere_ended : (old : GroupTable) (q : ℕ) → table_of pool unended ended ≡ old → AreGroups pool unended ended → NoMemberAt q old.pool → NowhereAt q ended.lists
+  pub nowhere_ended : (old : GroupTable) (q : ℕ) → table_of pool unended ended ≡ old → AreGroups pool unended ended → NoMemberAt q old.pool
+      → NowhereAt q ended.lists
   nowhere_ended old q is are none =
-      NowhereAt-beside (pool_beside of_unended pool unended.lists) ended.lists q are.ended_beside (λ h v found. by_live h v (slot_value pool h) refl (sym (get-beside of_unended pool unended.lists h) ∙ found))
+      NowhereAt-beside (pool_beside of_unended pool unended.lists) ended.lists q are.ended_beside
+      (λ h v found. by_live h v (slot_value pool h) refl (sym (get-beside of_unended pool unended.lists h) ∙ found))
     where
-      by_live : (h : ℕ) (v : Members) (o : Option (Unit {0})) → slot_value pool h ≡ o → option_map (λ u. of_unended u (list_at unended.lists (slot_of h))) (slot_value pool h) ≡ Some v → stands_at q (list_at ended.lists (slot_of h)) ≡ false
-      by_live h v None dead found = let none : option_map (λ u. of_unended u (list_at unended.lists (slot_of h))) (slot_value pool h) ≡ None = rw dead refl in absurd (cc (none, found))
+      by_live : (h : ℕ) (v : Members) (o : Option (Unit {0})) → slot_value pool h ≡ o
+          → option_map (λ u. of_unended u (list_at unended.lists (slot_of h))) (slot_value pool h) ≡ Some v
+          → stands_at q (list_at ended.lists (slot_of h)) ≡ false
+      by_live h v None dead found = let none : option_map (λ u. of_unended u (list_at unended.lists (slot_of h))) (slot_value pool h) ≡ None = rw dead refl in
+          absurd (cc (none, found))
       by_live h v (Some u) live found = (none h (members_at unended ended h) (get-live pool unended ended h old is live)).1
 
 -- what was written twice is as it was written last
 pub with_value-twice : (p : Slots Members) (g : ℕ) (a b : Members) → with_value (with_value p g a) g b ≡ with_value p g b
 with_value-twice p g a b = ap (λ (slots : List (Slot Members)). record { generations = p.generations; slots = slots }) (twice p.slots (slot_of g))
   where
-    twice : (xs : List (Slot Members)) (i : ℕ) → set (set xs i (used_slot (generation_of g) a)) i (used_slot (generation_of g) b) ≡ set xs i (used_slot (generation_of g) b)
+    twice : (xs : List (Slot Members)) (i : ℕ)
+        → set (set xs i (used_slot (generation_of g) a)) i (used_slot (generation_of g) b) ≡ set xs i (used_slot (generation_of g) b)
     twice [] i = refl
     twice (x ∷ xs) zero = refl
     twice (x ∷ xs) (suc i) = ap (λ (ys : List (Slot Members)). x ∷ ys) (twice xs i)
@@ -251,19 +290,29 @@ without-first h (x ∷ hs) first =
     elim (eqb_tells x h) [ inl same ↦ rw same.0 refl | inr apart ↦ absurd (apart.1 is) ]
 
 -- a member comes from the one list to the other
-pub moved : (pool : Slots (Unit {0})) (unended ended : HandleLists) (g t : ℕ) → AreGroups pool unended ended → slot_value pool g ≡ Some tt → AreGroups pool (with_list unended (slot_of g) (without_handle t (list_at unended.lists (slot_of g)))) ended → members_in pool (with_list unended (slot_of g) (without_handle t (list_at unended.lists (slot_of g)))) (with_list ended (slot_of g) (list_at ended.lists (slot_of g) ++ t ∷ [])) ≡ with_value (members_in pool unended ended) g (with_ended t (members_at unended ended g))
+pub moved : (pool : Slots (Unit {0})) (unended ended : HandleLists) (g t : ℕ) → AreGroups pool unended ended → slot_value pool g ≡ Some tt
+    → AreGroups pool (with_list unended (slot_of g) (without_handle t (list_at unended.lists (slot_of g)))) ended
+    → members_in pool (with_list unended (slot_of g) (without_handle t (list_at unended.lists (slot_of g))))
+    (with_list ended (slot_of g) (list_at ended.lists (slot_of g) ++ t ∷ []))
+    ≡ with_value (members_in pool unended ended) g (with_ended t (members_at unended ended g))
 moved pool unended ended g t are live fewer =
     let list = without_handle t (list_at unended.lists (slot_of g)) in
-    let list_is : list_at (with_list unended (slot_of g) list).lists (slot_of g) ≡ list = list_at-set_same unended.lists (slot_of g) list (within_unended pool unended ended g are live) in
+    let list_is : list_at (with_list unended (slot_of g) list).lists (slot_of g) ≡ list =
+    list_at-set_same unended.lists (slot_of g) list (within_unended pool unended ended g are live) in
     let one = unended-changed pool unended ended g are live list in
     let two = ended-changed pool (with_list unended (slot_of g) list) ended g fewer live (list_at ended.lists (slot_of g) ++ t ∷ []) in
     let before : Members = record { unended = list; ended = list_at ended.lists (slot_of g) } in
-    let P : List ℕ → Type 0 = λ l. members_in pool (with_list unended (slot_of g) list) (with_list ended (slot_of g) (list_at ended.lists (slot_of g) ++ t ∷ [])) ≡ with_value (members_in pool (with_list unended (slot_of g) list) ended) g (record { unended = l; ended = list_at ended.lists (slot_of g) ++ t ∷ [] }) in
+    let P : List ℕ → Type 0 = λ l. members_in pool (with_list unended (slot_of g) list)
+    (with_list ended (slot_of g) (list_at ended.lists (slot_of g) ++ t ∷ []))
+    ≡ with_value (members_in pool (with_list unended (slot_of g) list) ended) g
+    (record { unended = l; ended = list_at ended.lists (slot_of g) ++ t ∷ [] }) in
     subst P list_is two
     ∙ (ap (λ (p : Slots Members). with_value p g (with_ended t (members_at unended ended g))) one
     ∙ with_value-twice (members_in pool unended ended) g before (with_ended t (members_at unended ended g)))
 
-pub AreGroups-new : (pool : Slots (Unit {0})) (unended ended : HandleLists) (count tasks : ℕ) → count ≤ 65536 → tasks ≤ 65536 → pool.slots ≡ replicate count (free_slot 1) → unended.lists ≡ replicate count [] → ended.lists ≡ replicate count [] → unended.places ≡ tasks → ended.places ≡ tasks → AreGroups pool unended ended
+pub AreGroups-new : (pool : Slots (Unit {0})) (unended ended : HandleLists) (count tasks : ℕ) → count ≤ 65536 → tasks ≤ 65536
+    → pool.slots ≡ replicate count (free_slot 1) → unended.lists ≡ replicate count [] → ended.lists ≡ replicate count [] → unended.places ≡ tasks
+    → ended.places ≡ tasks → AreGroups pool unended ended
 AreGroups-new pool unended ended count tasks few few_tasks slots unendeds endeds places others = record {
   unended_beside = AreBeside-new pool.slots unended.lists count few slots unendeds;
   ended_beside = AreBeside-new (beside of_unended pool.slots unended.lists) ended.lists count few (rw (slots, unendeds) (beside-fresh of_unended count)) endeds;
@@ -272,23 +321,27 @@ AreGroups-new pool unended ended count tasks few few_tasks slots unendeds endeds
   few = rw places few_tasks;
 }
 
-pub members-new : (pool : Slots (Unit {0})) (unended ended : HandleLists) (count : ℕ) → pool.slots ≡ replicate count (free_slot 1) → unended.lists ≡ replicate count [] → ended.lists ≡ replicate count [] → (members_in pool unended ended).slots ≡ replicate count (free_slot 1)
+pub members-new : (pool : Slots (Unit {0})) (unended ended : HandleLists) (count : ℕ) → pool.slots ≡ replicate count (free_slot 1)
+    → unended.lists ≡ replicate count [] → ended.lists ≡ replicate count [] → (members_in pool unended ended).slots ≡ replicate count (free_slot 1)
 members-new pool unended ended count slots unendeds endeds = rw (slots, unendeds, endeds, beside-fresh of_unended count) (beside-fresh and_ended count)
 
 -- the slot of a live value beside a list is in use
-used-beside : {A C : Type 0} (f : A → List ℕ → C) (p : Slots A) (lists : List (List ℕ)) (h : ℕ) (c : C) → AreBeside p.slots lists → slot_value (pool_beside f p lists) h ≡ Some c → slice_get (beside f p.slots lists) (slot_of h) ≡ Some (used_slot (generation_of h) c)
+used-beside : {A C : Type 0} (f : A → List ℕ → C) (p : Slots A) (lists : List (List ℕ)) (h : ℕ) (c : C) → AreBeside p.slots lists
+    → slot_value (pool_beside f p lists) h ≡ Some c → slice_get (beside f p.slots lists) (slot_of h) ≡ Some (used_slot (generation_of h) c)
 used-beside {A} {C} f p lists h c are live =
     let x = used_at_live (slice_get (beside f p.slots lists) (slot_of h)) (generation_of h) c live in
     let kept : x.0.retired ≡ false = by_slot x.0 x.3 (slice_get p.slots (slot_of h)) refl (sym (slice_get-beside f p.slots lists (slot_of h)) ∙ x.1) in
     x.1 ∙ (λ i. Some (record { generation = x.2 i; value = x.3 i; retired = kept i }))
   where
-    by_retired : (t : Slot C) (s : Slot A) (b : Bool) → t.value ≡ Some c → (s.retired ≡ true → s.value ≡ None) → slot_beside f s (list_at lists (slot_of h)) ≡ t → s.retired ≡ b → t.retired ≡ false
+    by_retired : (t : Slot C) (s : Slot A) (b : Bool) → t.value ≡ Some c → (s.retired ≡ true → s.value ≡ None) → slot_beside f s (list_at lists (slot_of h)) ≡ t
+        → s.retired ≡ b → t.retired ≡ false
     by_retired t s false v empty is e = ap (λ (u : Slot C). u.retired) (sym is) ∙ e
     by_retired t s true v empty is e =
         let none : t.value ≡ None = ap (λ (u : Slot C). u.value) (sym is) ∙ ap (option_map (λ a. f a (list_at lists (slot_of h)))) (empty e) in
         absurd (cc (none, v))
 
-    by_slot : (t : Slot C) → t.value ≡ Some c → (o : Option (Slot A)) → slice_get p.slots (slot_of h) ≡ o → option_map (λ s. slot_beside f s (list_at lists (slot_of h))) o ≡ Some t → t.retired ≡ false
+    by_slot : (t : Slot C) → t.value ≡ Some c → (o : Option (Slot A)) → slice_get p.slots (slot_of h) ≡ o
+        → option_map (λ s. slot_beside f s (list_at lists (slot_of h))) o ≡ Some t → t.retired ≡ false
     by_slot t v None g e = absurd (cc)
     by_slot t v (Some s) g e = by_retired t s s.retired v (are.retired (slot_of h) s g) (some_is e) refl
       where

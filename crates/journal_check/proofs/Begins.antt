@@ -45,9 +45,12 @@ none_yet kind.Sem terms = omega arith
 none_yet kind.Rwl terms = omega arith
 none_yet kind.Shmem terms = omega arith
 
-pub begun : (w : Laws) (terms : Terms) (n : PoolNode) (names : OtherHandles) (made : Made) → Stands n [] → terms_of n ≡ terms_in (room_of terms) terms → renaming_of names ≡ nothing →
-    ((k : ObjectKind) (slot : ℕ) → count_in (of_kind made k) slot ≡ 0) → ((k : ObjectKind) → last_handles (of_kind made k) ≡ []) → ((k : ObjectKind) → made_count (of_kind made k) ≡ 0) →
-    ((k : ObjectKind) → gone_count (of_kind made k) ≡ 0) → ((k : ObjectKind) → freed_count (of_kind made k) ≡ 0) → HasFollowed (record { terms = terms; node = n; names = names; made = made }) []
+pub begun : (w : Laws) (terms : Terms) (n : PoolNode) (names : OtherHandles) (made : Made) → Stands n [] → terms_of n ≡ terms_in (room_of terms) terms
+    → renaming_of names ≡ nothing →
+    ((k : ObjectKind) (slot : ℕ) → count_in (of_kind made k) slot ≡ 0) → ((k : ObjectKind) → last_handles (of_kind made k) ≡ [])
+    → ((k : ObjectKind) → made_count (of_kind made k) ≡ 0) →
+    ((k : ObjectKind) → gone_count (of_kind made k) ≡ 0) → ((k : ObjectKind) → freed_count (of_kind made k) ≡ 0)
+    → HasFollowed (record { terms = terms; node = n; names = names; made = made }) []
 unfolding after_from
 begun w terms n names made stands own none counts lasts none_counted none_gone none_freed = record {
   node = record {
@@ -63,7 +66,8 @@ begun w terms n names made stands own none counts lasts none_counted none_gone n
     lasts = λ k. lasts k ∙ sym (none_last k terms);
     made = λ k. none_counted k ∙ sym (none_in k terms);
     gone = λ k. let e : gone_count (of_kind made k) ≡ 0 = none_gone k in omega (arith, e);
-    freed = λ k. let e : freed_count (of_kind made k) ≡ 0 = none_freed k in let t : taken_in k (opening terms) ≤ made_in k (opening terms) = (w.gone terms [] k).made in omega (arith, e, t);
+    freed = λ k. let e : freed_count (of_kind made k) ≡ 0 = none_freed k in let t : taken_in k (opening terms) ≤ made_in k (opening terms) =
+        (w.gone terms [] k).made in omega (arith, e, t);
   };
   few = λ k. none_yet k terms;
 }
@@ -86,6 +90,10 @@ module _ (w : Laws) (f : Following) (e : NodeEntry) where
   pub judged_seatless : seat_count (terms_of f.node) ≤ e.who → JudgesNext f e false f
   judged_seatless none = record {
     terms = refl;
-    exact = λ L h short. (λ p. absurd (cc), λ i. let a : e.who < seats (after f.terms L) = i.seat in let b = same_seats L h in absurd (omega (arith, a, b, none)));
+    exact = λ L h short. (
+      λ p. absurd (cc),
+      λ i. let a : e.who < seats (after f.terms L) = i.seat in let b = same_seats L h in
+          absurd (omega (arith, a, b, none)),
+    );
     goes_on = λ L h short p. absurd (cc);
   }

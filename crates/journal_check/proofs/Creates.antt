@@ -32,13 +32,16 @@ module _ (w : Laws) (f : Following) (e : NodeEntry) (k : ObjectKind) (makes : ma
       ap (λ (t : State). refusal_of t e.who (renamed_op (renaming_of f.names) e.op)) h.node.renames
       ∙ w.refused (renaming_of f.names) (room_of f.terms) (after f.terms L) e.who e.op k h.follows makes
 
-  pub refusal_here : (o : Option Reply) → ((K : List NodeEntry) → Stands f.node K → refusal_of (after (terms_of f.node) K) e.who (renamed_op (renaming_of f.names) e.op) ≡ o) →
+  pub refusal_here : (o : Option Reply) → ((K : List NodeEntry) → Stands f.node K
+      → refusal_of (after (terms_of f.node) K) e.who (renamed_op (renaming_of f.names) e.op) ≡ o) →
       (L : List NodeEntry) → HasFollowed f L → refusal_of (after f.terms L) e.who e.op ≡ o
   refusal_here o told L h = sym (refused_alike L h) ∙ told h.node.own h.node.stands
 
   -- what the op may answer
-  pub told_here : (L : List NodeEntry) (o : Option Reply) → refusal_of (after f.terms L) e.who e.op ≡ o → Allows (row_of (after f.terms L) e) e.reply ↔ CanAnswer o k (after f.terms L) e.reply
-  told_here L o i = subst (λ (p : Option Reply). Allows (row_of (after f.terms L) e) e.reply ↔ CanAnswer p k (after f.terms L) e.reply) i (w.told (after f.terms L) e.who e.op k e.reply makes)
+  pub told_here : (L : List NodeEntry) (o : Option Reply) → refusal_of (after f.terms L) e.who e.op ≡ o
+      → Allows (row_of (after f.terms L) e) e.reply ↔ CanAnswer o k (after f.terms L) e.reply
+  told_here L o i = subst (λ (p : Option Reply). Allows (row_of (after f.terms L) e) e.reply
+      ↔ CanAnswer p k (after f.terms L) e.reply) i (w.told (after f.terms L) e.who e.op k e.reply makes)
 
   -- a follower that is as far judges the same
   pub judges_same : (g : Following) (b : Bool) → Same f g → Judges f e b f → Judges f e b g
@@ -70,7 +73,8 @@ module _ (w : Laws) (f : Following) (e : NodeEntry) (k : ObjectKind) (makes : ma
         terms = h.terms;
         follows = subst (λ (s : State). Follows (renaming_of f.names) s) (sym a) h.follows;
         made = subst (λ (s : State). Tells f.made s) (sym a) h.made;
-        few = λ k. let b : made_in k (after f.terms L) ≤ length L = h.few k in let c : made_in k (after f.terms (L ++ e ∷ [])) ≡ made_in k (after f.terms L) = ap (made_in k) a in omega (arith, l, b, c);
+        few = λ k. let b : made_in k (after f.terms L) ≤ length L = h.few k in let c : made_in k (after f.terms (L ++ e ∷ [])) ≡ made_in k (after f.terms L) =
+            ap (made_in k) a in omega (arith, l, b, c);
       }
 
   -- the one reply that is allowed is no handle, and so it changes nothing
@@ -86,18 +90,23 @@ module _ (w : Laws) (f : Following) (e : NodeEntry) (k : ObjectKind) (makes : ma
 
   -- refused
   pub judged_refused : (same : Bool) (wanted : Reply) → Decides same (e.reply ≡ wanted) →
-      ((K : List NodeEntry) → Stands f.node K → refusal_of (after (terms_of f.node) K) e.who (renamed_op (renaming_of f.names) e.op) ≡ Some wanted) → Judges f e same f
+      ((K : List NodeEntry) → Stands f.node K → refusal_of (after (terms_of f.node) K) e.who (renamed_op (renaming_of f.names) e.op) ≡ Some wanted)
+      → Judges f e same f
   judged_refused same wanted d told =
-      judged same wanted d (λ L h. w.plain (after f.terms L) e.who e.op k wanted makes (refusal_here (Some wanted) told L h)) (λ L h. told_here L (Some wanted) (refusal_here (Some wanted) told L h))
+      judged same wanted d (λ L h. w.plain (after f.terms L) e.who e.op k wanted makes (refusal_here (Some wanted) told L h))
+      (λ L h. told_here L (Some wanted) (refusal_here (Some wanted) told L h))
 
   module _ (accepted : (L : List NodeEntry) → HasFollowed f L → refusal_of (after f.terms L) e.who e.op ≡ None) where
     -- neither refused nor full
     abbrev Given : State → Type 0
     Given s = (is_fresh_of k s (handle_of e.reply) ≡ true) × (e.reply ≡ Handle (handle_of e.reply))
 
-    pub by_room : (L : List NodeEntry) → HasFollowed f L → (b : Bool) → is_full_of k (after f.terms L) ≡ b → Allows (row_of (after f.terms L) e) e.reply ↔ MatchBool b (e.reply ≡ limit_of k) (Given (after f.terms L))
-    by_room L h b i = subst (λ (c : Bool). Allows (row_of (after f.terms L) e) e.reply ↔ MatchBool c (e.reply ≡ limit_of k) (Given (after f.terms L))) i (told_here L None (accepted L h))
+    pub by_room : (L : List NodeEntry) → HasFollowed f L → (b : Bool) → is_full_of k (after f.terms L) ≡ b
+        → Allows (row_of (after f.terms L) e) e.reply ↔ MatchBool b (e.reply ≡ limit_of k) (Given (after f.terms L))
+    by_room L h b i = subst (λ (c : Bool). Allows (row_of (after f.terms L) e) e.reply
+        ↔ MatchBool c (e.reply ≡ limit_of k) (Given (after f.terms L))) i (told_here L None (accepted L h))
 
     -- full
-    pub judged_full : (same : Bool) → Decides same (e.reply ≡ limit_of k) → ((L : List NodeEntry) → HasFollowed f L → is_full_of k (after f.terms L) ≡ true) → Judges f e same f
+    pub judged_full : (same : Bool) → Decides same (e.reply ≡ limit_of k) → ((L : List NodeEntry) → HasFollowed f L → is_full_of k (after f.terms L) ≡ true)
+        → Judges f e same f
     judged_full same d full = judged same (limit_of k) d (λ L h. plain_limit k) (λ L h. by_room L h true (full L h))

@@ -5,7 +5,9 @@ use Rattle.handle_pool.specs.Inside.{inside}
 
 -- a kind is told by its number
 abbrev object_of : ℕ → ObjectKind
-object_of m = cond (m == 1) kind.Action (cond (m == 2) kind.Task (cond (m == 3) kind.Group (cond (m == 4) kind.Queue (cond (m == 5) kind.Mutex (cond (m == 6) kind.Sem (cond (m == 7) kind.Rwl kind.Shmem))))))
+object_of m = cond (m == 1) kind.Action
+    (cond (m == 2) kind.Task (cond (m == 3) kind.Group
+    (cond (m == 4) kind.Queue (cond (m == 5) kind.Mutex (cond (m == 6) kind.Sem (cond (m == 7) kind.Rwl kind.Shmem))))))
 
 object-number : (k : ObjectKind) → object_of (object_number k) ≡ k
 object-number kind.Action = refl
@@ -25,7 +27,8 @@ by_kind P k here others i = by_test (object_number i == object_number k) refl
   where
     by_test : (b : Bool) → (object_number i == object_number k) ≡ b → P i
     by_test true e = subst P (sym (same_kind i k (eqb-true (object_number i) (object_number k) e))) here
-    by_test false e = others i (λ same. let t : (object_number i == object_number k) ≡ true = eq-eqb (object_number i) (object_number k) (ap object_number same) in absurd (cc))
+    by_test false e = others i (λ same. let t : (object_number i == object_number k) ≡ true =
+        eq-eqb (object_number i) (object_number k) (ap object_number same) in absurd (cc))
 
 length-inside : {M T : Type 0} (g : ℕ → ℕ) (f : ℕ → M → T) (l : List (Listed M)) → length (inside g f l) ≡ length l
 unfolding inside

@@ -19,8 +19,10 @@ module _ {s t : State} {k : ObjectKind} (gone : AreGone s t k 0 0) where
 
 -- nothing else changes where other numbers are noted
 module _ {k : ObjectKind} {gone freed : ℕ} {m n : Made} (ends : Ends k gone freed m n) where
-  same_of : {A : Type 0} (read : MadeOfKind → A) → ((x : MadeOfKind) → read (with_ended gone freed x) ≡ read x) → (i : ObjectKind) → read (of_kind n i) ≡ read (of_kind m i)
-  same_of read same = by_kind (λ (i : ObjectKind). read (of_kind n i) ≡ read (of_kind m i)) k (ap read ends.one ∙ same (of_kind m k)) (λ i ne. ap read (ends.others i ne))
+  same_of : {A : Type 0} (read : MadeOfKind → A) → ((x : MadeOfKind) → read (with_ended gone freed x) ≡ read x) → (i : ObjectKind)
+      → read (of_kind n i) ≡ read (of_kind m i)
+  same_of read same = by_kind (λ (i : ObjectKind). read (of_kind n i)
+      ≡ read (of_kind m i)) k (ap read ends.one ∙ same (of_kind m k)) (λ i ne. ap read (ends.others i ne))
 
   pub same_counts : (i : ObjectKind) (slot : ℕ) → count_in (of_kind n i) slot ≡ count_in (of_kind m i) slot
   same_counts i slot = same_of (λ x. count_in x slot) (λ x. refl) i
@@ -39,7 +41,8 @@ module _ {k : ObjectKind} {gone freed : ℕ} {m n : Made} (ends : Ends k gone fr
     made = λ i. same_made i ∙ t.made i;
     gone = by_kind (λ (i : ObjectKind). gone_count (of_kind n i) ≤ gone_in i s) k (subst (λ (x : MadeOfKind). gone_count x ≤ gone_in k s) (sym ends.one) enough)
         (λ i ne. subst (λ (x : MadeOfKind). gone_count x ≤ gone_in i s) (sym (ends.others i ne)) (t.gone i));
-    freed = by_kind (λ (i : ObjectKind). freed_count (of_kind n i) + taken_in i s ≤ made_in i s) k (subst (λ (x : MadeOfKind). freed_count x + taken_in k s ≤ made_in k s) (sym ends.one) free)
+    freed = by_kind (λ (i : ObjectKind). freed_count (of_kind n i) + taken_in i s
+        ≤ made_in i s) k (subst (λ (x : MadeOfKind). freed_count x + taken_in k s ≤ made_in k s) (sym ends.one) free)
         (λ i ne. subst (λ (x : MadeOfKind). freed_count x + taken_in i s ≤ made_in i s) (sym (ends.others i ne)) (t.freed i));
   }
 
@@ -53,6 +56,7 @@ module _ {k : ObjectKind} {gone freed : ℕ} {m n : Made} (ends : Ends k gone fr
         (let a : gone ≤ gone_in k s = subst (λ (x : MadeOfKind). gone_count x ≤ gone_in k s) ends.one (t.gone k) in omega (arith, a, less))
         (λ i ne. subst (λ (x : MadeOfKind). gone_count x ≤ gone_in i s) (ends.others i ne) (t.gone i));
     freed = by_kind (λ (i : ObjectKind). freed_count (of_kind m i) + taken_in i s ≤ made_in i s) k
-        (let a : freed + taken_in k s ≤ made_in k s = subst (λ (x : MadeOfKind). freed_count x + taken_in k s ≤ made_in k s) ends.one (t.freed k) in omega (arith, a, few))
+        (let a : freed + taken_in k s ≤ made_in k s = subst (λ (x : MadeOfKind). freed_count x + taken_in k s ≤ made_in k s) ends.one (t.freed k) in
+        omega (arith, a, few))
         (λ i ne. subst (λ (x : MadeOfKind). freed_count x + taken_in i s ≤ made_in i s) (ends.others i ne) (t.freed i));
   }

@@ -16,13 +16,15 @@ takes_answer g k Pick r = refl
 takes_answer g k o r = refl
 
 -- where a worker may take some task, what else it may be told is that it takes one
-takes : (w : Laws) (s : State) (who : ℕ) (o : Op) (given r : Reply) → takes_task o given ≡ true → Allows (row s who o given) given → Allows (row s who o r) r → takes_task o r ≡ true
+takes : (w : Laws) (s : State) (who : ℕ) (o : Op) (given r : Reply) → takes_task o given ≡ true → Allows (row s who o given) given → Allows (row s who o r) r
+    → takes_task o r ≡ true
 takes w s who Pick (Picked t a x args) r e i j = w.picks s who t a x args r i j
 takes w s who Pick given r e i j = absurd (cc)
 takes w s who o given r e i j = absurd (cc)
 
 -- what was made stays told where nothing is made
-pub tells_none : (w : Laws) (f : Following) (s : State) (who : ℕ) (o : Op) (r : Reply) → made_kind o ≡ None → ((k : ObjectKind) → AreGone s (after_row s (row s who o r)) k 0 0) → Tells f.made s →
+pub tells_none : (w : Laws) (f : Following) (s : State) (who : ℕ) (o : Op) (r : Reply) → made_kind o ≡ None
+    → ((k : ObjectKind) → AreGone s (after_row s (row s who o r)) k 0 0) → Tells f.made s →
     Tells f.made (after_row s (row s who o r))
 tells_none w f s who o r idle gone t =
     let none : MakesNone s (after_row s (row s who o r)) = w.none s who o r idle in
@@ -46,7 +48,8 @@ module _ (w : Laws) (f : Following) (e : NodeEntry) (m : PoolNode) (given : Repl
 
   module _ (terms : terms_of m ≡ terms_of f.node)
       (stands : (L : List NodeEntry) → Stands f.node L → Stands m (L ++ entry e.who asked given ∷ []))
-      (toward : (L : List NodeEntry) → Stands f.node L → takes_task asked told ≡ true → Allows (row (after (terms_of f.node) L) e.who asked told) told → given ≡ told) where
+      (toward : (L : List NodeEntry) → Stands f.node L → takes_task asked told ≡ true → Allows (row (after (terms_of f.node) L) e.who asked told) told
+      → given ≡ told) where
     module _ (L : List NodeEntry) (h : HasFollowed f L) where
       abbrev s : State
       s = after f.terms L
@@ -58,7 +61,8 @@ module _ (w : Laws) (f : Following) (e : NodeEntry) (m : PoolNode) (given : Repl
       step = w.steps g (room_of f.terms) s e.who e.op e.reply h.follows idle
 
       answered : Allows (row other e.who asked given) given
-      answered = subst (λ (u : State). Allows (row u e.who asked given) given) h.node.renames (node_allows f.node m h.node.own e.who asked given terms (stands h.node.own h.node.stands))
+      answered = subst (λ (u : State). Allows (row u e.who asked given) given) h.node.renames
+          (node_allows f.node m h.node.own e.who asked given terms (stands h.node.own h.node.stands))
 
       same : Allows (row_of s e) e.reply → told ≡ given
       same i = by_told (takes_task asked told) refl

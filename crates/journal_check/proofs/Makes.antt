@@ -18,7 +18,8 @@ generation_next k s h e =
     eqb-true (generation_of h) (made_at k s h + 1) (snd_true (nat_le (generation_of h) s.terms.settings.generations) (generation_of h == made_at k s h + 1) a)
 
 -- the new object is told with what was made before
-module _ {m n : Made} {s t : State} {k : ObjectKind} {h : ℕ} (told : Tells m s) (one : MakesOne s t k h) (last : MakesLast s t k h) (notes : Notes k s.terms.settings.generations h m n) (generation : generation_of h ≡ made_at k s h + 1)
+module _ {m n : Made} {s t : State} {k : ObjectKind} {h : ℕ} (told : Tells m s) (one : MakesOne s t k h) (last : MakesLast s t k h)
+    (notes : Notes k s.terms.settings.generations h m n) (generation : generation_of h ≡ made_at k s h + 1)
     (gone : (i : ObjectKind) → AreGone s t i 0 0) where
   count_here : (j : ℕ) → count_in (of_kind n k) (slot_of j) ≡ made_at k t j
   count_here j = by_slot (slot_of h == slot_of j) refl
@@ -29,13 +30,15 @@ module _ {m n : Made} {s t : State} {k : ObjectKind} {h : ℕ} (told : Tells m s
           let back : (slot_of j == slot_of h) ≡ true = eq-eqb (slot_of j) (slot_of h) (sym is) in
           let more : made_at k t j ≡ made_at k s j + 1 = one.slot j ∙ ap (λ (b : Bool). made_at k s j + cond {A = ℕ} b 1 0) e in
           let same : made_at k s h ≡ made_at k s j = sym (told.counts k h) ∙ ap (count_in (of_kind m k)) is ∙ told.counts k j in
-          let now : count_in (of_kind n k) (slot_of j) ≡ generation_of h = notes.one.counts (slot_of j) ∙ ap (λ (b : Bool). cond {A = ℕ} b (generation_of h) (count_in (of_kind m k) (slot_of j))) back in
+          let now : count_in (of_kind n k) (slot_of j) ≡ generation_of h =
+          notes.one.counts (slot_of j) ∙ ap (λ (b : Bool). cond {A = ℕ} b (generation_of h) (count_in (of_kind m k) (slot_of j))) back in
           omega (arith, more, same, now, generation)
       by_slot false e =
           let back : (slot_of j == slot_of h) ≡ false = apart (slot_of h) (slot_of j) e in
           let more : made_at k t j ≡ made_at k s j + 0 = one.slot j ∙ ap (λ (b : Bool). made_at k s j + cond {A = ℕ} b 1 0) e in
           let same : count_in (of_kind m k) (slot_of j) ≡ made_at k s j = told.counts k j in
-          let now : count_in (of_kind n k) (slot_of j) ≡ count_in (of_kind m k) (slot_of j) = notes.one.counts (slot_of j) ∙ ap (λ (b : Bool). cond {A = ℕ} b (generation_of h) (count_in (of_kind m k) (slot_of j))) back in
+          let now : count_in (of_kind n k) (slot_of j) ≡ count_in (of_kind m k) (slot_of j) =
+          notes.one.counts (slot_of j) ∙ ap (λ (b : Bool). cond {A = ℕ} b (generation_of h) (count_in (of_kind m k) (slot_of j))) back in
           omega (arith, more, same, now)
         where
           apart : (a b : ℕ) → (a == b) ≡ false → (b == a) ≡ false
@@ -51,15 +54,20 @@ module _ {m n : Made} {s t : State} {k : ObjectKind} {h : ℕ} (told : Tells m s
     made = by_kind (λ (i : ObjectKind). made_count (of_kind n i) ≡ made_in i t) k
         (notes.one.made ∙ ap (λ (c : ℕ). c + 1) (told.made k) ∙ sym one.one)
         (λ i ne. ap made_count (notes.others i ne) ∙ told.made i ∙ sym (one.others i ne));
-    gone = by_kind (λ (i : ObjectKind). gone_count (of_kind n i) ≤ gone_in i t) k (subst (λ (c : ℕ). c ≤ gone_in k t) (sym notes.one.gone) (gone_on (gone k) (gone_count (of_kind m k)) (told.gone k)))
+    gone = by_kind (λ (i : ObjectKind). gone_count (of_kind n i)
+        ≤ gone_in i t) k (subst (λ (c : ℕ). c ≤ gone_in k t) (sym notes.one.gone) (gone_on (gone k) (gone_count (of_kind m k)) (told.gone k)))
         (λ i ne. subst (λ (x : MadeOfKind). gone_count x ≤ gone_in i t) (sym (notes.others i ne)) (gone_on (gone i) (gone_count (of_kind m i)) (told.gone i)));
-    freed = by_kind (λ (i : ObjectKind). freed_count (of_kind n i) + taken_in i t ≤ made_in i t) k (subst (λ (c : ℕ). c + taken_in k t ≤ made_in k t) (sym notes.one.freed) (freed_on (gone k) (freed_count (of_kind m k)) (told.freed k)))
-        (λ i ne. subst (λ (x : MadeOfKind). freed_count x + taken_in i t ≤ made_in i t) (sym (notes.others i ne)) (freed_on (gone i) (freed_count (of_kind m i)) (told.freed i)));
+    freed = by_kind (λ (i : ObjectKind). freed_count (of_kind n i) + taken_in i t
+        ≤ made_in i t) k (subst (λ (c : ℕ). c + taken_in k t
+        ≤ made_in k t) (sym notes.one.freed) (freed_on (gone k) (freed_count (of_kind m k)) (told.freed k)))
+        (λ i ne. subst (λ (x : MadeOfKind). freed_count x + taken_in i t
+        ≤ made_in i t) (sym (notes.others i ne)) (freed_on (gone i) (freed_count (of_kind m i)) (told.freed i)));
   }
 
 pub few_one : {s t : State} {k : ObjectKind} {h c : ℕ} → MakesOne s t k h → ((i : ObjectKind) → made_in i s ≤ c) → (i : ObjectKind) → made_in i t ≤ c + 1
 few_one {s} {t} {k} {h} {c} one few =
-    by_kind (λ (i : ObjectKind). made_in i t ≤ c + 1) k (let e : made_in k t ≡ made_in k s + 1 = one.one in let b : made_in k s ≤ c = few k in omega (arith, e, b))
+    by_kind (λ (i : ObjectKind). made_in i t ≤ c + 1) k (let e : made_in k t ≡ made_in k s + 1 = one.one in let b : made_in k s ≤ c = few k in
+    omega (arith, e, b))
     (λ i ne. let e : made_in i t ≡ made_in i s = one.others i ne in let b : made_in i s ≤ c = few i in omega (arith, e, b))
 
 module _ (w : Laws) (f : Following) (e : NodeEntry) (k : ObjectKind) (makes : made_kind e.op ≡ Some k)
@@ -72,11 +80,13 @@ module _ (w : Laws) (f : Following) (e : NodeEntry) (k : ObjectKind) (makes : ma
   asked = renamed_op g e.op
 
   -- what is allowed: any handle that may be given
-  pub given_here : (L : List NodeEntry) → HasFollowed f L → Allows (row_of (after f.terms L) e) e.reply ↔ ((is_fresh_of k (after f.terms L) (handle_of e.reply) ≡ true) × (e.reply ≡ Handle (handle_of e.reply)))
+  pub given_here : (L : List NodeEntry) → HasFollowed f L
+      → Allows (row_of (after f.terms L) e) e.reply ↔ ((is_fresh_of k (after f.terms L) (handle_of e.reply) ≡ true) × (e.reply ≡ Handle (handle_of e.reply)))
   given_here L h = by_room w f e k makes accepted L h false (more L h)
 
   -- the reply isn't allowed
-  pub judged_never : (m : PoolNode) → ((L : List NodeEntry) → HasFollowed f L → length L < last_generation → Allows (row_of (after f.terms L) e) e.reply → ⊥) → Judges f e false (record f { node = m })
+  pub judged_never : (m : PoolNode) → ((L : List NodeEntry) → HasFollowed f L → length L < last_generation → Allows (row_of (after f.terms L) e) e.reply → ⊥)
+      → Judges f e false (record f { node = m })
   judged_never m never = record {
     terms = refl;
     exact = λ L h short. (λ p. absurd (cc), λ i. absurd (never L h short i));
@@ -93,14 +103,17 @@ module _ (w : Laws) (f : Following) (e : NodeEntry) (k : ObjectKind) (makes : ma
     pub judged_stale : ((L : List NodeEntry) → HasFollowed f L → is_next_of k (after f.terms L) handle ≡ false) → Judges f e false f
     judged_stale stale = judged_never f.node (λ L h short i. let a = ((given_here L h).0 i).0 in let b = fresh_here L in let d = stale L h in absurd (cc))
 
-    module _ (fresh : (L : List NodeEntry) → HasFollowed f L → is_next_of k (after f.terms L) handle ≡ true) (m : PoolNode) (terms : terms_of m ≡ terms_of f.node) where
+    module _ (fresh : (L : List NodeEntry) → HasFollowed f L
+        → is_next_of k (after f.terms L) handle ≡ true) (m : PoolNode) (terms : terms_of m ≡ terms_of f.node) where
       -- the node has room
-      room_there : (L : List NodeEntry) (h : HasFollowed f L) → length L < last_generation → is_full_of k (renamed g (room_of f.terms) (after f.terms L)) ≡ false
+      room_there : (L : List NodeEntry) (h : HasFollowed f L) → length L < last_generation
+          → is_full_of k (renamed g (room_of f.terms) (after f.terms L)) ≡ false
       room_there L h short =
           let s = after f.terms L in
           let there = renamed g (room_of f.terms) s in
           let full : made_in k there < there.terms.settings.generations → is_full_of k there ≡ (live_in k there == most_of k there) =
-          subst (λ (t : State). made_in k t < t.terms.settings.generations → is_full_of k t ≡ (live_in k t == most_of k t)) h.node.renames (w.full (terms_of f.node) h.node.own k) in
+          subst (λ (t : State). made_in k t < t.terms.settings.generations
+          → is_full_of k t ≡ (live_in k t == most_of k t)) h.node.renames (w.full (terms_of f.node) h.node.own k) in
           let made : made_in k there ≡ made_in k s = made-renamed k g (room_of f.terms) s in
           let few : made_in k s ≤ length L = h.few k in
           let less : made_in k there < last_generation = omega (arith, made, few, short) in
@@ -111,21 +124,25 @@ module _ (w : Laws) (f : Following) (e : NodeEntry) (k : ObjectKind) (makes : ma
 
       module _ (given : Reply) (stands : (L : List NodeEntry) → Stands f.node L → Stands m (L ++ entry e.who asked given ∷ [])) where
         answered : (L : List NodeEntry) (h : HasFollowed f L) → Allows (row (renamed g (room_of f.terms) (after f.terms L)) e.who asked given) given
-        answered L h = subst (λ (u : State). Allows (row u e.who asked given) given) h.node.renames (node_allows f.node m h.node.own e.who asked given terms (stands h.node.own h.node.stands))
+        answered L h = subst (λ (u : State). Allows (row u e.who asked given) given) h.node.renames
+            (node_allows f.node m h.node.own e.who asked given terms (stands h.node.own h.node.stands))
 
         -- and so it has made an object
         node_makes : (L : List NodeEntry) (h : HasFollowed f L) → length L < last_generation → given ≡ Handle (handle_of given)
         node_makes L h short =
             let there = renamed g (room_of f.terms) (after f.terms L) in
             let none : refusal_of there e.who asked ≡ None = w.refused g (room_of f.terms) (after f.terms L) e.who e.op k h.follows makes ∙ accepted L h in
-            let can : CanAnswer (refusal_of there e.who asked) k there given = (w.told there e.who asked k given (renamed_kind g e.op ∙ makes)).0 (answered L h) in
+            let can : CanAnswer (refusal_of there e.who asked) k there given =
+            (w.told there e.who asked k given (renamed_kind g e.op ∙ makes)).0 (answered L h) in
             let be : CanBe k there given = subst (λ (o : Option Reply). CanAnswer o k there given) none can in
-            (subst (λ (b : Bool). MatchBool b (given ≡ limit_of k) ((is_fresh_of k there (handle_of given) ≡ true) × (given ≡ Handle (handle_of given)))) (room_there L h short) be).1
+            (subst (λ (b : Bool). MatchBool b (given ≡ limit_of k) ((is_fresh_of k there (handle_of given) ≡ true) × (given ≡ Handle (handle_of given))))
+            (room_there L h short) be).1
 
         pub judged_idle : ((h : ℕ) → given ≡ Handle h → ⊥) → Judges f e false (record f { node = m })
         judged_idle other = judged_never m (λ L h short i. other (handle_of given) (node_makes L h short))
 
-      module _ (other : ℕ) (stands : (L : List NodeEntry) → Stands f.node L → Stands m (L ++ entry e.who asked (Handle other) ∷ [])) (names : OtherHandles) (made : Made)
+      module _ (other : ℕ) (stands : (L : List NodeEntry) → Stands f.node L
+          → Stands m (L ++ entry e.who asked (Handle other) ∷ [])) (names : OtherHandles) (made : Made)
           (pair : renaming_of names ≡ with_pair k handle other g) (notes : Notes k f.terms.settings.generations handle f.made made) where
         goes : (L : List NodeEntry) (h : HasFollowed f L) → HasFollowed (record { terms = f.terms; node = m; names = names; made = made }) (L ++ e ∷ [])
         goes L h =
@@ -133,17 +150,25 @@ module _ (w : Laws) (f : Following) (e : NodeEntry) (k : ObjectKind) (makes : ma
             let x = room_of f.terms in
             let next_is : next s e ≡ after_row s (row s e.who e.op (Handle handle)) = ap (λ (r : Reply). after_row s (row s e.who e.op r)) is in
             let here : Allows (row s e.who e.op (Handle handle)) (Handle handle) =
-            subst (λ (r : Reply). Allows (row s e.who e.op r) r) is ((given_here L h).1 (fresh_here L ∙ fresh L h, is ∙ ap (λ (r : Reply). Handle (handle_of r)) (sym is))) in
+            subst (λ (r : Reply). Allows (row s e.who e.op r) r) is ((given_here L h).1 (
+              fresh_here L ∙ fresh L h,
+              is
+                  ∙ ap (λ (r : Reply). Handle (handle_of r)) (sym is),
+            )) in
             let there = answered (Handle other) stands L h in
             let makes_pair : CreateRenames g x s e.who e.op k handle other = w.created g x s e.who e.op k handle other h.follows makes in
             let one : MakesOne s (next s e) k handle = subst (λ (t : State). MakesOne s t k handle) (sym next_is) (w.one s e.who e.op k handle makes here) in
-            let last : MakesLast s (next s e) k handle = subst (λ (t : State). MakesLast s t k handle) (sym next_is) (w.last s e.who e.op k handle makes here) in
-            let noted : Notes k s.terms.settings.generations handle f.made made = subst (λ (t : Terms). Notes k t.settings.generations handle f.made made) (sym (w.terms f.terms L)) notes in
+            let last : MakesLast s (next s e) k handle =
+            subst (λ (t : State). MakesLast s t k handle) (sym next_is) (w.last s e.who e.op k handle makes here) in
+            let noted : Notes k s.terms.settings.generations handle f.made made =
+            subst (λ (t : Terms). Notes k t.settings.generations handle f.made made) (sym (w.terms f.terms L)) notes in
             followed_on f.terms m names made L e
             (mirrors_on {g = g} {h = renaming_of names} {s = s} {t = next s e} h.node e.who asked (Handle other) terms (stands h.node.own h.node.stands)
-            (sym (makes_pair.leads here there) ∙ ap (renamed (with_pair k handle other g) x) (sym next_is) ∙ ap (λ (p : Renaming). renamed p x (next s e)) (sym pair)))
+            (sym (makes_pair.leads here there) ∙ ap (renamed (with_pair k handle other g) x) (sym next_is)
+            ∙ ap (λ (p : Renaming). renamed p x (next s e)) (sym pair)))
             (terms ∙ h.terms)
-            (subst (λ (p : Renaming). Follows p (next s e)) (sym pair) (subst (λ (t : State). Follows (with_pair k handle other g) t) (sym next_is) (makes_pair.follows here there)))
+            (subst (λ (p : Renaming). Follows p (next s e)) (sym pair)
+            (subst (λ (t : State). Follows (with_pair k handle other g) t) (sym next_is) (makes_pair.follows here there)))
             (tells_one h.made one last noted (generation_next k s handle (fresh L h)) (λ i. w.gone_stay f.terms L e i))
             (few_one one h.few)
 

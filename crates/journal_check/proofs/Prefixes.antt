@@ -30,7 +30,8 @@ legal_before terms es m i within h =
     subst (Legal terms) front (Legal-prefix terms (take m (take i es)) (drop m (take i es)) (subst (Legal terms) (sym (take-append-drop m (take i es))) h))
 
 -- the entry that may not come next is the first one that isn't legal
-pub first_here : (terms : Terms) (es : List NodeEntry) (i : ℕ) (e : NodeEntry) → i < length es → e ≡ get_or es i e → Legal terms (take i es) → (IsNext (after terms (take i es)) e → ⊥) → IsFirstIllegal terms es (i + 1)
+pub first_here : (terms : Terms) (es : List NodeEntry) (i : ℕ) (e : NodeEntry) → i < length es → e ≡ get_or es i e → Legal terms (take i es)
+    → (IsNext (after terms (take i es)) e → ⊥) → IsFirstIllegal terms es (i + 1)
 unfolding LegalFrom
 first_here terms es i e below at h never = record {
   some = omega arith;

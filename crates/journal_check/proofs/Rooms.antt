@@ -5,19 +5,24 @@ use Rattle.journal_check.proofs.Lists.{how_many-next}
 use Rattle.journal_check.proofs.Ends.{told_more, told_less}
 
 -- a handle names a live object where its other one does
-pub live_here : (w : Laws) (n : PoolNode) (g : Renaming) (k : ObjectKind) (h : ℕ) (b : Bool) → ((L : List NodeEntry) → Stands n L → is_live_of k (after (terms_of n) L) (g k h) ≡ b) →
+pub live_here : (w : Laws) (n : PoolNode) (g : Renaming) (k : ObjectKind) (h : ℕ) (b : Bool)
+    → ((L : List NodeEntry) → Stands n L → is_live_of k (after (terms_of n) L) (g k h) ≡ b) →
     (terms : Terms) (s : State) (count : ℕ) → Mirrors n g terms s count → Follows g s → is_live_of k s h ≡ b
 live_here w n g k h b told terms s count m f =
     let a : is_live_of k (after (terms_of n) m.own) (g k h) ≡ b = told m.own m.stands in
-    let e : is_live_of k (after (terms_of n) m.own) (g k h) ≡ is_live_of k (renamed g (room_of terms) s) (g k h) = ap (λ (t : State). is_live_of k t (g k h)) m.renames in
+    let e : is_live_of k (after (terms_of n) m.own) (g k h) ≡ is_live_of k (renamed g (room_of terms) s) (g k h) =
+    ap (λ (t : State). is_live_of k t (g k h)) m.renames in
     sym ((w.live g (room_of terms) s k f).same h) ∙ sym e ∙ a
 
 -- one handle more
-pub gone_next : (k : ObjectKind) (s : State) (hs : List ℕ) (i d gone : ℕ) (b : Bool) → i < length hs → is_live_of k s (get_or hs i d) ≡ b → gone_of k s (take i hs) ≡ gone → gone_of k s (take (i + 1) hs) ≡ gone + cond {A = ℕ} (not b) 1 0
+pub gone_next : (k : ObjectKind) (s : State) (hs : List ℕ) (i d gone : ℕ) (b : Bool) → i < length hs → is_live_of k s (get_or hs i d) ≡ b
+    → gone_of k s (take i hs) ≡ gone → gone_of k s (take (i + 1) hs) ≡ gone + cond {A = ℕ} (not b) 1 0
 gone_next k s hs i d gone b below here e =
-    how_many-next (λ h. not (is_live_of k s h)) hs i d below ∙ ap (λ (m : ℕ). m + cond {A = ℕ} (not (is_live_of k s (get_or hs i d))) 1 0) e ∙ ap (λ (c : Bool). gone + cond {A = ℕ} (not c) 1 0) here
+    how_many-next (λ h. not (is_live_of k s h)) hs i d below ∙ ap (λ (m : ℕ). m + cond {A = ℕ} (not (is_live_of k s (get_or hs i d))) 1 0) e
+    ∙ ap (λ (c : Bool). gone + cond {A = ℕ} (not c) 1 0) here
 
-module _ (w : Laws) (f : Following) (k : ObjectKind) (most : ℕ) (mosts : (s : State) → s.terms.settings ≡ f.terms.settings → most_of k s ≡ most) (L : List NodeEntry) (h : HasFollowed f L) where
+module _ (w : Laws) (f : Following) (k : ObjectKind) (most : ℕ) (mosts : (s : State) → s.terms.settings ≡ f.terms.settings
+    → most_of k s ≡ most) (L : List NodeEntry) (h : HasFollowed f L) where
   abbrev reached : State
   reached = after f.terms L
 
@@ -65,7 +70,8 @@ module _ (w : Laws) (f : Following) (k : ObjectKind) (alive most : ℕ)
     pub alive_here : live_in k s ≡ alive
     alive_here =
         let a : live_in k (after (terms_of f.node) h.node.own) ≡ alive = lives h.node.own h.node.stands in
-        let e : live_in k (after (terms_of f.node) h.node.own) ≡ live_in k (renamed (renaming_of f.names) (room_of f.terms) s) = ap (live_in k) h.node.renames in
+        let e : live_in k (after (terms_of f.node) h.node.own) ≡ live_in k (renamed (renaming_of f.names) (room_of f.terms) s) =
+        ap (live_in k) h.node.renames in
         sym (w.live (renaming_of f.names) (room_of f.terms) s k h.follows).count ∙ sym e ∙ a
 
     most_here : most_of k s ≡ most
@@ -92,7 +98,8 @@ module _ (w : Laws) (f : Following) (k : ObjectKind) (alive most : ℕ)
         omega (arith, a, b, c, d)
 
     -- they may be kept, and what was kept before was no more
-    pub same_gone : (L : List NodeEntry) → HasFollowed f L → (made : Made) → Ends k gone (made_count (of_kind f.made k) - alive - gone) f.made made → Same f (record f { made = made })
+    pub same_gone : (L : List NodeEntry) → HasFollowed f L → (made : Made) → Ends k gone (made_count (of_kind f.made k) - alive - gone) f.made made
+        → Same f (record f { made = made })
     same_gone K i made ends = record {
       terms = refl;
       node = refl;
@@ -115,7 +122,8 @@ module _ (w : Laws) (f : Following) (k : ObjectKind) (alive most : ℕ)
         enough : (L : List NodeEntry) → HasFollowed f L → gone ≤ gone_in k (after f.terms L)
         enough L h = let a : gone_in k (after f.terms L) ≡ gone = gone_here L h in omega (arith, a)
 
-        free : (L : List NodeEntry) → HasFollowed f L → (made_count (of_kind f.made k) - alive - gone) + taken_in k (after f.terms L) ≤ made_in k (after f.terms L)
+        free : (L : List NodeEntry) → HasFollowed f L
+            → (made_count (of_kind f.made k) - alive - gone) + taken_in k (after f.terms L) ≤ made_in k (after f.terms L)
         free L h =
             let a : gone_in k (after f.terms L) ≡ gone = gone_here L h in
             let b : live_in k (after f.terms L) ≡ alive = alive_here L h in
@@ -124,7 +132,8 @@ module _ (w : Laws) (f : Following) (k : ObjectKind) (alive most : ℕ)
             omega (arith, a, b, c, d)
 
         known : gone_count (of_kind f.made k) ≤ gone
-        known = let a : gone_in k (after f.terms K) ≡ gone = gone_here K i in let b : gone_count (of_kind f.made k) ≤ gone_in k (after f.terms K) = i.made.gone k in omega (arith, a, b)
+        known = let a : gone_in k (after f.terms K) ≡ gone = gone_here K i in let b : gone_count (of_kind f.made k) ≤ gone_in k (after f.terms K) =
+            i.made.gone k in omega (arith, a, b)
 
         known_free : freed_count (of_kind f.made k) ≤ made_count (of_kind f.made k) - alive - gone
         known_free =

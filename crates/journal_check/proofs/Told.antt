@@ -20,7 +20,11 @@ same_first terms L m n f g = omega (arith, one_first terms L m n f g, one_first 
 pub illegal_verdict : (load : Workload) (j : Journal) (n : ℕ) → IsFirstIllegal (terms_of j) j.entries.entries n → IsVerdict load j (Illegal n)
 illegal_verdict load j n f = record {
   yes = (λ e. absurd (cc), λ a. absurd (none_first (terms_of j) j.entries.entries n a.0 f));
-  illegal = λ m. (λ e. let i : n ≡ m = cc in subst (IsFirstIllegal (terms_of j) j.entries.entries) i f, λ g. ap Illegal (same_first (terms_of j) j.entries.entries n m f g));
+  illegal = λ m. (
+    λ e. let i : n ≡ m = cc in
+        subst (IsFirstIllegal (terms_of j) j.entries.entries) i f,
+    λ g. ap Illegal (same_first (terms_of j) j.entries.entries n m f g),
+  );
   not_run = (λ e. absurd (cc), λ a. absurd (none_first (terms_of j) j.entries.entries n a.0 f));
 }
 

@@ -69,7 +69,8 @@ pub record Ends (kind : ObjectKind) (gone freed : ℕ) (m n : Made) : Type 0 whe
 -- one more than before, whose handle this is
 abbrev pub EndsOne : ObjectKind → ℕ → ℕ → Made → Made → Type 0
 EndsOne kind last handle m n =
-    Ends kind (gone_count (of_kind m kind) + (if generation_of handle == last then 1 else 0)) (freed_count (of_kind m kind) + (if generation_of handle == last then 0 else 1)) m n
+    Ends kind (gone_count (of_kind m kind) + (if generation_of handle == last then 1 else 0)) (freed_count (of_kind m kind)
+    + (if generation_of handle == last then 0 else 1)) m n
 
 -- what was noted is what was made in the state; of what isn't live any more no more is noted than there is
 pub record Tells (m : Made) (s : State) : Type 0 where

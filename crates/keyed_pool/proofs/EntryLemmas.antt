@@ -29,7 +29,8 @@ module _ (xs : List IndexEntry) (rising : AreRising xs) where
   comparisons_rise : (id : ℕ) → IsNonDecreasingBy (λ (e : IndexEntry). ordering_index (nat_cmp e.id id)) xs
   comparisons_rise id i j d order within =
       elim (cases_eq i j) [
-        | inl same ↦ let P : ℕ → Type 0 = λ n. ordering_index (nat_cmp (slice_index_or xs i d).id id) ≤ ordering_index (nat_cmp (slice_index_or xs n d).id id) in subst P same (omega arith)
+        | inl same ↦ let P : ℕ → Type 0 = λ n. ordering_index (nat_cmp (slice_index_or xs i d).id id)
+            ≤ ordering_index (nat_cmp (slice_index_or xs n d).id id) in subst P same (omega arith)
         | inr differs ↦
             let before : i < j = omega arith in
             by_ids (slice_index_or xs i d).id (slice_index_or xs j d).id (rising i j d before within)
@@ -39,7 +40,8 @@ module _ (xs : List IndexEntry) (rising : AreRising xs) where
       by_ids m n below = grind (arith, nat_tests)
 
 -- what a binary search by the id finds
-pub searched : (xs : List IndexEntry) (id : ℕ) (r : Result ℕ ℕ) → IsSearchInRange r (length xs) → IsBinarySearchResult (λ (e : IndexEntry). nat_cmp e.id id) xs r → Locates xs id r
+pub searched : (xs : List IndexEntry) (id : ℕ) (r : Result ℕ ℕ) → IsSearchInRange r (length xs)
+    → IsBinarySearchResult (λ (e : IndexEntry). nat_cmp e.id id) xs r → Locates xs id r
 searched xs id (Ok place) within equal = (within, λ d. ranked _ id _ (sym (equal d)))
 searched xs id (Err place) within parted = (
   within,
@@ -87,7 +89,8 @@ module _ (xs : List IndexEntry) (place : ℕ) (y : IndexEntry) (within : place �
       by_place (Below below is) = inr (there.0, omega (arith, below, within), sym is ∙ there.2)
       by_place (Above j next above is) = inr (j, omega (arith, next, there.1, length-insert xs place y within), sym is ∙ there.2)
 
-  pub rising-insert : AreRising xs → ((k : ℕ) (d : IndexEntry) → k < place → (slice_index_or xs k d).id < y.id) → ((k : ℕ) (d : IndexEntry) → place ≤ k → k < length xs → y.id < (slice_index_or xs k d).id) → AreRising (insert xs place y)
+  pub rising-insert : AreRising xs → ((k : ℕ) (d : IndexEntry) → k < place → (slice_index_or xs k d).id < y.id)
+      → ((k : ℕ) (d : IndexEntry) → place ≤ k → k < length xs → y.id < (slice_index_or xs k d).id) → AreRising (insert xs place y)
   rising-insert rising lower higher a b d below inside = by_places (stands a d) (stands b d)
     where
       long : length (insert xs place y) ≡ length xs + 1
@@ -102,18 +105,32 @@ module _ (xs : List IndexEntry) (place : ℕ) (y : IndexEntry) (within : place �
       by_places (New here is) (Above j next high same) = omega (arith, ap id is, ap id same, higher j d high (omega (arith, next, inside, long)))
       by_places (Below low is) (New too same) = omega (arith, ap id is, ap id same, lower a d low)
       by_places (Below low is) (Below under same) = omega (arith, ap id is, ap id same, rising a b d below (omega (arith, under, within)))
-      by_places (Below low is) (Above j next high same) = omega (arith, ap id is, ap id same, rising a j d (omega (arith, low, high)) (omega (arith, next, inside, long)))
+      by_places (Below low is) (Above j next high same) =
+          omega (arith, ap id is, ap id same, rising a j d (omega (arith, low, high)) (omega (arith, next, inside, long)))
       by_places (Above i after up is) (New too same) = absurd (omega (arith, after, up, too, below))
       by_places (Above i after up is) (Below under same) = absurd (omega (arith, after, up, under, below))
-      by_places (Above i after up is) (Above j next high same) = omega (arith, ap id is, ap id same, rising i j d (omega (arith, after, next, below)) (omega (arith, next, inside, long)))
+      by_places (Above i after up is) (Above j next high same) =
+          omega (arith, ap id is, ap id same, rising i j d (omega (arith, after, next, below)) (omega (arith, next, inside, long)))
 
 module _ (xs : List IndexEntry) (place : ℕ) (within : place < length xs) where
   -- what is left stood at another place
   pub kept : (x : IndexEntry) → Contains (remove xs place) x → (k : ℕ) × (k < length xs) × (k ≢ place) × (slice_index_or xs k x ≡ x)
   kept x there =
       elim (cases_lt there.0 place) [
-        | inl below ↦ (there.0, omega (arith, below, within), λ same. absurd (omega (arith, same, below)), sym (get_or-remove_below xs place x there.0 below within) ∙ there.2)
-        | inr above ↦ (there.0 + 1, omega (arith, there.1, length-remove xs place within), λ same. absurd (omega (arith, same, above)), sym (get_or-remove_above xs place x there.0 above within) ∙ there.2)
+        | inl below ↦ (
+          there.0,
+          omega (arith, below, within),
+          λ same. absurd (omega (arith, same, below)),
+          sym
+              (get_or-remove_below xs place x there.0 below within) ∙ there.2,
+        )
+        | inr above ↦ (
+          there.0 + 1,
+          omega (arith, there.1, length-remove xs place within),
+          λ same. absurd (omega (arith, same, above)),
+          sym
+              (get_or-remove_above xs place x there.0 above within) ∙ there.2,
+        )
       ]
 
   pub contains-left : (x : IndexEntry) (k : ℕ) → k < length xs → k ≢ place → slice_index_or xs k x ≡ x → Contains (remove xs place) x
@@ -124,4 +141,9 @@ module _ (xs : List IndexEntry) (place : ℕ) (within : place < length xs) where
       ]
     where
       lower : (j : ℕ) → k ≡ j + 1 → place ≤ j → Contains (remove xs place) x
-      lower j next above = (j, omega (arith, next, inside, length-remove xs place within), get_or-remove_above xs place x j above within ∙ ap (λ n. slice_index_or xs n x) (sym next) ∙ is)
+      lower j next above = (
+        j,
+        omega (arith, next, inside, length-remove xs place within),
+        get_or-remove_above xs place x j above within
+            ∙ ap (λ n. slice_index_or xs n x) (sym next) ∙ is,
+      )

@@ -20,7 +20,8 @@ module _ {T : Type 0} (id : T → ℕ) where
   abbrev entry : T → ℕ → IndexEntry
   entry v handle = record { id = id v; handle = handle }
 
-  pub IsIndexed-new : (p : Slots T) (max len room : ℕ) (entries : List IndexEntry) → p.slots ≡ replicate max (free_slot 1) → entries ≡ [] → len ≡ 0 → max ≤ room → IsIndexed id p entries len room
+  pub IsIndexed-new : (p : Slots T) (max len room : ℕ) (entries : List IndexEntry) → p.slots ≡ replicate max (free_slot 1) → entries ≡ [] → len ≡ 0 → max ≤ room
+      → IsIndexed id p entries len room
   IsIndexed-new p max len room entries fresh empty none fits = record {
     rising = subst AreRising (sym empty) (λ i j d before within. absurd (omega (arith, within)));
     live = λ e there. absurd (omega (arith, ap length empty, there.1));
@@ -32,7 +33,8 @@ module _ {T : Type 0} (id : T → ℕ) where
 
   module _ (p : Slots T) (entries : List IndexEntry) (len room : ℕ) (index : IsIndexed id p entries len room) where
     -- the entry of a live value
-    pub entry_at : (handle : ℕ) (v : T) (d : IndexEntry) → slot_value p handle ≡ Some v → (k : ℕ) × (k < length entries) × (slice_index_or entries k d ≡ entry v handle)
+    pub entry_at : (handle : ℕ) (v : T) (d : IndexEntry) → slot_value p handle ≡ Some v
+        → (k : ℕ) × (k < length entries) × (slice_index_or entries k d ≡ entry v handle)
     entry_at handle v d found =
         let there = index.listed handle v found in
         (there.0, there.1, get_or_default entries there.0 d (entry v handle) there.1 ∙ there.2)
@@ -42,7 +44,8 @@ module _ {T : Type 0} (id : T → ℕ) where
       only = λ h k v w found other same.
           let a = entry_at h v (entry v h) found in
           let b = entry_at k w (entry v h) other in
-          let here = same_place entries index.rising a.0 b.0 (entry v h) a.1 b.1 (ap (λ (e : IndexEntry). e.id) a.2 ∙ same ∙ sym (ap (λ (e : IndexEntry). e.id) b.2)) in
+          let here = same_place entries index.rising a.0 b.0 (entry v h) a.1 b.1 (ap (λ (e : IndexEntry). e.id) a.2 ∙ same
+          ∙ sym (ap (λ (e : IndexEntry). e.id) b.2)) in
           ap (λ (e : IndexEntry). e.handle) (sym a.2 ∙ ap (λ n. slice_index_or entries n (entry v h)) here ∙ b.2);
     }
 
@@ -63,9 +66,19 @@ module _ {T : Type 0} (id : T → ℕ) where
         ]
 
     pub spare : (new : Slots T) (handle : ℕ) (v : T) → Inserts p new handle v → len < room
-    spare new handle v inserts = omega (arith, index.measured, index.counted, index.fits, live_count-insert p new handle v inserts, max_of-insert p new handle v inserts, count_by-le-length is_live new.slots)
+    spare new handle v inserts = omega (
+      arith,
+      index.measured,
+      index.counted,
+      index.fits,
+      live_count-insert p new handle v inserts,
+      max_of-insert p new handle v
+          inserts,
+      count_by-le-length is_live new.slots,
+    )
 
-    pub IsIndexed-insert : (new : Slots T) (handle : ℕ) (v : T) (place more space : ℕ) → Inserts p new handle v → Locates entries (id v) (Err place) → more ≡ len + 1 → room ≤ space → IsIndexed id new (insert entries place (entry v handle)) more space
+    pub IsIndexed-insert : (new : Slots T) (handle : ℕ) (v : T) (place more space : ℕ) → Inserts p new handle v → Locates entries (id v) (Err place)
+        → more ≡ len + 1 → room ≤ space → IsIndexed id new (insert entries place (entry v handle)) more space
     IsIndexed-insert new handle v place more space inserts located one wide =
         let within = located.0 in
         let parts = located.1 index.rising in
@@ -73,7 +86,12 @@ module _ {T : Type 0} (id : T → ℕ) where
         record {
           rising = rising-insert entries place (entry v handle) within index.rising parts.0 parts.1;
           live = λ e there. elim (contained entries place (entry v handle) within e there) [
-            | inl is ↦ (v, ap (slot_value new) (ap (λ (x : IndexEntry). x.handle) is) ∙ get-insert_same p new handle v inserts, sym (ap (λ (x : IndexEntry). x.id) is))
+            | inl is ↦ (
+              v,
+              ap (slot_value new) (ap (λ (x : IndexEntry). x.handle) is)
+                  ∙ get-insert_same p new handle v inserts,
+              sym (ap (λ (x : IndexEntry). x.id) is),
+            )
             | inr old ↦
                 let was = index.live e old in
                 let differs : e.handle ≢ handle = λ same. let no = ap (slot_value p) same ∙ dead in absurd (cc (no, was.1)) in
@@ -83,8 +101,10 @@ module _ {T : Type 0} (id : T → ℕ) where
             | inl same ↦
                 let read = ap (slot_value new) same ∙ get-insert_same p new handle v inserts in
                 let is : v ≡ w = cc (read, found) in
-                subst (Contains (insert entries place (entry v handle))) (ap (λ x. entry x handle) is ∙ ap (entry w) (sym same)) (contains-new entries place (entry v handle) within)
-            | inr differs ↦ contains-old entries place (entry v handle) within (entry w h) (index.listed h w (sym (get-insert_other p new handle h v inserts differs) ∙ found))
+                subst (Contains (insert entries place (entry v handle))) (ap (λ x. entry x handle) is
+                ∙ ap (entry w) (sym same)) (contains-new entries place (entry v handle) within)
+            | inr differs ↦ contains-old entries place (entry v handle) within (entry w h)
+                (index.listed h w (sym (get-insert_other p new handle h v inserts differs) ∙ found))
           ];
           counted = omega (arith, index.counted, length-insert entries place (entry v handle) within, live_count-insert p new handle v inserts);
           measured = omega (arith, index.measured, one, length-insert entries place (entry v handle) within);
@@ -92,7 +112,9 @@ module _ {T : Type 0} (id : T → ℕ) where
         }
 
     -- with the answer of an insert that has room
-    pub IsIndexed-grown : {E : Type 0} (r : Result Unit E) (new : Slots T) (handle n place : ℕ) (v : T) (items : List IndexEntry) (more space : ℕ) → IsOk r → items ≡ cond (is_ok r) (insert entries place (record { id = n; handle = handle })) entries → more ≡ cond (is_ok r) (len + 1) len → room ≤ space → n ≡ id v → Inserts p new handle v → Locates entries n (Err place) → IsIndexed id new items more space
+    pub IsIndexed-grown : {E : Type 0} (r : Result Unit E) (new : Slots T) (handle n place : ℕ) (v : T) (items : List IndexEntry) (more space : ℕ) → IsOk r
+        → items ≡ cond (is_ok r) (insert entries place (record { id = n; handle = handle })) entries → more ≡ cond (is_ok r) (len + 1) len → room ≤ space
+        → n ≡ id v → Inserts p new handle v → Locates entries n (Err place) → IsIndexed id new items more space
     IsIndexed-grown (Err e) new handle n place v items more space ok grown one wide same inserts located = absurd (cc)
     IsIndexed-grown (Ok u) new handle n place v items more space ok grown one wide same inserts located =
         subst (λ (xs : List IndexEntry). IsIndexed id new xs more space) (sym grown)
@@ -100,7 +122,8 @@ module _ {T : Type 0} (id : T → ℕ) where
         (IsIndexed-insert new handle v place more space inserts (subst (λ (m : ℕ). Locates entries m (Err place)) same located) one wide))
 
     -- the value's id stays
-    pub IsIndexed-with_value : (handle : ℕ) (old new : T) → slot_value p handle ≡ Some old → id new ≡ id old → IsIndexed id (with_value p handle new) entries len room
+    pub IsIndexed-with_value : (handle : ℕ) (old new : T) → slot_value p handle ≡ Some old → id new ≡ id old
+        → IsIndexed id (with_value p handle new) entries len room
     IsIndexed-with_value handle old new found keeps = record {
       rising = index.rising;
       live = λ e there.
@@ -124,7 +147,8 @@ module _ {T : Type 0} (id : T → ℕ) where
       fits = omega (arith, index.fits, max_of-with_value p handle new);
     }
 
-    pub IsIndexed-without : (handle : ℕ) (v : T) (place fewer space : ℕ) → slot_value p handle ≡ Some v → Locates entries (id v) (Ok place) → fewer + 1 ≡ len → space ≡ room → IsIndexed id (without p handle) (remove entries place) fewer space
+    pub IsIndexed-without : (handle : ℕ) (v : T) (place fewer space : ℕ) → slot_value p handle ≡ Some v → Locates entries (id v) (Ok place) → fewer + 1 ≡ len
+        → space ≡ room → IsIndexed id (without p handle) (remove entries place) fewer space
     IsIndexed-without handle v place fewer space found located one same_room =
         let within = located.0 in
         let e = entry v handle in
@@ -139,7 +163,8 @@ module _ {T : Type 0} (id : T → ℕ) where
               let differs : x.handle ≢ handle = λ same.
               let read = ap (slot_value p) same ∙ found in
               let is : was.0 ≡ v = cc (read, was.1) in
-              left.2 (same_place entries index.rising left.0 place x left.1 within (ap (λ (y : IndexEntry). y.id) left.3 ∙ sym was.2 ∙ ap id is ∙ sym (located.1 x)))
+              left.2 (same_place entries index.rising left.0 place x left.1 within (ap (λ (y : IndexEntry). y.id) left.3 ∙ sym was.2 ∙ ap id is
+              ∙ sym (located.1 x)))
               in
               (was.0, get-without_other p handle x.handle v found differs ∙ was.1, was.2);
           listed = λ h w live. elim (cases_eq h handle) [
@@ -147,7 +172,8 @@ module _ {T : Type 0} (id : T → ℕ) where
             | inr differs ↦
                 let there = index.listed h w (sym (get-without_other p handle h v found differs) ∙ live) in
                 let apart : there.0 ≢ place = λ same.
-                differs (ap (λ (x : IndexEntry). x.handle) (sym there.2 ∙ ap (λ n. slice_index_or entries n (entry w h)) same ∙ get_or_default entries place (entry w h) e within ∙ here))
+                differs (ap (λ (x : IndexEntry). x.handle) (sym there.2 ∙ ap (λ n. slice_index_or entries n (entry w h)) same
+                ∙ get_or_default entries place (entry w h) e within ∙ here))
                 in
                 contains-left entries place within (entry w h) there.0 there.1 apart there.2
           ];

@@ -14,7 +14,8 @@ abbrev pub Locates : List IndexEntry → ℕ → Result ℕ ℕ → Type 0
 Locates entries id (Ok place) = (place < length entries) × ((d : IndexEntry) → (slice_index_or entries place d).id ≡ id)
 Locates entries id (Err place) =
     (place ≤ length entries)
-    × (AreRising entries → ((k : ℕ) (d : IndexEntry) → k < place → (slice_index_or entries k d).id < id) × ((k : ℕ) (d : IndexEntry) → place ≤ k → k < length entries → id < (slice_index_or entries k d).id))
+    × (AreRising entries → ((k : ℕ) (d : IndexEntry) → k < place → (slice_index_or entries k d).id < id)
+    × ((k : ℕ) (d : IndexEntry) → place ≤ k → k < length entries → id < (slice_index_or entries k d).id))
 
 -- the entries are the ids and handles of the live values, in the order of the ids, with room for as many as there are slots
 pub record IsIndexed {T : Type 0} (id : T → ℕ) (p : Slots T) (entries : List IndexEntry) (len room : ℕ) : Type 0 where

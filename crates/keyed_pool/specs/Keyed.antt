@@ -21,4 +21,5 @@ module _ {T : Type 0} where
     -- the function was called at the value of the handle, which left in place changes nothing; or the handle isn't live, and nothing changed
     abbrev pub Updates : ℕ → Slots T → Option R → Slots T → Type 0
     Updates handle old None new = (slot_value old handle ≡ None) × (new ≡ old)
-    Updates handle old (Some r) new = (was now : T) × (slot_value old handle ≡ Some was) × (with_value old handle was ≡ old) × FnOnceReturnsAtMut calls change was r now × (new ≡ with_value old handle now)
+    Updates handle old (Some r) new = (was now : T) × (slot_value old handle ≡ Some was) × (with_value old handle was ≡ old)
+        × FnOnceReturnsAtMut calls change was r now × (new ≡ with_value old handle now)

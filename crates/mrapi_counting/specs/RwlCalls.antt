@@ -18,7 +18,8 @@ HasId id r = r.id ≡ id
 abbrev pub RwlCreateRefused : Slots Rwl → ℕ → ℕ → MrapiStatus → Type 0
 RwlCreateRefused old id limit c =
     (first (rwl_create_refusals limit) ≡ Some c)
-    ⊎ ((first (rwl_create_refusals limit) ≡ None) × (((c ≡ ErrRwlExists) × SomeLive (slot_value old) (HasId id)) ⊎ ((c ≡ ErrRwlLimit) × NoneLive (slot_value old) (HasId id) × IsFull old)))
+    ⊎ ((first (rwl_create_refusals limit) ≡ None)
+    × (((c ≡ ErrRwlExists) × SomeLive (slot_value old) (HasId id)) ⊎ ((c ≡ ErrRwlLimit) × NoneLive (slot_value old) (HasId id) × IsFull old)))
 
 -- what a call on the lock of a handle answers in place of what it does: that the handle isn't live, and else the first of the lock's own refusals
 abbrev pub rwl_refusal : (Rwl → List (Bool × MrapiStatus)) → Option Rwl → Option MrapiStatus

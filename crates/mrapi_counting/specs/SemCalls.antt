@@ -18,7 +18,8 @@ HasId id s = s.id ≡ id
 abbrev pub SemCreateRefused : Slots Sem → ℕ → ℕ → MrapiStatus → Type 0
 SemCreateRefused old id limit c =
     (first (sem_create_refusals limit) ≡ Some c)
-    ⊎ ((first (sem_create_refusals limit) ≡ None) × (((c ≡ ErrSemExists) × SomeLive (slot_value old) (HasId id)) ⊎ ((c ≡ ErrSemLimit) × NoneLive (slot_value old) (HasId id) × IsFull old)))
+    ⊎ ((first (sem_create_refusals limit) ≡ None)
+    × (((c ≡ ErrSemExists) × SomeLive (slot_value old) (HasId id)) ⊎ ((c ≡ ErrSemLimit) × NoneLive (slot_value old) (HasId id) × IsFull old)))
 
 -- what a call on the semaphore of a handle answers in place of what it does: that the handle isn't live, and else the first of the semaphore's own refusals
 abbrev pub sem_refusal : (Sem → List (Bool × MrapiStatus)) → Option Sem → Option MrapiStatus

@@ -14,20 +14,24 @@ IsStore-new p max spare room fresh all fits = record {
   fits = omega (arith, max_of-new p max fresh);
 }
 
-pub IsStore-insert : (p new : Slots Segment) (h : ℕ) (s : Segment) (spare left room now : ℕ) → IsStore p spare room → Inserts p new h s → left + 1 ≡ spare → now ≡ room → IsStore new left now
+pub IsStore-insert : (p new : Slots Segment) (h : ℕ) (s : Segment) (spare left room now : ℕ) → IsStore p spare room → Inserts p new h s → left + 1 ≡ spare
+    → now ≡ room → IsStore new left now
 IsStore-insert p new h s spare left room now store inserts one same = record {
   counted = omega (arith, store.counted, live_count-insert p new h s inserts, max_of-insert p new h s inserts);
   fits = omega (arith, store.fits, max_of-insert p new h s inserts);
 }
 
-pub updates_keep : {F R : Type 0} (calls : Once F (MutBor Segment × Unit {0}) (R × (MutBor Segment × Unit {0}))) (change : F) (h : ℕ) (p q : Slots Segment) (r : Option R) (spare room : ℕ) → IsStore p spare room → Updates calls change h p r q → IsStore q spare room
+pub updates_keep : {F R : Type 0} (calls : Once F (MutBor Segment × Unit {0}) (R × (MutBor Segment × Unit {0}))) (change : F) (h : ℕ) (p q : Slots Segment)
+    (r : Option R) (spare room : ℕ) → IsStore p spare room → Updates calls change h p r q → IsStore q spare room
 updates_keep calls change h p q None spare room store same = subst (λ (s : Slots Segment). IsStore s spare room) (sym same.1) store
-updates_keep calls change h p q (Some r) spare room store (was, now, found, stays, ran, is) = subst (λ (s : Slots Segment). IsStore s spare room) (sym is) (record {
-  counted = omega (arith, store.counted, live_count-with_value p h was now found, max_of-with_value p h now);
-  fits = omega (arith, store.fits, max_of-with_value p h now);
-})
+updates_keep calls change h p q (Some r) spare room store (was, now, found, stays, ran, is) =
+    subst (λ (s : Slots Segment). IsStore s spare room) (sym is) (record {
+      counted = omega (arith, store.counted, live_count-with_value p h was now found, max_of-with_value p h now);
+      fits = omega (arith, store.fits, max_of-with_value p h now);
+    })
 
-pub IsStore-without : (p : Slots Segment) (h : ℕ) (old : Segment) (spare more room now : ℕ) → IsStore p spare room → slot_value p h ≡ Some old → more ≡ spare + 1 → now ≡ room → IsStore (without p h) more now
+pub IsStore-without : (p : Slots Segment) (h : ℕ) (old : Segment) (spare more room now : ℕ) → IsStore p spare room → slot_value p h ≡ Some old
+    → more ≡ spare + 1 → now ≡ room → IsStore (without p h) more now
 IsStore-without p h old spare more room now store found one same = record {
   counted = omega (arith, store.counted, live_count-without p h old found, max_of-without p h);
   fits = omega (arith, store.fits, max_of-without p h);

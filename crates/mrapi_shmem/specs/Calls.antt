@@ -15,7 +15,8 @@ HasId id s = s.id ≡ id
 abbrev pub CreateRefused : Slots Segment → ℕ → ℕ → MrapiStatus → Type 0
 CreateRefused old id cells c =
     (first (shmem_create_refusals cells) ≡ Some c)
-    ⊎ ((first (shmem_create_refusals cells) ≡ None) × (((c ≡ ErrShmExists) × SomeLive (slot_value old) (HasId id)) ⊎ ((c ≡ ErrShmLimit) × NoneLive (slot_value old) (HasId id) × IsFull old)))
+    ⊎ ((first (shmem_create_refusals cells) ≡ None)
+    × (((c ≡ ErrShmExists) × SomeLive (slot_value old) (HasId id)) ⊎ ((c ≡ ErrShmLimit) × NoneLive (slot_value old) (HasId id) × IsFull old)))
 
 -- what a call on the segment of a handle answers in place of what it does: that the handle isn't live, and else the first of the segment's own refusals
 abbrev pub refusal : (Segment → List (Bool × MrapiStatus)) → Option Segment → Option MrapiStatus

@@ -21,56 +21,74 @@ module _ {s : State} (n : Fits inward s) (two : s.terms.layout ≡ Two) where
   -- a handle that may be issued names its kind
   fresh_names : {T : Type 0} (o : Objects T) (h : ℕ) → is_fresh o s h ≡ true → Names o.kind h
   fresh_names o h e =
-      names-of o.kind h (subst (λ (l : Layout). names_kind l o.kind h ≡ true) two (fst_true _ _ e)) (may_issue-generation s.terms.settings.generations h (o.list s) (snd_true (names_kind s.terms.layout o.kind h) _ e))
+      names-of o.kind h (subst (λ (l : Layout). names_kind l o.kind h ≡ true) two (fst_true _ _ e))
+      (may_issue-generation s.terms.settings.generations h (o.list s) (snd_true (names_kind s.terms.layout o.kind h) _ e))
 
-  module _ {T : Type 0} (o : Objects T) (f : T → T) (P : T → Type 0) (is : o.list (turned s) ≡ turned_list o.kind f (o.list s)) (v : HasEach inward o.kind P (o.list s)) where
+  module _ {T : Type 0} (o : Objects T) (f : T → T) (P : T
+      → Type 0) (is : o.list (turned s) ≡ turned_list o.kind f (o.list s)) (v : HasEach inward o.kind P (o.list s)) where
     -- it may be issued inside, where it is turned
     same_fresh : (h : ℕ) → is_fresh o (turned s) (inward o.kind h) ≡ is_fresh o s h
     same_fresh h = same_tests (is_fresh o (turned s) (inward o.kind h)) (is_fresh o s h) (λ e. outside e) (λ e. inside e)
       where
         outside : is_fresh o (turned s) (inward o.kind h) ≡ true → is_fresh o s h ≡ true
         outside e =
-            let g : may_issue s.terms.settings.generations (inward o.kind h) (turned_list o.kind f (o.list s)) ≡ true = subst (λ (l : List (Listed T)). may_issue s.terms.settings.generations (inward o.kind h) l ≡ true) is e in
+            let g : may_issue s.terms.settings.generations (inward o.kind h) (turned_list o.kind f (o.list s)) ≡ true =
+            subst (λ (l : List (Listed T)). may_issue s.terms.settings.generations (inward o.kind h) l ≡ true) is e in
             let once : 1 ≤ generation_of (inward o.kind h) = may_issue-generation s.terms.settings.generations (inward o.kind h) _ g in
             let some : Names o.kind h = omega (arith, once) in
-            let same : may_issue s.terms.settings.generations h (o.list s) ≡ true = sym (same_may_issue o.kind f P s.terms.settings.generations h (o.list s) some v) ∙ g in
+            let same : may_issue s.terms.settings.generations h (o.list s) ≡ true =
+            sym (same_may_issue o.kind f P s.terms.settings.generations h (o.list s) some v) ∙ g in
             let named : names_kind s.terms.layout o.kind h ≡ true = subst (λ (l : Layout). names_kind l o.kind h ≡ true) (sym two) (named-kind o.kind h some) in
             λ i. named i && same i
 
         inside : is_fresh o s h ≡ true → is_fresh o (turned s) (inward o.kind h) ≡ true
         inside e =
             let g : may_issue s.terms.settings.generations h (o.list s) ≡ true = snd_true (names_kind s.terms.layout o.kind h) _ e in
-            subst (λ (l : List (Listed T)). may_issue s.terms.settings.generations (inward o.kind h) l ≡ true) (sym is) (same_may_issue o.kind f P s.terms.settings.generations h (o.list s) (fresh_names o h e) v ∙ g)
+            subst (λ (l : List (Listed T)). may_issue s.terms.settings.generations (inward o.kind h) l
+            ≡ true) (sym is) (same_may_issue o.kind f P s.terms.settings.generations h (o.list s) (fresh_names o h e) v ∙ g)
 
-    creates_alike : (make other : ℕ → Move) → is_plain o.limit ≡ true → ((h : ℕ) → Names o.kind h → MovesRename inward (room_one s.terms) s (other (inward o.kind h) ∷ []) (make h ∷ [])) → (r : Reply) →
+    creates_alike : (make other : ℕ → Move) → is_plain o.limit ≡ true
+        → ((h : ℕ) → Names o.kind h → MovesRename inward (room_one s.terms) s (other (inward o.kind h) ∷ []) (make h ∷ [])) → (r : Reply) →
         Alike inward (room_one s.terms) s (Some o.kind) r (creates o s r make) (creates o (turned s) (renamed_answer inward (Some o.kind) r) other)
     creates_alike make other limit moves r =
-        subst (λ (h : ℕ). Alike inward (room_one s.terms) s (Some o.kind) r (creates o s r make) (unless (is_full s.terms.settings.generations (o.max s.terms.settings) (o.list (turned s))) o.limit (only (is_fresh o (turned s) h) (gives (Handle h) (other h ∷ [])))))
+        subst (λ (h : ℕ). Alike inward (room_one s.terms) s (Some o.kind) r (creates o s r make)
+        (unless (is_full s.terms.settings.generations (o.max s.terms.settings) (o.list (turned s))) o.limit
+        (only (is_fresh o (turned s) h) (gives (Handle h) (other h ∷ [])))))
         (sym (handle_turned o.kind r))
-        (unless_alike n (ap (is_full s.terms.settings.generations (o.max s.terms.settings)) is ∙ same_full o.kind f P s.terms.settings.generations (o.max s.terms.settings) (o.list s) v) limit
-        (only_alike n (same_fresh (handle_of r)) (λ e. gives_renamed n {y = Handle (handle_of r)} (fresh_names o (handle_of r) e) (moves (handle_of r) (fresh_names o (handle_of r) e)))))
+        (unless_alike n (ap (is_full s.terms.settings.generations (o.max s.terms.settings)) is
+        ∙ same_full o.kind f P s.terms.settings.generations (o.max s.terms.settings) (o.list s) v) limit
+        (only_alike n (same_fresh (handle_of r))
+        (λ e. gives_renamed n {y = Handle (handle_of r)} (fresh_names o (handle_of r) e) (moves (handle_of r) (fresh_names o (handle_of r) e)))))
 
-  pub creates_action : (a : Action) (r : Reply) → Alike inward (room_one s.terms) s (Some kind.Action) r (creates actions s r (λ h. makes_action h a)) (creates actions (turned s) (renamed_answer inward (Some kind.Action) r) (λ h. makes_action h a))
+  pub creates_action : (a : Action) (r : Reply)
+      → Alike inward (room_one s.terms) s (Some kind.Action) r (creates actions s r (λ h. makes_action h a))
+      (creates actions (turned s) (renamed_answer inward (Some kind.Action) r) (λ h. makes_action h a))
   creates_action a r =
       creates_alike actions (λ y. y) NoHandle refl n.actions (λ h. makes_action h a) (λ h. makes_action h a) refl
       (λ h some. one_move (record {
         same = makes_action-renames inward (room_one s.terms) s h a;
-        fits = has-so inward s n s.phase s.released s.stopped s.starts s.ends _ s.tasks (has-issue inward kind.Action NoHandle h a s.actions some tt n.actions) n.tasks;
+        fits = has-so inward s n s.phase s.released s.stopped s.starts s.ends _ s.tasks
+            (has-issue inward kind.Action NoHandle h a s.actions some tt n.actions) n.tasks;
       })) r
 
   pub creates_task : (t : NewTask) → IfSome t.group (Has inward kind.Group) → IfSome t.queue (Has inward kind.Queue) → (r : Reply) →
-      Alike inward (room_one s.terms) s (Some kind.Task) r (creates tasks s r (λ h. starts_task h t)) (creates tasks (turned s) (renamed_answer inward (Some kind.Task) r) (λ h. starts_task h (renamed_new inward t)))
+      Alike inward (room_one s.terms) s (Some kind.Task) r (creates tasks s r (λ h. starts_task h t))
+      (creates tasks (turned s) (renamed_answer inward (Some kind.Task) r) (λ h. starts_task h (renamed_new inward t)))
   creates_task t a b r =
       creates_alike tasks (renamed_task inward) (HasTask inward) refl n.tasks (λ h. starts_task h t) (λ h. starts_task h (renamed_new inward t)) refl
       (λ h some. one_move (record {
         same = starts_task-renames inward (room_one s.terms) s h t (n.zero kind.Mutex) (n.zero kind.Shmem);
         fits = has-so inward s n s.phase s.released s.stopped _ s.ends s.actions _ n.actions
-            (has-issue inward kind.Task (HasTask inward) h (new_task t s.starts) s.tasks some (record { queue = b; notes = record { group = a; tally = record { mutex = inl refl; segment = inl refl } } }) n.tasks);
+            (has-issue inward kind.Task (HasTask inward) h (new_task t s.starts) s.tasks some
+            (record { queue = b; notes = record { group = a; tally = record { mutex = inl refl; segment = inl refl } } }) n.tasks);
       })) r
 
-  pub creates_sort : (t : Sort) (w : Fields t) (r : Reply) → Alike inward (room_one s.terms) s (Some (all_of t).kind) r (creates (all_of t) s r (λ h. makes t h w)) (creates (all_of t) (turned s) (renamed_answer inward (Some (all_of t).kind) r) (λ h. makes t h w))
+  pub creates_sort : (t : Sort) (w : Fields t) (r : Reply)
+      → Alike inward (room_one s.terms) s (Some (all_of t).kind) r (creates (all_of t) s r (λ h. makes t h w))
+      (creates (all_of t) (turned s) (renamed_answer inward (Some (all_of t).kind) r) (λ h. makes t h w))
   creates_sort t w r =
-      creates_alike (all_of t) (λ y. y) NoHandle (sort-list inward (room_one s.terms) t s) (sort-has inward t s n) (λ h. makes t h w) (λ h. makes t h w) (limit_plain t)
+      creates_alike (all_of t) (λ y. y) NoHandle (sort-list inward (room_one s.terms) t s) (sort-has inward t s n) (λ h. makes t h w) (λ h. makes t h w)
+      (limit_plain t)
       (λ h some. one_move (record {
         same = makes-renames inward (room_one s.terms) s t h w;
         fits = has-with inward s n t _ (has-issue inward (all_of t).kind NoHandle h w ((all_of t).list s) some tt (sort-has inward t s n));
@@ -78,7 +96,8 @@ module _ {s : State} (n : Fits inward s) (two : s.terms.layout ≡ Two) where
 
   -- a new object, where no live one has its id
   pub keyed_creates : {t : Sort} (o : Keyed t) (w : Fields t) (r : Reply) → is_plain o.exists ≡ true →
-      Alike inward (room_one s.terms) s (Some (all_of t).kind) r (creates_keyed o s r w) (creates_keyed o (turned s) (renamed_answer inward (Some (all_of t).kind) r) w)
+      Alike inward (room_one s.terms) s (Some (all_of t).kind) r (creates_keyed o s r w)
+      (creates_keyed o (turned s) (renamed_answer inward (Some (all_of t).kind) r) w)
   keyed_creates {t} o w r p = unless_alike n (sort-any n (room_one s.terms) t (λ y. o.id y == o.id w)) p (creates_sort t w r)
 
   module _ {k : Option ObjectKind} {r : Reply} where
@@ -86,9 +105,11 @@ module _ {s : State} (n : Fits inward s) (two : s.terms.layout ≡ Two) where
         Alike inward (room_one s.terms) s k r (mtapi_unless (start_refusals s t) own) (mtapi_unless (start_refusals (turned s) (renamed_new inward t)) other)
     starts_alike t w =
         unless_alike n (ap not (action-any n (room_one s.terms) (has_job t.job))) refl (unless_then n (group_missing n (room_one s.terms) t.group) refl (λ b.
-        unless_alike n (ap not (action-any n (room_one s.terms) (has_enabled_job t.job))) refl (unless_alike n (ap not (served n (room_one s.terms) t.job t.cores)) refl (w (group_has n t.group b)))))
+        unless_alike n (ap not (action-any n (room_one s.terms) (has_enabled_job t.job))) refl
+        (unless_alike n (ap not (served n (room_one s.terms) t.job t.cores)) refl (w (group_has n t.group b)))))
 
     -- an enqueue on the live queue of a handle
     pub on_queue : (q : ℕ) (v w : Queue → Row) → ((y : Queue) → Has inward kind.Queue q → Alike inward (room_one s.terms) s k r (v y) (w y)) →
         Alike inward (room_one s.terms) s k r (on queues s q v) (on queues (turned s) (inward kind.Queue q) w)
-    on_queue q v w e = live_alike n (λ y. y) v w (sort-found n (room_one s.terms) Queues q) (says_alike n refl) (λ y d. e y (found-has inward kind.Queue NoHandle q y s.queues n.queues d).0)
+    on_queue q v w e = live_alike n (λ y. y) v w (sort-found n (room_one s.terms) Queues q) (says_alike n refl)
+        (λ y d. e y (found-has inward kind.Queue NoHandle q y s.queues n.queues d).0)

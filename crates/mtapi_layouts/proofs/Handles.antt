@@ -16,7 +16,8 @@ names_kind k h some = record {
     by_test true e = refl
     by_test false e = absurd (omega arith)
 
-    by_value : (b : Bool) → 1 ≤ or_zero (cond b (Some (h - object_number k * 2 ^ 24)) None) → h ≡ or_zero (cond b (Some (h - object_number k * 2 ^ 24)) None) + object_number k * 2 ^ 24
+    by_value : (b : Bool) → 1 ≤ or_zero (cond b (Some (h - object_number k * 2 ^ 24)) None)
+        → h ≡ or_zero (cond b (Some (h - object_number k * 2 ^ 24)) None) + object_number k * 2 ^ 24
     by_value true e = omega arith
     by_value false e = absurd (omega arith)
 
@@ -40,7 +41,8 @@ split : (h x n : ℕ) → h ≡ x + n * 2 ^ 24 → h / 2 ^ 24 % 256 ≡ n → (x
 split h x n e k = (omega arith, omega arith)
 
 -- the generation stays, and the slot goes up by the number of the kind
-pub inward-parts : (k : ObjectKind) (h : ℕ) → Names k h → (generation_of (inward k h) ≡ generation_of h) × (slot_of h ≡ slot_of (inward k h) + object_number k * 2 ^ 24)
+pub inward-parts : (k : ObjectKind) (h : ℕ) → Names k h
+    → (generation_of (inward k h) ≡ generation_of h) × (slot_of h ≡ slot_of (inward k h) + object_number k * 2 ^ 24)
 inward-parts k h some = let n = names_kind k h some in split h (inward k h) (object_number k) n.is (eqb-true (named_kind h) (object_number k) n.names)
 
 -- a handle that names the kind, turned inwards and outwards again

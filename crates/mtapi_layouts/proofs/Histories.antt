@@ -16,10 +16,32 @@ use Rattle.mtapi_layouts.proofs.Table.{inward-outward, row_turned, row_small}
 
 -- handles that name their kinds have others, those inside
 fits : {s : State} → Named s → Fits inward s
-fits n = record { one = inward-one; zero = inward-zero; actions = n.actions; tasks = n.tasks; groups = n.groups; queues = n.queues; mutexes = n.mutexes; sems = n.sems; rwls = n.rwls; segments = n.segments }
+fits n = record {
+  one = inward-one;
+  zero = inward-zero;
+  actions = n.actions;
+  tasks = n.tasks;
+  groups = n.groups;
+  queues = n.queues;
+  mutexes = n.mutexes;
+  sems =
+      n.sems;
+  rwls = n.rwls;
+  segments = n.segments;
+}
 
 named : {s : State} → Fits inward s → Named s
-named n = record { actions = n.actions; tasks = n.tasks; groups = n.groups; queues = n.queues; mutexes = n.mutexes; sems = n.sems; rwls = n.rwls; segments = n.segments }
+named n = record {
+  actions = n.actions;
+  tasks = n.tasks;
+  groups = n.groups;
+  queues = n.queues;
+  mutexes = n.mutexes;
+  sems = n.sems;
+  rwls = n.rwls;
+  segments =
+      n.segments;
+}
 
 -- no moves change the terms
 pub all_stay : (ms : List Move) (s : State) → (after_moves ms s).terms ≡ s.terms
@@ -29,10 +51,12 @@ all_stay (m ∷ ms) s = all_stay ms (apply m s) ∙ terms_stay s m
 pub history_named : (s : State) (L : List NodeEntry) → s.terms.layout ≡ Two → Named s → Named (after_from s L)
 unfolding after_from
 history_named s [] two n = n
-history_named s (e ∷ es) two n = history_named (next s e) es (ap (λ (t : Terms). t.layout) (all_stay (moves_of (row s e.who e.op e.reply)) s) ∙ two) (named (row_turned (fits n) two e.who e.op e.reply).fits)
+history_named s (e ∷ es) two n = history_named (next s e) es (ap (λ (t : Terms). t.layout) (all_stay (moves_of (row s e.who e.op e.reply)) s)
+    ∙ two) (named (row_turned (fits n) two e.who e.op e.reply).fits)
 
 -- a step inside, and a history of such steps
-pub step_turns : (s : State) (who : ℕ) (o : Op) (r : Reply) → s.terms.layout ≡ Two → Named s → IssuesSmall o r → Allows (row (turned s) who (inward_op o) r) r → StepTurns s who o r
+pub step_turns : (s : State) (who : ℕ) (o : Op) (r : Reply) → s.terms.layout ≡ Two → Named s → IssuesSmall o r → Allows (row (turned s) who (inward_op o) r) r
+    → StepTurns s who o r
 step_turns s who o r two n issued a =
     let small : IsSmall r = row_small (fits n) two who o r issued a in
     let back : renamed_reply inward o (outward_reply o r) ≡ r = inward-outward (answered_kind o) r small in
@@ -40,14 +64,16 @@ step_turns s who o r two n issued a =
     record {
       small = small;
       allowed = w.allowed.1 (subst (λ (q : Reply). Allows (row (turned s) who (inward_op o) q) q) (sym back) a);
-      leads = ap (λ (t : Terms). renamed inward (room_one t) (after_row s (row s who o (outward_reply o r)))) (all_stay (moves_of (row s who o (outward_reply o r))) s)
+      leads = ap (λ (t : Terms). renamed inward (room_one t) (after_row s (row s who o (outward_reply o r))))
+          (all_stay (moves_of (row s who o (outward_reply o r))) s)
           ∙ (w.leads ∙ ap (λ (q : Reply). after_row (turned s) (row (turned s) who (inward_op o) q)) back);
       named = named w.fits;
     }
 
 -- the seat that waits for a task
 pub pends_turned : (s : State) (who : ℕ) (o : Op) → Named s → pends_alike (turned s) who (inward_op o) ≡ pends_alike s who o
-pends_turned s who (op.TaskLook t last) n = ap (holds (λ x. is_seat who x.notes.waiter)) (found-turned kind.Task turned_task TaskIsNamed t.0 s.tasks n.tasks) ∙ by_task (live_object s.tasks t.0)
+pends_turned s who (op.TaskLook t last) n =
+    ap (holds (λ x. is_seat who x.notes.waiter)) (found-turned kind.Task turned_task TaskIsNamed t.0 s.tasks n.tasks) ∙ by_task (live_object s.tasks t.0)
   where
     by_task : (o : Option Task) → holds (λ x. is_seat who x.notes.waiter) (option_map turned_task o) ≡ holds (λ x. is_seat who x.notes.waiter) o
     by_task None = refl
@@ -66,17 +92,36 @@ history_from s (e ∷ es) two n small l =
     let w : StepTurns s e.who e.op e.reply = step_turns s e.who e.op e.reply two n small.0 l.0.allowed in
     let t : State = after_row s (row s e.who e.op (outward_reply e.op e.reply)) in
     let rest : LegalFrom t (outer_entries es) × (turned (after_from t (outer_entries es)) ≡ after_from (turned t) (inner_entries es)) =
-    history_from t es (ap (λ (x : Terms). x.layout) (all_stay (moves_of (row s e.who e.op (outward_reply e.op e.reply))) s) ∙ two) w.named small.1 (subst (λ (x : State). LegalFrom x (inner_entries es)) (sym w.leads) l.1) in
-    ((record { seat = l.0.seat; honest = honest_out e.op l.0.honest; allowed = w.allowed }, rest.0), rest.1 ∙ ap (λ (x : State). after_from x (inner_entries es)) w.leads)
+    history_from t es (ap (λ (x : Terms). x.layout) (all_stay (moves_of (row s e.who e.op (outward_reply e.op e.reply))) s)
+    ∙ two) w.named small.1 (subst (λ (x : State). LegalFrom x (inner_entries es)) (sym w.leads) l.1) in (
+      (record { seat = l.0.seat; honest = honest_out e.op l.0.honest; allowed = w.allowed }, rest.0),
+      rest.1
+          ∙ ap (λ (x : State). after_from x (inner_entries es)) w.leads,
+    )
 
 pub opening_turns : (terms : Terms) → StartTurns terms
 unfolding inside
-opening_turns terms = record { named = record { actions = tt; tasks = tt; groups = tt; queues = tt; mutexes = tt; sems = tt; rwls = tt; segments = tt }; turned = refl }
+opening_turns terms = record {
+  named = record {
+    actions = tt;
+    tasks = tt;
+    groups = tt;
+    queues = tt;
+    mutexes = tt;
+    sems = tt;
+    rwls = tt;
+    segments =
+        tt;
+  };
+  turned = refl;
+}
 
-pub history_turns : (terms : Terms) (L : List NodeEntry) → terms.layout ≡ Two → AllIssueSmall L → Legal (in_layout_one terms) (inner_entries L) → HistoryTurns terms L
+pub history_turns : (terms : Terms) (L : List NodeEntry) → terms.layout ≡ Two → AllIssueSmall L → Legal (in_layout_one terms) (inner_entries L)
+    → HistoryTurns terms L
 history_turns terms L two small l =
     let start : turned (opening terms) ≡ opening (in_layout_one terms) = (opening_turns terms).turned in
-    let w : LegalFrom (opening terms) (outer_entries L) × (turned (after_from (opening terms) (outer_entries L)) ≡ after_from (turned (opening terms)) (inner_entries L)) =
+    let w : LegalFrom (opening terms) (outer_entries L)
+    × (turned (after_from (opening terms) (outer_entries L)) ≡ after_from (turned (opening terms)) (inner_entries L)) =
     history_from (opening terms) L two (opening_turns terms).named small (subst (λ (x : State). LegalFrom x (inner_entries L)) (sym start) l.from) in
     record {
       legal = record { fits = record { settings = l.fits.settings; some_caller = l.fits.some_caller; callers = l.fits.callers }; from = w.0 };

@@ -26,23 +26,29 @@ module _ {T : Type 0} (k : ObjectKind) (f : T → T) (P : T → Type 0) where
 
   same_issued_at : (h : ℕ) (l : List (Listed T)) → Names k h → AreNamed k P l → issued_at (inward k h) (turned_list k f l) ≡ issued_at h l
   unfolding issued_at
-  same_issued_at h l some n = count-inside (inward k) (λ i x. f x) (λ r. slot_of r.handle == slot_of (inward k h)) (λ r. slot_of r.handle == slot_of h) l (agree l n)
+  same_issued_at h l some n = count-inside (inward k) (λ i x. f x) (λ r. slot_of r.handle == slot_of (inward k h)) (λ r. slot_of r.handle == slot_of h) l
+      (agree l n)
     where
       by_sums : (a b c d m : ℕ) → b ≡ a + m → d ≡ c + m → (a == c) ≡ (b == d)
-      by_sums a b c d m e g = same_tests (a == c) (b == d) (λ p. eq-eqb b d (let same : a ≡ c = eqb-true a c p in omega (arith, same, e, g))) (λ p. eq-eqb a c (let same : b ≡ d = eqb-true b d p in omega (arith, same, e, g)))
+      by_sums a b c d m e g = same_tests (a == c) (b == d) (λ p. eq-eqb b d (let same : a ≡ c = eqb-true a c p in omega (arith, same, e, g)))
+          (λ p. eq-eqb a c (let same : b ≡ d = eqb-true b d p in omega (arith, same, e, g)))
 
-      agree : (xs : List (Listed T)) → AreNamed k P xs → Agree (inward k) (λ i x. f x) (λ r. slot_of r.handle == slot_of (inward k h)) (λ r. slot_of r.handle == slot_of h) xs
+      agree : (xs : List (Listed T)) → AreNamed k P xs
+          → Agree (inward k) (λ i x. f x) (λ r. slot_of r.handle == slot_of (inward k h)) (λ r. slot_of r.handle == slot_of h) xs
       agree [] n = tt
       agree (r ∷ rs) n = (
-        by_sums (slot_of (inward k r.handle)) (slot_of r.handle) (slot_of (inward k h)) (slot_of h) (object_number k * 2 ^ 24) (inward-parts k r.handle n.0.0).1 (inward-parts k h some).1,
+        by_sums (slot_of (inward k r.handle)) (slot_of r.handle) (slot_of (inward k h)) (slot_of h) (object_number k * 2 ^ 24) (inward-parts k r.handle n.0.0).1
+            (inward-parts k h some).1,
         agree rs n.1,
       )
 
   same_retired : (last : ℕ) (l : List (Listed T)) → AreNamed k P l → retired last (turned_list k f l) ≡ retired last l
   unfolding retired
-  same_retired last l n = count-inside (inward k) (λ i x. f x) (λ r. not r.live && (generation_of r.handle == last)) (λ r. not r.live && (generation_of r.handle == last)) l (agree l n)
+  same_retired last l n = count-inside (inward k) (λ i x. f x) (λ r. not r.live && (generation_of r.handle == last)) (λ r. not r.live
+      && (generation_of r.handle == last)) l (agree l n)
     where
-      agree : (xs : List (Listed T)) → AreNamed k P xs → Agree (inward k) (λ i x. f x) (λ r. not r.live && (generation_of r.handle == last)) (λ r. not r.live && (generation_of r.handle == last)) xs
+      agree : (xs : List (Listed T)) → AreNamed k P xs
+          → Agree (inward k) (λ i x. f x) (λ r. not r.live && (generation_of r.handle == last)) (λ r. not r.live && (generation_of r.handle == last)) xs
       agree [] n = tt
       agree (r ∷ rs) n = (ap (λ x. not r.live && (x == last)) (inward-parts k r.handle n.0.0).0, agree rs n.1)
 

@@ -29,14 +29,16 @@ pub inward-outward : (k : Option ObjectKind) (q : Reply) → IsSmall q → renam
 inward-outward None (Handle h) small = refl
 inward-outward (Some k) (Handle h) small = ap Handle (inward-outer k h small)
 inward-outward k (Given t e) small = λ i. Given (record { 0 = inward-outer kind.Task t.0 small i }) e
-inward-outward k (Picked t a y args) small = λ i. Picked (record { 0 = inward-outer kind.Task t.0 small.0 i }) (record { 0 = inward-outer kind.Action a.0 small.1 i }) y args
+inward-outward k (Picked t a y args) small =
+    λ i. Picked (record { 0 = inward-outer kind.Task t.0 small.0 i }) (record { 0 = inward-outer kind.Action a.0 small.1 i }) y args
 inward-outward k q small = refl
 
 come_small : (k : Option ObjectKind) (q : Reply) → IsRenamed inward k q → IsSmall q
 come_small k q c = subst (λ (y : Reply). IsSmall y) (sym c.is) (small_of k c.own c.has)
 
 -- an op that makes an object reads of its reply the handle alone
-reads_handle : (u : State) (who : ℕ) (k : ObjectKind) (o : Op) (q : Reply) → made_kind o ≡ Some k → row u who (inward_op o) q ≡ row u who (inward_op o) (Handle (handle_of q))
+reads_handle : (u : State) (who : ℕ) (k : ObjectKind) (o : Op) (q : Reply) → made_kind o ≡ Some k
+    → row u who (inward_op o) q ≡ row u who (inward_op o) (Handle (handle_of q))
 reads_handle u who k (op.ActionCreate job y cores) q i = refl
 reads_handle u who k (op.TaskStart job args priority cores detached group) q i = refl
 reads_handle u who k (op.TaskEnqueue queue args cores detached group) q i = refl
@@ -64,19 +66,29 @@ module _ {s : State} (n : Fits inward s) (two : s.terms.layout ≡ Two) (who : �
   abbrev pub Turned : Op → Reply → Type 0
   Turned o r = Alike inward (room_one s.terms) s (answered_kind o) r (row s who o r) (row (turned s) who (inward_op o) (renamed_reply inward o r))
 
-  start_turned : (job : ℕ) (args : _) (priority : ℕ) (cores : _) (detached : Bool) (group : Option GroupHandle) (r : Reply) → Turned (op.TaskStart job args priority cores detached group) r
+  start_turned : (job : ℕ) (args : _) (priority : ℕ) (cores : _) (detached : Bool) (group : Option GroupHandle) (r : Reply)
+      → Turned (op.TaskStart job args priority cores detached group) r
   start_turned job args priority cores detached None r =
-      unless_alike n refl refl (unless_alike n refl refl (starts_alike n two (asked_for job args priority cores detached None) (λ a. creates_task n two (asked_for job args priority cores detached None) a tt r)))
+      unless_alike n refl refl (unless_alike n refl refl
+      (starts_alike n two (asked_for job args priority cores detached None)
+      (λ a. creates_task n two (asked_for job args priority cores detached None) a tt r)))
   start_turned job args priority cores detached (Some c) r =
-      unless_alike n refl refl (unless_alike n refl refl (starts_alike n two (asked_for job args priority cores detached (Some c)) (λ a. creates_task n two (asked_for job args priority cores detached (Some c)) a tt r)))
+      unless_alike n refl refl (unless_alike n refl refl
+      (starts_alike n two (asked_for job args priority cores detached (Some c))
+      (λ a. creates_task n two (asked_for job args priority cores detached (Some c)) a tt r)))
 
-  enqueue_turned : (q : QueueHandle) (args : _) (cores : _) (detached : Bool) (group : Option GroupHandle) (r : Reply) → Turned (op.TaskEnqueue q args cores detached group) r
+  enqueue_turned : (q : QueueHandle) (args : _) (cores : _) (detached : Bool) (group : Option GroupHandle) (r : Reply)
+      → Turned (op.TaskEnqueue q args cores detached group) r
   enqueue_turned q args cores detached None r =
-      unless_alike n refl refl (unless_alike n refl refl (on_queue n two q.0 _ _ (λ y has. unless_alike n refl refl (starts_alike n two (asked_of q.0 y args cores detached None)
-      (λ a. unless_alike n (ap (λ (m : ℕ). m == y.limit) (count-in n (room_one s.terms) q.0)) refl (creates_task n two (asked_of q.0 y args cores detached None) a has r))))))
+      unless_alike n refl refl (unless_alike n refl refl
+      (on_queue n two q.0 _ _ (λ y has. unless_alike n refl refl (starts_alike n two (asked_of q.0 y args cores detached None)
+      (λ a. unless_alike n (ap (λ (m : ℕ). m == y.limit) (count-in n (room_one s.terms) q.0)) refl
+      (creates_task n two (asked_of q.0 y args cores detached None) a has r))))))
   enqueue_turned q args cores detached (Some c) r =
-      unless_alike n refl refl (unless_alike n refl refl (on_queue n two q.0 _ _ (λ y has. unless_alike n refl refl (starts_alike n two (asked_of q.0 y args cores detached (Some c))
-      (λ a. unless_alike n (ap (λ (m : ℕ). m == y.limit) (count-in n (room_one s.terms) q.0)) refl (creates_task n two (asked_of q.0 y args cores detached (Some c)) a has r))))))
+      unless_alike n refl refl (unless_alike n refl refl
+      (on_queue n two q.0 _ _ (λ y has. unless_alike n refl refl (starts_alike n two (asked_of q.0 y args cores detached (Some c))
+      (λ a. unless_alike n (ap (λ (m : ℕ). m == y.limit) (count-in n (room_one s.terms) q.0)) refl
+      (creates_task n two (asked_of q.0 y args cores detached (Some c)) a has r))))))
 
   pub row_turned : (o : Op) (r : Reply) → Turned o r
   row_turned (op.ActionCreate job y cores) r = unless_alike n refl refl (unless_alike n refl refl (creates_action n two (new_action job y cores.0) r))
@@ -84,11 +96,18 @@ module _ {s : State} (n : Fits inward s) (two : s.terms.layout ≡ Two) (who : �
   row_turned (op.TaskEnqueue q args cores detached group) r = enqueue_turned q args cores detached group r
   row_turned op.GroupCreate r = unless_alike n refl refl (creates_sort n two Groups new_group r)
   row_turned (op.QueueCreate id job priority limit ordered retain) r =
-      unless_alike n refl refl (unless_alike n refl refl (unless_alike n (ap not (action-any n (room_one s.terms) (has_job job))) refl (keyed_creates n two keyed_queues (new_queue id job priority limit ordered retain) r refl)))
-  row_turned (op.MutexCreate id recursive) r = unless_alike n refl refl (unless_alike n refl refl (keyed_creates n two keyed_mutexes (new_mutex id recursive) r refl))
-  row_turned (op.SemCreate id limit) r = unless_alike n refl refl (unless_alike n refl refl (mrapi_alike n (sem_create_refusals limit) (keyed_creates n two keyed_sems (new_sem id limit) r refl)))
-  row_turned (op.RwlCreate id limit) r = unless_alike n refl refl (unless_alike n refl refl (mrapi_alike n (rwl_create_refusals limit) (keyed_creates n two keyed_rwls (new_rwl id limit) r refl)))
-  row_turned (op.ShmemCreate id cells) r = unless_alike n refl refl (unless_alike n refl refl (mrapi_alike n (shmem_create_refusals cells) (keyed_creates n two keyed_segments (new_segment id cells) r refl)))
+      unless_alike n refl refl (unless_alike n refl refl
+      (unless_alike n (ap not (action-any n (room_one s.terms) (has_job job))) refl
+      (keyed_creates n two keyed_queues (new_queue id job priority limit ordered retain) r refl)))
+  row_turned (op.MutexCreate id recursive) r =
+      unless_alike n refl refl (unless_alike n refl refl (keyed_creates n two keyed_mutexes (new_mutex id recursive) r refl))
+  row_turned (op.SemCreate id limit) r = unless_alike n refl refl
+      (unless_alike n refl refl (mrapi_alike n (sem_create_refusals limit) (keyed_creates n two keyed_sems (new_sem id limit) r refl)))
+  row_turned (op.RwlCreate id limit) r = unless_alike n refl refl
+      (unless_alike n refl refl (mrapi_alike n (rwl_create_refusals limit) (keyed_creates n two keyed_rwls (new_rwl id limit) r refl)))
+  row_turned (op.ShmemCreate id cells) r =
+      unless_alike n refl refl (unless_alike n refl refl
+      (mrapi_alike n (shmem_create_refusals cells) (keyed_creates n two keyed_segments (new_segment id cells) r refl)))
   row_turned o r = row_alike n (room_one s.terms) who o r refl
 
   -- each handle in a reply inside leaves room for the number of its kind
@@ -97,7 +116,8 @@ module _ {s : State} (n : Fits inward s) (two : s.terms.layout ≡ Two) (who : �
     where
       by_reply : (k : ObjectKind) → made_kind o ≡ Some k → (y : Reply) → HandleIsSmall y → Allows (row (turned s) who (inward_op o) y) y → IsSmall y
       by_reply k e (Handle h) room b = room
-      by_reply k e y room b = come_small (answered_kind o) y ((row_turned o Ok).comes y (subst (λ (w : Row). Allows w y) (reads_handle (turned s) who k o y e ∙ sym (reads_handle (turned s) who k o Ok e)) b))
+      by_reply k e y room b = come_small (answered_kind o) y
+          ((row_turned o Ok).comes y (subst (λ (w : Row). Allows w y) (reads_handle (turned s) who k o y e ∙ sym (reads_handle (turned s) who k o Ok e)) b))
 
       by_kind : (m : Option ObjectKind) → made_kind o ≡ m → IsSmall q
       by_kind None e = come_small (answered_kind o) q (reply_comes n (room_one s.terms) who o q e a)

@@ -27,7 +27,8 @@ pub record StepTurns (s : State) (who : ℕ) (op : Op) (r : Reply) : Type 0 wher
 
 -- so of each step that layout one allows inside
 abbrev pub Turns : Type 0
-Turns = (s : State) (who : ℕ) (op : Op) (r : Reply) → s.terms.layout ≡ Two → Named s → IssuesSmall op r → Allows (row (turned s) who (inward_op op) r) r → StepTurns s who op r
+Turns = (s : State) (who : ℕ) (op : Op) (r : Reply) → s.terms.layout ≡ Two → Named s → IssuesSmall op r → Allows (row (turned s) who (inward_op op) r) r
+    → StepTurns s who op r
 
 -- a history of a node, each entry with the op as its caller asked it and the reply as the node has it inside: the entries inside, and
 -- those that the callers see
@@ -51,7 +52,8 @@ pub record HistoryTurns (terms : Terms) (L : List NodeEntry) : Type 0 where
 
 -- so of each legal history inside
 abbrev pub HistoriesTurn : Type 0
-HistoriesTurn = (terms : Terms) (L : List NodeEntry) → terms.layout ≡ Two → AllIssueSmall L → Legal (in_layout_one terms) (inner_entries L) → HistoryTurns terms L
+HistoriesTurn = (terms : Terms) (L : List NodeEntry) → terms.layout ≡ Two → AllIssueSmall L → Legal (in_layout_one terms) (inner_entries L)
+    → HistoryTurns terms L
 
 -- a node starts so
 pub record StartTurns (terms : Terms) : Type 0 where

@@ -95,7 +95,8 @@ over n t = with_state (Ended Cancelled n) t
 
 pub record WorkedTasks : Type 0 where
   -- those that haven't begun end in the order of their starts, with the numbers 5 and 6
-  pub ended_in_order : end_each is_unstarted Cancelled 5 three ≡ (listed 1 (over 5 (task_of 0)) ∷ listed 2 (with_state (Running 0 kind.Echo) (task_of 1)) ∷ listed 3 (over 6 (task_of 2)) ∷ [])
+  pub ended_in_order : end_each is_unstarted Cancelled 5 three
+      ≡ (listed 1 (over 5 (task_of 0)) ∷ listed 2 (with_state (Running 0 kind.Echo) (task_of 1)) ∷ listed 3 (over 6 (task_of 2)) ∷ [])
   pub another_waits : first (task_look_refusals 1 (with_notes (λ n. record (with_waiter (Some 2) n) { group = None }) (task_of 0))) ≡ Some ErrWaitPending
   pub unseen : watch_end (task_of 0) ≡ Completed (pos 2 ∷ [])
   pub seen : watch_end (with_notes (λ n. record n { seen = true }) (task_of 0)) ≡ Cancelled
@@ -103,7 +104,8 @@ pub record WorkedTasks : Type 0 where
   pub no_args : watch_end (record (task_of 0) { args = [] }) ≡ Failed ErrArgSize
   pub longest : watch_end (record (task_of 0) { args = pos 64 ∷ [] }) ≡ Completed (pos 64 ∷ [])
   -- each kind has a number of its own; a tally takes four arguments, of which the last alone may be negative
-  pub kinds : map kind_number (kind.Add ∷ kind.Mul ∷ kind.Max ∷ kind.Div ∷ kind.Gcd ∷ kind.Echo ∷ kind.Triangle ∷ kind.Fail ∷ kind.Watch ∷ kind.Tally ∷ []) ≡ (1 ∷ 2 ∷ 3 ∷ 4 ∷ 5 ∷ 6 ∷ 7 ∷ 8 ∷ 9 ∷ 10 ∷ [])
+  pub kinds : map kind_number (kind.Add ∷ kind.Mul ∷ kind.Max ∷ kind.Div ∷ kind.Gcd ∷ kind.Echo ∷ kind.Triangle ∷ kind.Fail ∷ kind.Watch ∷ kind.Tally ∷ [])
+      ≡ (1 ∷ 2 ∷ 3 ∷ 4 ∷ 5 ∷ 6 ∷ 7 ∷ 8 ∷ 9 ∷ 10 ∷ [])
   pub four : tally_args (pos 1 ∷ pos 2 ∷ pos 3 ∷ negsuc 4 ∷ []) ≡ Some (record { mutex = 1; segment = 2; cell = 3; number = negsuc 4 })
   pub three : tally_args (pos 1 ∷ pos 2 ∷ pos 3 ∷ []) ≡ None
   pub five : tally_args (pos 1 ∷ pos 2 ∷ pos 3 ∷ pos 4 ∷ pos 5 ∷ []) ≡ None
@@ -119,7 +121,8 @@ abbrev pub queue : Bool → Queue
 queue ordered = record { id = 1; job = 1; priority = 0; limit = 4; ordered = ordered; retain = false; enabled = true }
 
 pub record WorkedGroups : Type 0 where
-  pub in_order_of_ends : endings 7 two_ended ≡ (record { task = 2; end = Cancelled; number = 4 } ∷ record { task = 1; end = Failed ErrActionFailed; number = 8 } ∷ [])
+  pub in_order_of_ends : endings 7 two_ended
+      ≡ (record { task = 2; end = Cancelled; number = 4 } ∷ record { task = 1; end = Failed ErrActionFailed; number = 8 } ∷ [])
   pub fault : first_fault (endings 7 two_ended) ≡ Some ErrTaskCancelled
   pub another : endings 8 two_ended ≡ []
 

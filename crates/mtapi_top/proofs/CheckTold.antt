@@ -42,7 +42,8 @@ refused_status t a b end.ReadFault h r i = absurd (r h.0)
 refused_status t a b end.Memory h r i = inr refl
 refused_status t a b _ h r i = absurd h
 
-pub refused_where : (bytes : Option (List ℕ)) (a b : Channels) (e : End) → Checks bytes a b e → (Rose a.reads b.reads → ⊥) → IfSome bytes (λ t. IsRefusedInput t → RefusedOrMemory (status_of e))
+pub refused_where : (bytes : Option (List ℕ)) (a b : Channels) (e : End) → Checks bytes a b e → (Rose a.reads b.reads → ⊥)
+    → IfSome bytes (λ t. IsRefusedInput t → RefusedOrMemory (status_of e))
 refused_where None a b e h r = tt
 refused_where (Some x) a b e h r = λ i. refused_status x a b e h r i
 
@@ -56,7 +57,8 @@ decided t a b (end.Judged w) h r o load j v i is =
     inl (ap verdict_status (same_verdict load j v w is mine))
 decided t a b (end.VerdictFault w) h r o load j v i is = absurd (o h.0)
 decided t a b end.InputTooLong h r o load j v i is = absurd (input_not_refused t load j i (inl h.0))
-decided t a b (end.Refused line cause) h r o load j v i is = absurd (input_not_refused t load j i (unjudged_refused t (end.Refused line cause) refl h.0.0 h.0.1))
+decided t a b (end.Refused line cause) h r o load j v i is =
+    absurd (input_not_refused t load j i (unjudged_refused t (end.Refused line cause) refl h.0.0 h.0.1))
 decided t a b end.TooLong h r o load j v i is = absurd (input_not_refused t load j i (unjudged_refused t end.TooLong refl h.0.0 h.0.1))
 decided t a b (end.JournalLine line) h r o load j v i is = absurd (input_not_refused t load j i (unjudged_refused t (end.JournalLine line) refl h.0.0 h.0.1))
 decided t a b end.JournalCut h r o load j v i is = absurd (input_not_refused t load j i (unjudged_refused t end.JournalCut refl h.0.0 h.0.1))
@@ -65,6 +67,7 @@ decided t a b end.Memory h r o load j v i is = inr refl
 decided t a b _ h r o load j v i is = absurd h
 
 pub check_decides : (bytes : Option (List ℕ)) (a b : Channels) (e : End) → Checks bytes a b e → (Rose a.reads b.reads → ⊥) → (Rose a.writes b.writes → ⊥)
-    → IfSome bytes (λ t. (load : Workload) (j : Journal) (v : Verdict) → IsInput t load j → IsVerdict load j v → (status_of e ≡ verdict_status v) ⊎ (status_of e ≡ 6))
+    → IfSome bytes (λ t. (load : Workload) (j : Journal) (v : Verdict) → IsInput t load j → IsVerdict load j v
+    → (status_of e ≡ verdict_status v) ⊎ (status_of e ≡ 6))
 check_decides None a b e h r w = tt
 check_decides (Some x) a b e h r w = λ load j v i is. decided x a b e h r w load j v i is

@@ -74,7 +74,8 @@ module _ (asked : Asked) (old new : Option (List ℕ)) (j : judges (Some asked) 
       → (reads (Some asked) ≡ true → TakesAtMost 1048577 old new)
       → ((IsErrOf {T = Workload} (Err error) errors.Read → ⊥) → r' ≡ r)
       → r ≤ r'
-      → ComesTo (Some asked) old new (record { reads = r; writes = w; threads = t; held = held }) (record { reads = r'; writes = w; threads = t; held = held }) (without_load error)
+      → ComesTo (Some asked) old new (record { reads = r; writes = w; threads = t; held = held }) (record { reads = r'; writes = w; threads = t; held = held })
+      (without_load error)
   without_load_comes error r r' w t held none clean unread taken faultless later = record {
     range = g;
     run = λ k. ends error none;
@@ -93,7 +94,8 @@ module _ (asked : Asked) (old new : Option (List ℕ)) (j : judges (Some asked) 
   }
     where
       ends : (e : LoadError) → HasNone (Some asked) old r r' e
-          → Ends (Some asked) old (record { reads = r; writes = w; threads = t; held = held }) (record { reads = r'; writes = w; threads = t; held = held }) (without_load e)
+          → Ends (Some asked) old (record { reads = r; writes = w; threads = t; held = held }) (record { reads = r'; writes = w; threads = t; held = held })
+          (without_load e)
       ends errors.Memory h = (refl, refl)
       ends errors.Read h = (h.0, h.1, refl)
       ends errors.TooLong h = (h.0, h.1, refl)
@@ -120,7 +122,8 @@ module _ (asked : Asked) (old new : Option (List ℕ)) (j : judges (Some asked) 
   -- A workload was read or made.
   module _ (load : Workload) (r r' : ℕ) (is : HasRead (Some asked) old)
       (clean : reads (Some asked) ≡ true → ReadsClean r r' old new) (whole : reads (Some asked) ≡ true → IfSome old (λ bytes. IsAtEnd new))
-      (unread : reads (Some asked) ≡ false → (new ≡ old) × (r' ≡ r)) (taken : reads (Some asked) ≡ true → TakesAtMost 1048577 old new) (faultless : r' ≡ r) (later : r ≤ r') where
+      (unread : reads (Some asked) ≡ false → (new ≡ old) × (r' ≡ r)) (taken : reads (Some asked) ≡ true
+      → TakesAtMost 1048577 old new) (faultless : r' ≡ r) (later : r ≤ r') where
     read_for : (n : ℕ) (x : Option Journal) → IsReadFor (Some asked) old new r r' n x
     read_for n x = record {
       unread = λ q k. unread q;
@@ -137,7 +140,8 @@ module _ (asked : Asked) (old new : Option (List ℕ)) (j : judges (Some asked) 
         at_end (Some y) h = h
 
     pub without_run_comes : (why : NoRun) (t t' w : ℕ) (held : Option (List ℕ)) → HasReason t t' why
-        → ComesTo (Some asked) old new (record { reads = r; writes = w; threads = t; held = held }) (record { reads = r'; writes = w; threads = t'; held = held }) (without_run why)
+        → ComesTo (Some asked) old new (record { reads = r; writes = w; threads = t; held = held })
+        (record { reads = r'; writes = w; threads = t'; held = held }) (without_run why)
     without_run_comes why t t' w held h = record {
       range = g;
       run = λ k. ends why h;
@@ -148,7 +152,8 @@ module _ (asked : Asked) (old new : Option (List ℕ)) (j : judges (Some asked) 
     }
       where
         ends : (x : NoRun) → HasReason t t' x
-            → Ends (Some asked) old (record { reads = r; writes = w; threads = t; held = held }) (record { reads = r'; writes = w; threads = t'; held = held }) (without_run x)
+            → Ends (Some asked) old (record { reads = r; writes = w; threads = t; held = held }) (record { reads = r'; writes = w; threads = t'; held = held })
+            (without_run x)
         ends reason.Refused h = (refl, h, is, refl)
         ends (reason.Spent s) h = (refl, h.0, is, refl)
         ends reason.Memory h = (refl, refl)
@@ -160,7 +165,8 @@ module _ (asked : Asked) (old new : Option (List ℕ)) (j : judges (Some asked) 
 
     pub written_comes : (journal : Journal) (text : List ℕ) (e : End) (t t' w w' : ℕ) (held held' : Option (List ℕ)) → IsLoadOf asked old load → WellFormed load
         → IsRun load journal → IsReadAgain asked journal → text ≡ output asked load journal → t' ≡ t → w ≤ w' → WritesOutput w w' held held' text journal e
-        → ComesTo (Some asked) old new (record { reads = r; writes = w; threads = t; held = held }) (record { reads = r'; writes = w'; threads = t'; held = held' }) e
+        → ComesTo (Some asked) old new (record { reads = r; writes = w; threads = t; held = held })
+        (record { reads = r'; writes = w'; threads = t'; held = held' }) e
     written_comes journal text e t t' w w' held held' loads formed run again same threads more h = record {
       range = g;
       run = λ k. ends e h;
@@ -174,9 +180,14 @@ module _ (asked : Asked) (old new : Option (List ℕ)) (j : judges (Some asked) 
         ran P h = record { asked = asked; asks = refl; load = load; is = loads; formed = formed; is_run = run; again = again; written = subst P same h }
 
         ends : (e : End) → WritesOutput w w' held held' text journal e
-            → Ends (Some asked) old (record { reads = r; writes = w; threads = t; held = held }) (record { reads = r'; writes = w'; threads = t'; held = held' }) e
+            → Ends (Some asked) old (record { reads = r; writes = w; threads = t; held = held })
+            (record { reads = r'; writes = w'; threads = t'; held = held' }) e
         ends (end.Done x) h = subst (λ (y : Journal). Ran (Some asked) old y (Appends held held')) (sym h.0) (ran (Appends held held') h.1)
-        ends (end.WriteFault x) h = (h.1, subst (λ (y : Journal). Ran (Some asked) old y (AppendsFront held held')) (sym h.0) (ran (AppendsFront held held') h.2))
+        ends (end.WriteFault x) h = (
+          h.1,
+          subst (λ (y : Journal). Ran (Some asked) old y (AppendsFront held held')) (sym h.0)
+              (ran (AppendsFront held held') h.2),
+        )
         ends _ h = absurd h
 
 -- Where nothing was started.
@@ -211,5 +222,6 @@ module _ (P : Type 0) (asked : Asked) (j : judges (Some asked) ≡ false) where
       other _ h q = absurd h
 
 -- What was asked for is what the words ask for.
-pub as_words : {old new : Option (List ℕ)} {a b : Outside} {e : End} (words : Option Asked) (asked : Asked) → words ≡ Some asked → ComesTo (Some asked) old new a b e → ComesTo words old new a b e
+pub as_words : {old new : Option (List ℕ)} {a b : Outside} {e : End} (words : Option Asked) (asked : Asked) → words ≡ Some asked
+    → ComesTo (Some asked) old new a b e → ComesTo words old new a b e
 as_words {old} {new} {a} {b} {e} words asked is h = subst (λ (w : Option Asked). ComesTo w old new a b e) (sym is) h

@@ -21,7 +21,8 @@ judges_one words f t = let both = sym f ∙ t in cc
 
 -- Want of memory for a message stands for an end whose message names a line
 
-pub memory_of_run : (words : Option Asked) (bytes : Option (List ℕ)) (a b : Outside) (e : End) → has_line e ≡ true → Ends words bytes a b e → Ends words bytes a b end.Memory
+pub memory_of_run : (words : Option Asked) (bytes : Option (List ℕ)) (a b : Outside) (e : End) → has_line e ≡ true → Ends words bytes a b e
+    → Ends words bytes a b end.Memory
 memory_of_run words bytes a b (end.Refused line cause) l h = (is_asked words h.0, h.2)
 memory_of_run words bytes a b (end.JournalLine line) l h = absurd h
 memory_of_run words bytes a b _ l h = absurd (cc)
@@ -47,7 +48,8 @@ not_six (inr (inr q)) = cc
 
 -- The journal that came back is written as text 2
 
-pub run_text_two : (words : Option Asked) (bytes : Option (List ℕ)) (a b : Outside) (e : End) → Ends words bytes a b e → IfSome (journal_of e) (λ j. IsTextTwo (journal_text j))
+pub run_text_two : (words : Option Asked) (bytes : Option (List ℕ)) (a b : Outside) (e : End) → Ends words bytes a b e
+    → IfSome (journal_of e) (λ j. IsTextTwo (journal_text j))
 run_text_two words bytes a b (end.Done j) h = text_two j h.is_run.layout
 run_text_two words bytes a b (end.WriteFault j) h = text_two j h.1.is_run.layout
 run_text_two words bytes a b _ h = tt

@@ -47,7 +47,8 @@ length_more (x ∷ ss) s = let k : length (ss ++ s ∷ []) ≡ length ss + 1 = l
 tasks_length : (n : ℕ) → length (tasks n) ≡ n
 unfolding tasks
 tasks_length zero = refl
-tasks_length (suc n) = let k : length (tasks n) ≡ n = tasks_length n in let e : length (tasks n ++ task_statement n ∷ []) ≡ length (tasks n) + 1 = length_more (tasks n) (task_statement n) in omega arith
+tasks_length (suc n) = let k : length (tasks n) ≡ n = tasks_length n in let e : length (tasks n ++ task_statement n ∷ []) ≡ length (tasks n) + 1 =
+    length_more (tasks n) (task_statement n) in omega arith
 
 -- The two actions
 
@@ -80,7 +81,8 @@ module _ (n w : ℕ) (some : 1 ≤ w) where
   abbrev settings : NodeSettings
   settings = generated_settings n w
 
-  task_settled : (actions : List Action) (before all : List Statement) (d : Deed) → actions ≡ two → IsTask d → is_settled_deed settings actions before all d ≡ true
+  task_settled : (actions : List Action) (before all : List Statement) (d : Deed) → actions ≡ two → IsTask d
+      → is_settled_deed settings actions before all d ≡ true
   unfolding is_settled_deed task_in
   task_settled actions before all _ e (adds i l) = ap (λ (xs : List Action). serves w xs 1 all_cores.0) e ∙ serves_add w some
   task_settled actions before all _ e (triangles k l) = ap (λ (xs : List Action). serves w xs 2 all_cores.0) e ∙ serves_triangle w some
@@ -96,10 +98,12 @@ module _ (n w : ℕ) (some : 1 ≤ w) where
   actions_more : (before : List Statement) (s : Statement) → actions_in before ≡ two → IsTask s.deed → actions_in (before ++ s ∷ []) ≡ two
   actions_more before s e t = actions_append before s t ∙ e
 
-  all_settled : (all before ss : List Statement) (m : ℕ) → actions_in before ≡ two → AreTasks ss → are_settled settings [] all before (ss ++ last_statement m ∷ []) ≡ true
+  all_settled : (all before ss : List Statement) (m : ℕ) → actions_in before ≡ two → AreTasks ss
+      → are_settled settings [] all before (ss ++ last_statement m ∷ []) ≡ true
   unfolding are_settled is_settled_deed
   all_settled all before [] m e a = refl
-  all_settled all before (s ∷ ss) m e a = λ i. task_settled (actions_in before) before all s.deed e a.0 i && all_settled all (before ++ s ∷ []) ss m (actions_more before s e a.0) a.1 i
+  all_settled all before (s ∷ ss) m e a =
+      λ i. task_settled (actions_in before) before all s.deed e a.0 i && all_settled all (before ++ s ∷ []) ss m (actions_more before s e a.0) a.1 i
 
 -- No queue, and how many of each
 
@@ -108,7 +112,8 @@ unfolding has_different_ids
 ids [] m a = refl
 ids (s ∷ ss) m a = by_deed s.deed a.0 (ids ss m a.1)
   where
-    by_deed : (d : Deed) → IsTask d → has_different_ids (ss ++ last_statement m ∷ []) ≡ true → (has_new_id (queue_in d) (ss ++ last_statement m ∷ []) && has_different_ids (ss ++ last_statement m ∷ [])) ≡ true
+    by_deed : (d : Deed) → IsTask d → has_different_ids (ss ++ last_statement m ∷ []) ≡ true
+        → (has_new_id (queue_in d) (ss ++ last_statement m ∷ []) && has_different_ids (ss ++ last_statement m ∷ [])) ≡ true
     by_deed _ (adds i l) e = e
     by_deed _ (triangles k l) e = e
 
@@ -118,12 +123,14 @@ limits all place [] m a = refl
 limits all place (s ∷ ss) m a = by_deed s.deed a.0 (limits all (place + 1) ss m a.1)
   where
     by_deed : (d : Deed) → IsTask d → keep_limits all (place + 1) (ss ++ last_statement m ∷ []) ≡ true
-        → (not (holds (λ q. nat_lt q.limit (how_many (λ e. puts_into place e.deed) all)) (queue_in d)) && keep_limits all (place + 1) (ss ++ last_statement m ∷ [])) ≡ true
+        → (not (holds (λ q. nat_lt q.limit (how_many (λ e. puts_into place e.deed) all)) (queue_in d))
+        && keep_limits all (place + 1) (ss ++ last_statement m ∷ [])) ≡ true
     by_deed _ (adds i l) e = e
     by_deed _ (triangles k l) e = e
 
 -- how many of these statements pass a test of deeds that the last one doesn't pass
-counts : (p : Deed → Bool) (b : Bool) → ((d : Deed) → IsTask d → p d ≡ b) → ((m : ℕ) → p (last_statement m).deed ≡ false) → (ss : List Statement) (m : ℕ) → AreTasks ss
+counts : (p : Deed → Bool) (b : Bool) → ((d : Deed) → IsTask d → p d ≡ b) → ((m : ℕ) → p (last_statement m).deed ≡ false) → (ss : List Statement) (m : ℕ)
+    → AreTasks ss
     → how_many (λ s. p s.deed) (ss ++ last_statement m ∷ []) ≡ cond b (length ss) 0
 counts p b f g [] m a = (λ i. cond {A = ℕ} (g m i) 1 0 + 0) ∙ zero_of b
   where
@@ -132,11 +139,13 @@ counts p b f g [] m a = (λ i. cond {A = ℕ} (g m i) 1 0 + 0) ∙ zero_of b
     zero_of false = refl
 counts p b f g (s ∷ ss) m a = by_bit b (f s.deed a.0) (counts p b f g ss m a.1)
   where
-    by_bit : (c : Bool) → p s.deed ≡ c → how_many (λ x. p x.deed) (ss ++ last_statement m ∷ []) ≡ cond c (length ss) 0 → cond (p s.deed) 1 0 + how_many (λ x. p x.deed) (ss ++ last_statement m ∷ []) ≡ cond c (length (s ∷ ss)) 0
+    by_bit : (c : Bool) → p s.deed ≡ c → how_many (λ x. p x.deed) (ss ++ last_statement m ∷ []) ≡ cond c (length ss) 0
+        → cond (p s.deed) 1 0 + how_many (λ x. p x.deed) (ss ++ last_statement m ∷ []) ≡ cond c (length (s ∷ ss)) 0
     by_bit true e k = let d : cond {A = ℕ} (p s.deed) 1 0 ≡ 1 = ap (λ (z : Bool). cond {A = ℕ} z 1 0) e in omega arith
     by_bit false e k = let d : cond {A = ℕ} (p s.deed) 1 0 ≡ 0 = ap (λ (z : Bool). cond {A = ℕ} z 1 0) e in omega arith
 
-none_of : (p : Deed → Bool) → ((i : ℕ) → p (start 1 (pos i ∷ pos 7 ∷ [])) ≡ false) → ((k : ℕ) → p (start 2 (pos k ∷ [])) ≡ false) → (d : Deed) → IsTask d → p d ≡ false
+none_of : (p : Deed → Bool) → ((i : ℕ) → p (start 1 (pos i ∷ pos 7 ∷ [])) ≡ false) → ((k : ℕ) → p (start 2 (pos k ∷ [])) ≡ false) → (d : Deed) → IsTask d
+    → p d ≡ false
 none_of p f g _ (adds i l) = f i
 none_of p f g _ (triangles k l) = g k
 
@@ -150,12 +159,14 @@ fits_small : (n : ℕ) → n < 1000000 → fits (pos n) ≡ true
 unfolding fits
 fits_small n l = grind (arith, nat_tests)
 
-add_fine : (i : ℕ) (a b : Bool) → a ≡ true → b ≡ true → both (Some 2) (option_and_then fault_of (Some (task_end (number_end (cond a (cond b (Some ((pos 0 +ℤ pos i) +ℤ pos 7)) None) None))))) ≡ []
+add_fine : (i : ℕ) (a b : Bool) → a ≡ true → b ≡ true
+    → both (Some 2) (option_and_then fault_of (Some (task_end (number_end (cond a (cond b (Some ((pos 0 +ℤ pos i) +ℤ pos 7)) None) None))))) ≡ []
 add_fine i true true e f = refl
 add_fine i true false e f = absurd (cc)
 add_fine i false b e f = absurd (cc)
 
-triangle_fine : (k : ℕ) (a : Bool) → a ≡ true → both (Some 2) (option_and_then fault_of (Some (task_end (number_end (cond a (Some (pos (k * (k + 1) / 2))) None))))) ≡ []
+triangle_fine : (k : ℕ) (a : Bool) → a ≡ true
+    → both (Some 2) (option_and_then fault_of (Some (task_end (number_end (cond a (Some (pos (k * (k + 1) / 2))) None))))) ≡ []
 triangle_fine k true e = refl
 triangle_fine k false e = absurd (cc)
 
@@ -217,10 +228,14 @@ module _ (n w : ℕ) (some : 1 ≤ w) (few : n ≤ 19000) where
 
   room_is : has_room (generated_settings n w) all ≡ true
   room_is =
-      let a : how_many (λ s. makes_action s.deed) (tasks n ++ last_statement n ∷ []) ≡ 0 = counts makes_action false (none_of makes_action (λ i. refl) (λ k. refl)) (λ m. refl) (tasks n) n are in
-      let b : how_many (λ s. makes_group s.deed) (tasks n ++ last_statement n ∷ []) ≡ 0 = counts makes_group false (none_of makes_group (λ i. refl) (λ k. refl)) (λ m. refl) (tasks n) n are in
-      let c : how_many (λ s. is_some (queue_in s.deed)) (tasks n ++ last_statement n ∷ []) ≡ 0 = counts (λ d. is_some (queue_in d)) false (none_of (λ d. is_some (queue_in d)) (λ i. refl) (λ k. refl)) (λ m. refl) (tasks n) n are in
-      let d : how_many (λ s. makes_task s.deed) (tasks n ++ last_statement n ∷ []) ≡ length (tasks n) = counts makes_task true each_of (λ m. refl) (tasks n) n are in
+      let a : how_many (λ s. makes_action s.deed) (tasks n ++ last_statement n ∷ []) ≡ 0 =
+      counts makes_action false (none_of makes_action (λ i. refl) (λ k. refl)) (λ m. refl) (tasks n) n are in
+      let b : how_many (λ s. makes_group s.deed) (tasks n ++ last_statement n ∷ []) ≡ 0 =
+      counts makes_group false (none_of makes_group (λ i. refl) (λ k. refl)) (λ m. refl) (tasks n) n are in
+      let c : how_many (λ s. is_some (queue_in s.deed)) (tasks n ++ last_statement n ∷ []) ≡ 0 =
+      counts (λ d. is_some (queue_in d)) false (none_of (λ d. is_some (queue_in d)) (λ i. refl) (λ k. refl)) (λ m. refl) (tasks n) n are in
+      let d : how_many (λ s. makes_task s.deed) (tasks n ++ last_statement n ∷ []) ≡ length (tasks n) =
+      counts makes_task true each_of (λ m. refl) (tasks n) n are in
       let e : length (tasks n) ≡ n = tasks_length n in
       let x : nat_le (1 + (1 + (0 + how_many (λ s. makes_action s.deed) (tasks n ++ last_statement n ∷ [])))) 64 ≡ true = grind (arith, nat_tests) in
       let y : nat_le (0 + (0 + (1 + how_many (λ s. makes_group s.deed) (tasks n ++ last_statement n ∷ [])))) 128 ≡ true = grind (arith, nat_tests) in

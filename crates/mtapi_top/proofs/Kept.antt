@@ -28,14 +28,20 @@ all_placed head (e ∷ es) l b = (record { seat = b.0; words = ap (λ (x : Layou
 seats_are : (load : Workload) (j : Journal) → IsRun load j → BySeats (j.settings.workers + j.callers) j.entries.entries
 seats_are load j r =
     subst (λ (n : ℕ). BySeats (j.settings.workers + n) j.entries.entries) (sym r.callers)
-    (subst (λ x. BySeats (x.workers + length load.parts) j.entries.entries) (sym r.settings) (by_seats (opening (terms_for load)) j.entries.entries r.legal.from))
+    (subst (λ x. BySeats (x.workers + length load.parts) j.entries.entries) (sym r.settings)
+    (by_seats (opening (terms_for load)) j.entries.entries r.legal.from))
 
 pub writable : (load : Workload) (j : Journal) → WellFormed load → IsRun load j → IsWritable j
 writable load j f r =
     let some = has_part load f in
     let few = f.count in
     let same = r.callers in
-    record { some = omega (arith, some, same); few = omega (arith, few, same); places = all_placed (head_for j) j.entries.entries r.layout (seats_are load j r) }
+    record {
+      some = omega (arith, some, same);
+      few = omega (arith, few, same);
+      places =
+          all_placed (head_for j) j.entries.entries r.layout (seats_are load j r);
+    }
 
 pub kept_input : (bytes front : List ℕ) (load : Workload) (j : Journal) → length bytes ≤ 67108864 → IsSplit bytes front (journal_text j)
     → length front ≤ 1048576 → workload_of front ≡ Ok load → journal_of (journal_text j) ≡ Ok j → IsInput bytes load j

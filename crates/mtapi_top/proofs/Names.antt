@@ -34,4 +34,12 @@ pub use Rattle.workload_file.specs.declared.workload.Workload.{Workload}
 unfoldable pub use Rattle.generated_workload.specs.Generated.{generated, tasks}
 unfoldable pub use Rattle.journal_text.specs.Journals.{journal_text}
 unfoldable pub use Rattle.settled_runs.specs.Plain.{plain_end, plain_fault, task_in}
-unfoldable pub use Rattle.settled_runs.specs.Settled.{are_settled, has_different_ids, has_one_kind_a_job, have_one_fault_a_group, is_settled, is_settled_deed, keep_limits}
+unfoldable pub use Rattle.settled_runs.specs.Settled.{
+  are_settled,
+  has_different_ids,
+  has_one_kind_a_job,
+  have_one_fault_a_group,
+  is_settled,
+  is_settled_deed,
+  keep_limits,
+}

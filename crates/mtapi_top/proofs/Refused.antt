@@ -9,7 +9,8 @@ abbrev pub Told : End → ℕ → ℕ → Option (List ℕ) → Option (List ℕ
 Told e f f' p p' outcome = IsTold e f f' p p' outcome ⊎ ((has_line e ≡ true) × IsTold end.Memory f f' p p' outcome)
 
 -- What holds of the status of the end, and of 6, holds of the status that was told.
-pub told_status : (Q : ℕ → Type 0) (e : End) (f f' : ℕ) (p p' : Option (List ℕ)) (outcome : Outcome) → Q (status_of e) → Q 6 → Told e f f' p p' outcome → Q outcome.status
+pub told_status : (Q : ℕ → Type 0) (e : End) (f f' : ℕ) (p p' : Option (List ℕ)) (outcome : Outcome) → Q (status_of e) → Q 6 → Told e f f' p p' outcome
+    → Q outcome.status
 told_status Q e f f' p p' outcome q six (inl t) = subst Q (sym t.status) q
 told_status Q e f f' p p' outcome q six (inr t) = subst Q (sym t.1.status) six
 
@@ -48,7 +49,8 @@ not_workload t x (inr none) = let both = sym none.2 ∙ x.2 in cc
 pub nothing_asked : (words : Option Asked) → words ≡ None → reads words ≡ true → ⊥
 nothing_asked words e q = let none = ap reads (sym e) ∙ q in cc
 
-refused_status : (words : Option Asked) (t : List ℕ) (a b : Outside) (e : End) → Ends words (Some t) a b e → reads words ≡ true → (Rose a.reads b.reads → ⊥) → IsRefused t → (status_of e ≡ 3) ⊎ (status_of e ≡ 6)
+refused_status : (words : Option Asked) (t : List ℕ) (a b : Outside) (e : End) → Ends words (Some t) a b e → reads words ≡ true → (Rose a.reads b.reads → ⊥)
+    → IsRefused t → (status_of e ≡ 3) ⊎ (status_of e ≡ 6)
 refused_status words t a b (end.Done j) h r n i = absurd (not_refused words t j _ h r i)
 refused_status words t a b end.Usage h r n i = absurd (nothing_asked words h.0 r)
 refused_status words t a b (end.Refused line cause) h r n i = inl refl
@@ -60,12 +62,14 @@ refused_status words t a b end.NoThread h r n i = absurd (not_workload t (h.2 r)
 refused_status words t a b (end.Spent s) h r n i = absurd (not_workload t (h.2 r) i)
 refused_status words t a b _ h r n i = absurd h
 
-pub refused_has : (words : Option Asked) (bytes : Option (List ℕ)) (a b : Outside) (e : End) → Ends words bytes a b e → reads words ≡ true → (Rose a.reads b.reads → ⊥) → IfSome bytes (λ t. IsRefused t → (status_of e ≡ 3) ⊎ (status_of e ≡ 6))
+pub refused_has : (words : Option Asked) (bytes : Option (List ℕ)) (a b : Outside) (e : End) → Ends words bytes a b e → reads words ≡ true
+    → (Rose a.reads b.reads → ⊥) → IfSome bytes (λ t. IsRefused t → (status_of e ≡ 3) ⊎ (status_of e ≡ 6))
 refused_has words None a b e h r n = tt
 refused_has words (Some x) a b e h r n = λ i. refused_status words x a b e h r n i
 
 -- and what was read as a workload is one
-pub read_is_workload : (words : Option Asked) (bytes left : Option (List ℕ)) (result : Result Workload LoadError) → IfSome bytes (λ t. Loads t left result) → IfOk result (λ load. HasRead words bytes)
+pub read_is_workload : (words : Option Asked) (bytes left : Option (List ℕ)) (result : Result Workload LoadError) → IfSome bytes (λ t. Loads t left result)
+    → IfOk result (λ load. HasRead words bytes)
 read_is_workload words bytes left (Err e) h = tt
 read_is_workload words None left (Ok load) h = λ r. tt
 read_is_workload words (Some t) left (Ok load) h = λ r. (h.0, load, h.1)

@@ -13,7 +13,8 @@ use Rattle.mtapi_top.specs.declared.ends.End.TheVariants as end
 use Rattle.mtapi_top.specs.Command.{journal_of}
 use Rattle.mtapi_top.proofs.GeneratedSettled.{generated_settled}
 
-settled_run : (load : Workload) (j : Journal) → WellFormed load → IsRun load j → is_settled load ≡ true → SettledRun j.layout load j.entries.entries j.entries.skipped
+settled_run : (load : Workload) (j : Journal) → WellFormed load → IsRun load j → is_settled load ≡ true
+    → SettledRun j.layout load j.entries.entries j.entries.skipped
 settled_run load j f r e = record {
   settled = e;
   formed = f;
@@ -23,7 +24,8 @@ settled_run load j f r e = record {
 }
 
 -- the report of a journal that is judged to be a run of a settled workload
-pub settled_report : (load : Workload) (j : Journal) → WellFormed load → length j.entries.skipped ≡ length j.entries.entries → IsLegal j → IsRunOf load j → is_settled load ≡ true
+pub settled_report : (load : Workload) (j : Journal) → WellFormed load → length j.entries.skipped ≡ length j.entries.entries → IsLegal j → IsRunOf load j
+    → is_settled load ≡ true
     → report j.layout load j.entries.entries ≡ plain_report load
 settled_report load j f b l r s = settled_reports_are_plain j.layout load j.entries.entries j.entries.skipped (record {
   settled = s;
@@ -42,34 +44,43 @@ one_load : (r : Result Workload Fault) (x y : Workload) → r ≡ Ok x → r ≡
 one_load r x y i k = let both = sym i ∙ k in cc
 
 module _ (j : Journal) (P : List ℕ → Type 0) where
-  by_asked : (asked : Asked) (bytes : Option (List ℕ)) (load : Workload) → IsLoadOf asked bytes load → WellFormed load → IsRun load j → InRange asked → P (output asked load j) → IsPlainOutput (Some asked) bytes j P
+  by_asked : (asked : Asked) (bytes : Option (List ℕ)) (load : Workload) → IsLoadOf asked bytes load → WellFormed load → IsRun load j → InRange asked
+      → P (output asked load j) → IsPlainOutput (Some asked) bytes j P
   by_asked asks.Report None load i f r g p = tt
   by_asked asks.Report (Some b) load i f r g p = λ mine e s.
       let same : load ≡ mine = one_load (workload_of b) load mine i.1 e in
-      subst (λ (x : Workload). P (plain_report x)) same (subst P (settled_reports_are_plain j.layout load j.entries.entries j.entries.skipped (settled_run load j f r (subst (λ (x : Workload). is_settled x ≡ true) (sym same) s))) p)
+      subst (λ (x : Workload). P (plain_report x)) same
+      (subst P (settled_reports_are_plain j.layout load j.entries.entries j.entries.skipped
+      (settled_run load j f r (subst (λ (x : Workload). is_settled x ≡ true) (sym same) s))) p)
   by_asked asks.Journal None load i f r g p = tt
   by_asked asks.Journal (Some b) load i f r g p = λ mine e s.
       let same : load ≡ mine = one_load (workload_of b) load mine i.1 e in
       subst (λ (x : Workload). P (plain_report x ++ journal_text j)) same
-      (subst (λ (x : List ℕ). P (x ++ journal_text j)) (settled_reports_are_plain j.layout load j.entries.entries j.entries.skipped (settled_run load j f r (subst (λ (x : Workload). is_settled x ≡ true) (sym same) s))) p)
+      (subst (λ (x : List ℕ). P (x ++ journal_text j))
+      (settled_reports_are_plain j.layout load j.entries.entries j.entries.skipped
+      (settled_run load j f r (subst (λ (x : Workload). is_settled x ≡ true) (sym same) s))) p)
   by_asked (asks.Generated n w) bytes load i f r g p =
       let e : is_settled load ≡ true = subst (λ (x : Workload). is_settled x ≡ true) (sym i) (generated_settled n w g.0 g.1 g.2 g.3) in
-      subst P (settled_summaries_are_plain j.layout load j.entries.entries j.entries.skipped (settled_run load j f r e) ∙ ap plain_summary i ∙ one_summary n w) p
+      subst P (settled_summaries_are_plain j.layout load j.entries.entries j.entries.skipped (settled_run load j f r e) ∙ ap plain_summary i
+      ∙ one_summary n w) p
   by_asked asks.Check bytes load i f r g p = tt
 
   plain_output : (words : Option Asked) (bytes : Option (List ℕ)) → Ran words bytes j P → IfSome words InRange → IsPlainOutput words bytes j P
   plain_output words bytes r g =
-      subst (λ (x : Option Asked). IsPlainOutput x bytes j P) (sym r.asks) (by_asked r.asked bytes r.load r.is r.formed r.is_run (subst (λ (x : Option Asked). IfSome x InRange) r.asks g) r.written)
+      subst (λ (x : Option Asked). IsPlainOutput x bytes j P) (sym r.asks)
+      (by_asked r.asked bytes r.load r.is r.formed r.is_run (subst (λ (x : Option Asked). IfSome x InRange) r.asks g) r.written)
 
 -- An end with the status 0, or 5
 
 module _ (words : Option Asked) (bytes : Option (List ℕ)) (a b : Outside) where
-  pub done_plainly : (e : End) → Ends words bytes a b e → IfSome words InRange → status_of e ≡ 0 → IfSome (journal_of e) (λ j. IsPlainOutput words bytes j (Appends a.held b.held))
+  pub done_plainly : (e : End) → Ends words bytes a b e → IfSome words InRange → status_of e ≡ 0
+      → IfSome (journal_of e) (λ j. IsPlainOutput words bytes j (Appends a.held b.held))
   done_plainly (end.Done j) h g q = plain_output j (Appends a.held b.held) words bytes h g
   done_plainly (end.WriteFault j) h g q = absurd (cc)
   done_plainly _ h g q = tt
 
-  pub cut_plainly : (e : End) → Ends words bytes a b e → IfSome words InRange → status_of e ≡ 5 → IfSome (journal_of e) (λ j. IsPlainOutput words bytes j (AppendsFront a.held b.held))
+  pub cut_plainly : (e : End) → Ends words bytes a b e → IfSome words InRange → status_of e ≡ 5
+      → IfSome (journal_of e) (λ j. IsPlainOutput words bytes j (AppendsFront a.held b.held))
   cut_plainly (end.WriteFault j) h g q = plain_output j (AppendsFront a.held b.held) words bytes h.1 g
   cut_plainly (end.Done j) h g q = absurd (cc)
   cut_plainly _ h g q = tt

@@ -18,7 +18,8 @@ either true f t = t refl
 -- ---- the end that was told
 
 -- Want of memory for a message stands for an end whose message names a line.
-as_memory : {words : Option Asked} {old new : Option (List ℕ)} {a b : Outside} (e : End) → has_line e ≡ true → ComesTo words old new a b e → ComesTo words old new a b end.Memory
+as_memory : {words : Option Asked} {old new : Option (List ℕ)} {a b : Outside} (e : End) → has_line e ≡ true → ComesTo words old new a b e
+    → ComesTo words old new a b end.Memory
 as_memory {words} {old} {new} {a} {b} e l h = record {
   range = h.range;
   run = λ j. memory_of_run words old a b e l (h.run j);
@@ -41,7 +42,8 @@ pub record IsToldOf (words : Option Asked) (old new : Option (List ℕ)) (a b : 
   pub comes : ComesTo words old new a b end
   pub told : IsTold end f f' p p' outcome
 
-pub told_of : {words : Option Asked} {old new : Option (List ℕ)} {a b : Outside} {e : End} {f f' : ℕ} {p p' : Option (List ℕ)} {outcome : Outcome} → ComesTo words old new a b e → Told e f f' p p' outcome
+pub told_of : {words : Option Asked} {old new : Option (List ℕ)} {a b : Outside} {e : End} {f f' : ℕ} {p p' : Option (List ℕ)} {outcome : Outcome}
+    → ComesTo words old new a b e → Told e f f' p p' outcome
     → IsToldOf words old new a b f f' p p' outcome
 told_of {words} {old} {new} {a} {b} {e} {f} {f'} {p} {p'} {outcome} h (inl t) = record { end = e; comes = h; told = t }
 told_of {words} {old} {new} {a} {b} {e} {f} {f'} {p} {p'} {outcome} h (inr t) = record { end = end.Memory; comes = as_memory e t.0 h; told = t.1 }
@@ -147,7 +149,8 @@ module _ (words : Option Asked) (bytes : Option (List ℕ)) (a b : Outside) wher
   not_nine (end.Judged v) h q = h
   not_nine _ h q = cc
 
-  generated_run : (e : End) → Ends words bytes a b e → is_some words ≡ true → reads words ≡ false → (Rose a.writes b.writes → ⊥) → (Rose a.threads b.threads → ⊥)
+  generated_run : (e : End) → Ends words bytes a b e → is_some words ≡ true → reads words ≡ false → (Rose a.writes b.writes → ⊥)
+      → (Rose a.threads b.threads → ⊥)
       → (status_of e ≡ 0) ⊎ (status_of e ≡ 6) ⊎ (status_of e ≡ 8)
   generated_run (end.Done j) h s r w t = inl refl
   generated_run end.Memory h s r w t = inr (inl refl)
@@ -160,7 +163,8 @@ module _ (words : Option Asked) (bytes : Option (List ℕ)) (a b : Outside) wher
   generated_run end.ReadFault h s r w t = absurd (let m = sym h.0 ∙ r in cc)
   generated_run _ h s r w t = absurd h
 
-complete_run : (words : Option Asked) (x : List ℕ) (a b : Outside) (e : End) → Ends words (Some x) a b e → reads words ≡ true → (Rose a.reads b.reads → ⊥) → (Rose a.writes b.writes → ⊥) → (Rose a.threads b.threads → ⊥)
+complete_run : (words : Option Asked) (x : List ℕ) (a b : Outside) (e : End) → Ends words (Some x) a b e → reads words ≡ true → (Rose a.reads b.reads → ⊥)
+    → (Rose a.writes b.writes → ⊥) → (Rose a.threads b.threads → ⊥)
     → IsWorkload x → (status_of e ≡ 0) ⊎ (status_of e ≡ 6) ⊎ (status_of e ≡ 8)
 complete_run words x a b (end.Done j) h r n w t i = inl refl
 complete_run words x a b end.Memory h r n w t i = inr (inl refl)
@@ -173,7 +177,8 @@ complete_run words x a b (end.Refused line cause) h r n w t i = absurd (not_work
 complete_run words x a b end.TooLong h r n w t i = absurd (not_workload x i (refused_end words (Some x) a b end.TooLong h refl))
 complete_run words x a b _ h r n w t i = absurd h
 
-complete_some : (words : Option Asked) (bytes : Option (List ℕ)) (a b : Outside) (e : End) → Ends words bytes a b e → reads words ≡ true → (Rose a.reads b.reads → ⊥) → (Rose a.writes b.writes → ⊥)
+complete_some : (words : Option Asked) (bytes : Option (List ℕ)) (a b : Outside) (e : End) → Ends words bytes a b e → reads words ≡ true
+    → (Rose a.reads b.reads → ⊥) → (Rose a.writes b.writes → ⊥)
     → (Rose a.threads b.threads → ⊥) → IfSome bytes (λ x. IsWorkload x → (status_of e ≡ 0) ⊎ (status_of e ≡ 6) ⊎ (status_of e ≡ 8))
 complete_some words None a b e h r n w t = tt
 complete_some words (Some x) a b e h r n w t = complete_run words x a b e h r n w t
@@ -226,7 +231,8 @@ module _ (bytes : Option (List ℕ)) (a b : Outside) where
   write_fault_check (end.Judged v) h q = absurd (verdict_not 5 (λ x. cc) (λ x. cc) v q)
   write_fault_check _ h q = absurd (cc)
 
-  nothing_check : (e : End) → Checks bytes (channels_of a) (channels_of b) e → (status_of e ≡ 0 → ⊥) → (status_of e ≡ 5 → ⊥) → (status_of e ≡ 9 → ⊥) → b.held ≡ a.held
+  nothing_check : (e : End) → Checks bytes (channels_of a) (channels_of b) e → (status_of e ≡ 0 → ⊥) → (status_of e ≡ 5 → ⊥) → (status_of e ≡ 9 → ⊥)
+      → b.held ≡ a.held
   nothing_check (end.Judged verdict.Yes) h x y z = absurd (x refl)
   nothing_check (end.Judged (verdict.Illegal n)) h x y z = absurd (z refl)
   nothing_check (end.Judged verdict.NotRun) h x y z = absurd (z refl)
@@ -240,26 +246,30 @@ module _ (bytes : Option (List ℕ)) (a b : Outside) where
   nothing_check end.Memory h x y z = h
   nothing_check _ h x y z = absurd h
 
-  yes_check : (e : End) → Checks bytes (channels_of a) (channels_of b) e → status_of e ≡ 0 → IsJudged bytes verdict.Yes × Appends a.held b.held (verdict_line verdict.Yes)
+  yes_check : (e : End) → Checks bytes (channels_of a) (channels_of b) e → status_of e ≡ 0
+      → IsJudged bytes verdict.Yes × Appends a.held b.held (verdict_line verdict.Yes)
   yes_check (end.Judged verdict.Yes) h q = h
   yes_check (end.Judged (verdict.Illegal n)) h q = absurd (cc)
   yes_check (end.Judged verdict.NotRun) h q = absurd (cc)
   yes_check (end.Done j) h q = absurd h
   yes_check _ h q = absurd (cc)
 
-  no_check : (e : End) → Checks bytes (channels_of a) (channels_of b) e → status_of e ≡ 9 → (v : Verdict) × (v ≡ verdict.Yes → ⊥) × IsJudged bytes v × Appends a.held b.held (verdict_line v)
+  no_check : (e : End) → Checks bytes (channels_of a) (channels_of b) e → status_of e ≡ 9
+      → (v : Verdict) × (v ≡ verdict.Yes → ⊥) × IsJudged bytes v × Appends a.held b.held (verdict_line v)
   no_check (end.Judged verdict.Yes) h q = absurd (cc)
   no_check (end.Judged (verdict.Illegal n)) h q = (verdict.Illegal n, λ x. cc, h.0, h.1)
   no_check (end.Judged verdict.NotRun) h q = (verdict.NotRun, λ x. cc, h.0, h.1)
   no_check _ h q = absurd (cc)
 
-  cut_check : (e : End) → Checks bytes (channels_of a) (channels_of b) e → status_of e ≡ 5 → (v : Verdict) × IsJudged bytes v × AppendsFront a.held b.held (verdict_line v)
+  cut_check : (e : End) → Checks bytes (channels_of a) (channels_of b) e → status_of e ≡ 5
+      → (v : Verdict) × IsJudged bytes v × AppendsFront a.held b.held (verdict_line v)
   cut_check (end.VerdictFault v) h q = (v, h.1, h.2)
   cut_check (end.WriteFault j) h q = absurd h
   cut_check (end.Judged v) h q = absurd (verdict_not 5 (λ x. cc) (λ x. cc) v q)
   cut_check _ h q = absurd (cc)
 
-  complete_check : (e : End) → Checks bytes (channels_of a) (channels_of b) e → (Rose a.reads b.reads → ⊥) → (Rose a.writes b.writes → ⊥) → (status_of e ≡ 0) ⊎ (status_of e ≡ 3) ⊎ (status_of e ≡ 6) ⊎ (status_of e ≡ 9)
+  complete_check : (e : End) → Checks bytes (channels_of a) (channels_of b) e → (Rose a.reads b.reads → ⊥) → (Rose a.writes b.writes → ⊥)
+      → (status_of e ≡ 0) ⊎ (status_of e ≡ 3) ⊎ (status_of e ≡ 6) ⊎ (status_of e ≡ 9)
   complete_check (end.Judged verdict.Yes) h r w = inl refl
   complete_check (end.Judged (verdict.Illegal n)) h r w = inr (inr (inr refl))
   complete_check (end.Judged verdict.NotRun) h r w = inr (inr (inr refl))
@@ -275,7 +285,8 @@ module _ (bytes : Option (List ℕ)) (a b : Outside) where
 
 -- ---- of the outcome
 
-module _ {words : Option Asked} {old new : Option (List ℕ)} {a b : Outside} {f f' : ℕ} {p p' : Option (List ℕ)} {outcome : Outcome} (t : IsToldOf words old new a b f f' p p' outcome) where
+module _ {words : Option Asked} {old new : Option (List ℕ)} {a b : Outside} {f f' : ℕ} {p p' : Option (List ℕ)} {outcome : Outcome}
+    (t : IsToldOf words old new a b f f' p p' outcome) where
   by_end : (Q : ℕ → Option Journal → Option ℕ → Type 0)
       → (judges words ≡ false → Ends words old a b t.end → Q (status_of t.end) (journal_of t.end) (spent_of t.end))
       → (judges words ≡ true → Checks old (channels_of a) (channels_of b) t.end → Q (status_of t.end) (journal_of t.end) (spent_of t.end))
@@ -287,10 +298,12 @@ module _ {words : Option Asked} {old new : Option (List ℕ)} {a b : Outside} {f
       (either (judges words) (λ k. run k (t.comes.run k)) (λ k. check k (t.comes.check k)))))
 
   pub headline : outcome.status ≡ 0 → IfSome outcome.journal (λ j. Ran words old j (Appends a.held b.held))
-  headline = by_end (λ n j s. n ≡ 0 → IfSome j (λ x. Ran words old x (Appends a.held b.held))) (λ k h. headline_run words old a b t.end h) (λ k h q. no_journal old a b _ t.end h)
+  headline = by_end (λ n j s. n ≡ 0 → IfSome j (λ x. Ran words old x (Appends a.held b.held))) (λ k h. headline_run words old a b t.end h)
+      (λ k h q. no_journal old a b _ t.end h)
 
   pub headline_cut : outcome.status ≡ 5 → IfSome outcome.journal (λ j. Ran words old j (AppendsFront a.held b.held))
-  headline_cut = by_end (λ n j s. n ≡ 5 → IfSome j (λ x. Ran words old x (AppendsFront a.held b.held))) (λ k h. cut_run words old a b t.end h) (λ k h q. no_journal old a b _ t.end h)
+  headline_cut = by_end (λ n j s. n ≡ 5 → IfSome j (λ x. Ran words old x (AppendsFront a.held b.held))) (λ k h. cut_run words old a b t.end h)
+      (λ k h q. no_journal old a b _ t.end h)
 
   pub text_two : IfSome outcome.journal (λ j. IsTextTwo (journal_text j))
   text_two = by_end (λ n j s. IfSome j (λ x. IsTextTwo (journal_text x))) (λ k h. run_text_two words old a b t.end h) (λ k h. no_journal old a b _ t.end h)
@@ -319,10 +332,12 @@ module _ {words : Option Asked} {old new : Option (List ℕ)} {a b : Outside} {f
   refused j = by_end (λ n y z. n ≡ 3 → IfSome old IsRefused) (λ k h. refused_end words old a b t.end h) (λ k h. absurd (judges_one words j k))
 
   pub refused_where : reads words ≡ true → (Rose a.reads b.reads → ⊥) → IfSome old (λ x. IsRefused x → (outcome.status ≡ 3) ⊎ (outcome.status ≡ 6))
-  refused_where r n = by_end (λ m y z. IfSome old (λ x. IsRefused x → (m ≡ 3) ⊎ (m ≡ 6))) (λ k h. refused_has words old a b t.end h r n) (λ k h. absurd (not_both words r k))
+  refused_where r n = by_end (λ m y z. IfSome old (λ x. IsRefused x → (m ≡ 3) ⊎ (m ≡ 6))) (λ k h. refused_has words old a b t.end h r n)
+      (λ k h. absurd (not_both words r k))
 
   pub reading : (outcome.status ≡ 3) ⊎ (outcome.status ≡ 4) → (reads words ≡ true) ⊎ (judges words ≡ true)
-  reading = by_end (λ n j s. (n ≡ 3) ⊎ (n ≡ 4) → (reads words ≡ true) ⊎ (judges words ≡ true)) (λ k h q. inl (reading_run words old a b t.end h q)) (λ k h q. inr k)
+  reading = by_end (λ n j s. (n ≡ 3) ⊎ (n ≡ 4)
+      → (reads words ≡ true) ⊎ (judges words ≡ true)) (λ k h q. inl (reading_run words old a b t.end h q)) (λ k h q. inr k)
 
   pub read_fault : outcome.status ≡ 4 → Rose a.reads b.reads
   read_fault = by_end (λ n j s. n ≡ 4 → Rose a.reads b.reads) (λ k h. read_fault_run words old a b t.end h) (λ k h. read_fault_check old a b t.end h)
@@ -340,41 +355,52 @@ module _ {words : Option Asked} {old new : Option (List ℕ)} {a b : Outside} {f
   turns_spent = by_end (λ n j s. IfSome s (λ x. 2 ^ 62 ≤ x)) (λ k h. turns_run words old a b t.end h) (λ k h. no_spent old a b _ t.end h)
 
   pub nothing : (outcome.status ≡ 0 → ⊥) → (outcome.status ≡ 5 → ⊥) → (outcome.status ≡ 9 → ⊥) → b.held ≡ a.held
-  nothing = by_end (λ n j s. (n ≡ 0 → ⊥) → (n ≡ 5 → ⊥) → (n ≡ 9 → ⊥) → b.held ≡ a.held) (λ k h x y z. nothing_run words old a b t.end h x y) (λ k h. nothing_check old a b t.end h)
+  nothing = by_end (λ n j s. (n ≡ 0 → ⊥) → (n ≡ 5 → ⊥) → (n ≡ 9 → ⊥)
+      → b.held ≡ a.held) (λ k h x y z. nothing_run words old a b t.end h x y) (λ k h. nothing_check old a b t.end h)
 
   pub complete : reads words ≡ true → (Rose a.reads b.reads → ⊥) → (Rose a.writes b.writes → ⊥) → (Rose a.threads b.threads → ⊥)
       → IfSome old (λ x. IsWorkload x → (outcome.status ≡ 0) ⊎ (outcome.status ≡ 6) ⊎ (outcome.status ≡ 8))
-  complete r x w y = by_end (λ n j s. IfSome old (λ z. IsWorkload z → (n ≡ 0) ⊎ (n ≡ 6) ⊎ (n ≡ 8))) (λ k h. complete_some words old a b t.end h r x w y) (λ k h. absurd (not_both words r k))
+  complete r x w y = by_end (λ n j s. IfSome old (λ z. IsWorkload z → (n ≡ 0) ⊎ (n ≡ 6) ⊎ (n ≡ 8))) (λ k h. complete_some words old a b t.end h r x w y)
+      (λ k h. absurd (not_both words r k))
 
   pub complete_generated : is_some words ≡ true → reads words ≡ false → judges words ≡ false → (Rose a.writes b.writes → ⊥) → (Rose a.threads b.threads → ⊥)
       → (outcome.status ≡ 0) ⊎ (outcome.status ≡ 6) ⊎ (outcome.status ≡ 8)
-  complete_generated s r j w x = by_end (λ n y z. (n ≡ 0) ⊎ (n ≡ 6) ⊎ (n ≡ 8)) (λ k h. generated_run words old a b t.end h s r w x) (λ k h. absurd (judges_one words j k))
+  complete_generated s r j w x = by_end (λ n y z. (n ≡ 0) ⊎ (n ≡ 6)
+      ⊎ (n ≡ 8)) (λ k h. generated_run words old a b t.end h s r w x) (λ k h. absurd (judges_one words j k))
 
   pub check_yes : judges words ≡ true → outcome.status ≡ 0 → IsJudged old verdict.Yes × Appends a.held b.held (verdict_line verdict.Yes)
-  check_yes j = by_end (λ n y z. n ≡ 0 → IsJudged old verdict.Yes × Appends a.held b.held (verdict_line verdict.Yes)) (λ k h. absurd (judges_one words k j)) (λ k h. yes_check old a b t.end h)
+  check_yes j = by_end (λ n y z. n ≡ 0 → IsJudged old verdict.Yes
+      × Appends a.held b.held (verdict_line verdict.Yes)) (λ k h. absurd (judges_one words k j)) (λ k h. yes_check old a b t.end h)
 
   pub check_no : judges words ≡ true → outcome.status ≡ 9 → (v : Verdict) × (v ≡ verdict.Yes → ⊥) × IsJudged old v × Appends a.held b.held (verdict_line v)
-  check_no j = by_end (λ n y z. n ≡ 9 → (v : Verdict) × (v ≡ verdict.Yes → ⊥) × IsJudged old v × Appends a.held b.held (verdict_line v)) (λ k h. absurd (judges_one words k j)) (λ k h. no_check old a b t.end h)
+  check_no j = by_end (λ n y z. n ≡ 9 → (v : Verdict) × (v ≡ verdict.Yes → ⊥) × IsJudged old v
+      × Appends a.held b.held (verdict_line v)) (λ k h. absurd (judges_one words k j)) (λ k h. no_check old a b t.end h)
 
   pub check_cut : judges words ≡ true → outcome.status ≡ 5 → (v : Verdict) × IsJudged old v × AppendsFront a.held b.held (verdict_line v)
-  check_cut j = by_end (λ n y z. n ≡ 5 → (v : Verdict) × IsJudged old v × AppendsFront a.held b.held (verdict_line v)) (λ k h. absurd (judges_one words k j)) (λ k h. cut_check old a b t.end h)
+  check_cut j = by_end (λ n y z. n ≡ 5 → (v : Verdict) × IsJudged old v
+      × AppendsFront a.held b.held (verdict_line v)) (λ k h. absurd (judges_one words k j)) (λ k h. cut_check old a b t.end h)
 
   pub check_nine : outcome.status ≡ 9 → judges words ≡ true
   check_nine = by_end (λ n y z. n ≡ 9 → judges words ≡ true) (λ k h q. absurd (not_nine words old a b t.end h q)) (λ k h q. k)
 
   pub check_refused : judges words ≡ true → outcome.status ≡ 3 → IfSome old IsRefusedInput
-  check_refused j = by_end (λ n y z. n ≡ 3 → IfSome old IsRefusedInput) (λ k h. absurd (judges_one words k j)) (λ k h. refused_input old (channels_of a) (channels_of b) t.end h)
+  check_refused j = by_end (λ n y z. n ≡ 3
+      → IfSome old IsRefusedInput) (λ k h. absurd (judges_one words k j)) (λ k h. refused_input old (channels_of a) (channels_of b) t.end h)
 
   pub check_refused_where : judges words ≡ true → (Rose a.reads b.reads → ⊥) → IfSome old (λ x. IsRefusedInput x → (outcome.status ≡ 3) ⊎ (outcome.status ≡ 6))
   check_refused_where j r = by_end (λ n y z. IfSome old (λ x. IsRefusedInput x → (n ≡ 3) ⊎ (n ≡ 6))) (λ k h. absurd (judges_one words k j))
       (λ k h. input_refused_where old (channels_of a) (channels_of b) t.end h r)
 
-  pub check_complete : judges words ≡ true → (Rose a.reads b.reads → ⊥) → (Rose a.writes b.writes → ⊥) → (outcome.status ≡ 0) ⊎ (outcome.status ≡ 3) ⊎ (outcome.status ≡ 6) ⊎ (outcome.status ≡ 9)
-  check_complete j r w = by_end (λ n y z. (n ≡ 0) ⊎ (n ≡ 3) ⊎ (n ≡ 6) ⊎ (n ≡ 9)) (λ k h. absurd (judges_one words k j)) (λ k h. complete_check old a b t.end h r w)
+  pub check_complete : judges words ≡ true → (Rose a.reads b.reads → ⊥) → (Rose a.writes b.writes → ⊥)
+      → (outcome.status ≡ 0) ⊎ (outcome.status ≡ 3) ⊎ (outcome.status ≡ 6) ⊎ (outcome.status ≡ 9)
+  check_complete j r w = by_end (λ n y z. (n ≡ 0) ⊎ (n ≡ 3) ⊎ (n ≡ 6)
+      ⊎ (n ≡ 9)) (λ k h. absurd (judges_one words k j)) (λ k h. complete_check old a b t.end h r w)
 
   pub decides : judges words ≡ true → (Rose a.reads b.reads → ⊥) → (Rose a.writes b.writes → ⊥)
-      → IfSome old (λ x. (load : Workload) (j : Journal) (v : Verdict) → IsInput x load j → IsVerdict load j v → (outcome.status ≡ verdict_status v) ⊎ (outcome.status ≡ 6))
-  decides j r w = by_end (λ n y z. IfSome old (λ x. (load : Workload) (j : Journal) (v : Verdict) → IsInput x load j → IsVerdict load j v → (n ≡ verdict_status v) ⊎ (n ≡ 6)))
+      → IfSome old (λ x. (load : Workload) (j : Journal) (v : Verdict) → IsInput x load j → IsVerdict load j v
+      → (outcome.status ≡ verdict_status v) ⊎ (outcome.status ≡ 6))
+  decides j r w = by_end (λ n y z. IfSome old (λ x. (load : Workload) (j : Journal) (v : Verdict) → IsInput x load j → IsVerdict load j v
+      → (n ≡ verdict_status v) ⊎ (n ≡ 6)))
       (λ k h. absurd (judges_one words k j)) (λ k h. check_decides old (channels_of a) (channels_of b) t.end h r w)
 
   pub ended : HasEnded words (record { left = old; reads = a.reads; writes = a.writes; held = a.held; threads = a.threads; says = f; said = p })
@@ -389,7 +415,9 @@ module _ {words : Option Asked} {old new : Option (List ℕ)} {a b : Outside} {f
   later = (t.comes.later.0, t.comes.later.1, t.told.said.later)
 
 -- Where nothing was started.
-pub idle : (P : Type 0) (words : Option Asked) (e : End) (f f' : ℕ) (p p' : Option (List ℕ)) (outcome : Outcome) → ((judges words ≡ true) ⊎ StartsNothing (status_of e) → P)
+pub idle : (P : Type 0) (words : Option Asked) (e : End) (f f' : ℕ) (p p' : Option (List ℕ)) (outcome : Outcome)
+    → ((judges words ≡ true) ⊎ StartsNothing (status_of e) → P)
     → Told e f f' p p' outcome → (judges words ≡ true) ⊎ StartsNothing outcome.status → P
 idle P words e f f' p p' outcome h t (inl k) = h (inl k)
-idle P words e f f' p p' outcome h t (inr q) = told_status (λ (n : ℕ). StartsNothing n → P) e f f' p p' outcome (λ s. h (inr s)) (λ six. absurd (not_six six)) t q
+idle P words e f f' p p' outcome h t (inr q) =
+    told_status (λ (n : ℕ). StartsNothing n → P) e f f' p p' outcome (λ s. h (inr s)) (λ six. absurd (not_six six)) t q

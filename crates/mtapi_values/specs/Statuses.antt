@@ -139,8 +139,14 @@ mrapi_name r.ErrSemLimit = codes "MRAPI_ERR_SEM_LIMIT"
 
 -- each MTAPI status once
 abbrev pub mtapi_all : List MtapiStatus
-mtapi_all = t.Success ∷ t.Timeout ∷ t.GroupCompleted ∷ t.ErrParameter ∷ t.ErrNodeInitialized ∷ t.ErrNodeNotinit ∷ t.ErrActionInvalid ∷ t.ErrActionLimit ∷ t.ErrActionFailed ∷ t.ErrActionDeleted ∷ t.ErrActionDisabled ∷ t.ErrArgSize ∷ t.ErrJobInvalid ∷ t.ErrNoCore ∷ t.ErrTaskInvalid ∷ t.ErrTaskLimit ∷ t.ErrTaskCancelled ∷ t.ErrGroupInvalid ∷ t.ErrGroupLimit ∷ t.ErrQueueInvalid ∷ t.ErrQueueLimit ∷ t.ErrQueueDeleted ∷ t.ErrQueueDisabled ∷ t.ErrQueueExists ∷ t.ErrWaitPending ∷ t.ErrAttrNum ∷ t.ErrAttrReadonly ∷ t.ErrCoreNum ∷ t.ErrSpent ∷ []
+mtapi_all = t.Success ∷ t.Timeout ∷ t.GroupCompleted ∷ t.ErrParameter ∷ t.ErrNodeInitialized ∷ t.ErrNodeNotinit ∷ t.ErrActionInvalid ∷ t.ErrActionLimit
+    ∷ t.ErrActionFailed ∷ t.ErrActionDeleted ∷ t.ErrActionDisabled ∷ t.ErrArgSize ∷ t.ErrJobInvalid ∷ t.ErrNoCore ∷ t.ErrTaskInvalid ∷ t.ErrTaskLimit
+    ∷ t.ErrTaskCancelled ∷ t.ErrGroupInvalid ∷ t.ErrGroupLimit ∷ t.ErrQueueInvalid ∷ t.ErrQueueLimit ∷ t.ErrQueueDeleted ∷ t.ErrQueueDisabled ∷ t.ErrQueueExists
+    ∷ t.ErrWaitPending ∷ t.ErrAttrNum ∷ t.ErrAttrReadonly ∷ t.ErrCoreNum ∷ t.ErrSpent ∷ []
 
 -- each MRAPI status once
 abbrev pub mrapi_all : List MrapiStatus
-mrapi_all = r.Success ∷ r.Timeout ∷ r.ErrParameter ∷ r.ErrNodeNotinit ∷ r.ErrMutexInvalid ∷ r.ErrMutexIdInvalid ∷ r.ErrMutexExists ∷ r.ErrMutexLimit ∷ r.ErrMutexLocked ∷ r.ErrMutexNotlocked ∷ r.ErrMutexKey ∷ r.ErrMutexLockorder ∷ r.ErrSemInvalid ∷ r.ErrSemIdInvalid ∷ r.ErrSemExists ∷ r.ErrSemLocked ∷ r.ErrSemNotlocked ∷ r.ErrRwlInvalid ∷ r.ErrRwlIdInvalid ∷ r.ErrRwlExists ∷ r.ErrRwlLimit ∷ r.ErrRwlLocked ∷ r.ErrRwlNotlocked ∷ r.ErrShmInvalid ∷ r.ErrShmIdInvalid ∷ r.ErrShmExists ∷ r.ErrShmLimit ∷ r.ErrShmAttached ∷ r.ErrShmNotattached ∷ r.ErrSpent ∷ r.ErrSemLimit ∷ []
+mrapi_all = r.Success ∷ r.Timeout ∷ r.ErrParameter ∷ r.ErrNodeNotinit ∷ r.ErrMutexInvalid ∷ r.ErrMutexIdInvalid ∷ r.ErrMutexExists ∷ r.ErrMutexLimit
+    ∷ r.ErrMutexLocked ∷ r.ErrMutexNotlocked ∷ r.ErrMutexKey ∷ r.ErrMutexLockorder ∷ r.ErrSemInvalid ∷ r.ErrSemIdInvalid ∷ r.ErrSemExists ∷ r.ErrSemLocked
+    ∷ r.ErrSemNotlocked ∷ r.ErrRwlInvalid ∷ r.ErrRwlIdInvalid ∷ r.ErrRwlExists ∷ r.ErrRwlLimit ∷ r.ErrRwlLocked ∷ r.ErrRwlNotlocked ∷ r.ErrShmInvalid
+    ∷ r.ErrShmIdInvalid ∷ r.ErrShmExists ∷ r.ErrShmLimit ∷ r.ErrShmAttached ∷ r.ErrShmNotattached ∷ r.ErrSpent ∷ r.ErrSemLimit ∷ []

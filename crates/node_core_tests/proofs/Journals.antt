@@ -12,4 +12,5 @@ use Rattle.node_core_tests.specs.Journals.{IsLegal}
 pub kept_legal : (t : Terms) (j : Journal) (L : List NodeEntry) → KeptAs t j L → IsLegal j
 kept_legal t j L k =
     subst (λ (a : Layout). Legal (terms_with a j.settings j.callers) j.entries.entries) (sym k.layout)
-    (subst (λ (a : NodeSettings). Legal (terms_with t.layout a j.callers) j.entries.entries) (sym k.settings) (subst (λ a. Legal (terms_with t.layout t.settings a) j.entries.entries) (sym k.callers) k.legal))
+    (subst (λ (a : NodeSettings). Legal (terms_with t.layout a j.callers) j.entries.entries) (sym k.settings)
+    (subst (λ a. Legal (terms_with t.layout t.settings a) j.entries.entries) (sym k.callers) k.legal))

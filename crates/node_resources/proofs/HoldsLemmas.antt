@@ -14,7 +14,8 @@ module _ {T : Type 0} where
   generations-put p h (Some v) = refl
 
   -- a new pool stands for the empty list
-  pub holds_new : (size turns : ℕ) (p : Slots T) → 1 ≤ turns → size ≤ 65536 → p.generations ≡ turns → p.slots ≡ replicate size (free_slot 1) → Holds size turns p []
+  pub holds_new : (size turns : ℕ) (p : Slots T) → 1 ≤ turns → size ≤ 65536 → p.generations ≡ turns → p.slots ≡ replicate size (free_slot 1)
+      → Holds size turns p []
   holds_new size turns p once few g s = record {
     stands = Stands-new p size (subst (λ (n : ℕ). 1 ≤ n) (sym g) once) few s;
     max = max_of-new p size s;

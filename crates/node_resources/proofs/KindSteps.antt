@@ -31,19 +31,45 @@ record Parts (k : Sort) (is : IsResource k) (s : State) (old : ResourceTable) : 
   holds : HoldsList (all_of k) s.terms.settings (slots_of k is old) ((all_of k).list s)
   same : with_slots k (slots_of k is old) old ≡ old
   others : (l : List (Listed (Fields k))) → (all_of k).with_list l s ≡ with_lists_of ((all_of k).with_list l s) s
-  stands : (q : Slots (Fields k)) (l : List (Listed (Fields k))) → HoldsList (all_of k) s.terms.settings q l → Stands ((all_of k).with_list l s) (with_slots k q old)
+  stands : (q : Slots (Fields k)) (l : List (Listed (Fields k))) → HoldsList (all_of k) s.terms.settings q l
+      → Stands ((all_of k).with_list l s) (with_slots k q old)
 
 parts : (k : Sort) (is : IsResource k) (s : State) (old : ResourceTable) → Stands s old → Parts k is s old
 parts Groups is s old v = absurd is
 parts Queues is s old v = absurd is
-parts Mutexes is s old v = record { holds = v.mutexes; same = refl; others = λ l. refl; stands = λ q l h. record { mutexes = h; sems = v.sems; rwls = v.rwls; segments = v.segments } }
-parts Sems is s old v = record { holds = v.sems; same = refl; others = λ l. refl; stands = λ q l h. record { mutexes = v.mutexes; sems = h; rwls = v.rwls; segments = v.segments } }
-parts Rwls is s old v = record { holds = v.rwls; same = refl; others = λ l. refl; stands = λ q l h. record { mutexes = v.mutexes; sems = v.sems; rwls = h; segments = v.segments } }
-parts Segments is s old v = record { holds = v.segments; same = refl; others = λ l. refl; stands = λ q l h. record { mutexes = v.mutexes; sems = v.sems; rwls = v.rwls; segments = h } }
+parts Mutexes is s old v = record {
+  holds = v.mutexes;
+  same = refl;
+  others = λ l. refl;
+  stands =
+      λ q l h. record { mutexes = h; sems = v.sems; rwls = v.rwls; segments = v.segments };
+}
+parts Sems is s old v = record {
+  holds = v.sems;
+  same = refl;
+  others = λ l. refl;
+  stands =
+      λ q l h. record { mutexes = v.mutexes; sems = h; rwls = v.rwls; segments = v.segments };
+}
+parts Rwls is s old v = record {
+  holds = v.rwls;
+  same = refl;
+  others = λ l. refl;
+  stands =
+      λ q l h. record { mutexes = v.mutexes; sems = v.sems; rwls = h; segments = v.segments };
+}
+parts Segments is s old v = record {
+  holds = v.segments;
+  same = refl;
+  others = λ l. refl;
+  stands =
+      λ q l h. record { mutexes = v.mutexes; sems = v.sems; rwls = v.rwls; segments = h };
+}
 
 module _ (k : Sort) (is : IsResource k) (s : State) (who : ℕ) (op : Op) where
   -- the same reply, told of a call
-  pub kind_does : (r : Reply) (old : ResourceTable) → Stands s old → (said : Reply) (q : Slots (Fields k)) → said ≡ r → Leads k s (row s who op r) r q → Does s who op said (with_slots k q old)
+  pub kind_does : (r : Reply) (old : ResourceTable) → Stands s old → (said : Reply) (q : Slots (Fields k)) → said ≡ r → Leads k s (row s who op r) r q
+      → Does s who op said (with_slots k q old)
   kind_does r old v said q e g =
       let p = parts k is s old v in
       subst (λ (x : Reply). Does s who op x (with_slots k q old)) (sym e) (record {
@@ -53,12 +79,14 @@ module _ (k : Sort) (is : IsResource k) (s : State) (who : ℕ) (op : Op) where
       })
 
   -- a get, where the pools are seen as the table now
-  module _ (o : Keyed k) (g : Gate) (a : IsAt s g) (old now : ResourceTable) (view : old ≡ now) (v : Stands s now) (n : ℕ) (in_row : (r : Reply) → row s who op r ≡ mrapi s who (gets o s n)) (passes : None ≡ first (gate_refusals (is_up g.phase) who g.workers)) where
+  module _ (o : Keyed k) (g : Gate) (a : IsAt s g) (old now : ResourceTable) (view : old ≡ now) (v : Stands s now) (n : ℕ) (in_row : (r : Reply)
+      → row s who op r ≡ mrapi s who (gets o s n)) (passes : None ≡ first (gate_refusals (is_up g.phase) who g.workers)) where
     answers : (r : Reply) → Leads k s (gets o s n) r (slots_of k is old) → Does s who op r now
     answers r leads =
         let was = subst (λ (t : ResourceTable). Stands s t) (sym view) v in
         let told = past_up k s g who a (gets o s n) r (slots_of k is old) passes leads in
-        subst (λ (t : ResourceTable). Does s who op r t) ((parts k is s old was).same ∙ view) (kind_does r old was r (slots_of k is old) refl (subst (λ w. Leads k s w r (slots_of k is old)) (sym (in_row r)) told))
+        subst (λ (t : ResourceTable). Does s who op r t) ((parts k is s old was).same
+        ∙ view) (kind_does r old was r (slots_of k is old) refl (subst (λ w. Leads k s w r (slots_of k is old)) (sym (in_row r)) told))
 
     held : HoldsList (all_of k) s.terms.settings (slots_of k is old) ((all_of k).list s)
     held = (parts k is s old (subst (λ (t : ResourceTable). Stands s t) (sym view) v)).holds
@@ -66,5 +94,6 @@ module _ (k : Sort) (is : IsResource k) (s : State) (who : ℕ) (op : Op) where
     pub got : (h : ℕ) → OneEach o.id (slots_of k is old) → HasLive (slots_of k is old) h (λ y. o.id y ≡ n) → Does s who op (reply.Handle h) now
     got h each has = answers (reply.Handle h) (gets_does k s o (slots_of k is old) held n h each has)
 
-    pub got_none : (absent : MrapiStatus) → o.absent ≡ reply.Mrapi absent → (c : MrapiStatus) → (c ≡ absent) × NoneLive (slot_value (slots_of k is old)) (λ y. o.id y ≡ n) → Does s who op (reply.Mrapi c) now
+    pub got_none : (absent : MrapiStatus) → o.absent ≡ reply.Mrapi absent → (c : MrapiStatus)
+        → (c ≡ absent) × NoneLive (slot_value (slots_of k is old)) (λ y. o.id y ≡ n) → Does s who op (reply.Mrapi c) now
     got_none absent is_absent c told = answers (reply.Mrapi c) (gets_none k s o (slots_of k is old) held absent is_absent n c told.0 told.1)

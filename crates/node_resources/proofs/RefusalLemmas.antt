@@ -21,7 +21,8 @@ module _ (s : State) (g : Gate) (who : ℕ) (a : IsAt s g) (causes : List (Bool 
   pub gate_met : (c : MrapiStatus) → Some c ≡ first (gate_refusals (is_open g.phase) who g.workers) → first (open_refusals s who causes) ≡ Some c
   gate_met c e = first_met (gate_refusals (is_open s.phase) who (workers s)) causes c (at_gate (Some c) e)
 
-  pub gate_past : (o : Option MrapiStatus) → None ≡ first (gate_refusals (is_open g.phase) who g.workers) → first causes ≡ o → first (open_refusals s who causes) ≡ o
+  pub gate_past : (o : Option MrapiStatus) → None ≡ first (gate_refusals (is_open g.phase) who g.workers) → first causes ≡ o
+      → first (open_refusals s who causes) ≡ o
   gate_past o e f = first_past (gate_refusals (is_open s.phase) who (workers s)) causes (at_gate None e) ∙ f
 
 module _ {T : Type 0} (size turns : ℕ) (p : Slots T) (l : List (Listed T)) (key : T → ℕ) (id : ℕ) (exists : MrapiStatus) (v : Holds size turns p l) where
@@ -38,12 +39,15 @@ module _ {T : Type 0} (size turns : ℕ) (p : Slots T) (l : List (Listed T)) (ke
   none_has : NoneLive (slot_value p) (λ x. key x ≡ id) → first by_id ≡ None
   none_has none = ap (λ (b : Bool). cond b (Some exists) None) (no_id size turns p l key id v none)
 
-  pub id_told : (o : Option MrapiStatus) → IfSome o (λ c. (c ≡ exists) × SomeLive (slot_value p) (λ x. key x ≡ id)) → (IsNone o → NoneLive (slot_value p) (λ x. key x ≡ id)) → first by_id ≡ o
+  pub id_told : (o : Option MrapiStatus) → IfSome o (λ c. (c ≡ exists) × SomeLive (slot_value p) (λ x. key x ≡ id))
+      → (IsNone o → NoneLive (slot_value p) (λ x. key x ≡ id)) → first by_id ≡ o
   id_told (Some c) some none = it_exists c some
   id_told None some none = none_has (none refl)
 
   -- the same after refusals of its own
-  pub told_after : (cs : List (Bool × MrapiStatus)) (o : Option MrapiStatus) → IfSome o (λ c. (first cs ≡ Some c) ⊎ ((first cs ≡ None) × (c ≡ exists) × SomeLive (slot_value p) (λ x. key x ≡ id))) → (IsNone o → first cs ≡ None) → (IsNone o → NoneLive (slot_value p) (λ x. key x ≡ id)) → first (cs ++ by_id) ≡ o
+  pub told_after : (cs : List (Bool × MrapiStatus)) (o : Option MrapiStatus)
+      → IfSome o (λ c. (first cs ≡ Some c) ⊎ ((first cs ≡ None) × (c ≡ exists) × SomeLive (slot_value p) (λ x. key x ≡ id))) → (IsNone o → first cs ≡ None)
+      → (IsNone o → NoneLive (slot_value p) (λ x. key x ≡ id)) → first (cs ++ by_id) ≡ o
   told_after cs (Some c) (inl e) range none = first_met cs by_id c e
   told_after cs (Some c) (inr e) range none = first_past cs by_id e.0 ∙ it_exists c (e.1, e.2)
   told_after cs None some range none = first_past cs by_id (range refl) ∙ none_has (none refl)

@@ -16,12 +16,14 @@ use Rattle.node_resources.specs.Holds.{ResourceTable, Stands}
 
 -- the row of a tally that wants the mutex and the segment of these ids
 abbrev pub both_row : State → ℕ → ℕ → ℕ → ℕ → ℕ → Row
-both_row s who t mutex segment cell = takes_both s who t cell (first_handle (λ y. y.id == mutex) (live_of s.mutexes)) (first_handle (λ y. y.id == segment) (live_of s.segments))
+both_row s who t mutex segment cell = takes_both s who t cell (first_handle (λ y. y.id == mutex) (live_of s.mutexes))
+    (first_handle (λ y. y.id == segment) (live_of s.segments))
 
 -- what an answer says of the row
 abbrev pub lock_row : ℕ → ℕ → TallyLock → Row
 lock_row who t (Both mutex segment) =
-    gives (Asked true) (alters Mutexes mutex.0 (locked_by who) ∷ alters Segments segment.0 (with_attached who true) ∷ notes t (with_tally (tally_has mutex.0 segment.0)) ∷ [])
+    gives (Asked true) (alters Mutexes mutex.0 (locked_by who) ∷ alters Segments segment.0 (with_attached who true)
+    ∷ notes t (with_tally (tally_has mutex.0 segment.0)) ∷ [])
 lock_row who t Owned = says Pending
 lock_row who t Absent = gives_up t m.ErrActionFailed
 

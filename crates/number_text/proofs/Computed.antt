@@ -8,4 +8,19 @@ use Rattle.number_text.specs.Worked.{WorkedNumbers}
 
 pub worked_numbers : WorkedNumbers
 unfolding digits number number_within whole wholes list_of bits_from cores_below
-worked_numbers = record { list = refl; list_written = refl; no_numbers = refl; not_zero = refl; cores = refl; cores_written = refl; descending = refl; repeated = refl; no_core = refl; least = refl; greatest = refl; below = refl; above = refl }
+worked_numbers = record {
+  list = refl;
+  list_written = refl;
+  no_numbers = refl;
+  not_zero = refl;
+  cores = refl;
+  cores_written = refl;
+  descending =
+      refl;
+  repeated = refl;
+  no_core = refl;
+  least = refl;
+  greatest = refl;
+  below = refl;
+  above = refl;
+}

@@ -42,12 +42,14 @@ more n c cs e1 = grind (arith, nat_tests)
 large : (n : ℕ) (ds : List ℕ) → 2 ^ 64 ≤ n → read_from n ds ≡ None
 large n ds e1 = grind (arith, nat_tests, digits_value_after, le-ltb, grows)
 
-pub read_more : (n i : ℕ) (text : List ℕ) (o : Option ℕ) → i < length text → is_ascii_digit (get_or text i 0) ≡ true → read_from n (drop i text) ≡ o → read_from (n * 10 + (get_or text i 0 - 48)) (drop (i + 1) text) ≡ o
+pub read_more : (n i : ℕ) (text : List ℕ) (o : Option ℕ) → i < length text → is_ascii_digit (get_or text i 0) ≡ true → read_from n (drop i text) ≡ o
+    → read_from (n * 10 + (get_or text i 0 - 48)) (drop (i + 1) text) ≡ o
 read_more n i text o lt h e =
     let k = rw (drop-cons text i 0 lt) at e in
     rw (add-one i) (sym (more n (get_or text i 0) (drop (suc i) text) h) ∙ k)
 
-pub read_over : (n i : ℕ) (text : List ℕ) (o : Option ℕ) → i < length text → is_ascii_digit (get_or text i 0) ≡ true → 2 ^ 64 ≤ n * 10 + (get_or text i 0 - 48) → read_from n (drop i text) ≡ o → None ≡ o
+pub read_over : (n i : ℕ) (text : List ℕ) (o : Option ℕ) → i < length text → is_ascii_digit (get_or text i 0) ≡ true → 2 ^ 64 ≤ n * 10 + (get_or text i 0 - 48)
+    → read_from n (drop i text) ≡ o → None ≡ o
 read_over n i text o lt h le e = sym (large _ (drop (i + 1) text) le) ∙ read_more n i text o lt h e
 
 pub read_done : (n i : ℕ) (text : List ℕ) (o : Option ℕ) → length text ≤ i → n < 2 ^ 64 → read_from n (drop i text) ≡ o → Some n ≡ o
@@ -72,15 +74,18 @@ below d v n e = let g = some_cond (d && ltb v (2 ^ 64)) v n (sym e) in ((and_par
 above : (d : Bool) (v : ℕ) → None ≡ cond (d && ltb v (2 ^ 64)) (Some v) None → (d ≡ false) ⊎ (2 ^ 64 ≤ v)
 above d v e1 = grind (arith, nat_tests)
 
-pub plain_small : (text : List ℕ) (n : ℕ) → Some n ≡ number text → n < 2 ^ 63 → Some (pos n) ≡ cond (is_decimal text && ltb (digits_value 10 text) (2 ^ 63)) (Some (pos (digits_value 10 text))) None
+pub plain_small : (text : List ℕ) (n : ℕ) → Some n ≡ number text → n < 2 ^ 63
+    → Some (pos n) ≡ cond (is_decimal text && ltb (digits_value 10 text) (2 ^ 63)) (Some (pos (digits_value 10 text))) None
 unfolding number
 plain_small text n e1 e2 = grind (arith, nat_tests)
 
-pub plain_large : (text : List ℕ) (n : ℕ) → Some n ≡ number text → 2 ^ 63 ≤ n → none_at ≡ cond (is_decimal text && ltb (digits_value 10 text) (2 ^ 63)) (Some (pos (digits_value 10 text))) None
+pub plain_large : (text : List ℕ) (n : ℕ) → Some n ≡ number text → 2 ^ 63 ≤ n
+    → none_at ≡ cond (is_decimal text && ltb (digits_value 10 text) (2 ^ 63)) (Some (pos (digits_value 10 text))) None
 unfolding number
 plain_large text n e1 e2 = grind (arith, nat_tests)
 
-pub plain_none : (text : List ℕ) → None ≡ number text → none_at ≡ cond (is_decimal text && ltb (digits_value 10 text) (2 ^ 63)) (Some (pos (digits_value 10 text))) None
+pub plain_none : (text : List ℕ) → None ≡ number text
+    → none_at ≡ cond (is_decimal text && ltb (digits_value 10 text) (2 ^ 63)) (Some (pos (digits_value 10 text))) None
 unfolding number
 plain_none text e1 = grind (arith, nat_tests)
 
@@ -88,7 +93,8 @@ plain_none text e1 = grind (arith, nat_tests)
 abbrev pub negative_of : List ℕ → Option ℤ
 negative_of ds = cond (is_decimal ds && not (slice_index ds 0 == 48) && leb (digits_value 10 ds) (2 ^ 63)) (Some (neg_ℤ (pos (digits_value 10 ds)))) None
 
-pub negative_some : (ds : List ℕ) (n : ℕ) (r : Option ℤ) → (slice_index ds 0 == 48) ≡ false → Some n ≡ number ds → SomeIff r (FitsSigned w64 (pos 0 -ℤ pos n)) (pos 0 -ℤ pos n) → r ≡ negative_of ds
+pub negative_some : (ds : List ℕ) (n : ℕ) (r : Option ℤ) → (slice_index ds 0 == 48) ≡ false → Some n ≡ number ds
+    → SomeIff r (FitsSigned w64 (pos 0 -ℤ pos n)) (pos 0 -ℤ pos n) → r ≡ negative_of ds
 unfolding number
 negative_some ds n r e1 e2 e3 = grind (arith, nat_tests)
 
@@ -103,11 +109,13 @@ step : (prefix : List ℤ) (z : ℤ) (rest : Option (List ℤ)) → with_front p
 step prefix z None = refl
 step prefix z (Some zs) = ap Some (simp append_assoc)
 
-pub args_more : (prefix : List ℤ) (part : List ℕ) (rest : List (List ℕ)) (z : ℤ) (total : Option (List ℤ)) → Some z ≡ whole part → with_front prefix (wholes (part ∷ rest)) ≡ total → with_front (prefix ++ z ∷ []) (wholes rest) ≡ total
+pub args_more : (prefix : List ℤ) (part : List ℕ) (rest : List (List ℕ)) (z : ℤ) (total : Option (List ℤ)) → Some z ≡ whole part
+    → with_front prefix (wholes (part ∷ rest)) ≡ total → with_front (prefix ++ z ∷ []) (wholes rest) ≡ total
 unfolding wholes
 args_more prefix part rest z total e h = sym (step prefix z (wholes rest)) ∙ (rw (← e) at h)
 
-pub args_end : (prefix : List ℤ) (part : List ℕ) (rest : List (List ℕ)) (total : Option (List ℤ)) → None ≡ whole part → with_front prefix (wholes (part ∷ rest)) ≡ total → total ≡ None
+pub args_end : (prefix : List ℤ) (part : List ℕ) (rest : List (List ℕ)) (total : Option (List ℤ)) → None ≡ whole part
+    → with_front prefix (wholes (part ∷ rest)) ≡ total → total ≡ None
 unfolding wholes
 args_end prefix part rest total e h = sym (rw (← e) at h)
 
@@ -121,11 +129,13 @@ add_bits mask rest = rest >>= λ bits. Some (mask + bits)
 add_step : (mask power : ℕ) (rest : Option ℕ) → add_bits mask (rest >>= λ bits. Some (power + bits)) ≡ add_bits (mask + power) rest
 add_step mask power rest = grind (arith, nat_tests)
 
-pub cores_more : (mask low core : ℕ) (part : List ℕ) (rest : List (List ℕ)) (total : Option ℕ) → Some core ≡ number_within low 63 part → add_bits mask (bits_from low (part ∷ rest)) ≡ total → add_bits (mask + 2 ^ core) (bits_from (core + 1) rest) ≡ total
+pub cores_more : (mask low core : ℕ) (part : List ℕ) (rest : List (List ℕ)) (total : Option ℕ) → Some core ≡ number_within low 63 part
+    → add_bits mask (bits_from low (part ∷ rest)) ≡ total → add_bits (mask + 2 ^ core) (bits_from (core + 1) rest) ≡ total
 unfolding bits_from
 cores_more mask low core part rest total e h = sym (add_step mask (2 ^ core) (bits_from (core + 1) rest)) ∙ (rw (← e) at h)
 
-pub cores_end : (mask low : ℕ) (part : List ℕ) (rest : List (List ℕ)) (total : Option ℕ) → None ≡ number_within low 63 part → add_bits mask (bits_from low (part ∷ rest)) ≡ total → total ≡ None
+pub cores_end : (mask low : ℕ) (part : List ℕ) (rest : List (List ℕ)) (total : Option ℕ) → None ≡ number_within low 63 part
+    → add_bits mask (bits_from low (part ∷ rest)) ≡ total → total ≡ None
 unfolding bits_from
 cores_end mask low part rest total e h = sym (rw (← e) at h)
 
@@ -153,5 +163,6 @@ room_more mask low core lt le =
     let q : 2 ^ (core + 1) ≡ 2 * 2 ^ core = rw add-one (omega arith) in
     omega (arith, p, q)
 
-pub pushed : (old new : List ℤ) (z : ℤ) (r : Bool) → r ≡ true → (IsTrue r → length old < 16) → OnTrue r (new ≡ old ++ z ∷ []) → (length old < 16) × (new ≡ old ++ z ∷ []) × (length new ≡ length old + 1)
+pub pushed : (old new : List ℤ) (z : ℤ) (r : Bool) → r ≡ true → (IsTrue r → length old < 16) → OnTrue r (new ≡ old ++ z ∷ [])
+    → (length old < 16) × (new ≡ old ++ z ∷ []) × (length new ≡ length old + 1)
 pushed old new z r e1 e2 e3 = grind (arith, nat_tests, length_push)

@@ -30,10 +30,12 @@ first_place byte text (Some i) h =
     let e = position_or_len_is (is_byte byte) text i 0 (omega (arith, h.0.high)) (λ k lt. false_from_ne_true _ (h.0.before k (omega arith) lt)) (λ _. h.1) in
     rw (e, lt-ltb i (length text) h.0.high) refl
 first_place byte text None h =
-    let e = position_or_len_is (is_byte byte) text (length text) 0 (omega arith) (λ k lt. false_from_ne_true _ (h k (omega arith) lt)) (λ lt. absurd (omega (arith, lt))) in
+    let e = position_or_len_is (is_byte byte) text (length text) 0 (omega arith) (λ k lt. false_from_ne_true _ (h k (omega arith) lt))
+    (λ lt. absurd (omega (arith, lt))) in
     rw (e, le-ltb (length text) (length text) (omega arith)) refl
 
-pub between_some : (byte : ℕ) (text : List ℕ) (i : ℕ) → position (λ b. eqb b byte) text ≡ Some i → between byte text ≡ take i text ∷ between byte (drop (i + 1) text)
+pub between_some : (byte : ℕ) (text : List ℕ) (i : ℕ) → position (λ b. eqb b byte) text ≡ Some i
+    → between byte text ≡ take i text ∷ between byte (drop (i + 1) text)
 between_some byte text i e1 = grind (arith, nat_tests, place_some, position_or_len, slice_split_first)
 
 pub between_none : (byte : ℕ) (text : List ℕ) → position (λ b. eqb b byte) text ≡ None → between byte text ≡ text ∷ []

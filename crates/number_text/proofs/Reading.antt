@@ -69,7 +69,8 @@ wholes_fit (text ∷ texts) zs e =
     let a = bind_some (whole text) _ zs e in
     let b = bind_some (wholes texts) _ zs a.2 in
     let rest = wholes_fit texts b.0 b.1 in
-    subst (λ (l : List ℤ). (length l ≡ length (text ∷ texts)) × AllByRecursion (FitsSigned w64) l) (just_is (a.0 ∷ b.0) zs b.2) (omega (arith, rest.0), (whole_fits text a.0 a.1, rest.1))
+    subst (λ (l : List ℤ). (length l ≡ length (text ∷ texts))
+    × AllByRecursion (FitsSigned w64) l) (just_is (a.0 ∷ b.0) zs b.2) (omega (arith, rest.0), (whole_fits text a.0 a.1, rest.1))
 
 pub list_cond : (b : Bool) (o : Option (List ℤ)) (zs : List ℤ) → cond b o None ≡ Some zs → (b ≡ true) × (o ≡ Some zs)
 list_cond b o zs e1 = grind (arith, nat_tests)

@@ -15,8 +15,10 @@ rest_of xs = take (length xs - 1) (drop 1 xs)
 pub first_rest : {X : Type 0} (xs : List X) (d : X) → 1 ≤ length xs → xs ≡ get_or xs 0 d ∷ rest_of xs
 first_rest xs d e1 = grind (arith, nat_tests, take_all)
 
-pub list_more : {X : Type 0} (f : X → List ℕ) (d : X) (first mid out : List ℕ) (xs : List X) → 1 ≤ length xs → mid ≡ first ++ f (get_or xs 0 d) → out ≡ mid ++ led 44 (map f (rest_of xs)) → out ≡ first ++ listed (map f xs)
+pub list_more : {X : Type 0} (f : X → List ℕ) (d : X) (first mid out : List ℕ) (xs : List X) → 1 ≤ length xs → mid ≡ first ++ f (get_or xs 0 d)
+    → out ≡ mid ++ led 44 (map f (rest_of xs)) → out ≡ first ++ listed (map f xs)
 list_more f d first mid out xs h a b =
     let split = first_rest xs d h in
-    let all : listed (map f xs) ≡ f (get_or xs 0 d) ++ led 44 (map f (rest_of xs)) = ap (λ l. listed (map f l)) split ∙ joined 44 (f (get_or xs 0 d)) (map f (rest_of xs)) in
+    let all : listed (map f xs) ≡ f (get_or xs 0 d) ++ led 44 (map f (rest_of xs)) =
+    ap (λ l. listed (map f l)) split ∙ joined 44 (f (get_or xs 0 d)) (map f (rest_of xs)) in
     rw (b, a, all) (append_assoc first (f (get_or xs 0 d)) (led 44 (map f (rest_of xs))))

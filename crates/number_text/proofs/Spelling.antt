@@ -104,7 +104,8 @@ cores_up mask n (suc k) =
     let next = cores_next mask n in
     let rest = cores_up mask (n + 1) k in
     let same : n + 1 + k ≡ n + suc k = omega arith in
-    sym (append_assoc (cores_below mask n) (cond (in_mask n mask) (n ∷ []) []) (cores_from mask (n + 1) k)) ∙ (ap (λ (l : List ℕ). l ++ cores_from mask (n + 1) k) (sym next) ∙ (rest ∙ ap (cores_below mask) same))
+    sym (append_assoc (cores_below mask n) (cond (in_mask n mask) (n ∷ []) []) (cores_from mask (n + 1) k))
+    ∙ (ap (λ (l : List ℕ). l ++ cores_from mask (n + 1) k) (sym next) ∙ (rest ∙ ap (cores_below mask) same))
 
 pub cores_all : (mask : ℕ) → cores_below mask 64 ≡ cores_from mask 0 64
 cores_all mask = sym (cores_up mask 0 64) ∙ ap (λ (l : List ℕ). l ++ cores_from mask 0 64) (cores_none mask)
@@ -115,14 +116,16 @@ cores_same a b low (suc k) h = grind (arith, nat_tests, cores_same a b (low + 1)
 
 -- the listed cores from low on: either low comes first, or the list is one from the next core on
 data Step (low bits : ℕ) (texts : List (List ℕ)) : Type 0 where
-  here : (text : List ℕ) (rest : List (List ℕ)) (more : ℕ) → texts ≡ text ∷ rest → decimal low ≡ text → 2 ^ low + more ≡ bits → bits_from (low + 1) rest ≡ Some more → Step low bits texts
+  here : (text : List ℕ) (rest : List (List ℕ)) (more : ℕ) → texts ≡ text ∷ rest → decimal low ≡ text → 2 ^ low + more ≡ bits
+      → bits_from (low + 1) rest ≡ Some more → Step low bits texts
   later : bits_from (low + 1) texts ≡ Some bits → Step low bits texts
 
 within_next : (low core : ℕ) (text : List ℕ) → number_within low 63 text ≡ Some core → low < core → number_within (low + 1) 63 text ≡ Some core
 unfolding number_within
 within_next low core text e1 e2 = grind (arith, nat_tests)
 
-step_at : (low bits core more : ℕ) (text : List ℕ) (texts : List (List ℕ)) → number_within low 63 text ≡ Some core → number text ≡ Some core → low ≤ core → 2 ^ core + more ≡ bits → bits_from (core + 1) texts ≡ Some more → Step low bits (text ∷ texts)
+step_at : (low bits core more : ℕ) (text : List ℕ) (texts : List (List ℕ)) → number_within low 63 text ≡ Some core → number text ≡ Some core → low ≤ core
+    → 2 ^ core + more ≡ bits → bits_from (core + 1) texts ≡ Some more → Step low bits (text ∷ texts)
 unfolding bits_from
 step_at low bits core more text texts within is le total next =
     elim (cases_eq core low) [
@@ -177,7 +180,8 @@ bits_above m low more bits i a b le =
     let f = bit_at_cat_high m (low + 1) 0 i p le in
     ap (λ (x : ℕ). bit_at x i) c ∙ (e ∙ (sym f ∙ ap (λ (x : ℕ). bit_at x i) (sym d)))
 
-cores_here : (k low bits : ℕ) (text : List ℕ) (rest : List (List ℕ)) (more : ℕ) (texts : List (List ℕ)) → texts ≡ text ∷ rest → decimal low ≡ text → 2 ^ low + more ≡ bits → Listed k (low + 1) more rest → Listed (suc k) low bits texts
+cores_here : (k low bits : ℕ) (text : List ℕ) (rest : List (List ℕ)) (more : ℕ) (texts : List (List ℕ)) → texts ≡ text ∷ rest → decimal low ≡ text
+    → 2 ^ low + more ≡ bits → Listed k (low + 1) more rest → Listed (suc k) low bits texts
 cores_here k low bits text rest more texts is spelled total h =
     let m = h.0.0 in
     let c : bits ≡ m * 2 ^ (low + 1) + 2 ^ low = omega (arith, h.0.1, total) in
@@ -193,7 +197,8 @@ cores_listed zero low bits texts sum e =
     ((0, none.1 ∙ omega arith), sym none.0)
 cores_listed (suc k) low bits texts sum e =
     elim (step low bits texts e) [
-      | here text rest more is spelled total next ↦ cores_here k low bits text rest more texts is spelled total (cores_listed k (low + 1) more rest (omega arith) next)
+      | here text rest more is spelled total next ↦
+          cores_here k low bits text rest more texts is spelled total (cores_listed k (low + 1) more rest (omega arith) next)
       | later next ↦ cores_later k low bits texts (cores_listed k (low + 1) bits texts (omega arith) next)
     ]
 

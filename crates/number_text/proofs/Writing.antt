@@ -47,11 +47,13 @@ within_written low high n lt a b = within_from low high n (decimal n) (number_wr
 first_digit : (n : ℕ) → n < 2 ^ 64 → 48 ≤ get_or (decimal n) 0 0
 first_digit n e1 = grind (arith, nat_tests, cases_eq, decimal_digit, first_decimal)
 
-whole_of_pos : (text : List ℕ) (n : ℕ) → is_decimal text ≡ true → eqb (slice_index text 0) 45 ≡ false → digits_value 10 text ≡ n → n < 2 ^ 63 → whole text ≡ Some (pos n)
+whole_of_pos : (text : List ℕ) (n : ℕ) → is_decimal text ≡ true → eqb (slice_index text 0) 45 ≡ false → digits_value 10 text ≡ n → n < 2 ^ 63
+    → whole text ≡ Some (pos n)
 unfolding whole
 whole_of_pos text n d f v lt = rw (f, d, v, lt-ltb n (2 ^ 63) lt) refl
 
-whole_of_neg : (ds : List ℕ) (n : ℕ) → is_decimal ds ≡ true → eqb (slice_index ds 0) 48 ≡ false → digits_value 10 ds ≡ n → n ≤ 2 ^ 63 → whole (45 ∷ ds) ≡ Some (neg_ℤ (pos n))
+whole_of_neg : (ds : List ℕ) (n : ℕ) → is_decimal ds ≡ true → eqb (slice_index ds 0) 48 ≡ false → digits_value 10 ds ≡ n → n ≤ 2 ^ 63
+    → whole (45 ∷ ds) ≡ Some (neg_ℤ (pos n))
 unfolding whole
 whole_of_neg ds n d f v le = rw (d, f, v, le-leb n (2 ^ 63) le) refl
 
@@ -60,22 +62,26 @@ whole_written (pos n) f =
     let lt : n < 2 ^ 63 = omega (arith, f.sfits) in
     let wide : n < 2 ^ 64 = omega arith in
     let first = first_digit n wide in
-    whole_of_pos (decimal n) n (decimal_is n wide) (ne_eqb _ _ (λ (e : get_or (decimal n) 0 0 ≡ 45). omega (arith, first, e))) (digits_value-decimal own n wide) lt
+    whole_of_pos (decimal n) n (decimal_is n wide) (ne_eqb _ _ (λ (e : get_or (decimal n) 0 0 ≡ 45). omega (arith, first, e)))
+    (digits_value-decimal own n wide) lt
 whole_written (negsuc n) f =
     let le : suc n ≤ 2 ^ 63 = omega (arith, f.sfits) in
     let wide : suc n < 2 ^ 64 = omega arith in
     let first = first_decimal (suc n) (omega arith) wide in
-    whole_of_neg (decimal (suc n)) (suc n) (decimal_is (suc n) wide) (ne_eqb _ _ (λ (e : get_or (decimal (suc n)) 0 0 ≡ 48). omega (arith, first, e))) (digits_value-decimal own (suc n) wide) le
+    whole_of_neg (decimal (suc n)) (suc n) (decimal_is (suc n) wide) (ne_eqb _ _ (λ (e : get_or (decimal (suc n)) 0 0 ≡ 48). omega (arith, first, e)))
+    (digits_value-decimal own (suc n) wide) le
 
 -- ---- texts joined by a byte that none has
 
 pub Lacks : ℕ → List ℕ → Type 0
 Lacks byte text = AllByRecursion (λ b. eqb b byte ≡ false) text
 
-pub between_joined : (byte : ℕ) (first : List ℕ) (rest : List (List ℕ)) → AllByRecursion (Lacks byte) (first ∷ rest) → between byte (join_with_byte byte (first ∷ rest)) ≡ first ∷ rest
+pub between_joined : (byte : ℕ) (first : List ℕ) (rest : List (List ℕ)) → AllByRecursion (Lacks byte) (first ∷ rest)
+    → between byte (join_with_byte byte (first ∷ rest)) ≡ first ∷ rest
 unfolding Lacks
 between_joined byte first [] h = slice_split_none (λ b. eqb b byte) first (All-from_recursion (λ (b : ℕ). eqb b byte ≡ false) first h.0)
-between_joined byte first (next ∷ rest) h = grind (arith, nat_tests, between_joined byte next rest h.1, slice_split_at, join_with_byte, All-from_recursion, eq-eqb)
+between_joined byte first (next ∷ rest) h =
+    grind (arith, nat_tests, between_joined byte next rest h.1, slice_split_at, join_with_byte, All-from_recursion, eq-eqb)
 
 digit_lacks : (b : ℕ) → is_ascii_digit b ≡ true → eqb b 44 ≡ false
 digit_lacks b e1 = grind (arith, nat_tests)
@@ -106,7 +112,8 @@ unfolding wholes
 wholes_written [] h = refl
 wholes_written (z ∷ zs) h = rw (whole_written z h.0, wholes_written zs h.1) refl
 
-list_of_texts : (texts : List (List ℕ)) (text : List ℕ) (zs : List ℤ) → between 44 text ≡ texts → length texts ≤ 16 → wholes texts ≡ Some zs → list_of text ≡ Some zs
+list_of_texts : (texts : List (List ℕ)) (text : List ℕ) (zs : List ℤ) → between 44 text ≡ texts → length texts ≤ 16 → wholes texts ≡ Some zs
+    → list_of text ≡ Some zs
 unfolding list_of
 list_of_texts texts text zs e le w = rw (e, le-leb (length texts) 16 le) w
 
@@ -128,7 +135,8 @@ bits_weaker (text ∷ texts) low bits e =
     let w = within_is (low + 1) 63 a.0 text a.1 in
     rw (within_from low 63 a.0 text w.0 (omega (arith, w.1)) w.2) a.2
 
-bits_first : (low bits total : ℕ) (text : List ℕ) (texts : List (List ℕ)) → number_within low 63 text ≡ Some low → bits_from (low + 1) texts ≡ Some bits → 2 ^ low + bits ≡ total → bits_from low (text ∷ texts) ≡ Some total
+bits_first : (low bits total : ℕ) (text : List ℕ) (texts : List (List ℕ)) → number_within low 63 text ≡ Some low → bits_from (low + 1) texts ≡ Some bits
+    → 2 ^ low + bits ≡ total → bits_from low (text ∷ texts) ≡ Some total
 unfolding bits_from
 bits_first low bits total text texts e rest sum = rw (e, rest) (ap Some sum)
 
@@ -146,7 +154,8 @@ unfolding bits_from
 nothing_left m low e = rw e (ap Some (omega arith))
 
 -- the bits from low on, of which m tells k
-cores_bits : (k low m r mask : ℕ) → low + k ≡ 64 → mask ≡ m * 2 ^ low + r → r < 2 ^ low → m < 2 ^ k → bits_from low (map decimal (cores_from mask low k)) ≡ Some (m * 2 ^ low)
+cores_bits : (k low m r mask : ℕ) → low + k ≡ 64 → mask ≡ m * 2 ^ low + r → r < 2 ^ low → m < 2 ^ k
+    → bits_from low (map decimal (cores_from mask low k)) ≡ Some (m * 2 ^ low)
 cores_bits zero low m r mask sum e rl ml = nothing_left m low (omega arith)
 cores_bits (suc k) low m r mask sum e rl ml =
     let n = m / 2 in
@@ -159,7 +168,8 @@ cores_bits (suc k) low m r mask sum e rl ml =
           let rest = cores_bits k (low + 1) n (2 ^ low + r) mask (omega arith) split (omega (arith, rl, pow_double low)) less in
           let bit : in_mask low mask ≡ true = eq-eqb _ _ (lowest m low r mask e rl ∙ one) in
           subst (λ (ts : List (List ℕ)). bits_from low ts ≡ Some (m * 2 ^ low)) (sym (cores_yes mask low k bit))
-          (bits_first low (n * 2 ^ (low + 1)) (m * 2 ^ low) (decimal low) (map decimal (cores_from mask (low + 1) k)) (within_written low 63 low (omega arith) (omega arith) (omega arith)) rest (omega (arith, whole, twice n low)))
+          (bits_first low (n * 2 ^ (low + 1)) (m * 2 ^ low) (decimal low) (map decimal (cores_from mask (low + 1) k))
+          (within_written low 63 low (omega arith) (omega arith) (omega arith)) rest (omega (arith, whole, twice n low)))
       | inr other ↦
           let is : m ≡ 2 * n = omega arith in
           let whole : m * 2 ^ low ≡ 2 * n * 2 ^ low = ap (λ (x : ℕ). x * 2 ^ low) is in
@@ -179,7 +189,8 @@ none_bits : (mask : ℕ) → bits_from 0 [] ≡ Some mask → 0 ≡ mask
 unfolding bits_from
 none_bits mask e = just_is 0 mask e
 
-listed_bits : (texts : List (List ℕ)) (mask : ℕ) → bits_from 0 texts ≡ Some mask → 0 < mask → AllByRecursion (Lacks 44) texts → bits_from 0 (between 44 (listed texts)) ≡ Some mask
+listed_bits : (texts : List (List ℕ)) (mask : ℕ) → bits_from 0 texts ≡ Some mask → 0 < mask → AllByRecursion (Lacks 44) texts
+    → bits_from 0 (between 44 (listed texts)) ≡ Some mask
 listed_bits [] mask e some h = absurd (let z = none_bits mask e in omega (arith, z))
 listed_bits (text ∷ texts) mask e some h = subst (λ (ts : List (List ℕ)). bits_from 0 ts ≡ Some mask) (sym (between_joined 44 text texts h)) e
 

@@ -20,5 +20,6 @@ number_within low high text = option_and_then (λ n. if nat_le low n && nat_le n
 unfoldable pub whole : List ℕ → Option ℤ
 whole text =
     if slice_index text 0 == 45
-    then (if is_decimal (drop 1 text) && not (slice_index text 1 == 48) && nat_le (digits_value 10 (drop 1 text)) (2 ^ 63) then Some (neg_ℤ (pos (digits_value 10 (drop 1 text)))) else None)
+    then (if is_decimal (drop 1 text) && not (slice_index text 1 == 48) && nat_le (digits_value 10 (drop 1 text)) (2 ^ 63)
+    then Some (neg_ℤ (pos (digits_value 10 (drop 1 text)))) else None)
     else (if is_decimal text && nat_lt (digits_value 10 text) (2 ^ 63) then Some (pos (digits_value 10 text)) else None)

@@ -41,7 +41,8 @@ pub record WorkedClasses : Type 0 where
   pub slot : slot_of in_slot_7 ≡ 7
   pub pairs : map number_of ((here, Completed) ∷ (here, Cancelled) ∷ (here, Error) ∷ (other, Cancelled) ∷ []) ≡ (21 ∷ 22 ∷ 23 ∷ 26 ∷ [])
   -- words of nothing, of an earlier task, of no class, of each class, and of a later task
-  pub peeks : map (peek_of in_slot_7) (0 ∷ 18 ∷ 20 ∷ 21 ∷ 22 ∷ 23 ∷ 24 ∷ 26 ∷ []) ≡ (NotYet ∷ NotYet ∷ NotYet ∷ Ended Completed ∷ Ended Cancelled ∷ Ended Error ∷ Gone ∷ Gone ∷ [])
+  pub peeks : map (peek_of in_slot_7) (0 ∷ 18 ∷ 20 ∷ 21 ∷ 22 ∷ 23 ∷ 24 ∷ 26 ∷ [])
+      ≡ (NotYet ∷ NotYet ∷ NotYet ∷ Ended Completed ∷ Ended Cancelled ∷ Ended Error ∷ Gone ∷ Gone ∷ [])
   pub shown : (ShowsEnd (Ended Error) × ShowsEnd Gone) × ((ShowsEnd NotYet → ⊥) × (ShowsEnd Foreign → ⊥))
   -- a board of 8 slots has the task, one of 7 doesn't, nor is the group's handle or the one of generation 0 on it
   pub on : OnBoard 8 in_slot_7
@@ -61,7 +62,13 @@ pub record WorkedTokens : Type 0 where
   pub less : one_less knows ≡ record { count = 2; told = (here, Completed) ∷ []; heard = (other, Error) ∷ []; loads = (3, 27) ∷ [] }
   pub new : one_new knows ≡ record { count = 1; told = []; heard = []; loads = [] }
   pub both : together knows also
-      ≡ record { count = 5; told = (here, Completed) ∷ (other, Cancelled) ∷ []; heard = (other, Error) ∷ (here, Completed) ∷ []; loads = (3, 27) ∷ (7, 21) ∷ [] }
+      ≡ record {
+        count = 5;
+        told = (here, Completed) ∷ (other, Cancelled) ∷ [];
+        heard = (other, Error) ∷ (here, Completed) ∷ [];
+        loads =
+            (3, 27) ∷ (7, 21) ∷ [];
+      }
   pub count : seats_in (knows ∷ also ∷ []) ≡ 5
   pub hears : map (heard_of here) (Ended Cancelled ∷ NotYet ∷ Gone ∷ Foreign ∷ []) ≡ (((here, Cancelled) ∷ []) ∷ [] ∷ [] ∷ [] ∷ [])
   pub tells : telling (other, Cancelled) knows

@@ -6,7 +6,8 @@ use Rattle.std.specs.Fn.{Once}
 use Rattle.run_beside.specs.Pairs.{Ran}
 
 module _ {F S C T : Type 0} (g : Once F (MutBor S × (C × Unit {0})) (T × (MutBor S × Unit {0}))) (count : S → ℕ) (b : F) (carry : C) where
-  pub ran_of : (t : T) (p q : MutBor S) (before after : ℕ) → g.post b (p, (carry, tt)) (t, (q, tt)) → count p.now ≡ before → after ≡ count q.now → Ran g count b carry before t after
+  pub ran_of : (t : T) (p q : MutBor S) (before after : ℕ) → g.post b (p, (carry, tt)) (t, (q, tt)) → count p.now ≡ before → after ≡ count q.now
+      → Ran g count b carry before t after
   ran_of t p q before after met first then =
       record { shown = p; first = first; left = q; met = met; then = then }
 

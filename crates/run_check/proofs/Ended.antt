@@ -44,7 +44,8 @@ of_more who [] e = by (e.who == who)
 of_more who (x ∷ L) e = by (x.who == who) (of_more who L e)
   where
     by : (b : Bool) → entries_of who (L ++ e ∷ []) ≡ entries_of who L ++ cond (e.who == who) (e ∷ []) []
-        → cond b (x ∷ entries_of who (L ++ e ∷ [])) (entries_of who (L ++ e ∷ [])) ≡ cond b (x ∷ entries_of who L) (entries_of who L) ++ cond (e.who == who) (e ∷ []) []
+        → cond b (x ∷ entries_of who (L ++ e ∷ [])) (entries_of who (L ++ e ∷ []))
+        ≡ cond b (x ∷ entries_of who L) (entries_of who L) ++ cond (e.who == who) (e ∷ []) []
     by true m = ap (λ l. x ∷ l) m
     by false m = m
 
@@ -67,7 +68,8 @@ module _ (main : ℕ) (L : List NodeEntry) (e : NodeEntry) where
     before = c.before;
     behind = c.behind ++ e ∷ [];
     closes = ap (λ l. l ++ e ∷ []) c.closes ∙ append_assoc c.before (close ∷ c.behind) (e ∷ []);
-    callers_ended = λ who l. of_more who c.behind e ∙ (ap (λ l. l ++ cond (e.who == who) (e ∷ []) []) (c.callers_ended who l) ∙ ap (λ b. cond b (e ∷ []) []) (other who l));
+    callers_ended = λ who l. of_more who c.behind e
+        ∙ (ap (λ l. l ++ cond (e.who == who) (e ∷ []) []) (c.callers_ended who l) ∙ ap (λ b. cond b (e ∷ []) []) (other who l));
   }
     where
       other : (who : ℕ) → main < who → (e.who == who) ≡ false
@@ -94,9 +96,19 @@ module _ (main : ℕ) (L : List NodeEntry) (e : NodeEntry) where
 
       by : Split L c.before c.behind e close → StaysClosed main (Closes main L) e
       by (inl s) = inl s.2
-      by (inr s) = inr (record { before = c.before; behind = s.0; closes = s.2; callers_ended = λ who l. (both_nil (entries_of who s.0) _ (sym (of_more who s.0 e) ∙ (ap (entries_of who) (sym s.1) ∙ c.callers_ended who l))).0 }, low s.0 s.1)
+      by (inr s) = inr (
+        record {
+          before = c.before;
+          behind = s.0;
+          closes = s.2;
+          callers_ended =
+              λ who l. (both_nil (entries_of who s.0) _ (sym (of_more who s.0 e) ∙ (ap (entries_of who) (sym s.1) ∙ c.callers_ended who l))).0;
+        },
+        low s.0 s.1,
+      )
 
-  pub closes_next : (closed after : Bool) → IsTrue closed ↔ Closes main L → IsTrue after ↔ StaysClosed main (IsTrue closed) e → IsTrue after ↔ Closes main (L ++ e ∷ [])
+  pub closes_next : (closed after : Bool) → IsTrue closed ↔ Closes main L → IsTrue after ↔ StaysClosed main (IsTrue closed) e
+      → IsTrue after ↔ Closes main (L ++ e ∷ [])
   closes_next closed after so next = (λ t. there (next.0 t), λ c. next.1 (back (stayed c)))
     where
       there : StaysClosed main (IsTrue closed) e → Closes main (L ++ e ∷ [])
@@ -112,7 +124,8 @@ module _ (main : ℕ) (L : List NodeEntry) (e : NodeEntry) where
       → IsTrue closed ↔ Closes main (take i es) → IsTrue after ↔ StaysClosed main (IsTrue closed) e → IsTrue after ↔ Closes main (take (i + 1) es)
   closes_at i es closed after is here at so next =
       let list : take (i + 1) es ≡ L ++ e ∷ [] = (take_at_read es i e here).1 ∙ (ap (λ l. l ++ get_or es i e ∷ []) (sym is) ∙ ap (λ z. L ++ z ∷ []) (sym at)) in
-      subst (λ (l : List NodeEntry). IsTrue after ↔ Closes main l) (sym list) (closes_next closed after (subst (λ (l : List NodeEntry). IsTrue closed ↔ Closes main l) (sym is) so) next)
+      subst (λ (l : List NodeEntry). IsTrue after
+      ↔ Closes main l) (sym list) (closes_next closed after (subst (λ (l : List NodeEntry). IsTrue closed ↔ Closes main l) (sym is) so) next)
 
 -- the end of a run
 pub ends_by : (main : ℕ) (before es : List NodeEntry) (last : NodeEntry) (b : Bool) → es ≡ before ++ last ∷ [] → last ≡ entry main ops.Final replies.Ok
@@ -123,7 +136,9 @@ ends_by main before es last b is final so = (λ t. there (so.0 t), λ c. so.1 (b
     there c = record {
       before = c.before;
       behind = c.behind;
-      closes = is ∙ (ap (λ l. l ++ last ∷ []) c.closes ∙ (append_assoc c.before (entry main ops.Close replies.Ok ∷ c.behind) (last ∷ []) ∙ ap (λ x. c.before ++ entry main ops.Close replies.Ok ∷ (c.behind ++ x ∷ [])) final));
+      closes = is ∙ (ap (λ l. l ++ last ∷ []) c.closes
+          ∙ (append_assoc c.before (entry main ops.Close replies.Ok ∷ c.behind) (last ∷ [])
+          ∙ ap (λ x. c.before ++ entry main ops.Close replies.Ok ∷ (c.behind ++ x ∷ [])) final));
       callers_ended = c.callers_ended;
     }
 
@@ -134,7 +149,8 @@ ends_by main before es last b is final so = (λ t. there (so.0 t), λ c. so.1 (b
         record { before = c.before; behind = c.behind; closes = (last_same before _ last _ all).0; callers_ended = c.callers_ended }
 
 -- another last entry ends no run
-pub ends_not : (main : ℕ) (before es : List NodeEntry) (last : NodeEntry) → es ≡ before ++ last ∷ [] → (last ≡ entry main ops.Final replies.Ok → ⊥) → ClosesAtEnd main es → ⊥
+pub ends_not : (main : ℕ) (before es : List NodeEntry) (last : NodeEntry) → es ≡ before ++ last ∷ [] → (last ≡ entry main ops.Final replies.Ok → ⊥)
+    → ClosesAtEnd main es → ⊥
 ends_not main before es last is not c =
     let all : before ++ last ∷ [] ≡ (c.before ++ entry main ops.Close replies.Ok ∷ c.behind) ++ entry main ops.Final replies.Ok ∷ [] =
     sym is ∙ (c.closes ∙ sym (append_assoc c.before (entry main ops.Close replies.Ok ∷ c.behind) (entry main ops.Final replies.Ok ∷ []))) in

@@ -82,7 +82,8 @@ module _ (w : Wanted) (timeout : Timeout) where
       first = Some l.beside;
       beside = d.beside;
       last = decides.last;
-      is = ap (λ o. line o l.reply l.beside ∷ d ∷ []) asks ∙ ap (λ r. line (op_of w false) r l.beside ∷ d ∷ []) (is_the_reply l.reply pending) ∙ ap (λ o. line (op_of w false) reply.Pending l.beside ∷ line o d.reply d.beside ∷ []) decides.is;
+      is = ap (λ o. line o l.reply l.beside ∷ d ∷ []) asks ∙ ap (λ r. line (op_of w false) r l.beside ∷ d ∷ []) (is_the_reply l.reply pending)
+          ∙ ap (λ o. line (op_of w false) reply.Pending l.beside ∷ line o d.reply d.beside ∷ []) decides.is;
       none_kept = λ no. absurd (cc);
       decides = decides.shows.decides;
       within = decides.shows.within;
@@ -93,7 +94,8 @@ module _ (w : Wanted) (timeout : Timeout) where
   -- what the front of the lines is, where a call that looks made it
   pub data LookFront (l : Line) (ls rest : List Line) (r : Reply) : Type 0 where
     at_once : rest ≡ ls → r ≡ l.reply → is_pending l.reply ≡ false → Decides w timeout 0 l → LookFront l ls rest r
-    kept_one : (d : Line) → ls ≡ d ∷ rest → r ≡ d.reply → is_pending l.reply ≡ true → l.op ≡ op_of w false → waits w ≡ true → Decides w timeout (l.beside + 1) d → LookFront l ls rest r
+    kept_one : (d : Line) → ls ≡ d ∷ rest → r ≡ d.reply → is_pending l.reply ≡ true → l.op ≡ op_of w false → waits w ≡ true → Decides w timeout (l.beside + 1) d
+        → LookFront l ls rest r
 
   by_first : (l : Line) (ls rest front : List Line) (r : Reply) (first : Option ℕ) (beside : ℕ) (last : Bool) → l ∷ ls ≡ front ++ rest
       → front ≡ before_it (op_of w false) first ++ line (op_of w last) r beside ∷ [] → (waits w ≡ false → first ≡ None)
@@ -116,10 +118,12 @@ module _ (w : Wanted) (timeout : Timeout) where
       stands false none = absurd (let x = none refl in cc)
 
   pub look_front : (l : Line) (ls rest : List Line) (r : Reply) → Takes (Looking (waits w) (op_of w) timeout) (l ∷ ls) rest r → LookFront l ls rest r
-  look_front l ls rest r t = by_first l ls rest t.front r t.made.first t.made.beside t.made.last t.is t.made.is t.made.none_kept (record { decides = t.made.decides; within = t.made.within; late = t.made.late })
+  look_front l ls rest r t = by_first l ls rest t.front r t.made.first t.made.beside t.made.last t.is t.made.is t.made.none_kept
+      (record { decides = t.made.decides; within = t.made.within; late = t.made.late })
 
   -- where the look doesn't decide, none was kept and the next does, and else the next doesn't decide
-  pub no_front : (l d : Line) (ls rest : List Line) (r : Reply) → is_pending l.reply ≡ true → (Decides w timeout (l.beside + 1) d → ⊥) → Takes (Looking (waits w) (op_of w) timeout) (l ∷ d ∷ ls) rest r → ⊥
+  pub no_front : (l d : Line) (ls rest : List Line) (r : Reply) → is_pending l.reply ≡ true → (Decides w timeout (l.beside + 1) d → ⊥)
+      → Takes (Looking (waits w) (op_of w) timeout) (l ∷ d ∷ ls) rest r → ⊥
   no_front l d ls rest r pending not t = by (look_front l (d ∷ ls) rest r t)
     where
       by : LookFront l (d ∷ ls) rest r → ⊥

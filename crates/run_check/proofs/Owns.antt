@@ -18,7 +18,8 @@ own_more who (x ∷ L) [] e n same = absurd (let x = same in cc)
 own_more who (x ∷ L) (m ∷ ns) e n same = by (x.who == who) (own_more who L ns e n (omega (arith, same)))
   where
     by : (b : Bool) → lines_of who (L ++ e ∷ []) (ns ++ n ∷ []) ≡ lines_of who L ns ++ own who e n
-        → cond b (line x.op x.reply m ∷ lines_of who (L ++ e ∷ []) (ns ++ n ∷ [])) (lines_of who (L ++ e ∷ []) (ns ++ n ∷ [])) ≡ cond b (line x.op x.reply m ∷ lines_of who L ns) (lines_of who L ns) ++ own who e n
+        → cond b (line x.op x.reply m ∷ lines_of who (L ++ e ∷ []) (ns ++ n ∷ [])) (lines_of who (L ++ e ∷ []) (ns ++ n ∷ []))
+        ≡ cond b (line x.op x.reply m ∷ lines_of who L ns) (lines_of who L ns) ++ own who e n
     by true more = ap (λ l. line x.op x.reply m ∷ l) more
     by false more = more
 

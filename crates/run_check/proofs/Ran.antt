@@ -7,13 +7,23 @@ use Rattle.run_check.specs.Starts.{Enters}
 use Rattle.run_check.proofs.Same.{takes_same}
 
 -- what the statements made, with anything behind it
-pub to_rest : (bound : List ℕ) (ss : List Statement) (body rest : List Line) (rs : List Reply) → Carried Made bound ss body rs → CarriedTo bound ss (body ++ rest) rest
+pub to_rest : (bound : List ℕ) (ss : List Statement) (body rest : List Line) (rs : List Reply) → Carried Made bound ss body rs
+    → CarriedTo bound ss (body ++ rest) rest
 unfolding Carried CarriedTo
 to_rest bound [] body rest [] c = ap (λ l. l ++ rest) c
 to_rest bound [] body rest (r ∷ rs) c = absurd c
 to_rest bound (s ∷ ss) body rest [] c = absurd c
-to_rest bound (s ∷ ss) body rest (r ∷ rs) c =
-    (c.1 ++ rest, r, record { front = c.0; is = ap (λ l. l ++ rest) c.2 ∙ append_assoc c.0 c.1 rest; made = c.3 }, to_rest (bound ++ handle_of r ∷ []) ss c.1 rest rs c.4)
+to_rest bound (s ∷ ss) body rest (r ∷ rs) c = (
+  c.1 ++ rest,
+  r,
+  record {
+    front = c.0;
+    is = ap (λ l. l ++ rest) c.2 ∙ append_assoc c.0 c.1 rest;
+    made =
+        c.3;
+  },
+  to_rest (bound ++ handle_of r ∷ []) ss c.1 rest rs c.4,
+)
 
 -- the part of the lines that the statements made
 pub record Body (bound : List ℕ) (ss : List Statement) (lines rest : List Line) : Type 0 where
@@ -35,13 +45,15 @@ from_rest bound (s ∷ ss) lines rest c =
     }
 
 -- one list alone is left behind the statements
-pub rest_same : (bound : List ℕ) (ss : List Statement) (lines rest other : List Line) → CarriedTo bound ss lines rest → CarriedTo bound ss lines other → rest ≡ other
+pub rest_same : (bound : List ℕ) (ss : List Statement) (lines rest other : List Line) → CarriedTo bound ss lines rest → CarriedTo bound ss lines other
+    → rest ≡ other
 unfolding CarriedTo
 rest_same bound [] lines rest other c d = sym c ∙ d
 rest_same bound (s ∷ ss) lines rest other c d =
     let same = takes_same (call_of bound s.deed) lines c.0 d.0 c.1 d.1 c.2 d.2 in
     rest_same (bound ++ handle_of d.1 ∷ []) ss d.0 rest other
-    (subst (λ (q : Reply). CarriedTo (bound ++ handle_of q ∷ []) ss d.0 rest) same.1 (subst (λ (z : List Line). CarriedTo (bound ++ handle_of c.1 ∷ []) ss z rest) same.0 c.3)) d.3
+    (subst (λ (q : Reply). CarriedTo (bound ++ handle_of q ∷ []) ss d.0 rest) same.1
+    (subst (λ (z : List Line). CarriedTo (bound ++ handle_of c.1 ∷ []) ss z rest) same.0 c.3)) d.3
 
 module _ (ss : List Statement) (lines : List Line) where
   abbrev pub SomeMain : Type 0
@@ -54,7 +66,8 @@ module _ (ss : List Statement) (lines : List Line) where
   pub main_left : (left : List Line) → lines ≡ head_of (has_begin ss) ++ left → SomeMain → CarriedTo [] ss left tail_of_main
   main_left left is m =
       let same : head_of (has_begin ss) ++ left ≡ head_of (has_begin ss) ++ (m.1.body ++ tail_of_main) = sym is ∙ m.1.is in
-      subst (λ (z : List Line). CarriedTo [] ss z tail_of_main) (sym (by (has_begin ss) left (m.1.body ++ tail_of_main) same)) (to_rest [] ss m.1.body tail_of_main m.0 m.1.carried)
+      subst (λ (z : List Line). CarriedTo [] ss z tail_of_main) (sym (by (has_begin ss) left (m.1.body ++ tail_of_main) same))
+      (to_rest [] ss m.1.body tail_of_main m.0 m.1.carried)
     where
       by : (b : Bool) (x y : List Line) → head_of b ++ x ≡ head_of b ++ y → x ≡ y
       by true x y e = cc
@@ -82,7 +95,8 @@ module _ (ss : List Statement) (lines : List Line) where
   pub caller_is : (first : Line) (rest : List Line) → lines ≡ first ∷ rest → Enters first → CarriedTo [] ss rest [] → SomeCaller
   caller_is first rest is enters c =
       let b = from_rest [] ss rest [] c in
-      let here : first ≡ line ops.Enter replies.Ok first.beside = ap (λ o. line o first.reply first.beside) enters.0 ∙ ap (λ r. line ops.Enter r first.beside) enters.1 in (
+      let here : first ≡ line ops.Enter replies.Ok first.beside =
+      ap (λ o. line o first.reply first.beside) enters.0 ∙ ap (λ r. line ops.Enter r first.beside) enters.1 in (
         b.replies,
         record {
           front = first ∷ [];
@@ -93,16 +107,24 @@ module _ (ss : List Statement) (lines : List Line) where
         },
       )
 
-  pub main_some : (left rest : List Line) (b : Bool) → lines ≡ head_of (has_begin ss) ++ left → CarriedTo [] ss left rest → IsTrue b ↔ (rest ≡ tail_of_main) → IsTrue b ↔ SomeMain
-  main_some left rest b is c same =
-      (λ t. main_is left is (subst (λ (z : List Line). CarriedTo [] ss left z) (same.0 t) c), λ m. same.1 (rest_same [] ss left rest tail_of_main c (main_left left is m)))
+  pub main_some : (left rest : List Line) (b : Bool) → lines ≡ head_of (has_begin ss) ++ left → CarriedTo [] ss left rest → IsTrue b ↔ (rest ≡ tail_of_main)
+      → IsTrue b ↔ SomeMain
+  main_some left rest b is c same = (
+    λ t. main_is left is (subst (λ (z : List Line). CarriedTo [] ss left z) (same.0 t) c),
+    λ m. same.1
+        (rest_same [] ss left rest tail_of_main c (main_left left is m)),
+  )
 
   pub main_none : (left : List Line) → lines ≡ head_of (has_begin ss) ++ left → ((rest : List Line) → CarriedTo [] ss left rest → ⊥) → IsTrue false ↔ SomeMain
   main_none left is none = (λ t. absurd (let x = t in cc), λ m. absurd (none tail_of_main (main_left left is m)))
 
-  pub caller_some : (first : Line) (left rest : List Line) (b : Bool) → lines ≡ first ∷ left → Enters first → CarriedTo [] ss left rest → IsTrue b ↔ (rest ≡ []) → IsTrue b ↔ SomeCaller
-  caller_some first left rest b is enters c same =
-      (λ t. caller_is first left is enters (subst (λ (z : List Line). CarriedTo [] ss left z) (same.0 t) c), λ m. same.1 (rest_same [] ss left rest [] c (caller_left first left is m)))
+  pub caller_some : (first : Line) (left rest : List Line) (b : Bool) → lines ≡ first ∷ left → Enters first → CarriedTo [] ss left rest → IsTrue b ↔ (rest ≡ [])
+      → IsTrue b ↔ SomeCaller
+  caller_some first left rest b is enters c same = (
+    λ t. caller_is first left is enters (subst (λ (z : List Line). CarriedTo [] ss left z) (same.0 t) c),
+    λ m. same.1
+        (rest_same [] ss left rest [] c (caller_left first left is m)),
+  )
 
   pub caller_none : (first : Line) (left : List Line) → lines ≡ first ∷ left → ((rest : List Line) → CarriedTo [] ss left rest → ⊥) → IsTrue false ↔ SomeCaller
   caller_none first left is none = (λ t. absurd (let x = t in cc), λ m. absurd (none [] (caller_left first left is m)))
@@ -119,7 +141,8 @@ is_nil l b e = (λ t. nil_from_length l (omega (arith, (Decides-eqb (length l) 0
 
 -- Workers
 
-pub work_more : (ls : List Line) (i : ℕ) (l : Line) → i < length ls → l ≡ get_or ls i l → all_work (drop i ls) ≡ (is_work l.op l.reply && all_work (drop (i + 1) ls))
+pub work_more : (ls : List Line) (i : ℕ) (l : Line) → i < length ls → l ≡ get_or ls i l
+    → all_work (drop i ls) ≡ (is_work l.op l.reply && all_work (drop (i + 1) ls))
 unfolding all_work
 work_more ls i l here is = ap all_work (drop_more ls i l here ∙ ap (λ x. x ∷ drop (i + 1) ls) (sym is))
 

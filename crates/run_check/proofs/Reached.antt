@@ -40,7 +40,8 @@ module _ (ss : List Statement) (lines : List Line) (bound : List ℕ) (rest : Li
       none d.0 d.1 d.2
 
 -- all were followed
-pub at_end : (ss : List Statement) (lines : List Line) (bound : List ℕ) (rest : List Line) (i : ℕ) → length ss ≤ i → Reached ss lines bound (drop i ss) rest → CarriedTo [] ss lines rest
+pub at_end : (ss : List Statement) (lines : List Line) (bound : List ℕ) (rest : List Line) (i : ℕ) → length ss ≤ i → Reached ss lines bound (drop i ss) rest
+    → CarriedTo [] ss lines rest
 unfolding CarriedTo
 at_end ss lines bound rest i past reached =
     let none : drop i ss ≡ [] = nil_from_length (drop i ss) (omega (arith, length-drop i ss, past)) in

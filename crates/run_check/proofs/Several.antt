@@ -14,7 +14,8 @@ module _ (made : ℕ → List Line) where
   not_first who p ps none ([], c) = c
   not_first who p ps none (rs ∷ rss, c) = none (rs, c.0)
 
-  pub and_rest : (who : ℕ) (p : Part) (ps : List Part) (next : ℕ) (b : Bool) → ((rs : List Reply) × CallerRan in_lines p.statements (made who) rs) → next ≡ who + 1
+  pub and_rest : (who : ℕ) (p : Part) (ps : List Part) (next : ℕ) (b : Bool) → ((rs : List Reply) × CallerRan in_lines p.statements (made who) rs)
+      → next ≡ who + 1
       → IsTrue b ↔ Some next ps → IsTrue b ↔ Some who (p ∷ ps)
   unfolding CallersRan
   and_rest who p ps next b first at so = (λ t. there (so.0 t), λ s. so.1 (back s))
@@ -39,7 +40,8 @@ module _ (made : ℕ → List Line) where
   not_main main p ps none ([], c) = c
   not_main main p ps none (rs ∷ rss, c) = none (rs, c.0)
 
-  pub and_callers : (main : ℕ) (p : Part) (ps : List Part) (next : ℕ) (b : Bool) → ((rs : List Reply) × MainRan in_lines p.statements (made main) rs) → next ≡ main + 1
+  pub and_callers : (main : ℕ) (p : Part) (ps : List Part) (next : ℕ) (b : Bool) → ((rs : List Reply) × MainRan in_lines p.statements (made main) rs)
+      → next ≡ main + 1
       → IsTrue b ↔ Some next ps → IsTrue b ↔ All main (p ∷ ps)
   and_callers main p ps next b first at so = (λ t. there (so.0 t), λ s. so.1 (back s))
     where

@@ -32,4 +32,5 @@ pub record Decides (w : Wanted) (timeout : Timeout) (before : ℕ) (l : Line) : 
 -- the front of the lines is made by these statements in order, and these are left behind it
 unfoldable pub CarriedTo : List ℕ → List Statement → List Line → List Line → Type 0
 CarriedTo bound [] lines rest = lines ≡ rest
-CarriedTo bound (s ∷ ss) lines rest = (mid : List Line) × (r : Reply) × Takes (call_of bound s.deed) lines mid r × CarriedTo (bound ++ handle_of r ∷ []) ss mid rest
+CarriedTo bound (s ∷ ss) lines rest = (mid : List Line) × (r : Reply) × Takes (call_of bound s.deed) lines mid r
+    × CarriedTo (bound ++ handle_of r ∷ []) ss mid rest

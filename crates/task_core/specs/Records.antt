@@ -20,7 +20,16 @@ queue_number q = option_map (λ (h : QueueHandle). h.0) q
 
 -- what a start or an enqueue asks for, with plain numbers
 abbrev pub asked_task : AskedTask → NewTask
-asked_task t = record { job = t.job; args = t.args; priority = t.priority; cores = t.cores.0; detached = t.detached; group = group_number t.group; queue = queue_number t.queue }
+asked_task t = record {
+  job = t.job;
+  args = t.args;
+  priority = t.priority;
+  cores = t.cores.0;
+  detached = t.detached;
+  group = group_number t.group;
+  queue =
+      queue_number t.queue;
+}
 
 -- how far the task has come
 abbrev pub state_of : Progress → TaskState

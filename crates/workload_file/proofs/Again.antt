@@ -31,16 +31,20 @@ unfolding row
 deed_naming w e1 e2 = grind (arith, nat_tests)
 
 -- the words between the first one and the options
-names_written : (before : List Statement) (n : Naming) (name : List ℕ) (ps : List (List ℕ)) → (n ≡ rule.Caller → ⊥) → is_unbound n (use_in before n name) ≡ false → bound_words (bound_name n name) ++ (used_words before (place_at n (or_zero (use_in before n name))) ++ ps) ≡ named n name ++ ps
+names_written : (before : List Statement) (n : Naming) (name : List ℕ) (ps : List (List ℕ)) → (n ≡ rule.Caller → ⊥)
+    → is_unbound n (use_in before n name) ≡ false
+    → bound_words (bound_name n name) ++ (used_words before (place_at n (or_zero (use_in before n name))) ++ ps) ≡ named n name ++ ps
 names_written before rule.Caller name ps c u = absurd (c refl)
 names_written before (rule.Uses s) name ps c u = let p = place_found (place_of s name before) u in rw (p.1, (place_is s name before p.0 p.1).1) refl
 names_written before _ name ps c u = refl
 
-node_options : (before : List Statement) (settings : NodeSettings) → options_words [] (fields word.Node) (setting_values settings) ≡ options_words before (fields word.Node) (setting_values settings)
+node_options : (before : List Statement) (settings : NodeSettings)
+    → options_words [] (fields word.Node) (setting_values settings) ≡ options_words before (fields word.Node) (setting_values settings)
 unfolding options_words row value_text
 node_options before settings = refl
 
-split_again : (n : Naming) (rest : List (List ℕ)) (name : List ℕ) (ps : List (List ℕ)) → name_in n rest ≡ name → (name_in n (named n name ++ ps) ≡ name) × (options_in n (named n name ++ ps) ≡ ps)
+split_again : (n : Naming) (rest : List (List ℕ)) (name : List ℕ) (ps : List (List ℕ)) → name_in n rest ≡ name
+    → (name_in n (named n name ++ ps) ≡ name) × (options_in n (named n name ++ ps) ≡ ps)
 split_again n rest name ps e1 = grind (arith, nat_tests)
 
 node_named : (name : List ℕ) → named (naming word.Node) name ≡ []
@@ -52,7 +56,8 @@ unfolding row
 caller_named name = refl
 
 -- a caller line has no options
-caller_options : (before : List Statement) (options : List (List ℕ)) → options_words before (fields word.Caller) (values_in before options (fields word.Caller)) ≡ []
+caller_options : (before : List Statement) (options : List (List ℕ))
+    → options_words before (fields word.Caller) (values_in before options (fields word.Caller)) ≡ []
 unfolding row options_words
 caller_options before options = refl
 
@@ -67,7 +72,8 @@ record IsChosen (r : Reading) (first : List ℕ) (w : Word) (name : List ℕ) (o
   read : IsRead r first (named (naming w) name ++ words) w name words
   values : values_in (here r) words (fields w) ≡ values_in (here r) options (fields w)
 
-chosen : (r : Reading) (first : List ℕ) (rest : List (List ℕ)) (w : Word) (name : List ℕ) (options : List (List ℕ)) → IsRead r first rest w name options → list_all is_word options ≡ true → IsChosen r first w name options
+chosen : (r : Reading) (first : List ℕ) (rest : List (List ℕ)) (w : Word) (name : List ℕ) (options : List (List ℕ)) → IsRead r first rest w name options
+    → list_all is_word options ≡ true → IsChosen r first w name options
 chosen r first rest w name options read words =
     let fs = fields w in
     let vs = values_in (here r) options fs in
@@ -98,15 +104,27 @@ chosen r first rest w name options read words =
     }
 
 -- the line that is written of what was read
-written_as : (r : Reading) (line : ℕ) (first : List ℕ) (rest : List (List ℕ)) (w : Word) (name : List ℕ) (options : List (List ℕ)) (c : LineEffect) → IsRead r first rest w name options → IsEffectOf r line w name options c → text_of_change r c ≡ line_text (first ∷ (named (naming w) name ++ options_words (here r) (fields w) (values_in (here r) options (fields w))))
+written_as : (r : Reading) (line : ℕ) (first : List ℕ) (rest : List (List ℕ)) (w : Word) (name : List ℕ) (options : List (List ℕ)) (c : LineEffect)
+    → IsRead r first rest w name options → IsEffectOf r line w name options c
+    → text_of_change r c ≡ line_text (first ∷ (named (naming w) name ++ options_words (here r) (fields w) (values_in (here r) options (fields w))))
 written_as r line first rest w name options c read (says_node is change) =
     let values = (node_given (here r) options (rw is at read.sound)).0 in
-    rw (change, is, node_named name, values, ← word_spelled first word.Node (rw is at read.word)) (ap (λ (ps : List (List ℕ)). line_text (word_text word.Node ∷ ps)) (ap (options_words [] (fields word.Node)) (sym values) ∙ (node_options (here r) (settings_by (values_in (here r) options (fields word.Node))) ∙ ap (options_words (here r) (fields word.Node)) values)))
+    rw (change, is, node_named name, values, ← word_spelled first word.Node (rw is at read.word))
+    (ap (λ (ps : List (List ℕ)). line_text (word_text word.Node ∷ ps)) (ap (options_words [] (fields word.Node)) (sym values)
+    ∙ (node_options (here r) (settings_by (values_in (here r) options (fields word.Node))) ∙ ap (options_words (here r) (fields word.Node)) values)))
 written_as r line first rest w name options c read (says_caller is change) =
     rw (change, is, caller_named name, caller_options (here r) options, ← word_spelled first word.Caller (rw is at read.word)) refl
 written_as r line first rest w name options c read (says_deed h change) =
     let g = deed_given r first rest w name options h read in
-    rw (change, g.0.used, g.1, g.0.word, word_spelled first w read.word, names_written (here r) (naming w) name (options_words (here r) (fields w) (values_in (here r) options (fields w))) (deed_naming w h) read.bound) refl
+    rw (
+      change,
+      g.0.used,
+      g.1,
+      g.0.word,
+      word_spelled first w read.word,
+      names_written (here r) (naming w) name
+          (options_words (here r) (fields w) (values_in (here r) options (fields w))) (deed_naming w h) read.bound,
+    ) refl
 
 -- ---- the line
 
@@ -116,12 +134,16 @@ pub record IsAgain (r : Reading) (line : ℕ) (text : List ℕ) (c : LineEffect)
   pub adds : line_adds r line (text_of_change r c) ≡ Ok (with_change r line (Some c))
   pub lacks : All (λ b. eqb b 10 ≡ false) (text_of_change r c)
 
-shorter_words : (first : List ℕ) (named rest options ps : List (List ℕ)) (text : List ℕ) → rest ≡ named ++ options → length (led 32 ps) ≤ length (led 32 options) → length (led 32 (first ∷ rest)) ≤ length text + 1 → length (line_text (first ∷ (named ++ ps))) ≤ length text
+shorter_words : (first : List ℕ) (named rest options ps : List (List ℕ)) (text : List ℕ) → rest ≡ named ++ options
+    → length (led 32 ps) ≤ length (led 32 options) → length (led 32 (first ∷ rest)) ≤ length text + 1 → length (line_text (first ∷ (named ++ ps))) ≤ length text
 shorter_words first named rest options ps text is le fit =
     let a = led_length 32 first (named ++ ps) in
     let b = length-append first (led 32 (named ++ ps)) in
-    let c : length (led 32 (named ++ ps)) ≡ length (led 32 named) + length (led 32 ps) = ap (λ (l : List ℕ). length l) (led_append 32 named ps) ∙ length-append (led 32 named) (led 32 ps) in
-    let d : length (led 32 rest) ≡ length (led 32 named) + length (led 32 options) = ap (λ (l : List (List ℕ)). length (led 32 l)) is ∙ (ap (λ (l : List ℕ). length l) (led_append 32 named options) ∙ length-append (led 32 named) (led 32 options)) in
+    let c : length (led 32 (named ++ ps)) ≡ length (led 32 named) + length (led 32 ps) =
+    ap (λ (l : List ℕ). length l) (led_append 32 named ps) ∙ length-append (led 32 named) (led 32 ps) in
+    let d : length (led 32 rest) ≡ length (led 32 named) + length (led 32 options) =
+    ap (λ (l : List (List ℕ)). length (led 32 l)) is
+    ∙ (ap (λ (l : List ℕ). length l) (led_append 32 named options) ∙ length-append (led 32 named) (led 32 options)) in
     let e = length-append first (led 32 rest) in
     omega (arith, a, b, c, d, e, le, fit)
 
@@ -130,19 +152,27 @@ line_again r line text c e =
     let l = stated r line text c e in
     let st = l.1 in
     let n = naming st.word in
-    let is : st.rest ≡ named n st.name ++ st.options = subst (λ (x : List ℕ). st.rest ≡ named n x ++ st.options) st.read.name_is (subst (λ (x : List (List ℕ)). st.rest ≡ named n (name_in n st.rest) ++ x) st.read.options_are (splits n st.rest (rw st.read.name_is st.read.named))) in
-    let whole = and_parts (is_word st.first) (list_all is_word st.rest) (subst (λ (x : List (List ℕ)). list_all is_word x ≡ true) st.are (words_good text l.0.printable)) in
+    let is : st.rest ≡ named n st.name ++ st.options =
+    subst (λ (x : List ℕ). st.rest ≡ named n x
+    ++ st.options) st.read.name_is (subst (λ (x : List (List ℕ)). st.rest
+    ≡ named n (name_in n st.rest) ++ x) st.read.options_are (splits n st.rest (rw st.read.name_is st.read.named))) in
+    let whole = and_parts (is_word st.first) (list_all is_word st.rest)
+    (subst (λ (x : List (List ℕ)). list_all is_word x ≡ true) st.are (words_good text l.0.printable)) in
     let parts = all_parts is_word (named n st.name) st.options (subst (λ (x : List (List ℕ)). list_all is_word x ≡ true) is whole.1) in
     let again = chosen r st.first st.rest st.word st.name st.options st.read parts.1 in
     let written = written_as r line st.first st.rest st.word st.name st.options c st.read (says r line st.word st.name st.options c st.change) in
     let behind = named n st.name ++ again.words in
-    let shows : text_of_change r c ≡ line_text (st.first ∷ behind) = written ∙ ap (λ (ps : List (List ℕ)). line_text (st.first ∷ (named n st.name ++ ps))) (sym again.are) in
-    let good : list_all is_word (st.first ∷ behind) ≡ true = and_from (is_word st.first) (list_all is_word behind) whole.0 (all_append is_word (named n st.name) again.words parts.0 again.good) in
+    let shows : text_of_change r c ≡ line_text (st.first ∷ behind) =
+    written ∙ ap (λ (ps : List (List ℕ)). line_text (st.first ∷ (named n st.name ++ ps))) (sym again.are) in
+    let good : list_all is_word (st.first ∷ behind) ≡ true =
+    and_from (is_word st.first) (list_all is_word behind) whole.0 (all_append is_word (named n st.name) again.words parts.0 again.good) in
     let printable = line_printable st.first behind good in
     let fit = rw st.are at (words_shorter text) in
     let shorter = shorter_words st.first (named n st.name) st.rest st.options again.words text is again.short fit in
-    let gives = states r line (line_text (st.first ∷ behind)) st.first behind st.word st.name again.words (record { short = omega (arith, shorter, l.0.short); printable = printable }) (words_again st.first behind good) again.read in
-    let same : change_of r line st.word st.name again.words ≡ c = ap (λ (vs : List OptionValue). change_with line st.word st.name (use_in (here r) n st.name) vs) again.values ∙ st.change in
+    let gives = states r line (line_text (st.first ∷ behind)) st.first behind st.word st.name again.words
+    (record { short = omega (arith, shorter, l.0.short); printable = printable }) (words_again st.first behind good) again.read in
+    let same : change_of r line st.word st.name again.words ≡ c =
+    ap (λ (vs : List OptionValue). change_with line st.word st.name (use_in (here r) n st.name) vs) again.values ∙ st.change in
     record {
       shorter = rw shows shorter;
       adds = rw shows (gives_adds r line (line_text (st.first ∷ behind)) (Some c) (gives ∙ ap (λ (x : LineEffect). Ok (Some x)) same));
@@ -159,7 +189,8 @@ shown r = lines_of (finished r)
 pub line_shown : (line : ℕ) (text : List ℕ) → 1 ≤ line → if_any line text ≡ (line, text) ∷ []
 line_shown line text le = let n : line ≡ 0 → ⊥ = λ (e : line ≡ 0). omega arith in rw (ne_eqb line 0 n) refl
 
-statement_shown : (r : Reading) (s : Statement) → shown (with_change r s.line (Some (change.Statement s))) ≡ shown r ++ (s.line, statement_text r.current.statements s) ∷ []
+statement_shown : (r : Reading) (s : Statement)
+    → shown (with_change r s.line (Some (change.Statement s))) ≡ shown r ++ (s.line, statement_text r.current.statements s) ∷ []
 unfolding with_change
 statement_shown r s =
     let a = flat_push lines_of_part r.before r.current in
@@ -167,7 +198,8 @@ statement_shown r s =
     let m = statements_push [] r.current.statements s in
     rw (b, a, m) (simp append_assoc)
 
-caller_shown : (r : Reading) (line : ℕ) (name : List ℕ) → 1 ≤ line → shown (with_change r line (Some (change.Caller name))) ≡ shown r ++ (line, caller_text name) ∷ []
+caller_shown : (r : Reading) (line : ℕ) (name : List ℕ) → 1 ≤ line
+    → shown (with_change r line (Some (change.Caller name))) ≡ shown r ++ (line, caller_text name) ∷ []
 unfolding with_change
 caller_shown r line name e1 = grind (arith, nat_tests, flat_push, lines_of_part, line_shown, caller_text, statements_none, if_any)
 
@@ -181,24 +213,47 @@ any_count : (line : ℕ) (text : List ℕ) → length (if_any line text) ≡ len
 any_count line text = elim (cases_Bool (eqb line 0)) [ inl t ↦ rw t refl | inr f ↦ rw f refl ]
 
 pub part_count : (p : Part) → length (lines_of_part p) ≡ length (part_lines p)
-part_count p = omega (arith, length-append (if_any p.line (caller_text p.name)) (statement_lines_behind [] p.statements), length-append (line_if_any p.line) (map (λ (s : Statement). s.line) p.statements), any_count p.line (caller_text p.name), statements_count [] p.statements)
+part_count p = omega (
+  arith,
+  length-append (if_any p.line (caller_text p.name)) (statement_lines_behind [] p.statements),
+  length-append (line_if_any p.line)
+      (map (λ (s : Statement). s.line) p.statements),
+  any_count p.line (caller_text p.name),
+  statements_count [] p.statements,
+)
 
 pub parts_count : (ps : List Part) → length (flat_map lines_of_part ps) ≡ length (flat_map part_lines ps)
 parts_count [] = refl
-parts_count (p ∷ ps) = omega (arith, length-append (lines_of_part p) (flat_map lines_of_part ps), length-append (part_lines p) (flat_map part_lines ps), part_count p, parts_count ps)
+parts_count (p ∷ ps) = omega (
+  arith,
+  length-append (lines_of_part p) (flat_map lines_of_part ps),
+  length-append (part_lines p)
+      (flat_map part_lines ps),
+  part_count p,
+  parts_count ps,
+)
 
 pub lines_count : (load : Workload) → length (lines_of load) ≡ length (statement_lines load)
-lines_count load = omega (arith, length-append (if_any load.node_line (node_text load.settings)) (flat_map lines_of_part load.parts), length-append (line_if_any load.node_line) (flat_map part_lines load.parts), any_count load.node_line (node_text load.settings), parts_count load.parts)
+lines_count load = omega (
+  arith,
+  length-append (if_any load.node_line (node_text load.settings)) (flat_map lines_of_part load.parts),
+  length-append
+      (line_if_any load.node_line) (flat_map part_lines load.parts),
+  any_count load.node_line (node_text load.settings),
+  parts_count load.parts,
+)
 
 empty_back : (xs ys : List Line) → length (xs ++ ys) ≡ 0 → (xs ++ ys ≡ []) × (ys ≡ [])
 empty_back [] [] h = (refl, refl)
 empty_back [] (y ∷ ys) h = absurd (omega arith)
 empty_back (x ∷ xs) ys h = absurd (omega arith)
 
-node_shown : (r : Reading) (line : ℕ) (settings : _) → IsFormed r line → 1 ≤ line → r.count ≡ 0 → shown (with_change r line (Some (change.Node settings))) ≡ shown r ++ (line, node_text settings) ∷ []
+node_shown : (r : Reading) (line : ℕ) (settings : _) → IsFormed r line → 1 ≤ line → r.count ≡ 0
+    → shown (with_change r line (Some (change.Node settings))) ≡ shown r ++ (line, node_text settings) ∷ []
 unfolding with_change
 node_shown r line settings f le none =
-    let e = empty_back (if_any r.node_line (node_text r.settings)) (flat_map lines_of_part (r.before ++ r.current ∷ [])) (lines_count (finished r) ∙ (f.count ∙ none)) in
+    let e = empty_back (if_any r.node_line (node_text r.settings)) (flat_map lines_of_part (r.before ++ r.current ∷ [])) (lines_count (finished r)
+    ∙ (f.count ∙ none)) in
     rw (line_shown line (node_text settings) le, e.0, e.1) refl
 
 count_zero : (r : Reading) → is_misplaced r word.Node ≡ false → r.count ≡ 0
@@ -206,12 +261,15 @@ unfolding is_misplaced
 count_zero r h = eqb-true r.count 0 (not-false _ h)
 
 -- what a line gave, by its kind: a node line is the first one, and a statement has its number
-change_at : (r : Reading) (line : ℕ) (first : List ℕ) (rest : List (List ℕ)) (w : Word) (name : List ℕ) (options : List (List ℕ)) (c : LineEffect) → IsFormed r line → 1 ≤ line → IsRead r first rest w name options → IsEffectOf r line w name options c → shown (with_change r line (Some c)) ≡ shown r ++ (line, text_of_change r c) ∷ []
+change_at : (r : Reading) (line : ℕ) (first : List ℕ) (rest : List (List ℕ)) (w : Word) (name : List ℕ) (options : List (List ℕ)) (c : LineEffect)
+    → IsFormed r line → 1 ≤ line → IsRead r first rest w name options → IsEffectOf r line w name options c
+    → shown (with_change r line (Some c)) ≡ shown r ++ (line, text_of_change r c) ∷ []
 change_at r line first rest w name options c f le read (says_node is change) = rw change (node_shown r line _ f le (count_zero r (rw is at read.placed)))
 change_at r line first rest w name options c f le read (says_caller is change) = rw change (caller_shown r line name le)
 change_at r line first rest w name options c f le read (says_deed h change) = rw change (statement_shown r (made line w name (deed_said r w name options)))
 
-pub change_shown : (r : Reading) (line : ℕ) (text : List ℕ) (c : LineEffect) → IsFormed r line → 1 ≤ line → line_gives r line text ≡ Ok (Some c) → shown (with_change r line (Some c)) ≡ shown r ++ (line, text_of_change r c) ∷ []
+pub change_shown : (r : Reading) (line : ℕ) (text : List ℕ) (c : LineEffect) → IsFormed r line → 1 ≤ line → line_gives r line text ≡ Ok (Some c)
+    → shown (with_change r line (Some c)) ≡ shown r ++ (line, text_of_change r c) ∷ []
 change_shown r line text c f le e =
     let st = (stated r line text c e).1 in
     change_at r line st.first st.rest st.word st.name st.options c f le st.read (says r line st.word st.name st.options c st.change)
@@ -248,14 +306,19 @@ unfolding lines_add
 empty_more r end line h = ok_is r end (rw (empty_adds r line) at h)
 
 -- a line, and the lines behind it
-pub next_adds : (r s end : Reading) (line : ℕ) (text : List ℕ) (ls : List Line) → All (λ b. eqb b 10 ≡ false) text → From (line + 1) ls → line_adds r line text ≡ Ok s → lines_add s (line + 1) (between 10 (laid_out (line + 1) ls)) ≡ Ok end → lines_add r line (between 10 (text ++ laid_out line ls)) ≡ Ok end
+pub next_adds : (r s end : Reading) (line : ℕ) (text : List ℕ) (ls : List Line) → All (λ b. eqb b 10 ≡ false) text → From (line + 1) ls
+    → line_adds r line text ≡ Ok s → lines_add s (line + 1) (between 10 (laid_out (line + 1) ls)) ≡ Ok end
+    → lines_add r line (between 10 (text ++ laid_out line ls)) ≡ Ok end
 unfolding From
 next_adds r s end line text [] lacks from e h =
-    let whole : between 10 (text ++ laid_out line []) ≡ text ∷ [] = ap (λ (t : List ℕ). between 10 t) (ap (λ (t : List ℕ). text ++ t) (laid_none line) ∙ append-nil text) ∙ slice_split_none (λ b. eqb b 10) text lacks in
+    let whole : between 10 (text ++ laid_out line []) ≡ text ∷ [] =
+    ap (λ (t : List ℕ). between 10 t) (ap (λ (t : List ℕ). text ++ t) (laid_none line) ∙ append-nil text) ∙ slice_split_none (λ b. eqb b 10) text lacks in
     let same = empty_more s end (line + 1) (subst (λ (t : List ℕ). lines_add s (line + 1) (between 10 t) ≡ Ok end) (laid_none (line + 1)) h) in
     subst (λ (ts : List (List ℕ)). lines_add r line ts ≡ Ok end) (sym whole) (one_adds r end line text (e ∙ ap Ok same))
 next_adds r s end line text (l ∷ ls) lacks from e h =
-    let whole : between 10 (text ++ laid_out line (l ∷ ls)) ≡ text ∷ between 10 (laid_out (line + 1) (l ∷ ls)) = ap (λ (t : List ℕ). between 10 (text ++ t)) (laid_step line l ls from) ∙ slice_split_at (λ b. eqb b 10) text 10 (laid_out (line + 1) (l ∷ ls)) lacks (eq-eqb 10 10 refl) in
+    let whole : between 10 (text ++ laid_out line (l ∷ ls)) ≡ text ∷ between 10 (laid_out (line + 1) (l ∷ ls)) =
+    ap (λ (t : List ℕ). between 10 (text ++ t)) (laid_step line l ls from)
+    ∙ slice_split_at (λ b. eqb b 10) text 10 (laid_out (line + 1) (l ∷ ls)) lacks (eq-eqb 10 10 refl) in
     subst (λ (ts : List (List ℕ)). lines_add r line ts ≡ Ok end) (sym whole) (one_more r s line text (between 10 (laid_out (line + 1) (l ∷ ls))) (Ok end) e h)
 
 laid_less : (line : ℕ) (ls : List Line) → From (line + 1) ls → length (laid_out line ls) ≤ length (laid_out (line + 1) ls) + 1
@@ -271,7 +334,9 @@ record IsReread (r s : Reading) (line : ℕ) (texts : List (List ℕ)) : Type 0 
   short : (length (laid_out line lines) + 1 ≤ length (led 10 texts)) ⊎ ((texts ≡ []) × (lines ≡ []))
 
 -- how long the lines behind one line are
-behind : (line : ℕ) (text written : List ℕ) (texts : List (List ℕ)) (ls : List Line) → From (line + 1) ls → length written ≤ length text → (length (laid_out (line + 1) ls) + 1 ≤ length (led 10 texts)) ⊎ ((texts ≡ []) × (ls ≡ [])) → length (written ++ laid_out line ls) + 1 ≤ length (led 10 (text ∷ texts))
+behind : (line : ℕ) (text written : List ℕ) (texts : List (List ℕ)) (ls : List Line) → From (line + 1) ls → length written ≤ length text
+    → (length (laid_out (line + 1) ls) + 1 ≤ length (led 10 texts)) ⊎ ((texts ≡ []) × (ls ≡ []))
+    → length (written ++ laid_out line ls) + 1 ≤ length (led 10 (text ∷ texts))
 behind line text written texts ls e1 e2 e3 = grind (arith, nat_tests, laid_less, length-append, laid_out, laid_none)
 
 pub nothing_lacks : All (λ b. eqb b 10 ≡ false) []
@@ -286,30 +351,43 @@ skipped r mid s line text texts e h = record {
   short = inl (behind line text [] texts h.lines h.from (omega arith) h.short);
 }
 
-given_line : (r mid s : Reading) (line : ℕ) (text written : List ℕ) (texts : List (List ℕ)) → shown mid ≡ shown r ++ (line, written) ∷ [] → length written ≤ length text → line_adds r line written ≡ Ok mid → All (λ b. eqb b 10 ≡ false) written → IsReread mid s (line + 1) texts → IsReread r s line (text ∷ texts)
+given_line : (r mid s : Reading) (line : ℕ) (text written : List ℕ) (texts : List (List ℕ)) → shown mid ≡ shown r ++ (line, written) ∷ []
+    → length written ≤ length text → line_adds r line written ≡ Ok mid → All (λ b. eqb b 10 ≡ false) written → IsReread mid s (line + 1) texts
+    → IsReread r s line (text ∷ texts)
 unfolding From
 given_line r mid s line text written texts here le adds lacks h = record {
   lines = (line, written) ∷ h.lines;
   shows = h.shows ∙ (ap (λ (l : List Line). l ++ h.lines) here ∙ append_assoc (shown r) ((line, written) ∷ []) h.lines);
   from = omega arith;
-  read = subst (λ (t : List ℕ). lines_add r line (between 10 t) ≡ Ok s) (sym (laid_here line written h.lines)) (next_adds r mid s line written h.lines lacks h.from adds h.read);
-  short = inl (subst (λ (t : List ℕ). length t + 1 ≤ length (led 10 (text ∷ texts))) (sym (laid_here line written h.lines)) (behind line text written texts h.lines h.from le h.short));
+  read = subst (λ (t : List ℕ). lines_add r line (between 10 t)
+      ≡ Ok s) (sym (laid_here line written h.lines)) (next_adds r mid s line written h.lines lacks h.from adds h.read);
+  short = inl (subst (λ (t : List ℕ). length t + 1
+      ≤ length (led 10 (text ∷ texts))) (sym (laid_here line written h.lines)) (behind line text written texts h.lines h.from le h.short));
 }
 
 none_is : (r : Reading) (line : ℕ) → with_change r line None ≡ r
 unfolding with_change
 none_is r line = refl
 
-by_change : (r mid s : Reading) (line : ℕ) (text : List ℕ) (texts : List (List ℕ)) (c : Option LineEffect) → IsFormed r line → 1 ≤ line → line_gives r line text ≡ Ok c → with_change r line c ≡ mid → IsReread mid s (line + 1) texts → IsReread r s line (text ∷ texts)
+by_change : (r mid s : Reading) (line : ℕ) (text : List ℕ) (texts : List (List ℕ)) (c : Option LineEffect) → IsFormed r line → 1 ≤ line
+    → line_gives r line text ≡ Ok c → with_change r line c ≡ mid → IsReread mid s (line + 1) texts → IsReread r s line (text ∷ texts)
 by_change r mid s line text texts None f le e is h = skipped r mid s line text texts (sym (none_is r line) ∙ is) h
 by_change r mid s line text texts (Some c) f le e is h = grind (arith, nat_tests, line_again, change_shown, given_line)
 
 nothing_read : (r s : Reading) (line : ℕ) → r ≡ s → lines_add r line (between 10 (laid_out line [])) ≡ Ok s
-nothing_read r s line e = subst (λ (t : List ℕ). lines_add r line (between 10 t) ≡ Ok s) (sym (laid_none line)) (one_adds r s line [] (empty_adds r line ∙ ap Ok e))
+nothing_read r s line e = subst (λ (t : List ℕ). lines_add r line (between 10 t)
+    ≡ Ok s) (sym (laid_none line)) (one_adds r s line [] (empty_adds r line ∙ ap Ok e))
 
 reread : (texts : List (List ℕ)) (r s : Reading) (line : ℕ) → IsFormed r line → 1 ≤ line → lines_add r line texts ≡ Ok s → IsReread r s line texts
 unfolding lines_add line_adds From
-reread [] r s line f le e = record { lines = []; shows = ap shown (sym (ok_is r s e)) ∙ sym (append-nil (shown r)); from = tt; read = nothing_read r s line (ok_is r s e); short = inr (refl, refl) }
+reread [] r s line f le e = record {
+  lines = [];
+  shows = ap shown (sym (ok_is r s e)) ∙ sym (append-nil (shown r));
+  from = tt;
+  read =
+      nothing_read r s line (ok_is r s e);
+  short = inr (refl, refl);
+}
 reread (text ∷ texts) r s line f le e =
     let b = bind_ok (line_adds r line text) _ s e in
     let d = bind_ok (line_gives r line text) _ b.0 (at_line_ok line _ b.0 b.1) in
@@ -325,11 +403,13 @@ record IsSame (bytes : List ℕ) (load : Workload) : Type 0 where
   again : workload_of (canonical load) ≡ Ok load
   short : length (canonical load) ≤ length bytes
 
-whole_short : (bytes : List ℕ) (lines : List Line) → (length (laid_out 1 lines) + 1 ≤ length (led 10 (between 10 bytes))) ⊎ ((between 10 bytes ≡ []) × (lines ≡ [])) → length (laid_out 1 lines) ≤ length bytes
+whole_short : (bytes : List ℕ) (lines : List Line)
+    → (length (laid_out 1 lines) + 1 ≤ length (led 10 (between 10 bytes))) ⊎ ((between 10 bytes ≡ []) × (lines ≡ [])) → length (laid_out 1 lines) ≤ length bytes
 whole_short bytes lines (inl h) = omega (arith, h, text_led 10 bytes)
 whole_short bytes lines (inr h) = grind (arith, nat_tests, laid_out, laid_none)
 
-read_whole : (lines : List Line) (end : Reading) → lines_add start 1 (between 10 (laid_out 1 lines)) ≡ Ok end → workload_of (laid_out 1 lines) ≡ Ok (finished end)
+read_whole : (lines : List Line) (end : Reading) → lines_add start 1 (between 10 (laid_out 1 lines)) ≡ Ok end
+    → workload_of (laid_out 1 lines) ≡ Ok (finished end)
 unfolding workload_of
 read_whole lines end e = rw e refl
 

@@ -46,14 +46,16 @@ end_words = refl
 pub blank_adds : (r : Reading) (line n : ℕ) → n ≤ 512 → line_adds r line (replicate n 32) ≡ Ok r
 blank_adds r line n le =
     let words : words_of (replicate n 32) ≡ words_of [] = ap words_of (sym (append-nil (replicate n 32))) ∙ leads_words n [] in
-    plain_adds r line (replicate n 32) (record { short = omega (arith, le, length-replicate {A = ℕ} n 32); printable = spaces_printable n }) (rw (words, end_words) refl)
+    plain_adds r line (replicate n 32) (record { short = omega (arith, le, length-replicate {A = ℕ} n 32); printable = spaces_printable n })
+    (rw (words, end_words) refl)
 
 pub comment_adds : (r : Reading) (line n : ℕ) (text : List ℕ) → IsPlain (replicate n 32 ++ 35 ∷ text) → line_adds r line (replicate n 32 ++ 35 ∷ text) ≡ Ok r
 comment_adds r line n text plain = plain_adds r line (replicate n 32 ++ 35 ∷ text) plain (rw (leads_words n (35 ∷ text)) (comment_silent text))
 
 -- ---- spaces
 
-cut_append : (ends : Bool) (x : ℕ) (ps qs : List (List ℕ)) → 1 ≤ length ps → cond ends ([] ∷ (ps ++ qs)) (onto_first x (ps ++ qs)) ≡ cond ends ([] ∷ ps) (onto_first x ps) ++ qs
+cut_append : (ends : Bool) (x : ℕ) (ps qs : List (List ℕ)) → 1 ≤ length ps
+    → cond ends ([] ∷ (ps ++ qs)) (onto_first x (ps ++ qs)) ≡ cond ends ([] ∷ ps) (onto_first x ps) ++ qs
 cut_append ends x ps qs e1 = grind (arith, nat_tests)
 
 between_append : (a b : List ℕ) → between 32 (a ++ 32 ∷ b) ≡ between 32 a ++ between 32 b
@@ -69,11 +71,13 @@ printable_space [] b = refl
 printable_space (x ∷ xs) b = ap (λ (t : Bool). is_printable x && t) (printable_space xs b)
 
 -- lines with the same words
-same_words : (r : Reading) (line : ℕ) (text other : List ℕ) → words_of text ≡ words_of other → list_all is_printable text ≡ list_all is_printable other → length text ≤ 512 → length other ≤ 512 → line_adds r line text ≡ line_adds r line other
+same_words : (r : Reading) (line : ℕ) (text other : List ℕ) → words_of text ≡ words_of other → list_all is_printable text ≡ list_all is_printable other
+    → length text ≤ 512 → length other ≤ 512 → line_adds r line text ≡ line_adds r line other
 unfolding line_adds line_gives
 same_words r line text other w p h k = rw (le-ltb 512 (length text) h, le-ltb 512 (length other) k, p, w) refl
 
-pub inner_space : (r : Reading) (line : ℕ) (a b : List ℕ) → length (a ++ 32 ∷ (32 ∷ b)) ≤ 512 → line_adds r line (a ++ 32 ∷ (32 ∷ b)) ≡ line_adds r line (a ++ 32 ∷ b)
+pub inner_space : (r : Reading) (line : ℕ) (a b : List ℕ) → length (a ++ 32 ∷ (32 ∷ b)) ≤ 512
+    → line_adds r line (a ++ 32 ∷ (32 ∷ b)) ≡ line_adds r line (a ++ 32 ∷ b)
 inner_space r line a b e1 = grind (arith, nat_tests, words_of, words_append, lead_words, same_words, printable_space, length-append)
 
 pub first_space : (r : Reading) (line : ℕ) (a : List ℕ) → length (32 ∷ a) ≤ 512 → line_adds r line (32 ∷ a) ≡ line_adds r line a
@@ -81,7 +85,8 @@ first_space r line a h = same_words r line (32 ∷ a) a (lead_words a) refl h (o
 
 pub last_space : (r : Reading) (line : ℕ) (a : List ℕ) → length (a ++ 32 ∷ []) ≤ 512 → line_adds r line (a ++ 32 ∷ []) ≡ line_adds r line a
 last_space r line a h =
-    let words : words_of (a ++ 32 ∷ []) ≡ words_of a = words_append a [] ∙ (ap (λ (ws : List (List ℕ)). words_of a ++ ws) end_words ∙ append-nil (words_of a)) in
+    let words : words_of (a ++ 32 ∷ []) ≡ words_of a =
+    words_append a [] ∙ (ap (λ (ws : List (List ℕ)). words_of a ++ ws) end_words ∙ append-nil (words_of a)) in
     let printable : list_all is_printable (a ++ 32 ∷ []) ≡ list_all is_printable a = printable_space a [] ∙ ap (list_all is_printable) (append-nil a) in
     same_words r line (a ++ 32 ∷ []) a words printable h (omega (arith, h, length-append a (32 ∷ [])))
 
@@ -89,12 +94,14 @@ last_space r line a h =
 
 -- the words behind the first one say the same in place of those
 Instead : Reading → ℕ → List ℕ → List (List ℕ) → List (List ℕ) → Type 0
-Instead r line first rest others = (w : Word) (name : List ℕ) (ps : List (List ℕ)) → IsRead r first rest w name ps → (qs : List (List ℕ)) × IsRead r first others w name qs × (change_of r line w name qs ≡ change_of r line w name ps)
+Instead r line first rest others = (w : Word) (name : List ℕ) (ps : List (List ℕ)) → IsRead r first rest w name ps
+    → (qs : List (List ℕ)) × IsRead r first others w name qs × (change_of r line w name qs ≡ change_of r line w name ps)
 
 cons_is : (x y : List ℕ) (xs ys : List (List ℕ)) → x ∷ xs ≡ y ∷ ys → (x ≡ y) × (xs ≡ ys)
 cons_is x y xs ys e = (cc, cc)
 
-gives_instead : (r : Reading) (line : ℕ) (text other first : List ℕ) (rest others : List (List ℕ)) (c : Option LineEffect) → words_of text ≡ first ∷ rest → words_of other ≡ first ∷ others → IsPlain other → Instead r line first rest others → line_gives r line text ≡ Ok c → line_gives r line other ≡ Ok c
+gives_instead : (r : Reading) (line : ℕ) (text other first : List ℕ) (rest others : List (List ℕ)) (c : Option LineEffect) → words_of text ≡ first ∷ rest
+    → words_of other ≡ first ∷ others → IsPlain other → Instead r line first rest others → line_gives r line text ≡ Ok c → line_gives r line other ≡ Ok c
 unfolding Instead
 gives_instead r line text other first rest others None w v plain each e =
     let l = silent r line text e in
@@ -105,7 +112,8 @@ gives_instead r line text other first rest others (Some c) w v plain each e =
     let i = each st.word st.name st.options (rw (same.0, same.1) at st.read) in
     states r line other first others st.word st.name i.0 plain v i.1 ∙ ap (λ (x : LineEffect). Ok (Some x)) (i.2 ∙ st.change)
 
-line_instead : (r : Reading) (line : ℕ) (text other first : List ℕ) (rest others : List (List ℕ)) (s : Reading) → words_of text ≡ first ∷ rest → words_of other ≡ first ∷ others → IsPlain other → Instead r line first rest others → line_adds r line text ≡ Ok s → line_adds r line other ≡ Ok s
+line_instead : (r : Reading) (line : ℕ) (text other first : List ℕ) (rest others : List (List ℕ)) (s : Reading) → words_of text ≡ first ∷ rest
+    → words_of other ≡ first ∷ others → IsPlain other → Instead r line first rest others → line_adds r line text ≡ Ok s → line_adds r line other ≡ Ok s
 unfolding line_adds
 line_instead r line text other first rest others s w v plain each e =
     let b = bind_ok (line_gives r line text) (λ c. Ok (with_change r line c)) s (at_line_ok line _ s e) in
@@ -117,10 +125,12 @@ record IsInstead (before : List Statement) (fs : List Field) (ps qs : List (List
   once : has_twice qs ≡ false
   values : values_in before qs fs ≡ values_in before ps fs
 
-read_instead : (r : Reading) (first : List ℕ) (rest others : List (List ℕ)) (w : Word) (name : List ℕ) (ps qs : List (List ℕ)) → IsRead r first rest w name ps → name_in (naming w) others ≡ name → options_in (naming w) others ≡ qs → IsInstead (here r) (fields w) ps qs → IsRead r first others w name qs
+read_instead : (r : Reading) (first : List ℕ) (rest others : List (List ℕ)) (w : Word) (name : List ℕ) (ps qs : List (List ℕ)) → IsRead r first rest w name ps
+    → name_in (naming w) others ≡ name → options_in (naming w) others ≡ qs → IsInstead (here r) (fields w) ps qs → IsRead r first others w name qs
 read_instead r first rest others w name ps qs e1 e2 e3 e4 = grind (arith, nat_tests)
 
-change_instead : (r : Reading) (line : ℕ) (w : Word) (name : List ℕ) (ps qs : List (List ℕ)) → values_in (here r) qs (fields w) ≡ values_in (here r) ps (fields w) → change_of r line w name qs ≡ change_of r line w name ps
+change_instead : (r : Reading) (line : ℕ) (w : Word) (name : List ℕ) (ps qs : List (List ℕ))
+    → values_in (here r) qs (fields w) ≡ values_in (here r) ps (fields w) → change_of r line w name qs ≡ change_of r line w name ps
 change_instead r line w name ps qs e = ap (λ (vs : List OptionValue). change_with line w name (use_in (here r) (naming w) name) vs) e
 
 -- ---- two options in the other order
@@ -131,22 +141,26 @@ and_swap a b c = grind (arith, nat_tests)
 or_swap : (a b c : Bool) → (a || (b || c)) ≡ (b || (a || c))
 or_swap a b c = grind (arith, nat_tests)
 
-all_swap : (q : List ℕ → Bool) (front : List (List ℕ)) (x y : List ℕ) (back : List (List ℕ)) → list_all q (front ++ x ∷ (y ∷ back)) ≡ list_all q (front ++ y ∷ (x ∷ back))
+all_swap : (q : List ℕ → Bool) (front : List (List ℕ)) (x y : List ℕ) (back : List (List ℕ))
+    → list_all q (front ++ x ∷ (y ∷ back)) ≡ list_all q (front ++ y ∷ (x ∷ back))
 all_swap q [] x y back = and_swap (q x) (q y) (list_all q back)
 all_swap q (w ∷ ws) x y back = ap (λ (t : Bool). q w && t) (all_swap q ws x y back)
 
-any_swap : (q : List ℕ → Bool) (front : List (List ℕ)) (x y : List ℕ) (back : List (List ℕ)) → list_any q (front ++ x ∷ (y ∷ back)) ≡ list_any q (front ++ y ∷ (x ∷ back))
+any_swap : (q : List ℕ → Bool) (front : List (List ℕ)) (x y : List ℕ) (back : List (List ℕ))
+    → list_any q (front ++ x ∷ (y ∷ back)) ≡ list_any q (front ++ y ∷ (x ∷ back))
 any_swap q [] x y back = or_swap (q x) (q y) (list_any q back)
 any_swap q (w ∷ ws) x y back = ap (λ (t : Bool). q w || t) (any_swap q ws x y back)
 
 pick_swap : (a b : Bool) (x y : List ℕ) (o : Option (List ℕ)) → (a && b) ≡ false → cond a (Some x) (cond b (Some y) o) ≡ cond b (Some y) (cond a (Some x) o)
 pick_swap a b x y o e1 = grind (arith, nat_tests)
 
-find_swap : (q : List ℕ → Bool) (front : List (List ℕ)) (x y : List ℕ) (back : List (List ℕ)) → (q x && q y) ≡ false → find q (front ++ x ∷ (y ∷ back)) ≡ find q (front ++ y ∷ (x ∷ back))
+find_swap : (q : List ℕ → Bool) (front : List (List ℕ)) (x y : List ℕ) (back : List (List ℕ)) → (q x && q y) ≡ false
+    → find q (front ++ x ∷ (y ∷ back)) ≡ find q (front ++ y ∷ (x ∷ back))
 find_swap q [] x y back h = pick_swap (q x) (q y) x y (find q back) h
 find_swap q (w ∷ ws) x y back h = ap (λ (o : Option (List ℕ)). cond (q w) (Some w) o) (find_swap q ws x y back h)
 
-once_swap : (front : List (List ℕ)) (x y : List ℕ) (back : List (List ℕ)) → has_twice (front ++ x ∷ (y ∷ back)) ≡ false → (has_twice (front ++ y ∷ (x ∷ back)) ≡ false) × (bytes_eq (key_of y) (key_of x) ≡ false)
+once_swap : (front : List (List ℕ)) (x y : List ℕ) (back : List (List ℕ)) → has_twice (front ++ x ∷ (y ∷ back)) ≡ false
+    → (has_twice (front ++ y ∷ (x ∷ back)) ≡ false) × (bytes_eq (key_of y) (key_of x) ≡ false)
 unfolding has_twice
 once_swap [] x y back h =
     let both = or_parts _ _ h in
@@ -170,11 +184,14 @@ not_both x y key apart =
       | inr a ↦ rw a refl
     ]
 
-text_swap : (k : Key) (front : List (List ℕ)) (x y : List ℕ) (back : List (List ℕ)) → bytes_eq (key_of y) (key_of x) ≡ false → text_of k (front ++ y ∷ (x ∷ back)) ≡ text_of k (front ++ x ∷ (y ∷ back))
+text_swap : (k : Key) (front : List (List ℕ)) (x y : List ℕ) (back : List (List ℕ)) → bytes_eq (key_of y) (key_of x) ≡ false
+    → text_of k (front ++ y ∷ (x ∷ back)) ≡ text_of k (front ++ x ∷ (y ∷ back))
 unfolding text_of
-text_swap k front x y back apart = ap (option_map value_of) (sym (find_swap (λ w. bytes_eq (key_of w) (key_text k)) front x y back (not_both (key_of x) (key_of y) (key_text k) apart)))
+text_swap k front x y back apart = ap (option_map value_of)
+    (sym (find_swap (λ w. bytes_eq (key_of w) (key_text k)) front x y back (not_both (key_of x) (key_of y) (key_text k) apart)))
 
-values_same : (before : List Statement) (ps qs : List (List ℕ)) (fs : List Field) → ((k : Key) → text_of k qs ≡ text_of k ps) → values_in before qs fs ≡ values_in before ps fs
+values_same : (before : List Statement) (ps qs : List (List ℕ)) (fs : List Field) → ((k : Key) → text_of k qs ≡ text_of k ps)
+    → values_in before qs fs ≡ values_in before ps fs
 values_same before ps qs fs e1 = grind (arith, nat_tests)
 
 byte_equals : (b : ℕ) → is_name_byte b ≡ true → eqb b 61 ≡ false
@@ -199,13 +216,15 @@ record IsBehind (n : Naming) (front : List (List ℕ)) (x y : List ℕ) (back : 
   named : name_in n (front ++ y ∷ (x ∷ back)) ≡ name_in n (front ++ x ∷ (y ∷ back))
   again : options_in n (front ++ y ∷ (x ∷ back)) ≡ ahead ++ y ∷ (x ∷ back)
 
-behind : (n : Naming) (front : List (List ℕ)) (x y : List ℕ) (back : List (List ℕ)) → has_equals x ≡ true → (has_second n && not (is_name (name_in n (front ++ x ∷ (y ∷ back))))) ≡ false → IsBehind n front x y back
+behind : (n : Naming) (front : List (List ℕ)) (x y : List ℕ) (back : List (List ℕ)) → has_equals x ≡ true
+    → (has_second n && not (is_name (name_in n (front ++ x ∷ (y ∷ back))))) ≡ false → IsBehind n front x y back
 behind rule.Bare [] x y back h good = record { ahead = []; are = refl; named = refl; again = refl }
 behind rule.Bare (z ∷ zs) x y back h good = record { ahead = z ∷ zs; are = refl; named = refl; again = refl }
 behind _ [] x y back h good = absurd (no_name x h (not-false (is_name x) good))
 behind _ (z ∷ zs) x y back h good = record { ahead = zs; are = refl; named = refl; again = refl }
 
-swapped : (r : Reading) (line : ℕ) (first : List ℕ) (front : List (List ℕ)) (x y : List ℕ) (back : List (List ℕ)) → has_equals x ≡ true → Instead r line first (front ++ x ∷ (y ∷ back)) (front ++ y ∷ (x ∷ back))
+swapped : (r : Reading) (line : ℕ) (first : List ℕ) (front : List (List ℕ)) (x y : List ℕ) (back : List (List ℕ)) → has_equals x ≡ true
+    → Instead r line first (front ++ x ∷ (y ∷ back)) (front ++ y ∷ (x ∷ back))
 unfolding Instead
 swapped r line first front x y back h = λ w name os read.
     let n = naming w in
@@ -215,16 +234,29 @@ swapped r line first front x y back h = λ w name os read.
     let here_ps : os ≡ ps = sym read.options_are ∙ b.are in
     let known = subst (λ (o : List (List ℕ)). list_all (is_known (fields w)) o ≡ true) here_ps read.known in
     let once = once_swap b.ahead x y back (subst (λ (o : List (List ℕ)). has_twice o ≡ false) here_ps read.once) in
-    let values : values_in (here r) qs (fields w) ≡ values_in (here r) os (fields w) = values_same (here r) ps qs (fields w) (λ k. text_swap k b.ahead x y back once.1) ∙ ap (λ (o : List (List ℕ)). values_in (here r) o (fields w)) (sym here_ps) in
-    (qs, read_instead r first (front ++ x ∷ (y ∷ back)) (front ++ y ∷ (x ∷ back)) w name os qs read (b.named ∙ read.name_is) b.again (record { known = sym (all_swap (is_known (fields w)) b.ahead x y back) ∙ known; once = once.0; values = values }), change_instead r line w name os qs values)
+    let values : values_in (here r) qs (fields w) ≡ values_in (here r) os (fields w) =
+    values_same (here r) ps qs (fields w) (λ k. text_swap k b.ahead x y back once.1)
+    ∙ ap (λ (o : List (List ℕ)). values_in (here r) o (fields w)) (sym here_ps) in (
+      qs,
+      read_instead r first (front ++ x ∷ (y ∷ back)) (front ++ y ∷ (x ∷ back)) w name os qs read (b.named
+          ∙ read.name_is) b.again (record {
+            known = sym (all_swap (is_known (fields w)) b.ahead x y back) ∙ known;
+            once = once.0;
+            values =
+                values;
+          }),
+      change_instead r line w name os qs values,
+    )
 
 pub swapped_adds : (text other : List ℕ) → IsSwapped text other → IsPlain other → AddsAlike text other
 swapped_adds text other w plain = λ r line s e.
-    line_instead r line text other w.first (w.front ++ w.one ∷ (w.two ∷ w.back)) (w.front ++ w.two ∷ (w.one ∷ w.back)) s w.words w.others plain (swapped r line w.first w.front w.one w.two w.back w.option) e
+    line_instead r line text other w.first (w.front ++ w.one ∷ (w.two ∷ w.back)) (w.front ++ w.two
+    ∷ (w.one ∷ w.back)) s w.words w.others plain (swapped r line w.first w.front w.one w.two w.back w.option) e
 
 -- ---- a default that is written out
 
-name_push : (n : Naming) (rest : List (List ℕ)) (o : List ℕ) → (has_second n && not (is_name (name_in n rest))) ≡ false → (name_in n (rest ++ o ∷ []) ≡ name_in n rest) × (options_in n (rest ++ o ∷ []) ≡ options_in n rest ++ o ∷ [])
+name_push : (n : Naming) (rest : List (List ℕ)) (o : List ℕ) → (has_second n && not (is_name (name_in n rest))) ≡ false
+    → (name_in n (rest ++ o ∷ []) ≡ name_in n rest) × (options_in n (rest ++ o ∷ []) ≡ options_in n rest ++ o ∷ [])
 name_push rule.Bare [] o h = (refl, refl)
 name_push rule.Bare (x ∷ xs) o h = (refl, refl)
 name_push _ [] o h = absurd (nameless (not-false (is_name []) h))
@@ -260,7 +292,8 @@ record IsOut (before : List Statement) (f : Field) (ps : List (List ℕ)) (o val
   absent : gives f.key ps ≡ false
   reads : value_given before f.shape value ≡ value_absent f.absent f.shape
 
-values_other : (before : List Statement) (ps : List (List ℕ)) (o : List ℕ) (k : Key) (fs : List Field) → key_of o ≡ key_text k → list_any (λ g. bytes_eq (key_text g.key) (key_text k)) fs ≡ false → values_in before (ps ++ o ∷ []) fs ≡ values_in before ps fs
+values_other : (before : List Statement) (ps : List (List ℕ)) (o : List ℕ) (k : Key) (fs : List Field) → key_of o ≡ key_text k
+    → list_any (λ g. bytes_eq (key_text g.key) (key_text k)) fs ≡ false → values_in before (ps ++ o ∷ []) fs ≡ values_in before ps fs
 values_other before ps o k [] e h = refl
 values_other before ps o k (g ∷ gs) e h =
     let both = or_parts (bytes_eq (key_text g.key) (key_text k)) (list_any (λ g. bytes_eq (key_text g.key) (key_text k)) gs) h in
@@ -269,17 +302,20 @@ values_other before ps o k (g ∷ gs) e h =
     let rest = values_other before ps o k gs e both.1 in
     λ i. first i ∷ rest i
 
-values_out : (before : List Statement) (ps : List (List ℕ)) (o value : List ℕ) (f : Field) (fs : List Field) → IsOut before f ps o value → AreApart fs → IsField fs f → values_in before (ps ++ o ∷ []) fs ≡ values_in before ps fs
+values_out : (before : List Statement) (ps : List (List ℕ)) (o value : List ℕ) (f : Field) (fs : List Field) → IsOut before f ps o value → AreApart fs
+    → IsField fs f → values_in before (ps ++ o ∷ []) fs ≡ values_in before ps fs
 values_out before ps o value f [] out apart is = absurd cc
 values_out before ps o value f (g ∷ gs) out apart is =
     elim (cases_Bool (bytes_eq (key_text g.key) (key_text f.key))) [
       | inl t ↦
           let found = rw t at is in
           let same : g ≡ f = cc in
-          let with_it : value_at before f (text_of f.key (ps ++ o ∷ [])) ≡ value_given before f.shape value = ap (value_at before f) (text_skip f.key ps [] o value out.absent out.key out.text) in
+          let with_it : value_at before f (text_of f.key (ps ++ o ∷ [])) ≡ value_given before f.shape value =
+          ap (value_at before f) (text_skip f.key ps [] o value out.absent out.key out.text) in
           let without : value_at before f (text_of f.key ps) ≡ value_absent f.absent f.shape = ap (value_at before f) (text_absent f.key ps out.absent) in
           let first : value_at before g (text_of g.key (ps ++ o ∷ [])) ≡ value_at before g (text_of g.key ps) = rw same (with_it ∙ (out.reads ∙ sym without)) in
-          let rest = values_other before ps o f.key gs out.key (subst (λ (x : Field). list_any (λ h. bytes_eq (key_text h.key) (key_text x.key)) gs ≡ false) same apart.0) in
+          let rest = values_other before ps o f.key gs out.key
+          (subst (λ (x : Field). list_any (λ h. bytes_eq (key_text h.key) (key_text x.key)) gs ≡ false) same apart.0) in
           λ i. first i ∷ rest i
       | inr n ↦
           let other : bytes_eq (key_of o) (key_text g.key) ≡ false = rw out.key (apart_sym (key_text g.key) (key_text f.key) n) in
@@ -288,7 +324,9 @@ values_out before ps o value f (g ∷ gs) out apart is =
           λ i. first i ∷ rest i
     ]
 
-written_out : (r : Reading) (line : ℕ) (first : List ℕ) (rest : List (List ℕ)) (w : Word) (f : Field) (value : List ℕ) → word_of first ≡ Some w → IsField (fields w) f → gives f.key rest ≡ false → value_given (here r) f.shape value ≡ value_absent f.absent f.shape → Instead r line first rest (rest ++ (key_text f.key ++ 61 ∷ value) ∷ [])
+written_out : (r : Reading) (line : ℕ) (first : List ℕ) (rest : List (List ℕ)) (w : Word) (f : Field) (value : List ℕ) → word_of first ≡ Some w
+    → IsField (fields w) f → gives f.key rest ≡ false → value_given (here r) f.shape value ≡ value_absent f.absent f.shape
+    → Instead r line first rest (rest ++ (key_text f.key ++ 61 ∷ value) ∷ [])
 unfolding Instead
 written_out r line first rest w f value word field absent reads = λ v name ps read.
     let same : w ≡ v = some_is w v (sym word ∙ read.word) in
@@ -297,15 +335,17 @@ written_out r line first rest w f value word field absent reads = λ v name ps r
     let o = key_text f.key ++ 61 ∷ value in
     let known : IsField fs f = subst (λ (x : Word). IsField (fields x) f) same field in
     let is = option_is f.key value in
-    let free : gives f.key ps ≡ false = subst (λ (x : List (List ℕ)). gives f.key x ≡ false) read.options_are (any_named (λ x. bytes_eq (key_of x) (key_text f.key)) n rest absent) in
+    let free : gives f.key ps ≡ false = subst (λ (x : List (List ℕ)). gives f.key x
+    ≡ false) read.options_are (any_named (λ x. bytes_eq (key_of x) (key_text f.key)) n rest absent) in
     let values = values_out (here r) ps o value f fs (record { key = is.key; text = is.value; absent = free; reads = reads }) (fields_apart v) known in
     let push = name_push n rest o (rw read.name_is read.named) in (
       ps ++ o ∷ [],
-      read_instead r first rest (rest ++ o ∷ []) v name ps (ps ++ o ∷ []) read (push.0 ∙ read.name_is) (push.1 ∙ ap (λ (x : List (List ℕ)). x ++ o ∷ []) read.options_are) (record {
-        known = all_append (is_known fs) ps (o ∷ []) read.known (and_from _ _ (known_here fs f value known) refl);
-        once = twice_push f.key ps o is.key read.once free;
-        values = values;
-      }),
+      read_instead r first rest (rest ++ o ∷ []) v name ps (ps ++ o ∷ []) read (push.0 ∙ read.name_is) (push.1
+          ∙ ap (λ (x : List (List ℕ)). x ++ o ∷ []) read.options_are) (record {
+            known = all_append (is_known fs) ps (o ∷ []) read.known (and_from _ _ (known_here fs f value known) refl);
+            once = twice_push f.key ps o is.key read.once free;
+            values = values;
+          }),
       change_instead r line v name ps (ps ++ o ∷ []) values,
     )
 
@@ -316,12 +356,14 @@ written_adds text other w plain = λ r line s e.
 
 -- ---- texts
 
-lines_alike : (before after : List (List ℕ)) (text other : List ℕ) → AddsAlike text other → (r : Reading) (line : ℕ) (s : Reading) → lines_add r line (before ++ text ∷ after) ≡ Ok s → lines_add r line (before ++ other ∷ after) ≡ Ok s
+lines_alike : (before after : List (List ℕ)) (text other : List ℕ) → AddsAlike text other → (r : Reading) (line : ℕ) (s : Reading)
+    → lines_add r line (before ++ text ∷ after) ≡ Ok s → lines_add r line (before ++ other ∷ after) ≡ Ok s
 unfolding lines_add
 lines_alike [] after text other a r line s e = grind (arith, nat_tests, bind_ok, line_adds, one_more)
 lines_alike (x ∷ xs) after text other a r line s e = grind (arith, nat_tests, lines_alike xs after text other a, bind_ok, line_adds, one_more)
 
-pub texts_alike : (bytes others text other : List ℕ) (load : Workload) → DifferAt bytes others text other → AddsAlike text other → workload_of bytes ≡ Ok load → workload_of others ≡ Ok load
+pub texts_alike : (bytes others text other : List ℕ) (load : Workload) → DifferAt bytes others text other → AddsAlike text other → workload_of bytes ≡ Ok load
+    → workload_of others ≡ Ok load
 unfolding workload_of
 texts_alike bytes others text other load e1 e2 e3 = grind (arith, nat_tests, bind_ok, lines_add, lines_alike)
 
@@ -332,7 +374,8 @@ texts_alike bytes others text other load e1 e2 e3 = grind (arith, nat_tests, bin
 same_length : {X Y : Type 0} (f : X → Y) (xs ys : List X) → map f xs ≡ map f ys → length xs ≡ length ys
 same_length f xs ys e = sym (length-map xs f) ∙ (ap (λ (l : List _). length l) e ∙ length-map ys f)
 
-place_still : (name : List ℕ) (sts : List Statement) → position_or_len (λ s. is_called name s.name) (map still sts) ≡ position_or_len (λ s. is_called name s.name) sts
+place_still : (name : List ℕ) (sts : List Statement)
+    → position_or_len (λ s. is_called name s.name) (map still sts) ≡ position_or_len (λ s. is_called name s.name) sts
 place_still name [] = refl
 place_still name (s ∷ ss) = grind (arith, nat_tests, place_still name ss, is_called)
 
@@ -342,12 +385,15 @@ bound_still name sts = rw (place_still name sts, length-map sts still) refl
 binding_still : (s : Sort) (o : Option Statement) → is_binding s (option_map still o) ≡ is_binding s o
 binding_still s o = grind (arith, nat_tests)
 
-found_still : (s : Sort) (sts : List Statement) (o : Option ℕ) → option_and_then (λ place. cond (is_binding s (slice_get (map still sts) place)) (Some place) None) o ≡ option_and_then (λ place. cond (is_binding s (slice_get sts place)) (Some place) None) o
+found_still : (s : Sort) (sts : List Statement) (o : Option ℕ)
+    → option_and_then (λ place. cond (is_binding s (slice_get (map still sts) place)) (Some place) None) o
+    ≡ option_and_then (λ place. cond (is_binding s (slice_get sts place)) (Some place) None) o
 found_still s sts o = grind (arith, nat_tests, slice_get-map, binding_still)
 
 named_still : (s : Sort) (name : List ℕ) (sts : List Statement) → place_of s name (map still sts) ≡ place_of s name sts
 unfolding place_of
-named_still s name sts = ap (option_and_then (λ place. cond (is_binding s (slice_get (map still sts) place)) (Some place) None)) (bound_still name sts) ∙ found_still s sts (bound_at name sts)
+named_still s name sts = ap (option_and_then (λ place. cond (is_binding s (slice_get (map still sts) place)) (Some place) None)) (bound_still name sts)
+    ∙ found_still s sts (bound_at name sts)
 
 begins_still : (sts : List Statement) → list_any (λ s. is_begin s.deed) (map still sts) ≡ list_any (λ s. is_begin s.deed) sts
 begins_still [] = refl
@@ -409,7 +455,8 @@ moved line (change.Node s) = change.Node s
 moved line (change.Caller name) = change.Caller name
 moved line (change.Statement s) = change.Statement (record s { line = line })
 
-read_alike : (r q : Reading) (first : List ℕ) (rest : List (List ℕ)) (w : Word) (name : List ℕ) (options : List (List ℕ)) → AreAlike r q → IsRead r first rest w name options → IsRead q first rest w name options
+read_alike : (r q : Reading) (first : List ℕ) (rest : List (List ℕ)) (w : Word) (name : List ℕ) (options : List (List ℕ)) → AreAlike r q
+    → IsRead r first rest w name options → IsRead q first rest w name options
 read_alike r q first rest w name options a read = record {
   comment = read.comment;
   word = read.word;
@@ -426,24 +473,28 @@ read_alike r q first rest w name options a read = record {
   bound = ap (is_unbound (naming w)) (sym (used_alike r q (naming w) name a)) ∙ read.bound;
 }
 
-moved_is : (line at : ℕ) (w : Word) (name : List ℕ) (place : Option ℕ) (vs : List OptionValue) → change_with at w name place vs ≡ moved at (change_with line w name place vs)
+moved_is : (line at : ℕ) (w : Word) (name : List ℕ) (place : Option ℕ) (vs : List OptionValue)
+    → change_with at w name place vs ≡ moved at (change_with line w name place vs)
 unfolding change_with
 moved_is line at w name place vs = grind (arith, nat_tests)
 
-change_alike : (r q : Reading) (line at : ℕ) (w : Word) (name : List ℕ) (options : List (List ℕ)) → AreAlike r q → change_of q at w name options ≡ moved at (change_of r line w name options)
+change_alike : (r q : Reading) (line at : ℕ) (w : Word) (name : List ℕ) (options : List (List ℕ)) → AreAlike r q
+    → change_of q at w name options ≡ moved at (change_of r line w name options)
 change_alike r q line at w name options e1 = grind (arith, nat_tests, used_alike, values_alike, moved_is, use_in, values_in)
 
 abbrev moved_if : ℕ → Option LineEffect → Option LineEffect
 moved_if at None = None
 moved_if at (Some c) = Some (moved at c)
 
-gives_alike : (r q : Reading) (line at : ℕ) (text : List ℕ) (c : Option LineEffect) → AreAlike r q → line_gives r line text ≡ Ok c → line_gives q at text ≡ Ok (moved_if at c)
+gives_alike : (r q : Reading) (line at : ℕ) (text : List ℕ) (c : Option LineEffect) → AreAlike r q → line_gives r line text ≡ Ok c
+    → line_gives q at text ≡ Ok (moved_if at c)
 gives_alike r q line at text None a e = let l = silent r line text e in silence q at text l.0 l.1
 gives_alike r q line at text (Some c) a e =
     let l = stated r line text c e in
     let st = l.1 in
     let same : change_of q at st.word st.name st.options ≡ moved at c = change_alike r q line at st.word st.name st.options a ∙ ap (moved at) st.change in
-    states q at text st.first st.rest st.word st.name st.options l.0 st.are (read_alike r q st.first st.rest st.word st.name st.options a st.read) ∙ ap (λ (x : LineEffect). Ok (Some x)) same
+    states q at text st.first st.rest st.word st.name st.options l.0 st.are (read_alike r q st.first st.rest st.word st.name st.options a st.read)
+    ∙ ap (λ (x : LineEffect). Ok (Some x)) same
 
 push_alike : (xs ys : List Statement) (s t : Statement) → map still xs ≡ map still ys → still s ≡ still t → map still (xs ++ s ∷ []) ≡ map still (ys ++ t ∷ [])
 push_alike xs ys s t e h = rw (map-append still xs (s ∷ []), map-append still ys (t ∷ []), e, h) refl
@@ -474,12 +525,18 @@ lines_still (text ∷ texts) r q s line at a e =
     let t = with_change q at (moved_if at d.0) in
     let next : AreAlike b.0 t = subst (λ (x : Reading). AreAlike x t) (ok_is (with_change r line d.0) b.0 d.2) (with_alike r q line at d.0 a) in
     let rest = lines_still texts b.0 t s (line + 1) (at + 1) next b.2 in
-    record { state = rest.state; adds = one_more q t at text texts (Ok rest.state) (gives_adds q at text (moved_if at d.0) (gives_alike r q line at text d.0 a d.1)) rest.adds; alike = rest.alike }
+    record {
+      state = rest.state;
+      adds = one_more q t at text texts (Ok rest.state)
+          (gives_adds q at text (moved_if at d.0) (gives_alike r q line at text d.0 a d.1)) rest.adds;
+      alike = rest.alike;
+    }
 
 same_alike : (r : Reading) → AreAlike r r
 same_alike r = record { settings = refl; count = refl; before = refl; name = refl; statements = refl }
 
-lines_inserted : (before after : List (List ℕ)) (text : List ℕ) (r s : Reading) (line : ℕ) → AddsNothing text → lines_add r line (before ++ after) ≡ Ok s → AddsStill r line (before ++ text ∷ after) s
+lines_inserted : (before after : List (List ℕ)) (text : List ℕ) (r s : Reading) (line : ℕ) → AddsNothing text → lines_add r line (before ++ after) ≡ Ok s
+    → AddsStill r line (before ++ text ∷ after) s
 unfolding lines_add
 lines_inserted [] after text r s line none e =
     let rest = lines_still after r r s line (line + 1) (same_alike r) e in
@@ -489,7 +546,8 @@ lines_inserted (x ∷ xs) after text r s line none e =
     let rest = lines_inserted xs after text b.0 s (line + 1) none b.2 in
     record { state = rest.state; adds = one_more r b.0 line x (xs ++ text ∷ after) (Ok rest.state) b.1 rest.adds; alike = rest.alike }
 
-pub text_inserted : (bytes others text : List ℕ) (load : Workload) → IsInserted bytes others text → AddsNothing text → workload_of bytes ≡ Ok load → GivesStill others load
+pub text_inserted : (bytes others text : List ℕ) (load : Workload) → IsInserted bytes others text → AddsNothing text → workload_of bytes ≡ Ok load
+    → GivesStill others load
 unfolding workload_of
 text_inserted bytes others text load i none e =
     let b = bind_ok (lines_add start 1 (between 10 bytes)) _ load e in
@@ -497,5 +555,6 @@ text_inserted bytes others text load i none e =
     record {
       given = finished h.state;
       gives = rw (i.other_lines, h.adds) refl;
-      same = subst (λ (l : Workload). AreStill l (finished h.state)) (ok_is (finished b.0) load b.2) (record { settings = h.alike.settings; parts = parts_alike b.0 h.state h.alike });
+      same = subst (λ (l : Workload). AreStill l (finished h.state)) (ok_is (finished b.0) load b.2)
+          (record { settings = h.alike.settings; parts = parts_alike b.0 h.state h.alike });
     }

@@ -68,7 +68,24 @@ pub use denote.Ref.{Bor}
 unfoldable pub use Rattle.mtapi_values.specs.Kinds.{kind_named}
 unfoldable pub use Rattle.workload_file.specs.Changes.{change_with, settings_by, value_absent, value_given, with_setting}
 unfoldable pub use Rattle.workload_file.specs.Cuts.{words_of}
-unfoldable pub use Rattle.workload_file.specs.Deeds.{args_in, cores_in, deed_spelled, deed_with, flag_in, is_begin, kind_in, lock_deed, mode_in, number_in, place_in, place_there, queue_deed, segment_deed, timeout_in, whole_in}
+unfoldable pub use Rattle.workload_file.specs.Deeds.{
+  args_in,
+  cores_in,
+  deed_spelled,
+  deed_with,
+  flag_in,
+  is_begin,
+  kind_in,
+  lock_deed,
+  mode_in,
+  number_in,
+  place_in,
+  place_there,
+  queue_deed,
+  segment_deed,
+  timeout_in,
+  whole_in,
+}
 unfoldable pub use Rattle.workload_file.specs.Faulty.{is_faulty}
 unfoldable pub use Rattle.workload_file.specs.Names.{is_misplaced, is_ninth_caller, is_taken, place_of}
 unfoldable pub use Rattle.workload_file.specs.Options.{has_twice, text_of}

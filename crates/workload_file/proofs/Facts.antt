@@ -42,11 +42,13 @@ is_sound given.Missing = false
 is_sound given.Unbound = false
 is_sound _ = true
 
-all_sound : (vs : List OptionValue) → list_any is_bad vs ≡ false → list_any is_missing vs ≡ false → list_any names_nothing vs ≡ false → list_all is_sound vs ≡ true
+all_sound : (vs : List OptionValue) → list_any is_bad vs ≡ false → list_any is_missing vs ≡ false → list_any names_nothing vs ≡ false
+    → list_all is_sound vs ≡ true
 all_sound [] b m u = refl
 all_sound (v ∷ vs) b m u = grind (arith, nat_tests, all_sound vs, or_parts, is_bad, is_missing, names_nothing, and_from)
 
-none_in : (p : OptionValue → Bool) (vs : List OptionValue) → ((v : OptionValue) → is_sound v ≡ true → p v ≡ false) → list_all is_sound vs ≡ true → list_any p vs ≡ false
+none_in : (p : OptionValue → Bool) (vs : List OptionValue) → ((v : OptionValue) → is_sound v ≡ true → p v ≡ false) → list_all is_sound vs ≡ true
+    → list_any p vs ≡ false
 none_in p [] h s = refl
 none_in p (v ∷ vs) h s = let both = and_parts (is_sound v) (list_all is_sound vs) s in or_from (p v) (list_any p vs) (h v both.0) (none_in p vs h both.1)
 
@@ -80,7 +82,8 @@ statement_met r w name options = find (is_faulty r w name options) statement_cau
 abbrev met_of : Reading → Word → List (List ℕ) → Option Cause
 met_of r w rest = statement_met r w (name_in (naming w) rest) (options_in (naming w) rest)
 
-read_of : (r : Reading) (first : List ℕ) (rest : List (List ℕ)) (w : Word) → is_comment first ≡ false → word_of first ≡ Some w → met_of r w rest ≡ None → IsRead r first rest w (name_in (naming w) rest) (options_in (naming w) rest)
+read_of : (r : Reading) (first : List ℕ) (rest : List (List ℕ)) (w : Word) → is_comment first ≡ false → word_of first ≡ Some w → met_of r w rest ≡ None
+    → IsRead r first rest w (name_in (naming w) rest) (options_in (naming w) rest)
 unfolding is_faulty
 read_of r first rest w c e none =
     let name = name_in (naming w) rest in
@@ -113,7 +116,8 @@ read_of r first rest w c e none =
       bound = m.0;
     }
 
-of_read : (r : Reading) (w : Word) (name : List ℕ) (options : List (List ℕ)) (first : List ℕ) (rest : List (List ℕ)) → IsRead r first rest w name options → statement_met r w name options ≡ None
+of_read : (r : Reading) (w : Word) (name : List ℕ) (options : List (List ℕ)) (first : List ℕ) (rest : List (List ℕ)) → IsRead r first rest w name options
+    → statement_met r w name options ≡ None
 unfolding is_faulty
 of_read r w name options first rest e1 = grind (arith, nat_tests, values_in, none_in, is_bad, sound_is, is_missing, names_nothing)
 
@@ -133,19 +137,23 @@ pub record IsStated (r : Reading) (line : ℕ) (words : List (List ℕ)) (c : Li
   pub read : IsRead r first rest word name options
   pub change : change_of r line word name options ≡ c
 
-known_met : (r : Reading) (first : List ℕ) (rest : List (List ℕ)) (w : Word) → is_comment first ≡ false → word_of first ≡ Some w → words_met r (first ∷ rest) ≡ met_of r w rest
+known_met : (r : Reading) (first : List ℕ) (rest : List (List ℕ)) (w : Word) → is_comment first ≡ false → word_of first ≡ Some w
+    → words_met r (first ∷ rest) ≡ met_of r w rest
 known_met r first rest w c e = rw (c, e) refl
 
-known_says : (r : Reading) (line : ℕ) (first : List ℕ) (rest : List (List ℕ)) (w : Word) → is_comment first ≡ false → word_of first ≡ Some w → words_say r line (first ∷ rest) ≡ Some (change_of r line w (name_in (naming w) rest) (options_in (naming w) rest))
+known_says : (r : Reading) (line : ℕ) (first : List ℕ) (rest : List (List ℕ)) (w : Word) → is_comment first ≡ false → word_of first ≡ Some w
+    → words_say r line (first ∷ rest) ≡ Some (change_of r line w (name_in (naming w) rest) (options_in (naming w) rest))
 known_says r line first rest w c e = rw (c, e) refl
 
 pub silent_says : (r : Reading) (line : ℕ) (words : List (List ℕ)) → is_statement words ≡ false → (words_met r words ≡ None) × (words_say r line words ≡ None)
 silent_says r line words e1 = grind (arith, nat_tests)
 
-unknown_met : (r : Reading) (first : List ℕ) (rest : List (List ℕ)) → is_comment first ≡ false → word_of first ≡ None → words_met r (first ∷ rest) ≡ Some cause.UnknownWord
+unknown_met : (r : Reading) (first : List ℕ) (rest : List (List ℕ)) → is_comment first ≡ false → word_of first ≡ None
+    → words_met r (first ∷ rest) ≡ Some cause.UnknownWord
 unknown_met r first rest c e = rw (c, e) refl
 
-by_word : (r : Reading) (line : ℕ) (first : List ℕ) (rest : List (List ℕ)) (o : Option Word) (c : LineEffect) → is_comment first ≡ false → word_of first ≡ o → words_met r (first ∷ rest) ≡ None → words_say r line (first ∷ rest) ≡ Some c → IsStated r line (first ∷ rest) c
+by_word : (r : Reading) (line : ℕ) (first : List ℕ) (rest : List (List ℕ)) (o : Option Word) (c : LineEffect) → is_comment first ≡ false → word_of first ≡ o
+    → words_met r (first ∷ rest) ≡ None → words_say r line (first ∷ rest) ≡ Some c → IsStated r line (first ∷ rest) c
 by_word r line first rest None c n e m s = absurd (none_some cause.UnknownWord (sym m ∙ unknown_met r first rest n e))
 by_word r line first rest (Some w) c n e m s = record {
   first = first;
@@ -158,7 +166,8 @@ by_word r line first rest (Some w) c n e m s = record {
   change = some_is _ c (sym (known_says r line first rest w n e) ∙ s);
 }
 
-words_stated : (r : Reading) (line : ℕ) (words : List (List ℕ)) (c : LineEffect) → words_met r words ≡ None → words_say r line words ≡ Some c → IsStated r line words c
+words_stated : (r : Reading) (line : ℕ) (words : List (List ℕ)) (c : LineEffect) → words_met r words ≡ None → words_say r line words ≡ Some c
+    → IsStated r line words c
 words_stated r line words c e1 e2 = grind (arith, nat_tests, none_some, is_comment, silent_says, by_word, word_of)
 
 words_silent : (r : Reading) (line : ℕ) (words : List (List ℕ)) → words_met r words ≡ None → words_say r line words ≡ None → is_statement words ≡ false
@@ -184,11 +193,14 @@ line_of r line text c e1 = grind (arith, nat_tests)
 pub stated : (r : Reading) (line : ℕ) (text : List ℕ) (c : LineEffect) → line_gives r line text ≡ Ok (Some c) → IsPlain text × IsStated r line (words_of text) c
 stated r line text c e = let l = of_line r line text (Some c) e in (l.plain, words_stated r line (words_of text) c l.met l.says)
 
-pub states : (r : Reading) (line : ℕ) (text first : List ℕ) (rest : List (List ℕ)) (w : Word) (name : List ℕ) (options : List (List ℕ)) → IsPlain text → words_of text ≡ first ∷ rest → IsRead r first rest w name options → line_gives r line text ≡ Ok (Some (change_of r line w name options))
+pub states : (r : Reading) (line : ℕ) (text first : List ℕ) (rest : List (List ℕ)) (w : Word) (name : List ℕ) (options : List (List ℕ)) → IsPlain text
+    → words_of text ≡ first ∷ rest → IsRead r first rest w name options → line_gives r line text ≡ Ok (Some (change_of r line w name options))
 states r line text first rest w name options plain are f =
     let met : met_of r w rest ≡ None = rw (f.name_is, f.options_are) (of_read r w name options first rest f) in
-    let says : words_say r line (first ∷ rest) ≡ Some (change_of r line w name options) = known_says r line first rest w f.comment f.word ∙ rw (f.name_is, f.options_are) refl in
-    line_of r line text (Some (change_of r line w name options)) (record { plain = plain; met = rw are (known_met r first rest w f.comment f.word ∙ met); says = rw are says })
+    let says : words_say r line (first ∷ rest) ≡ Some (change_of r line w name options) =
+    known_says r line first rest w f.comment f.word ∙ rw (f.name_is, f.options_are) refl in
+    line_of r line text (Some (change_of r line w name options))
+    (record { plain = plain; met = rw are (known_met r first rest w f.comment f.word ∙ met); says = rw are says })
 
 -- a line that adds nothing is none
 pub silent : (r : Reading) (line : ℕ) (text : List ℕ) → line_gives r line text ≡ Ok None → IsPlain text × (is_statement (words_of text) ≡ false)
@@ -197,7 +209,8 @@ silent r line text e = let l = of_line r line text None e in (l.plain, words_sil
 pub silence : (r : Reading) (line : ℕ) (text : List ℕ) → IsPlain text → is_statement (words_of text) ≡ false → line_gives r line text ≡ Ok None
 silence r line text e1 e2 = grind (arith, nat_tests, silent_says, words_of, line_of)
 
-pub gives_adds : (r : Reading) (line : ℕ) (text : List ℕ) (c : Option LineEffect) → line_gives r line text ≡ Ok c → line_adds r line text ≡ Ok (with_change r line c)
+pub gives_adds : (r : Reading) (line : ℕ) (text : List ℕ) (c : Option LineEffect) → line_gives r line text ≡ Ok c
+    → line_adds r line text ≡ Ok (with_change r line c)
 unfolding line_adds
 gives_adds r line text c e = rw e refl
 
@@ -221,7 +234,8 @@ failed f = Err f
 err_is : {A E : Type 0} (e f : E) → fails A e ≡ fails A f → e ≡ f
 err_is e f h = cc
 
-fault_at : (r : Reading) (line : ℕ) (x : Result (Option LineEffect) Cause) (f : Fault) → at_line line (x >>= λ c. Ok (with_change r line c)) ≡ Err f → (f.line ≡ line) × (refused_for x ≡ Some f.cause)
+fault_at : (r : Reading) (line : ℕ) (x : Result (Option LineEffect) Cause) (f : Fault) → at_line line (x >>= λ c. Ok (with_change r line c)) ≡ Err f
+    → (f.line ≡ line) × (refused_for x ≡ Some f.cause)
 fault_at r line x f e1 = grind (arith, nat_tests)
 
 line_fault : (r : Reading) (line : ℕ) (text : List ℕ) (f : Fault) → line_adds r line text ≡ Err f → (f.line ≡ line) × (first_met r text ≡ Some f.cause)
@@ -252,15 +266,18 @@ no_lines : (r : Reading) (line : ℕ) → lines_add r line [] ≡ Ok r
 unfolding lines_add
 no_lines r line = refl
 
-pub one_more : (r s : Reading) (line : ℕ) (text : List ℕ) (texts : List (List ℕ)) (t : Result Reading Fault) → line_adds r line text ≡ Ok s → lines_add s (line + 1) texts ≡ t → lines_add r line (text ∷ texts) ≡ t
+pub one_more : (r s : Reading) (line : ℕ) (text : List ℕ) (texts : List (List ℕ)) (t : Result Reading Fault) → line_adds r line text ≡ Ok s
+    → lines_add s (line + 1) texts ≡ t → lines_add r line (text ∷ texts) ≡ t
 unfolding lines_add
 one_more r s line text texts t e h = rw e h
 
-here_fails : (r : Reading) (line : ℕ) (text : List ℕ) (texts : List (List ℕ)) (f : Fault) → line_adds r line text ≡ Err f → lines_add r line (text ∷ texts) ≡ Err f
+here_fails : (r : Reading) (line : ℕ) (text : List ℕ) (texts : List (List ℕ)) (f : Fault) → line_adds r line text ≡ Err f
+    → lines_add r line (text ∷ texts) ≡ Err f
 unfolding lines_add
 here_fails r line text texts f e = rw e refl
 
-rest_of : (r s : Reading) (line : ℕ) (text : List ℕ) (texts : List (List ℕ)) (f : Fault) → line_adds r line text ≡ Ok s → lines_add r line (text ∷ texts) ≡ Err f → lines_add s (line + 1) texts ≡ Err f
+rest_of : (r s : Reading) (line : ℕ) (text : List ℕ) (texts : List (List ℕ)) (f : Fault) → line_adds r line text ≡ Ok s
+    → lines_add r line (text ∷ texts) ≡ Err f → lines_add s (line + 1) texts ≡ Err f
 unfolding lines_add
 rest_of r s line text texts f e h = rw e at h
 
@@ -268,7 +285,9 @@ nothing_read : (r : Reading) (line : ℕ) (f : Fault) → lines_add r line [] �
 unfolding lines_add
 nothing_read r line f e = cc
 
-fault_by : (text : List ℕ) (texts : List (List ℕ)) (r : Reading) (line : ℕ) (f : Fault) (x : Result Reading Fault) → ((s : Reading) → lines_add s (line + 1) texts ≡ Err f → IsFault texts s (line + 1) f) → line_adds r line text ≡ x → lines_add r line (text ∷ texts) ≡ Err f → IsFault (text ∷ texts) r line f
+fault_by : (text : List ℕ) (texts : List (List ℕ)) (r : Reading) (line : ℕ) (f : Fault) (x : Result Reading Fault)
+    → ((s : Reading) → lines_add s (line + 1) texts ≡ Err f → IsFault texts s (line + 1) f) → line_adds r line text ≡ x
+    → lines_add r line (text ∷ texts) ≡ Err f → IsFault (text ∷ texts) r line f
 fault_by text texts r line f (Ok s) each a e =
     let h = each s (rest_of r s line text texts f a e) in
     record {
@@ -302,15 +321,21 @@ fault_in (text ∷ texts) r line f e = fault_by text texts r line f (line_adds r
 read_fails : (r : Reading) (f : Fault) → failed f ≡ done Fault r → ⊥
 read_fails r f e = cc
 
-fails_next : (first text : List ℕ) (before after : List (List ℕ)) (r said : Reading) (line : ℕ) (f : Fault) (x : Result Reading Fault) → ((s : Reading) → lines_add s (line + 1) before ≡ Ok said → lines_add s (line + 1) (before ++ text ∷ after) ≡ Err f) → line_adds r line first ≡ x → lines_add r line (first ∷ before) ≡ Ok said → lines_add r line (first ∷ (before ++ text ∷ after)) ≡ Err f
-fails_next first text before after r said line f (Ok s) each e read = one_more r s line first (before ++ text ∷ after) (Err f) e (each s (sym (one_more r s line first before _ e refl) ∙ read))
+fails_next : (first text : List ℕ) (before after : List (List ℕ)) (r said : Reading) (line : ℕ) (f : Fault) (x : Result Reading Fault)
+    → ((s : Reading) → lines_add s (line + 1) before ≡ Ok said → lines_add s (line + 1) (before ++ text ∷ after) ≡ Err f) → line_adds r line first ≡ x
+    → lines_add r line (first ∷ before) ≡ Ok said → lines_add r line (first ∷ (before ++ text ∷ after)) ≡ Err f
+fails_next first text before after r said line f (Ok s) each e read =
+    one_more r s line first (before ++ text ∷ after) (Err f) e (each s (sym (one_more r s line first before _ e refl) ∙ read))
 fails_next first text before after r said line f (Err g) each e read = absurd (read_fails said g (sym (here_fails r line first before g e) ∙ read))
 
-fails_behind : (before after : List (List ℕ)) (text : List ℕ) (r said : Reading) (line : ℕ) (f : Fault) → lines_add r line before ≡ Ok said → f.line ≡ line + length before → first_met said text ≡ Some f.cause → lines_add r line (before ++ text ∷ after) ≡ Err f
+fails_behind : (before after : List (List ℕ)) (text : List ℕ) (r said : Reading) (line : ℕ) (f : Fault) → lines_add r line before ≡ Ok said
+    → f.line ≡ line + length before → first_met said text ≡ Some f.cause → lines_add r line (before ++ text ∷ after) ≡ Err f
 fails_behind [] after text r said line f read number met =
     let same : r ≡ said = ok_is r said (sym (no_lines r line) ∙ read) in
     here_fails r line text after f (met_fault r line text f (omega (arith, number)) (rw same met))
-fails_behind (first ∷ before) after text r said line f read number met = fails_next first text before after r said line f (line_adds r line first) (λ s h. fails_behind before after text s said (line + 1) f h (omega (arith, number)) met) refl read
+fails_behind (first ∷ before) after text r said line f read number met =
+    fails_next first text before after r said line f (line_adds r line first)
+    (λ s h. fails_behind before after text s said (line + 1) f h (omega (arith, number)) met) refl read
 
 -- ---- the text
 

@@ -60,11 +60,13 @@ said : (r : Reading) (line : ℕ) (w : Word) (name : List ℕ) (options : List (
 unfolding change_with
 said r line w name options = grind (arith, nat_tests)
 
-pub says : (r : Reading) (line : ℕ) (w : Word) (name : List ℕ) (options : List (List ℕ)) (c : LineEffect) → change_of r line w name options ≡ c → IsEffectOf r line w name options c
+pub says : (r : Reading) (line : ℕ) (w : Word) (name : List ℕ) (options : List (List ℕ)) (c : LineEffect) → change_of r line w name options ≡ c
+    → IsEffectOf r line w name options c
 says r line w name options c e = subst (IsEffectOf r line w name options) e (said r line w name options)
 
 -- the name that a statement binds
-pub name_changed : (line : ℕ) (w : Word) (name : List ℕ) (place : Option ℕ) (vs : List OptionValue) → name_of (change_with line w name place vs) ≡ bound_name (naming w) name
+pub name_changed : (line : ℕ) (w : Word) (name : List ℕ) (place : Option ℕ) (vs : List OptionValue)
+    → name_of (change_with line w name place vs) ≡ bound_name (naming w) name
 unfolding change_with row
 name_changed line w name place vs = grind (arith, nat_tests)
 
@@ -94,7 +96,8 @@ fields_apart w = apart_from (fields w) (each_word (λ w. are_apart (fields w)) e
 abbrev pub IsField : List Field → Field → Type 0
 IsField fs f = find (λ g. bytes_eq (key_text g.key) (key_text f.key)) fs ≡ Some f
 
-found_behind : (f : Field) (all gs : List Field) → list_any (λ g. bytes_eq (key_text g.key) (key_text f.key)) gs ≡ false → AllByRecursion (IsField all) gs → AllByRecursion (IsField (f ∷ all)) gs
+found_behind : (f : Field) (all gs : List Field) → list_any (λ g. bytes_eq (key_text g.key) (key_text f.key)) gs ≡ false → AllByRecursion (IsField all) gs
+    → AllByRecursion (IsField (f ∷ all)) gs
 found_behind f all [] h p = tt
 found_behind f all (g ∷ gs) h p =
     let both = or_parts (bytes_eq (key_text g.key) (key_text f.key)) (list_any (λ g. bytes_eq (key_text g.key) (key_text f.key)) gs) h in
@@ -254,19 +257,23 @@ place_at rule.Bare place = None
 place_at rule.Caller place = None
 place_at (rule.Binds sort) place = None
 
-deed_held : (w : Word) (place : ℕ) (x : AllHeld (fields w)) → is_deed w ≡ true → deed_spelled (deed_with w place (all_with (fields w) x)) ≡ record { word = w; place = place_at (naming w) place; values = all_with (fields w) x }
-unfolding row deed_spelled deed_with queue_deed lock_deed segment_deed number_in whole_in args_in cores_in kind_in flag_in mode_in timeout_in place_in place_there
+deed_held : (w : Word) (place : ℕ) (x : AllHeld (fields w)) → is_deed w ≡ true
+    → deed_spelled (deed_with w place (all_with (fields w) x)) ≡ record { word = w; place = place_at (naming w) place; values = all_with (fields w) x }
+unfolding row deed_spelled deed_with queue_deed lock_deed segment_deed number_in whole_in args_in cores_in kind_in flag_in mode_in timeout_in place_in
+    place_there
 deed_held w place x e1 = grind (arith, nat_tests)
 
 -- a deed is spelled by the word, the place and the values of which it was made
-pub deed_is : (w : Word) (place : ℕ) (vs : List OptionValue) → is_deed w ≡ true → are_filled (fields w) vs ≡ true → deed_spelled (deed_with w place vs) ≡ record { word = w; place = place_at (naming w) place; values = vs }
+pub deed_is : (w : Word) (place : ℕ) (vs : List OptionValue) → is_deed w ≡ true → are_filled (fields w) vs ≡ true
+    → deed_spelled (deed_with w place vs) ≡ record { word = w; place = place_at (naming w) place; values = vs }
 deed_is w place vs h f = let held = all_held (fields w) vs f in rw held.1 (deed_held w place held.0 h)
 
 -- ---- settings
 
 node_held : (x : AllHeld (fields word.Node)) → (s : NodeSettings) × (setting_values s ≡ all_with (fields word.Node) x)
 unfolding row
-node_held (a, (b, (c, (d, (e, (f, (g, (h, _)))))))) = (record { workers = a; tasks = b; actions = c; groups = d; queues = e; objects = f; priorities = g; generations = h }, refl)
+node_held (a, (b, (c, (d, (e, (f, (g, (h, _)))))))) =
+    (record { workers = a; tasks = b; actions = c; groups = d; queues = e; objects = f; priorities = g; generations = h }, refl)
 
 -- there are settings of the values of a node line
 pub node_values : (vs : List OptionValue) → are_filled (fields word.Node) vs ≡ true → (s : NodeSettings) × (setting_values s ≡ vs)

@@ -22,7 +22,8 @@ pub push_statement : (before xs : List Statement) (s : Statement) → AreStateme
 push_statement before [] s h u = (rw append-nil at u, tt)
 push_statement before (x ∷ xs) s h u = (h.0, push_statement (before ++ x ∷ []) xs s h.1 (rw append_assoc u))
 
-pub main_last : (before : List Part) (p q : Part) → MainFirst (before ++ p ∷ []) → (length before ≡ 0 → IsMain p → IsMain q) → (1 ≤ length before → IsFurther p → IsFurther q) → MainFirst (before ++ q ∷ [])
+pub main_last : (before : List Part) (p q : Part) → MainFirst (before ++ p ∷ []) → (length before ≡ 0 → IsMain p → IsMain q)
+    → (1 ≤ length before → IsFurther p → IsFurther q) → MainFirst (before ++ q ∷ [])
 main_last [] p q h m f = (m refl h.0, tt)
 main_last (b ∷ bs) p q h m f = (h.0, last_all IsFurther bs p q h.1 (f (omega arith)))
 
@@ -33,9 +34,11 @@ pub any_push : {X : Type 0} (t : X → Bool) (xs : List X) (y : X) → list_any 
 any_push t [] y h e = or_from (t y) false e refl
 any_push t (x ∷ xs) y h e = let both = or_parts (t x) (list_any t xs) h in or_from (t x) (list_any t (xs ++ y ∷ [])) both.0 (any_push t xs y both.1 e)
 
-any_last : (name : List ℕ) (xs : List Part) (p q : Part) → q.name ≡ p.name → list_any (λ q. bytes_eq name q.name) (xs ++ p ∷ []) ≡ false → list_any (λ q. bytes_eq name q.name) (xs ++ q ∷ []) ≡ false
+any_last : (name : List ℕ) (xs : List Part) (p q : Part) → q.name ≡ p.name → list_any (λ q. bytes_eq name q.name) (xs ++ p ∷ []) ≡ false
+    → list_any (λ q. bytes_eq name q.name) (xs ++ q ∷ []) ≡ false
 any_last name [] p q e h = rw e h
-any_last name (x ∷ xs) p q e h = let both = or_parts (bytes_eq name x.name) (list_any (λ q. bytes_eq name q.name) (xs ++ p ∷ [])) h in or_from (bytes_eq name x.name) (list_any (λ q. bytes_eq name q.name) (xs ++ q ∷ [])) both.0 (any_last name xs p q e both.1)
+any_last name (x ∷ xs) p q e h = let both = or_parts (bytes_eq name x.name) (list_any (λ q. bytes_eq name q.name) (xs ++ p ∷ [])) h in
+    or_from (bytes_eq name x.name) (list_any (λ q. bytes_eq name q.name) (xs ++ q ∷ [])) both.0 (any_last name xs p q e both.1)
 
 pub names_last : (xs : List Part) (p q : Part) → q.name ≡ p.name → HaveDifferentNames (xs ++ p ∷ []) → HaveDifferentNames (xs ++ q ∷ [])
 names_last [] p q e h = (refl, tt)
@@ -51,7 +54,8 @@ begins_push (x ∷ xs) s = let e = begins_push xs s in omega (arith, e)
 
 no_begins : (xs : List Statement) → list_any (λ s. is_begin s.deed) xs ≡ false → begins xs ≡ 0
 no_begins [] h = refl
-no_begins (x ∷ xs) h = let both = or_parts (is_begin x.deed) (list_any (λ s. is_begin s.deed) xs) h in let rest = no_begins xs both.1 in rw both.0 (omega (arith, rest))
+no_begins (x ∷ xs) h = let both = or_parts (is_begin x.deed) (list_any (λ s. is_begin s.deed) xs) h in let rest = no_begins xs both.1 in
+    rw both.0 (omega (arith, rest))
 
 pub flat_push : {A : Type 0} (f : Part → List A) (xs : List Part) (p : Part) → flat_map f (xs ++ p ∷ []) ≡ flat_map f xs ++ f p
 flat_push f [] p = append-nil (f p)
@@ -99,7 +103,8 @@ unfolding is_name
 no_name e = cc
 
 -- the words behind the first one are the name and the options
-pub splits : (n : Naming) (rest : List (List ℕ)) → (has_second n && not (is_name (name_in n rest))) ≡ false → rest ≡ named n (name_in n rest) ++ options_in n rest
+pub splits : (n : Naming) (rest : List (List ℕ)) → (has_second n && not (is_name (name_in n rest))) ≡ false
+    → rest ≡ named n (name_in n rest) ++ options_in n rest
 splits n rest e1 = grind (arith, nat_tests, no_name, not-false, is_name)
 
 unbound_any : (name : List ℕ) (xs : List Statement) → is_some (bound_at name xs) ≡ false → list_any (λ s. is_called name s.name) xs ≡ false
@@ -108,12 +113,14 @@ unbound_any name xs e1 = grind (arith, nat_tests, is_called, any_place, bound_at
 bound_named : (n : Naming) (name : List ℕ) → is_some (bound_name n name) ≡ has_name n
 bound_named n name = grind (arith, nat_tests)
 
-new_name : (r : Reading) (n : Naming) (name : List ℕ) → (has_second n && not (is_name name)) ≡ false → is_taken r n name ≡ false → IfSome (bound_name n name) (IsNew r.current.statements)
+new_name : (r : Reading) (n : Naming) (name : List ℕ) → (has_second n && not (is_name name)) ≡ false → is_taken r n name ≡ false
+    → IfSome (bound_name n name) (IsNew r.current.statements)
 unfolding is_taken
 new_name r n name e1 e2 = grind (arith, nat_tests, not-false, is_name, unbound_any)
 
 -- the name that a statement uses is bound
-pub use_is : (before : List Statement) (n : Naming) (name : List ℕ) → is_unbound n (use_in before n name) ≡ false → IfSome (used_with n (place_at n (or_zero (use_in before n name)))) (λ u. IsBoundAt u.0 before u.1)
+pub use_is : (before : List Statement) (n : Naming) (name : List ℕ) → is_unbound n (use_in before n name) ≡ false
+    → IfSome (used_with n (place_at n (or_zero (use_in before n name)))) (λ u. IsBoundAt u.0 before u.1)
 use_is before (rule.Uses s) name h = let p = place_found (place_of s name before) h in rw p.1 (place_is s name before p.0 p.1).0
 use_is before _ name h = tt
 
@@ -124,15 +131,26 @@ pub record IsGiven (before : List Statement) (w : Word) (place : Option ℕ) (d 
   pub bound : IfSome (used_with (naming w) place) (λ u. IsBoundAt u.0 before u.1)
   pub fits : AllFit before (fields w) (values d)
 
-pub deed_given : (r : Reading) (first : List ℕ) (rest : List (List ℕ)) (w : Word) (name : List ℕ) (options : List (List ℕ)) → is_deed w ≡ true → IsRead r first rest w name options → IsGiven (here r) w (place_at (naming w) (or_zero (use_in (here r) (naming w) name))) (deed_said r w name options) × (values (deed_said r w name options) ≡ values_in (here r) options (fields w))
+pub deed_given : (r : Reading) (first : List ℕ) (rest : List (List ℕ)) (w : Word) (name : List ℕ) (options : List (List ℕ)) → is_deed w ≡ true
+    → IsRead r first rest w name options → IsGiven (here r) w (place_at (naming w) (or_zero (use_in (here r) (naming w) name))) (deed_said r w name options)
+    × (values (deed_said r w name options) ≡ values_in (here r) options (fields w))
 deed_given r first rest w name options h read =
     let vs = values_in (here r) options (fields w) in
     let are = values_are (here r) options (fields w) (fields_good w) read.sound in
     let is = deed_is w (or_zero (use_in (here r) (naming w) name)) vs h are.1 in
-    let same : values (deed_said r w name options) ≡ vs = ap (λ (x : Spelled). x.values) is in
-    (record { word = ap (λ (x : Spelled). x.word) is; used = ap (λ (x : Spelled). x.place) is; bound = use_is (here r) (naming w) name read.bound; fits = rw same are.0 }, same)
+    let same : values (deed_said r w name options) ≡ vs = ap (λ (x : Spelled). x.values) is in (
+      record {
+        word = ap (λ (x : Spelled). x.word) is;
+        used = ap (λ (x : Spelled). x.place) is;
+        bound = use_is (here r) (naming w) name read.bound;
+        fits =
+            rw same are.0;
+      },
+      same,
+    )
 
-pub statement_formed : (r : Reading) (line : ℕ) (first : List ℕ) (rest : List (List ℕ)) (w : Word) (name : List ℕ) (options : List (List ℕ)) (place : Option ℕ) (d : Deed) → IsRead r first rest w name options → IsGiven r.current.statements w place d → IsStatement r.current.statements (made line w name d)
+pub statement_formed : (r : Reading) (line : ℕ) (first : List ℕ) (rest : List (List ℕ)) (w : Word) (name : List ℕ) (options : List (List ℕ)) (place : Option ℕ)
+    (d : Deed) → IsRead r first rest w name options → IsGiven r.current.statements w place d → IsStatement r.current.statements (made line w name d)
 statement_formed r line first rest w name options place d e1 e2 = grind (arith, nat_tests, bound_named, new_name)
 
 -- ---- begin
@@ -183,10 +201,13 @@ set_generations v s h = rw (le-leb 1 v h.0, le-leb v 4294967295 h.1) refl
 -- the settings whose values fit are given by their values
 pub node_settings : (before : List Statement) (s : NodeSettings) → AllFit before (fields word.Node) (setting_values s) → settings_by (setting_values s) ≡ s
 unfolding row settings_by number_in
-node_settings before s (a, (b, (c, (d, (e, (f, (g, (h, _)))))))) = rw (set_workers, set_tasks, set_actions, set_groups, set_queues, set_objects, set_priorities, set_generations) refl
+node_settings before s (a, (b, (c, (d, (e, (f, (g, (h, _)))))))) =
+    rw (set_workers, set_tasks, set_actions, set_groups, set_queues, set_objects, set_priorities, set_generations) refl
 
 -- the settings of a node line fit, and their values are those of its options
-pub node_given : (before : List Statement) (options : List (List ℕ)) → list_all is_sound (values_in before options (fields word.Node)) ≡ true → (setting_values (settings_by (values_in before options (fields word.Node))) ≡ values_in before options (fields word.Node)) × AllFit before (fields word.Node) (setting_values (settings_by (values_in before options (fields word.Node))))
+pub node_given : (before : List Statement) (options : List (List ℕ)) → list_all is_sound (values_in before options (fields word.Node)) ≡ true
+    → (setting_values (settings_by (values_in before options (fields word.Node))) ≡ values_in before options (fields word.Node))
+    × AllFit before (fields word.Node) (setting_values (settings_by (values_in before options (fields word.Node))))
 node_given before options sound =
     let vs = values_in before options (fields word.Node) in
     let are = values_are before options (fields word.Node) (fields_good word.Node) sound in
@@ -209,7 +230,8 @@ lines_statement : (r : Reading) (s : Statement) → lines_so_far (with_statement
 lines_statement r s =
     let a = flat_push part_lines r.before r.current in
     let b = flat_push part_lines r.before (record r.current { statements = r.current.statements ++ s ∷ [] }) in
-    let m : map (λ (s : Statement). s.line) (r.current.statements ++ s ∷ []) ≡ map (λ (s : Statement). s.line) r.current.statements ++ s.line ∷ [] = map-append (λ (s : Statement). s.line) r.current.statements (s ∷ []) in
+    let m : map (λ (s : Statement). s.line) (r.current.statements ++ s ∷ []) ≡ map (λ (s : Statement). s.line) r.current.statements ++ s.line ∷ [] =
+    map-append (λ (s : Statement). s.line) r.current.statements (s ∷ []) in
     rw (b, a, m) (simp append_assoc)
 
 line_there : (line : ℕ) → 1 ≤ line → line_if_any line ≡ line ∷ []
@@ -226,10 +248,13 @@ lines_caller r line name e1 = grind (arith, nat_tests, flat_push, part_lines, li
 
 -- ---- a statement
 
-begins_more : (r : Reading) (w : Word) (s : Statement) → word_for s.deed ≡ w → is_misplaced r w ≡ false → (begins (r.current.statements ++ s ∷ []) ≡ begins r.current.statements) ⊎ ((length r.before ≡ 0) × (begins (r.current.statements ++ s ∷ []) ≡ 1))
+begins_more : (r : Reading) (w : Word) (s : Statement) → word_for s.deed ≡ w → is_misplaced r w ≡ false
+    → (begins (r.current.statements ++ s ∷ []) ≡ begins r.current.statements) ⊎ ((length r.before ≡ 0) × (begins (r.current.statements ++ s ∷ []) ≡ 1))
 begins_more r w s e1 e2 = grind (arith, nat_tests, begins_push, is_begin, begin_free, begin_word)
 
-statement_keeps : (r : Reading) (line : ℕ) (first : List ℕ) (rest : List (List ℕ)) (w : Word) (name : List ℕ) (options : List (List ℕ)) (place : Option ℕ) (d : Deed) → IsFormed r line → 1 ≤ line → IsRead r first rest w name options → IsGiven r.current.statements w place d → IsFormed (with_statement r (made line w name d)) (line + 1)
+statement_keeps : (r : Reading) (line : ℕ) (first : List ℕ) (rest : List (List ℕ)) (w : Word) (name : List ℕ) (options : List (List ℕ)) (place : Option ℕ)
+    (d : Deed) → IsFormed r line → 1 ≤ line → IsRead r first rest w name options → IsGiven r.current.statements w place d
+    → IsFormed (with_statement r (made line w name d)) (line + 1)
 statement_keeps r line first rest w name options place d f le read g =
     let s = made line w name d in
     let p : Part = record r.current { statements = r.current.statements ++ s ∷ [] } in
@@ -239,10 +264,24 @@ statement_keeps r line first rest w name options place d f le read g =
     record {
       callers = f.callers;
       main = main_last r.before r.current p f.main
-          (λ (e : length r.before ≡ 0) (m : IsMain r.current). record { line = m.line; name = m.name; begin = elim b [ inl same ↦ rw same m.begin | inr one ↦ rw one.1 (omega arith) ] })
-          (λ (ge : 1 ≤ length r.before) (m : IsFurther r.current). record { line = m.line; begin = elim b [ inl same ↦ rw same m.begin | inr one ↦ absurd (omega (arith, ge, one.0)) ] });
+          (λ (e : length r.before ≡ 0) (m : IsMain r.current). record {
+            line = m.line;
+            name = m.name;
+            begin =
+                elim b [ inl same ↦ rw same m.begin | inr one ↦ rw one.1 (omega arith) ];
+          })
+          (λ (ge : 1 ≤ length r.before) (m : IsFurther r.current). record {
+            line = m.line;
+            begin =
+                elim b [ inl same ↦ rw same m.begin | inr one ↦ absurd (omega (arith, ge, one.0)) ];
+          });
       names = names_last r.before r.current p refl f.names;
-      parts = last_all IsPart r.before r.current p f.parts (λ (q : IsPart r.current). record { name = q.name; statements = push_statement [] r.current.statements s q.statements (statement_formed r line first rest w name options place d read g) });
+      parts = last_all IsPart r.before r.current p f.parts
+          (λ (q : IsPart r.current). record {
+            name = q.name;
+            statements =
+                push_statement [] r.current.statements s q.statements (statement_formed r line first rest w name options place d read g);
+          });
       count = rw lines (length_push (lines_so_far r) line ∙ rw f.count refl);
       few = omega (arith, fewer);
       rise = rw lines (rise_push 0 line (lines_so_far r) (omega arith) f.rise f.below);
@@ -253,7 +292,8 @@ statement_keeps r line first rest w name options place d f le read g =
 
 -- ---- a caller line
 
-caller_keeps : (r : Reading) (line : ℕ) (first : List ℕ) (rest : List (List ℕ)) (name : List ℕ) (options : List (List ℕ)) → IsFormed r line → 1 ≤ line → IsRead r first rest word.Caller name options → IsFormed (with_caller r line name) (line + 1)
+caller_keeps : (r : Reading) (line : ℕ) (first : List ℕ) (rest : List (List ℕ)) (name : List ℕ) (options : List (List ℕ)) → IsFormed r line → 1 ≤ line
+    → IsRead r first rest word.Caller name options → IsFormed (with_caller r line name) (line + 1)
 unfolding is_taken is_ninth_caller row
 caller_keeps r line first rest name options f le read =
     let good : is_name name ≡ true = not-false (is_name name) read.named in
@@ -264,7 +304,8 @@ caller_keeps r line first rest name options f le read =
     record {
       callers = omega (arith, callers, length_push r.before r.current);
       main = main_push r.before r.current (new_part line name) f.main (record { line = le; begin = refl });
-      names = names_push (r.before ++ r.current ∷ []) (new_part line name) f.names (any_push (λ (p : Part). bytes_eq p.name name) r.before r.current free.1 free.0);
+      names = names_push (r.before ++ r.current
+          ∷ []) (new_part line name) f.names (any_push (λ (p : Part). bytes_eq p.name name) r.before r.current free.1 free.0);
       parts = push_all IsPart (r.before ++ r.current ∷ []) (new_part line name) f.parts (record { name = good; statements = tt });
       count = rw lines (length_push (lines_so_far r) line ∙ rw f.count refl);
       few = omega (arith, fewer);
@@ -284,11 +325,13 @@ empty_parts [] [] h = refl
 empty_parts [] (y ∷ ys) h = absurd (omega arith)
 empty_parts (x ∷ xs) ys h = absurd (omega arith)
 
-node_fits : (before : List Statement) (settings : NodeSettings) → AllFit before (fields word.Node) (setting_values settings) → AllFit [] (fields word.Node) (setting_values settings)
+node_fits : (before : List Statement) (settings : NodeSettings) → AllFit before (fields word.Node) (setting_values settings)
+    → AllFit [] (fields word.Node) (setting_values settings)
 unfolding row
 node_fits before settings h = h
 
-node_keeps : (r : Reading) (line : ℕ) (settings : NodeSettings) → IsFormed r line → 1 ≤ line → is_misplaced r word.Node ≡ false → AllFit r.current.statements (fields word.Node) (setting_values settings) → IsFormed (with_node r line settings) (line + 1)
+node_keeps : (r : Reading) (line : ℕ) (settings : NodeSettings) → IsFormed r line → 1 ≤ line → is_misplaced r word.Node ≡ false
+    → AllFit r.current.statements (fields word.Node) (setting_values settings) → IsFormed (with_node r line settings) (line + 1)
 unfolding is_misplaced
 node_keeps r line settings f le placed fit =
     let none : r.count ≡ 0 = eqb-true r.count 0 (not-false _ placed) in
@@ -309,7 +352,8 @@ node_keeps r line settings f le placed fit =
 
 -- ---- every line
 
-keeps : (r : Reading) (line : ℕ) (first : List ℕ) (rest : List (List ℕ)) (w : Word) (name : List ℕ) (options : List (List ℕ)) (c : LineEffect) → IsFormed r line → 1 ≤ line → IsRead r first rest w name options → IsEffectOf r line w name options c → IsFormed (with_change r line (Some c)) (line + 1)
+keeps : (r : Reading) (line : ℕ) (first : List ℕ) (rest : List (List ℕ)) (w : Word) (name : List ℕ) (options : List (List ℕ)) (c : LineEffect) → IsFormed r line
+    → 1 ≤ line → IsRead r first rest w name options → IsEffectOf r line w name options c → IsFormed (with_change r line (Some c)) (line + 1)
 unfolding with_change
 keeps r line first rest w name options c f le read (says_node is change) =
     rw (change, is) (node_keeps r line _ f le (rw is at read.placed) (node_given r.current.statements options (rw is at read.sound)).1)
@@ -320,9 +364,22 @@ keeps r line first rest w name options c f le read (says_deed h change) =
 
 none_keeps : (r : Reading) (line : ℕ) → IsFormed r line → IsFormed (with_change r line None) (line + 1)
 unfolding with_change
-none_keeps r line f = record { callers = f.callers; main = f.main; names = f.names; parts = f.parts; count = f.count; few = f.few; rise = f.rise; below = below_more line (lines_so_far r) f.below; usual = f.usual; settings = f.settings }
+none_keeps r line f = record {
+  callers = f.callers;
+  main = f.main;
+  names = f.names;
+  parts = f.parts;
+  count = f.count;
+  few = f.few;
+  rise = f.rise;
+  below =
+      below_more line (lines_so_far r) f.below;
+  usual = f.usual;
+  settings = f.settings;
+}
 
-pub line_keeps : (r : Reading) (line : ℕ) (text : List ℕ) (c : Option LineEffect) → IsFormed r line → 1 ≤ line → line_gives r line text ≡ Ok c → IsFormed (with_change r line c) (line + 1)
+pub line_keeps : (r : Reading) (line : ℕ) (text : List ℕ) (c : Option LineEffect) → IsFormed r line → 1 ≤ line → line_gives r line text ≡ Ok c
+    → IsFormed (with_change r line c) (line + 1)
 line_keeps r line text None f le e = none_keeps r line f
 line_keeps r line text (Some c) f le e =
     let st = (stated r line text c e).1 in
@@ -341,7 +398,16 @@ lines_keep (text ∷ texts) r s line f le e = grind (arith, nat_tests, lines_kee
 
 usual_fit : AllFit [] (fields word.Node) (setting_values usual_settings)
 unfolding row
-usual_fit = ((omega arith, omega arith), ((omega arith, omega arith), ((omega arith, omega arith), ((omega arith, omega arith), ((omega arith, omega arith), ((omega arith, omega arith), ((omega arith, omega arith), ((omega arith, omega arith), tt))))))))
+usual_fit = (
+  (omega arith, omega arith),
+  (
+    (omega arith, omega arith),
+    (
+      (omega arith, omega arith),
+      ((omega arith, omega arith), ((omega arith, omega arith), ((omega arith, omega arith), ((omega arith, omega arith), ((omega arith, omega arith), tt))))),
+    ),
+  ),
+)
 
 pub start_formed : IsFormed start 1
 unfolding start is_name

@@ -17,14 +17,16 @@ use Rattle.workload_file.proofs.Spelling.{value_is, absent_is, spelled}
 abbrev pub Free : List (List ℕ) → List Field → Type 0
 Free ws fs = AllByRecursion (λ f. gives f.key ws ≡ false) fs
 
-pub free_push : (ws : List (List ℕ)) (word : List ℕ) (k : Key) (fs : List Field) → key_of word ≡ key_text k → list_any (λ g. bytes_eq (key_text g.key) (key_text k)) fs ≡ false → Free ws fs → Free (ws ++ word ∷ []) fs
+pub free_push : (ws : List (List ℕ)) (word : List ℕ) (k : Key) (fs : List Field) → key_of word ≡ key_text k
+    → list_any (λ g. bytes_eq (key_text g.key) (key_text k)) fs ≡ false → Free ws fs → Free (ws ++ word ∷ []) fs
 free_push ws word k [] e h f = tt
 free_push ws word k (g ∷ fs) e h f =
     let both = or_parts _ _ h in
     let other : bytes_eq (key_of word) (key_text g.key) ≡ false = rw e (apart_sym (key_text g.key) (key_text k) both.0) in
     (any_push (λ (w : List ℕ). bytes_eq (key_of w) (key_text g.key)) ws word f.0 other, free_push ws word k fs e both.1 f.1)
 
-pub text_skip : (k : Key) (xs ys : List (List ℕ)) (word text : List ℕ) → gives k xs ≡ false → key_of word ≡ key_text k → value_of word ≡ text → text_of k (xs ++ word ∷ ys) ≡ Some text
+pub text_skip : (k : Key) (xs ys : List (List ℕ)) (word text : List ℕ) → gives k xs ≡ false → key_of word ≡ key_text k → value_of word ≡ text
+    → text_of k (xs ++ word ∷ ys) ≡ Some text
 unfolding text_of
 text_skip k xs ys word text e1 e2 e3 = grind (arith, nat_tests, bytes_eq, key_of, key_text, bytes_same, find_skip)
 
@@ -63,7 +65,9 @@ value_inner own k h =
     let behind = (all_parts is_inner (key_of own) (61 ∷ value_of own) whole).1 in
     (and_parts (is_inner 61) (list_all is_inner (value_of own)) behind).1
 
-field_read : (before : List Statement) (all : List Field) (options : List (List ℕ)) (f : Field) (o : Option (List ℕ)) → is_good f.absent f.shape ≡ true → list_all (is_known all) options ≡ true → list_all is_word options ≡ true → find (λ w. bytes_eq (key_of w) (key_text f.key)) options ≡ o → is_sound (value_at before f (option_map value_of o)) ≡ true → IsWritten before f (value_at before f (option_map value_of o))
+field_read : (before : List Statement) (all : List Field) (options : List (List ℕ)) (f : Field) (o : Option (List ℕ)) → is_good f.absent f.shape ≡ true
+    → list_all (is_known all) options ≡ true → list_all is_word options ≡ true → find (λ w. bytes_eq (key_of w) (key_text f.key)) options ≡ o
+    → is_sound (value_at before f (option_map value_of o)) ≡ true → IsWritten before f (value_at before f (option_map value_of o))
 field_read before all options f None good known words is h =
     let u = absent_is before f.absent f.shape good h in
     left u.default u.shaped
@@ -73,18 +77,24 @@ field_read before all options f (Some own) good known words is h =
       | inl t ↦ left t i.shaped
       | inr d ↦
           let text = i.written f.absent good d in
-          let k = and_parts (list_any (λ b. eqb b 61) own) (is_some (field_of all own)) (find_all (λ w. bytes_eq (key_of w) (key_text f.key)) (is_known all) options own is known) in
+          let k = and_parts (list_any (λ b. eqb b 61) own) (is_some (field_of all own))
+          (find_all (λ w. bytes_eq (key_of w) (key_text f.key)) (is_known all) options own is known) in
           let whole = find_all (λ w. bytes_eq (key_of w) (key_text f.key)) is_word options own is words in
           word d (record { inner = rw text (value_inner own k.0 whole); reads = ap (value_given before f.shape) text })
     ]
 
 -- each value that options give is left out, or is spelled as it was read
-pub all_read : (before : List Statement) (all : List Field) (options : List (List ℕ)) (fs : List Field) → AllByRecursion (λ f. is_good f.absent f.shape ≡ true) fs → list_all (is_known all) options ≡ true → list_all is_word options ≡ true → list_all is_sound (values_in before options fs) ≡ true → AllWritten before fs (values_in before options fs)
+pub all_read : (before : List Statement) (all : List Field) (options : List (List ℕ)) (fs : List Field)
+    → AllByRecursion (λ f. is_good f.absent f.shape ≡ true) fs → list_all (is_known all) options ≡ true → list_all is_word options ≡ true
+    → list_all is_sound (values_in before options fs) ≡ true → AllWritten before fs (values_in before options fs)
 unfolding text_of
 all_read before all options [] good known words h = tt
 all_read before all options (f ∷ fs) good known words h =
-    let both = and_parts (is_sound (value_at before f (text_of f.key options))) (list_all is_sound (values_in before options fs)) h in
-    (field_read before all options f (find (λ w. bytes_eq (key_of w) (key_text f.key)) options) good.0 known words refl both.0, all_read before all options fs good.1 known words both.1)
+    let both = and_parts (is_sound (value_at before f (text_of f.key options))) (list_all is_sound (values_in before options fs)) h in (
+      field_read before all options f (find (λ w. bytes_eq (key_of w) (key_text f.key)) options) good.0 known words refl both.0,
+      all_read before all options fs
+          good.1 known words both.1,
+    )
 
 -- ---- the words
 
@@ -98,19 +108,24 @@ opts_none : (before : List Statement) → opts before [] [] ≡ []
 unfolding options_words
 opts_none before = refl
 
-opts_left : (before : List Statement) (f : Field) (fs : List Field) (v : OptionValue) (vs : List OptionValue) → is_default f.absent v ≡ true → opts before (f ∷ fs) (v ∷ vs) ≡ opts before fs vs
+opts_left : (before : List Statement) (f : Field) (fs : List Field) (v : OptionValue) (vs : List OptionValue) → is_default f.absent v ≡ true
+    → opts before (f ∷ fs) (v ∷ vs) ≡ opts before fs vs
 unfolding options_words
 opts_left before f fs v vs d = rw d refl
 
-opts_word : (before : List Statement) (f : Field) (fs : List Field) (v : OptionValue) (vs : List OptionValue) → is_default f.absent v ≡ false → opts before (f ∷ fs) (v ∷ vs) ≡ opt before f v ∷ opts before fs vs
+opts_word : (before : List Statement) (f : Field) (fs : List Field) (v : OptionValue) (vs : List OptionValue) → is_default f.absent v ≡ false
+    → opts before (f ∷ fs) (v ∷ vs) ≡ opt before f v ∷ opts before fs vs
 unfolding options_words
 opts_word before f fs v vs d = rw d refl
 
 -- what holds of each word that is written
-all_opts : (q : List ℕ → Bool) (P : Field → Type 0) (before : List Statement) (fs : List Field) (vs : List OptionValue) → ((f : Field) (v : OptionValue) → P f → IsSpelled before f.shape v → q (opt before f v) ≡ true) → AllByRecursion P fs → AllWritten before fs vs → list_all q (opts before fs vs) ≡ true
+all_opts : (q : List ℕ → Bool) (P : Field → Type 0) (before : List Statement) (fs : List Field) (vs : List OptionValue)
+    → ((f : Field) (v : OptionValue) → P f → IsSpelled before f.shape v → q (opt before f v) ≡ true) → AllByRecursion P fs → AllWritten before fs vs
+    → list_all q (opts before fs vs) ≡ true
 all_opts q P before [] [] each p h = rw (opts_none before) refl
 all_opts q P before (f ∷ fs) (v ∷ vs) each p (left d shaped, h) = rw (opts_left before f fs v vs d) (all_opts q P before fs vs each p.1 h)
-all_opts q P before (f ∷ fs) (v ∷ vs) each p (word d s, h) = rw (opts_word before f fs v vs d) (and_from _ _ (each f v p.0 s) (all_opts q P before fs vs each p.1 h))
+all_opts q P before (f ∷ fs) (v ∷ vs) each p (word d s, h) =
+    rw (opts_word before f fs v vs d) (and_from _ _ (each f v p.0 s) (all_opts q P before fs vs each p.1 h))
 all_opts q P before [] (v ∷ vs) each p h = absurd h
 all_opts q P before (f ∷ fs) [] each p h = absurd h
 
@@ -125,22 +140,26 @@ word_here k text h =
     let some : 0 < length (key_text k ++ 61 ∷ text) = omega (arith, length-append (key_text k) (61 ∷ text)) in
     and_from _ _ (lt-ltb 0 (length (key_text k ++ 61 ∷ text)) some) (all_append is_inner (key_text k) (61 ∷ text) (key_good k) h)
 
-pub opts_known : (all : List Field) (before : List Statement) (fs : List Field) (vs : List OptionValue) → AllByRecursion (IsField all) fs → AllWritten before fs vs → list_all (is_known all) (opts before fs vs) ≡ true
+pub opts_known : (all : List Field) (before : List Statement) (fs : List Field) (vs : List OptionValue) → AllByRecursion (IsField all) fs
+    → AllWritten before fs vs → list_all (is_known all) (opts before fs vs) ≡ true
 opts_known all before fs vs p h = all_opts (is_known all) (IsField all) before fs vs (λ f v i s. known_here all f (value_text before v) i) p h
 
-pub opts_words : (all : List Field) (before : List Statement) (fs : List Field) (vs : List OptionValue) → AllByRecursion (IsField all) fs → AllWritten before fs vs → list_all is_word (opts before fs vs) ≡ true
+pub opts_words : (all : List Field) (before : List Statement) (fs : List Field) (vs : List OptionValue) → AllByRecursion (IsField all) fs
+    → AllWritten before fs vs → list_all is_word (opts before fs vs) ≡ true
 opts_words all before fs vs p h = all_opts is_word (IsField all) before fs vs (λ f v i s. word_here f.key (value_text before v) s.inner) p h
 
 -- ---- keys
 
-no_key : (k : Key) (before : List Statement) (fs : List Field) (vs : List OptionValue) → list_any (λ g. bytes_eq (key_text g.key) (key_text k)) fs ≡ false → AllWritten before fs vs → gives k (opts before fs vs) ≡ false
+no_key : (k : Key) (before : List Statement) (fs : List Field) (vs : List OptionValue) → list_any (λ g. bytes_eq (key_text g.key) (key_text k)) fs ≡ false
+    → AllWritten before fs vs → gives k (opts before fs vs) ≡ false
 no_key k before [] [] a h = rw (opts_none before) refl
 no_key k before (f ∷ fs) (v ∷ vs) a (left d shaped, h) = let both = or_parts _ _ a in rw (opts_left before f fs v vs d) (no_key k before fs vs both.1 h)
 no_key k before (f ∷ fs) (v ∷ vs) a (word d s, h) = grind (arith, nat_tests, no_key k before fs vs, or_parts, option_is, value_text, opts_word, or_from)
 no_key k before [] (v ∷ vs) a h = absurd h
 no_key k before (f ∷ fs) [] a h = absurd h
 
-pub opts_once : (before : List Statement) (fs : List Field) (vs : List OptionValue) → AreApart fs → AllWritten before fs vs → has_twice (opts before fs vs) ≡ false
+pub opts_once : (before : List Statement) (fs : List Field) (vs : List OptionValue) → AreApart fs → AllWritten before fs vs
+    → has_twice (opts before fs vs) ≡ false
 unfolding has_twice
 opts_once before [] [] a h = rw (opts_none before) refl
 opts_once before (f ∷ fs) (v ∷ vs) a (left d shaped, h) = rw (opts_left before f fs v vs d) (opts_once before fs vs a.1 h)
@@ -158,7 +177,8 @@ unfolding value_absent is_default
 default_value a s v e1 e2 e3 = grind (arith, nat_tests)
 
 -- the values that are written are read again
-pub values_from : (before : List Statement) (ws : List (List ℕ)) (fs : List Field) (vs : List OptionValue) → AllWritten before fs vs → AreApart fs → AllByRecursion (λ f. is_good f.absent f.shape ≡ true) fs → Free ws fs → values_in before (ws ++ opts before fs vs) fs ≡ vs
+pub values_from : (before : List Statement) (ws : List (List ℕ)) (fs : List Field) (vs : List OptionValue) → AllWritten before fs vs → AreApart fs
+    → AllByRecursion (λ f. is_good f.absent f.shape ≡ true) fs → Free ws fs → values_in before (ws ++ opts before fs vs) fs ≡ vs
 values_from before ws [] [] h a good free = refl
 values_from before ws (f ∷ fs) (v ∷ vs) (left d shaped, h) a good free =
     let none = text_nothing f.key ws (opts before fs vs) free.0 (no_key f.key before fs vs a.0 h) in

@@ -22,10 +22,12 @@ unfolding Lacks
 inner_lacks [] h = tt
 inner_lacks (b ∷ bs) h = grind (arith, nat_tests, inner_lacks bs, and_parts, is_printable, not-true)
 
-pub between_joined : (byte : ℕ) (first : List ℕ) (rest : List (List ℕ)) → AllByRecursion (Lacks byte) (first ∷ rest) → between byte (join_with_byte byte (first ∷ rest)) ≡ first ∷ rest
+pub between_joined : (byte : ℕ) (first : List ℕ) (rest : List (List ℕ)) → AllByRecursion (Lacks byte) (first ∷ rest)
+    → between byte (join_with_byte byte (first ∷ rest)) ≡ first ∷ rest
 unfolding Lacks
 between_joined byte first [] h = slice_split_none (λ b. eqb b byte) first (All-from_recursion (λ (b : ℕ). eqb b byte ≡ false) first h.0)
-between_joined byte first (next ∷ rest) h = grind (arith, nat_tests, between_joined byte next rest h.1, slice_split_at, join_with_byte, All-from_recursion, eq-eqb)
+between_joined byte first (next ∷ rest) h =
+    grind (arith, nat_tests, between_joined byte next rest h.1, slice_split_at, join_with_byte, All-from_recursion, eq-eqb)
 
 words_lack : (ws : List (List ℕ)) → list_all is_word ws ≡ true → AllByRecursion (Lacks 32) ws
 words_lack [] h = tt
@@ -76,14 +78,16 @@ printable_lacks text h = All-from_recursion (λ (b : ℕ). eqb b 10 ≡ false) t
 -- ---- the words of a line
 
 -- one byte more, which ends a piece or stands before the first one
-one_more : (b : ℕ) (parts : List (List ℕ)) (ends : Bool) → (ends ≡ false → is_inner b ≡ true) → list_all (λ w. list_all is_inner w) parts ≡ true → list_all (λ w. list_all is_inner w) (cond ends ([] ∷ parts) (onto_first b parts)) ≡ true
+one_more : (b : ℕ) (parts : List (List ℕ)) (ends : Bool) → (ends ≡ false → is_inner b ≡ true) → list_all (λ w. list_all is_inner w) parts ≡ true
+    → list_all (λ w. list_all is_inner w) (cond ends ([] ∷ parts) (onto_first b parts)) ≡ true
 one_more b parts ends e1 e2 = grind (arith, nat_tests)
 
 pieces_inner : (text : List ℕ) → list_all is_printable text ≡ true → list_all (λ w. list_all is_inner w) (between 32 text) ≡ true
 pieces_inner [] h = refl
 pieces_inner (b ∷ bs) h = grind (arith, nat_tests, pieces_inner bs, and_parts, is_printable, one_more, and_from)
 
-kept_word : (w : List ℕ) (ws : List (List ℕ)) (keep : Bool) → (keep ≡ true → is_word w ≡ true) → list_all is_word ws ≡ true → list_all is_word (cond keep (w ∷ ws) ws) ≡ true
+kept_word : (w : List ℕ) (ws : List (List ℕ)) (keep : Bool) → (keep ≡ true → is_word w ≡ true) → list_all is_word ws ≡ true
+    → list_all is_word (cond keep (w ∷ ws) ws) ≡ true
 kept_word w ws keep e1 e2 = grind (arith, nat_tests)
 
 kept_words : (ws : List (List ℕ)) → list_all (λ w. list_all is_inner w) ws ≡ true → list_all is_word (filter (λ w. nat_lt 0 (length w)) ws) ≡ true
@@ -122,11 +126,13 @@ texts_push words w = map-append (λ w. w.now) words (w ∷ [])
 
 -- ==== the lines of a text, one after the other, as a loop reads them
 
-pub lines_more : (r s : Reading) (line : ℕ) (text : List ℕ) (texts : List (List ℕ)) (total : Result Reading Fault) → line_adds r line text ≡ Ok s → lines_add r line (text ∷ texts) ≡ total → lines_add s (line + 1) texts ≡ total
+pub lines_more : (r s : Reading) (line : ℕ) (text : List ℕ) (texts : List (List ℕ)) (total : Result Reading Fault) → line_adds r line text ≡ Ok s
+    → lines_add r line (text ∷ texts) ≡ total → lines_add s (line + 1) texts ≡ total
 unfolding lines_add
 lines_more r s line text texts total e h = rw e at h
 
-pub lines_end : (e : LineError) (r : Reading) (line : ℕ) (text : List ℕ) (texts : List (List ℕ)) (total : Result Reading Fault) → Fails e (line_adds r line text) → lines_add r line (text ∷ texts) ≡ total → Fails e total
+pub lines_end : (e : LineError) (r : Reading) (line : ℕ) (text : List ℕ) (texts : List (List ℕ)) (total : Result Reading Fault)
+    → Fails e (line_adds r line text) → lines_add r line (text ∷ texts) ≡ total → Fails e total
 unfolding lines_add
 lines_end e r line text texts total e1 e2 = grind (arith, nat_tests)
 
@@ -153,7 +159,8 @@ pub laid_none : (at : ℕ) → laid_out at [] ≡ []
 unfolding laid_out
 laid_none at = refl
 
-pub statements_push : (before xs : List Statement) (s : Statement) → statement_lines_behind before (xs ++ s ∷ []) ≡ statement_lines_behind before xs ++ (s.line, statement_text (before ++ xs) s) ∷ []
+pub statements_push : (before xs : List Statement) (s : Statement)
+    → statement_lines_behind before (xs ++ s ∷ []) ≡ statement_lines_behind before xs ++ (s.line, statement_text (before ++ xs) s) ∷ []
 unfolding statement_lines_behind
 statements_push before [] s = rw append-nil refl
 statements_push before (x ∷ xs) s = rw (statements_push (before ++ x ∷ []) xs s, append_assoc) refl
@@ -163,8 +170,10 @@ unfolding statement_lines_behind
 statements_none before = refl
 
 -- one more line
-pub text_more : (first now fed text out : List ℕ) (at line : ℕ) (xs : List Line) → now ≡ first ++ laid_out at xs → fed ≡ now ++ replicate (line - last_line at xs) 10 → out ≡ fed ++ text → out ≡ first ++ laid_out at (xs ++ (line, text) ∷ [])
-text_more first now fed text out at line xs a b c = rw (c, b, a, laid-append at xs ((line, text) ∷ []), laid_one (last_line at xs) line text) (simp append_assoc)
+pub text_more : (first now fed text out : List ℕ) (at line : ℕ) (xs : List Line) → now ≡ first ++ laid_out at xs
+    → fed ≡ now ++ replicate (line - last_line at xs) 10 → out ≡ fed ++ text → out ≡ first ++ laid_out at (xs ++ (line, text) ∷ [])
+text_more first now fed text out at line xs a b c =
+    rw (c, b, a, laid-append at xs ((line, text) ∷ []), laid_one (last_line at xs) line text) (simp append_assoc)
 
 pub line_more : (at line : ℕ) (text : List ℕ) (xs : List Line) → last_line at (xs ++ (line, text) ∷ []) ≡ line
 line_more at line text xs = rw (last-append at xs ((line, text) ∷ [])) refl
@@ -177,11 +186,13 @@ pub no_line : (now text : List ℕ) (at line : ℕ) → line ≡ 0 → now ≡ n
 unfolding laid_out
 no_line now text at line e = rw e (sym (append-nil now))
 
-pub one_line : (now fed out text : List ℕ) (at line : ℕ) → (line ≡ 0 → ⊥) → fed ≡ now ++ replicate (line - at) 10 → out ≡ fed ++ text → out ≡ now ++ laid_out at (if_any line text)
+pub one_line : (now fed out text : List ℕ) (at line : ℕ) → (line ≡ 0 → ⊥) → fed ≡ now ++ replicate (line - at) 10 → out ≡ fed ++ text
+    → out ≡ now ++ laid_out at (if_any line text)
 one_line now fed out text at line n a b = rw (b, a, ne_eqb line 0 n, laid_one at line text) (append_assoc now (replicate (line - at) 10) text)
 
 -- lines behind other lines
-pub more_lines : (now mid out : List ℕ) (at to : ℕ) (xs ys : List Line) → mid ≡ now ++ laid_out at xs → to ≡ last_line at xs → out ≡ mid ++ laid_out to ys → out ≡ now ++ laid_out at (xs ++ ys)
+pub more_lines : (now mid out : List ℕ) (at to : ℕ) (xs ys : List Line) → mid ≡ now ++ laid_out at xs → to ≡ last_line at xs → out ≡ mid ++ laid_out to ys
+    → out ≡ now ++ laid_out at (xs ++ ys)
 more_lines now mid out at to xs ys a b c = rw (c, a, b, laid-append at xs ys) (append_assoc now (laid_out at xs) (laid_out (last_line at xs) ys))
 
 pub more_last : (at to end : ℕ) (xs ys : List Line) → to ≡ last_line at xs → end ≡ last_line to ys → end ≡ last_line at (xs ++ ys)
@@ -199,29 +210,34 @@ pub none_below : {X : Type 0} (xs : List X) → length xs < 1 → xs ≡ []
 none_below [] h = refl
 none_below (x ∷ xs) h = absurd (omega arith)
 
-pub parts_split : (parts : List Part) (p : Part) → 1 ≤ length parts → p ≡ get_or parts 0 p → flat_map lines_of_part parts ≡ lines_of_part p ++ flat_map lines_of_part (rest_of parts)
+pub parts_split : (parts : List Part) (p : Part) → 1 ≤ length parts → p ≡ get_or parts 0 p
+    → flat_map lines_of_part parts ≡ lines_of_part p ++ flat_map lines_of_part (rest_of parts)
 parts_split parts p h is = ap (λ l. flat_map lines_of_part l) (first_rest parts p h) ∙ rw (← is) refl
 
 -- a line of words
-pub words_more : (first mid out word : List ℕ) (words : List (List ℕ)) → mid ≡ first ++ word → out ≡ mid ++ led 32 words → out ≡ first ++ join_with_byte 32 (word ∷ words)
+pub words_more : (first mid out word : List ℕ) (words : List (List ℕ)) → mid ≡ first ++ word → out ≡ mid ++ led 32 words
+    → out ≡ first ++ join_with_byte 32 (word ∷ words)
 words_more first mid out word words a b = rw (b, a, joined 32 word words) (append_assoc first word (led 32 words))
 
 pub led_more : (first mid out : List ℕ) (xs ys : List (List ℕ)) → mid ≡ first ++ led 32 xs → out ≡ mid ++ led 32 ys → out ≡ first ++ led 32 (xs ++ ys)
 led_more first mid out xs ys a b = rw (b, a, led_append 32 xs ys) (append_assoc first (led 32 xs) (led 32 ys))
 
 -- the statements up to one more
-pub statements_more : (sts : List Statement) (i : ℕ) (s : Statement) → i < length sts → s ≡ get_or sts i s → statement_lines_behind [] (take (i + 1) sts) ≡ statement_lines_behind [] (take i sts) ++ (s.line, statement_text (take i sts) s) ∷ []
+pub statements_more : (sts : List Statement) (i : ℕ) (s : Statement) → i < length sts → s ≡ get_or sts i s
+    → statement_lines_behind [] (take (i + 1) sts) ≡ statement_lines_behind [] (take i sts) ++ (s.line, statement_text (take i sts) s) ∷ []
 statements_more sts i s lt is =
     let more : take (i + 1) sts ≡ take i sts ++ get_or sts i s ∷ [] = take_more sts i s lt in
     rw (more, ← is) (statements_push [] (take i sts) s)
 
 -- ==== line feeds up to a line
 
-pub fed_more : (first now out : List ℕ) (line at : ℕ) → line ≤ at → now ≡ first ++ replicate (at - line) 10 → out ≡ now ++ 10 ∷ [] → out ≡ first ++ replicate (at + 1 - line) 10
+pub fed_more : (first now out : List ℕ) (line at : ℕ) → line ≤ at → now ≡ first ++ replicate (at - line) 10 → out ≡ now ++ 10 ∷ []
+    → out ≡ first ++ replicate (at + 1 - line) 10
 fed_more first now out line at le a b =
     let n : at + 1 - line ≡ (at - line) + 1 = omega arith in
     let more : replicate {A = ℕ} (at - line) 10 ++ 10 ∷ [] ≡ replicate {A = ℕ} ((at - line) + 1) 10 = replicate_more {X = ℕ} (at - line) 10 in
     rw (b, a, n, ← more) (append_assoc first (replicate (at - line) 10) (10 ∷ []))
 
-pub fed_all : (first now : List ℕ) (line at to : ℕ) → (at ≤ to) ⊎ (at ≡ line) → to ≤ at → line ≤ at → now ≡ first ++ replicate (at - line) 10 → now ≡ first ++ replicate (to - line) 10
+pub fed_all : (first now : List ℕ) (line at to : ℕ) → (at ≤ to) ⊎ (at ≡ line) → to ≤ at → line ≤ at → now ≡ first ++ replicate (at - line) 10
+    → now ≡ first ++ replicate (to - line) 10
 fed_all first now line at to e1 e2 e3 e4 = grind (arith, nat_tests)

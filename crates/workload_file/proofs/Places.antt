@@ -12,18 +12,28 @@ bytes_same xs = (bytes_eq-Decides xs xs).1 refl
 
 -- ---- the place at which a name is bound, after one more statement
 
-push_end : (p : Bool) (i len : ℕ) → i ≡ len → first_of_two (cond (nat_lt i len) (Some i) None) (cond p (Some len) None) ≡ cond (nat_lt (cond (eqb i len) (len + cond p 0 1) i) (len + 1)) (Some (cond (eqb i len) (len + cond p 0 1) i)) None
+push_end : (p : Bool) (i len : ℕ) → i ≡ len
+    → first_of_two (cond (nat_lt i len) (Some i) None) (cond p (Some len) None)
+    ≡ cond (nat_lt (cond (eqb i len) (len + cond p 0 1) i) (len + 1)) (Some (cond (eqb i len) (len + cond p 0 1) i)) None
 push_end p i len e1 = grind (arith, nat_tests)
 
-push_place : (p : Bool) (i len : ℕ) → i ≤ len → first_of_two (cond (nat_lt i len) (Some i) None) (cond p (Some len) None) ≡ cond (nat_lt (cond (eqb i len) (len + cond p 0 1) i) (len + 1)) (Some (cond (eqb i len) (len + cond p 0 1) i)) None
+push_place : (p : Bool) (i len : ℕ) → i ≤ len
+    → first_of_two (cond (nat_lt i len) (Some i) None) (cond p (Some len) None)
+    ≡ cond (nat_lt (cond (eqb i len) (len + cond p 0 1) i) (len + 1)) (Some (cond (eqb i len) (len + cond p 0 1) i)) None
 push_place p i len e1 = grind (arith, nat_tests)
 
 position_le : {X : Type 0} (p : X → Bool) (xs : List X) → position_or_len p xs ≤ length xs
 position_le p [] = omega arith
-position_le p (x ∷ xs) = elim (cases_Bool (p x)) [ inl t ↦ let e : position_or_len p (x ∷ xs) ≡ 0 = rw t refl in omega (arith, e) | inr f ↦ let e : position_or_len p (x ∷ xs) ≡ 1 + position_or_len p xs = rw f refl in omega (arith, e, position_le p xs) ]
+position_le p (x ∷ xs) = elim (cases_Bool (p x)) [
+  | inl t ↦ let e : position_or_len p (x ∷ xs) ≡ 0 = rw t refl in omega (arith, e)
+  | inr f ↦
+      let e : position_or_len p (x ∷ xs) ≡ 1 + position_or_len p xs = rw f refl in omega (arith, e, position_le p xs)
+]
 
-pub bound_push : (name : List ℕ) (sts : List Statement) (s : Statement) → first_of_two (bound_at name sts) (cond (is_called name s.name) (Some (length sts)) None) ≡ bound_at name (sts ++ s ∷ [])
-bound_push name sts s = rw (position_or_len_push (λ s. is_called name s.name) sts s, length_push sts s) (push_place (is_called name s.name) (position_or_len (λ s. is_called name s.name) sts) (length sts) (position_le (λ s. is_called name s.name) sts))
+pub bound_push : (name : List ℕ) (sts : List Statement) (s : Statement)
+    → first_of_two (bound_at name sts) (cond (is_called name s.name) (Some (length sts)) None) ≡ bound_at name (sts ++ s ∷ [])
+bound_push name sts s = rw (position_or_len_push (λ s. is_called name s.name) sts s, length_push sts s)
+    (push_place (is_called name s.name) (position_or_len (λ s. is_called name s.name) sts) (length sts) (position_le (λ s. is_called name s.name) sts))
 
 pub apart_sym : (xs ys : List ℕ) → bytes_eq xs ys ≡ false → bytes_eq ys xs ≡ false
 apart_sym xs ys h =
@@ -41,7 +51,8 @@ unfolding key_of
 key_none text = rw (drop_all (length text) text (omega arith)) refl
 
 -- one digit more
-pub key_more : (text : List ℕ) (at key d : ℕ) → 0 < at → at ≤ length text → key ≡ key_of (drop at text) → key * 256 + get_or text (at - 1) d ≡ key_of (drop (at - 1) text)
+pub key_more : (text : List ℕ) (at key d : ℕ) → 0 < at → at ≤ length text → key ≡ key_of (drop at text)
+    → key * 256 + get_or text (at - 1) d ≡ key_of (drop (at - 1) text)
 unfolding key_of
 key_more text at key d low high e =
     let back : at - 1 + 1 ≡ at = omega (arith, low) in
@@ -93,10 +104,12 @@ keys_apart xs ys h k apart =
 
 -- ---- numbers of 64 bits and longer ones, each in a map of its own
 
-pub put_short : (key k place : ℕ) (new old long : Option ℕ) → key < 2 ^ 64 → new ≡ cond (eqb key k) (Some place) old → cond (nat_lt k (2 ^ 64)) new long ≡ cond (eqb key k) (Some place) (cond (nat_lt k (2 ^ 64)) old long)
+pub put_short : (key k place : ℕ) (new old long : Option ℕ) → key < 2 ^ 64 → new ≡ cond (eqb key k) (Some place) old
+    → cond (nat_lt k (2 ^ 64)) new long ≡ cond (eqb key k) (Some place) (cond (nat_lt k (2 ^ 64)) old long)
 put_short key k place new old long e1 e2 = grind (arith, nat_tests)
 
-pub put_long : (key k place : ℕ) (new old short : Option ℕ) → 2 ^ 64 ≤ key → new ≡ cond (eqb key k) (Some place) old → cond (nat_lt k (2 ^ 64)) short new ≡ cond (eqb key k) (Some place) (cond (nat_lt k (2 ^ 64)) short old)
+pub put_long : (key k place : ℕ) (new old short : Option ℕ) → 2 ^ 64 ≤ key → new ≡ cond (eqb key k) (Some place) old
+    → cond (nat_lt k (2 ^ 64)) short new ≡ cond (eqb key k) (Some place) (cond (nat_lt k (2 ^ 64)) short old)
 put_long key k place new old short e1 e2 = grind (arith, nat_tests)
 
 pub none_is : (x : Option ℕ) (none : Bool) → is_some x ≡ not none → none ≡ true → x ≡ None
@@ -106,7 +119,9 @@ pub alone : (x : Option ℕ) → x ≡ first_of_two x None
 alone x = grind (arith, nat_tests)
 
 -- the place of each text, after a name that had none got one
-pub put : (name other : List ℕ) (place : ℕ) (before : Option ℕ) → is_name name ≡ true → (bytes_eq name other ≡ true → before ≡ None) → cond (is_name other) (cond (eqb (key_of name) (key_of other)) (Some place) before) None ≡ first_of_two (cond (is_name other) before None) (cond (bytes_eq name other) (Some place) None)
+pub put : (name other : List ℕ) (place : ℕ) (before : Option ℕ) → is_name name ≡ true → (bytes_eq name other ≡ true → before ≡ None)
+    → cond (is_name other) (cond (eqb (key_of name) (key_of other)) (Some place) before) None
+    ≡ first_of_two (cond (is_name other) before None) (cond (bytes_eq name other) (Some place) None)
 put name other place before named none =
     elim (cases_Bool (bytes_eq name other)) [
       | inl t ↦

@@ -36,7 +36,8 @@ some_cond b x y e1 = grind (arith, nat_tests)
 
 -- ---- numbers
 
-within : (low high n : ℕ) (o : Option ℕ) → option_and_then (λ m. cond (nat_le low m && nat_le m high) (Some m) None) o ≡ Some n → (o ≡ Some n) × (low ≤ n) × (n ≤ high)
+within : (low high n : ℕ) (o : Option ℕ) → option_and_then (λ m. cond (nat_le low m && nat_le m high) (Some m) None) o ≡ Some n
+    → (o ≡ Some n) × (low ≤ n) × (n ≤ high)
 within low high n o e1 = grind (arith, nat_tests)
 
 -- what a number is
@@ -56,7 +57,8 @@ unfolding kind_named
 kind_text text k e = bytes_are (kind_word k) text (find_passes (λ k. bytes_eq (kind_word k) text) kind_all k e)
 
 -- one of two words
-two_words : (one other text : List ℕ) (x : Bool) → cond (bytes_eq text one) (Some true) (cond (bytes_eq text other) (Some false) None) ≡ Some x → cond x one other ≡ text
+two_words : (one other text : List ℕ) (x : Bool) → cond (bytes_eq text one) (Some true) (cond (bytes_eq text other) (Some false) None) ≡ Some x
+    → cond x one other ≡ text
 two_words one other text x e =
     elim (cond_some (bytes_eq text one) true x (cond (bytes_eq text other) (Some false) None) e) [
       | inl h ↦ rw (← h.1) (sym (bytes_are text one h.0))
@@ -100,7 +102,8 @@ bound_here s [] i h = absurd cc
 bound_here s (x ∷ xs) zero h = (omega arith, h)
 bound_here s (x ∷ xs) (suc i) h = let rest = bound_here s xs i h in (omega (arith, rest.0), rest.1)
 
-place_cond : (s : Sort) (sts : List Statement) (o : Option ℕ) (i : ℕ) → option_and_then (λ place. cond (is_binding s (slice_get sts place)) (Some place) None) o ≡ Some i → IsBoundAt s sts i × (o ≡ Some i)
+place_cond : (s : Sort) (sts : List Statement) (o : Option ℕ) (i : ℕ)
+    → option_and_then (λ place. cond (is_binding s (slice_get sts place)) (Some place) None) o ≡ Some i → IsBoundAt s sts i × (o ≡ Some i)
 place_cond s sts None i e = absurd cc
 place_cond s sts (Some j) i e =
     let g = some_cond (is_binding s (slice_get sts j)) j i e in
@@ -153,7 +156,8 @@ read_some f o e1 = grind (arith, nat_tests)
 bound_some : (b : Bool) (o : Option ℕ) → is_sound (cond b (or_unbound o) given.Bad) ≡ true → (b ≡ true) × (i : ℕ) × (o ≡ Some i)
 bound_some b o e1 = grind (arith, nat_tests)
 
-pub value_is : (before : List Statement) (s : OptionShape) (text : List ℕ) → is_sound (value_given before s text) ≡ true → IsValue before s text (value_given before s text)
+pub value_is : (before : List Statement) (s : OptionShape) (text : List ℕ) → is_sound (value_given before s text) ≡ true
+    → IsValue before s text (value_given before s text)
 unfolding value_given value_text
 value_is before (shape.Number low high) text h =
     let m = read_some given.Number (number_within low high text) h in
@@ -195,13 +199,15 @@ pub record IsUsual (before : List Statement) (a : Absent) (s : OptionShape) (v :
   pub may : is_refused a ≡ false
   pub default : is_default a v ≡ true
 
-pub absent_is : (before : List Statement) (a : Absent) (s : OptionShape) → is_good a s ≡ true → is_sound (value_absent a s) ≡ true → IsUsual before a s (value_absent a s)
+pub absent_is : (before : List Statement) (a : Absent) (s : OptionShape) → is_good a s ≡ true → is_sound (value_absent a s) ≡ true
+    → IsUsual before a s (value_absent a s)
 unfolding value_absent is_default
 absent_is before a s e1 e2 = grind (arith, nat_tests)
 
 -- ---- all values
 
-field_is : (before : List Statement) (f : Field) (o : Option (List ℕ)) → is_good f.absent f.shape ≡ true → is_sound (value_at before f o) ≡ true → Fits before f.shape (value_at before f o) × (is_filled f (value_at before f o) ≡ true)
+field_is : (before : List Statement) (f : Field) (o : Option (List ℕ)) → is_good f.absent f.shape ≡ true → is_sound (value_at before f o) ≡ true
+    → Fits before f.shape (value_at before f o) × (is_filled f (value_at before f o) ≡ true)
 field_is before f None good h =
     let u = absent_is before f.absent f.shape good h in
     (u.fits, and_from _ _ u.shaped (or_left (not (is_refused f.absent)) (is_there (value_absent f.absent f.shape)) (ap not u.may)))
@@ -213,7 +219,8 @@ abbrev Good : List Field → Type 0
 Good fs = AllByRecursion (λ f. is_good f.absent f.shape ≡ true) fs
 
 -- values that are read fit their options, and none is missing
-pub values_are : (before : List Statement) (options : List (List ℕ)) (fs : List Field) → Good fs → list_all is_sound (values_in before options fs) ≡ true → AllFit before fs (values_in before options fs) × (are_filled fs (values_in before options fs) ≡ true)
+pub values_are : (before : List Statement) (options : List (List ℕ)) (fs : List Field) → Good fs → list_all is_sound (values_in before options fs) ≡ true
+    → AllFit before fs (values_in before options fs) × (are_filled fs (values_in before options fs) ≡ true)
 values_are before options [] good h = (tt, refl)
 values_are before options (f ∷ fs) good h =
     let both = and_parts (is_sound (value_at before f (text_of f.key options))) (list_all is_sound (values_in before options fs)) h in
@@ -238,26 +245,32 @@ ones : List Field → List ℕ → ℕ → ℕ
 ones [] w c = 0
 ones (f ∷ fs) w c = cond (bytes_eq (key_of w) (key_text f.key)) c 0 + ones fs w c
 
-found_part : (k : Key) (options : List (List ℕ)) (word : List ℕ) → find (λ w. bytes_eq (key_of w) (key_text k)) options ≡ Some word → length word + 1 ≤ part k options
+found_part : (k : Key) (options : List (List ℕ)) (word : List ℕ) → find (λ w. bytes_eq (key_of w) (key_text k)) options ≡ Some word
+    → length word + 1 ≤ part k options
 unfolding part
 found_part k [] word e = absurd cc
 found_part k (w ∷ ws) word e = grind (arith, nat_tests, found_part k ws word, bytes_eq, key_of, key_text)
 
 -- an option is left out, or is the word that gave it
-picked : (before : List Statement) (all : List Field) (options : List (List ℕ)) (f : Field) (o : Option (List ℕ)) → is_good f.absent f.shape ≡ true → list_all (is_known all) options ≡ true → find (λ w. bytes_eq (key_of w) (key_text f.key)) options ≡ o → is_sound (value_at before f (option_map value_of o)) ≡ true → length (led 32 (option_words before f (value_at before f (option_map value_of o)))) ≤ part f.key options
+picked : (before : List Statement) (all : List Field) (options : List (List ℕ)) (f : Field) (o : Option (List ℕ)) → is_good f.absent f.shape ≡ true
+    → list_all (is_known all) options ≡ true → find (λ w. bytes_eq (key_of w) (key_text f.key)) options ≡ o
+    → is_sound (value_at before f (option_map value_of o)) ≡ true
+    → length (led 32 (option_words before f (value_at before f (option_map value_of o)))) ≤ part f.key options
 picked before all options f None good known is h = rw (absent_is before f.absent f.shape good h).default (omega arith)
 picked before all options f (Some word) good known is h =
     elim (cases_Bool (is_default f.absent (value_given before f.shape (value_of word)))) [
       | inl t ↦ rw t (omega arith)
       | inr d ↦
           let text = (value_is before f.shape (value_of word) h).written f.absent good d in
-          let key : key_of word ≡ key_text f.key = bytes_are (key_of word) (key_text f.key) (find_passes (λ w. bytes_eq (key_of w) (key_text f.key)) options word is) in
+          let key : key_of word ≡ key_text f.key =
+          bytes_are (key_of word) (key_text f.key) (find_passes (λ w. bytes_eq (key_of w) (key_text f.key)) options word is) in
           let k = and_parts _ _ (find_all (λ w. bytes_eq (key_of w) (key_text f.key)) (is_known all) options word is known) in
           let whole : word ≡ key_text f.key ++ 61 ∷ value_of word = rw (← key) (spelled word k.0) in
           rw (d, text, ← whole) (omega (arith, found_part f.key options word is, length-append word []))
     ]
 
-options_cons : (before : List Statement) (f : Field) (fs : List Field) (v : OptionValue) (vs : List OptionValue) → options_words before (f ∷ fs) (v ∷ vs) ≡ option_words before f v ++ options_words before fs vs
+options_cons : (before : List Statement) (f : Field) (fs : List Field) (v : OptionValue) (vs : List OptionValue)
+    → options_words before (f ∷ fs) (v ∷ vs) ≡ option_words before f v ++ options_words before fs vs
 unfolding options_words
 options_cons before f fs v vs = refl
 
@@ -265,7 +278,8 @@ options_none : (before : List Statement) (vs : List OptionValue) → options_wor
 unfolding options_words
 options_none before vs = refl
 
-picks_parts : (before : List Statement) (all : List Field) (options : List (List ℕ)) (fs : List Field) → Good fs → list_all (is_known all) options ≡ true → list_all is_sound (values_in before options fs) ≡ true → length (led 32 (options_words before fs (values_in before options fs))) ≤ parts fs options
+picks_parts : (before : List Statement) (all : List Field) (options : List (List ℕ)) (fs : List Field) → Good fs → list_all (is_known all) options ≡ true
+    → list_all is_sound (values_in before options fs) ≡ true → length (led 32 (options_words before fs (values_in before options fs))) ≤ parts fs options
 unfolding parts text_of
 picks_parts before all options [] good known h = rw (options_none before []) (omega arith)
 picks_parts before all options (f ∷ fs) good known h =
@@ -287,7 +301,8 @@ unfolding parts part ones
 parts_word [] w ws = refl
 parts_word (f ∷ fs) w ws = omega (arith, parts_word fs w ws)
 
-ones_none : (fs : List Field) (k : Key) (w : List ℕ) (c : ℕ) → key_of w ≡ key_text k → list_any (λ g. bytes_eq (key_text g.key) (key_text k)) fs ≡ false → ones fs w c ≡ 0
+ones_none : (fs : List Field) (k : Key) (w : List ℕ) (c : ℕ) → key_of w ≡ key_text k → list_any (λ g. bytes_eq (key_text g.key) (key_text k)) fs ≡ false
+    → ones fs w c ≡ 0
 unfolding ones
 ones_none [] k w c e h = refl
 ones_none (f ∷ fs) k w c e h =
@@ -310,5 +325,6 @@ parts_le fs [] a = omega (arith, parts_empty fs)
 parts_le fs (w ∷ ws) a = omega (arith, parts_word fs w ws, ones_le fs w (length w + 1) a, parts_le fs ws a, length-append w (led 32 ws))
 
 -- the options that are written are no longer than those that were read
-pub picks_short : (before : List Statement) (options : List (List ℕ)) (fs : List Field) → AreApart fs → Good fs → list_all (is_known fs) options ≡ true → list_all is_sound (values_in before options fs) ≡ true → length (led 32 (options_words before fs (values_in before options fs))) ≤ length (led 32 options)
+pub picks_short : (before : List Statement) (options : List (List ℕ)) (fs : List Field) → AreApart fs → Good fs → list_all (is_known fs) options ≡ true
+    → list_all is_sound (values_in before options fs) ≡ true → length (led 32 (options_words before fs (values_in before options fs))) ≤ length (led 32 options)
 picks_short before options fs apart good known h = omega (arith, picks_parts before fs options fs good known h, parts_le fs options apart)

@@ -108,7 +108,9 @@ with_setting number value settings = after_set node_attributes number value sett
 -- the settings that these values of a node line give
 unfoldable pub settings_by : List OptionValue → NodeSettings
 settings_by (a ∷ b ∷ c ∷ d ∷ e ∷ f ∷ g ∷ h ∷ []) =
-    with_setting 8 (number_in h) (with_setting 7 (number_in g) (with_setting 6 (number_in f) (with_setting 5 (number_in e) (with_setting 4 (number_in d) (with_setting 3 (number_in c) (with_setting 2 (number_in b) (with_setting 1 (number_in a) usual_settings)))))))
+    with_setting 8 (number_in h) (with_setting 7 (number_in g)
+    (with_setting 6 (number_in f) (with_setting 5 (number_in e)
+    (with_setting 4 (number_in d) (with_setting 3 (number_in c) (with_setting 2 (number_in b) (with_setting 1 (number_in a) usual_settings)))))))
 settings_by _ = usual_settings
 
 -- what a statement at this line adds, of its word, its name, the place of the name that it uses, and the values of its options

@@ -30,15 +30,33 @@ deed_spelled (deed.Action job kind cores) = record { word = word.Action; place =
 deed_spelled (deed.ActionDelete place) = record { word = word.ActionDelete; place = Some place; values = [] }
 deed_spelled (deed.ActionEnable place) = record { word = word.ActionEnable; place = Some place; values = [] }
 deed_spelled (deed.ActionDisable place) = record { word = word.ActionDisable; place = Some place; values = [] }
-deed_spelled (deed.Start job args priority cores detached group) = record { word = word.Start; place = None; values = given.Number job ∷ given.Args args ∷ given.Number priority ∷ given.Cores cores ∷ given.Flag detached ∷ given.Place group ∷ [] }
-deed_spelled (deed.Enqueue queue args cores detached group) = record { word = word.Enqueue; place = None; values = given.Place (Some queue) ∷ given.Args args ∷ given.Cores cores ∷ given.Flag detached ∷ given.Place group ∷ [] }
+deed_spelled (deed.Start job args priority cores detached group) =
+    record {
+      word = word.Start;
+      place = None;
+      values =
+          given.Number job ∷ given.Args args ∷ given.Number priority ∷ given.Cores cores ∷ given.Flag detached ∷ given.Place group ∷ [];
+    }
+deed_spelled (deed.Enqueue queue args cores detached group) =
+    record {
+      word = word.Enqueue;
+      place = None;
+      values =
+          given.Place (Some queue) ∷ given.Args args ∷ given.Cores cores ∷ given.Flag detached ∷ given.Place group ∷ [];
+    }
 deed_spelled (deed.Wait place timeout) = record { word = word.Wait; place = Some place; values = given.Timeout timeout ∷ [] }
 deed_spelled (deed.Cancel place) = record { word = word.Cancel; place = Some place; values = [] }
 deed_spelled deed.Group = record { word = word.Group; place = None; values = [] }
 deed_spelled (deed.WaitAll place timeout) = record { word = word.WaitAll; place = Some place; values = given.Timeout timeout ∷ [] }
 deed_spelled (deed.WaitAny place timeout) = record { word = word.WaitAny; place = Some place; values = given.Timeout timeout ∷ [] }
 deed_spelled (deed.GroupDelete place) = record { word = word.GroupDelete; place = Some place; values = [] }
-deed_spelled (deed.Queue id job priority limit ordered retain) = record { word = word.Queue; place = None; values = given.Number id ∷ given.Number job ∷ given.Number priority ∷ given.Number limit ∷ given.Flag ordered ∷ given.Flag retain ∷ [] }
+deed_spelled (deed.Queue id job priority limit ordered retain) =
+    record {
+      word = word.Queue;
+      place = None;
+      values =
+          given.Number id ∷ given.Number job ∷ given.Number priority ∷ given.Number limit ∷ given.Flag ordered ∷ given.Flag retain ∷ [];
+    }
 deed_spelled (deed.QueueGet id) = record { word = word.QueueGet; place = None; values = given.Number id ∷ [] }
 deed_spelled (deed.QueueEnable place) = record { word = word.QueueEnable; place = Some place; values = [] }
 deed_spelled (deed.QueueDisable place) = record { word = word.QueueDisable; place = Some place; values = [] }
@@ -152,7 +170,8 @@ lock_deed w place values = segment_deed w place values
 
 -- the deeds on queues, and what follows
 unfoldable pub queue_deed : Word → ℕ → List OptionValue → Deed
-queue_deed word.Queue place (id ∷ job ∷ priority ∷ limit ∷ ordered ∷ retain ∷ []) = deed.Queue (number_in id) (number_in job) (number_in priority) (number_in limit) (flag_in ordered) (flag_in retain)
+queue_deed word.Queue place (id ∷ job ∷ priority ∷ limit ∷ ordered ∷ retain ∷ []) =
+    deed.Queue (number_in id) (number_in job) (number_in priority) (number_in limit) (flag_in ordered) (flag_in retain)
 queue_deed word.QueueGet place (id ∷ []) = deed.QueueGet (number_in id)
 queue_deed word.QueueEnable place [] = deed.QueueEnable place
 queue_deed word.QueueDisable place [] = deed.QueueDisable place
@@ -166,8 +185,10 @@ deed_with word.Action place (job ∷ kind ∷ cores ∷ []) = deed.Action (numbe
 deed_with word.ActionDelete place [] = deed.ActionDelete place
 deed_with word.ActionEnable place [] = deed.ActionEnable place
 deed_with word.ActionDisable place [] = deed.ActionDisable place
-deed_with word.Start place (job ∷ args ∷ priority ∷ cores ∷ detached ∷ group ∷ []) = deed.Start (number_in job) (args_in args) (number_in priority) (cores_in cores) (flag_in detached) (place_in group)
-deed_with word.Enqueue place (queue ∷ args ∷ cores ∷ detached ∷ group ∷ []) = deed.Enqueue (place_there queue) (args_in args) (cores_in cores) (flag_in detached) (place_in group)
+deed_with word.Start place (job ∷ args ∷ priority ∷ cores ∷ detached ∷ group ∷ []) =
+    deed.Start (number_in job) (args_in args) (number_in priority) (cores_in cores) (flag_in detached) (place_in group)
+deed_with word.Enqueue place (queue ∷ args ∷ cores ∷ detached ∷ group ∷ []) =
+    deed.Enqueue (place_there queue) (args_in args) (cores_in cores) (flag_in detached) (place_in group)
 deed_with word.Wait place (timeout ∷ []) = deed.Wait place (timeout_in timeout)
 deed_with word.Cancel place [] = deed.Cancel place
 deed_with word.Group place [] = deed.Group
@@ -178,7 +199,8 @@ deed_with w place values = queue_deed w place values
 
 -- the settings of a node, in the order of the table
 abbrev pub setting_values : NodeSettings → List OptionValue
-setting_values s = given.Number s.workers ∷ given.Number s.tasks ∷ given.Number s.actions ∷ given.Number s.groups ∷ given.Number s.queues ∷ given.Number s.objects ∷ given.Number s.priorities ∷ given.Number s.generations ∷ []
+setting_values s = given.Number s.workers ∷ given.Number s.tasks ∷ given.Number s.actions ∷ given.Number s.groups ∷ given.Number s.queues
+    ∷ given.Number s.objects ∷ given.Number s.priorities ∷ given.Number s.generations ∷ []
 
 -- the kind of object whose name is used, and the place of the statement that bound it
 abbrev pub used_with : Naming → Option ℕ → Option (Sort × ℕ)

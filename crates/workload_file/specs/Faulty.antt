@@ -41,7 +41,8 @@ is_faulty r w name options cause.OptionTwice = has_twice options
 is_faulty r w name options cause.BadValue = list_any is_bad (values_in r.current.statements options (fields w))
 is_faulty r w name options cause.OptionMissing = list_any is_missing (values_in r.current.statements options (fields w))
 is_faulty r w name options cause.NameTaken = is_taken r (naming w) name
-is_faulty r w name options cause.NameUnknown = is_unbound (naming w) (use_in r.current.statements (naming w) name) || list_any names_nothing (values_in r.current.statements options (fields w))
+is_faulty r w name options cause.NameUnknown =
+    is_unbound (naming w) (use_in r.current.statements (naming w) name) || list_any names_nothing (values_in r.current.statements options (fields w))
 is_faulty r w name options _ = false
 
 -- the same of words that may be no statement
@@ -62,7 +63,8 @@ meets r text c = words_meet r (words_of text) c
 
 -- the causes of a statement, those of words, and all, in their order
 abbrev pub statement_causes : List Cause
-statement_causes = cause.TooManyStatements ∷ cause.TooManyCallers ∷ cause.Misplaced ∷ cause.BadName ∷ cause.UnknownOption ∷ cause.OptionTwice ∷ cause.BadValue ∷ cause.OptionMissing ∷ cause.NameTaken ∷ cause.NameUnknown ∷ []
+statement_causes = cause.TooManyStatements ∷ cause.TooManyCallers ∷ cause.Misplaced ∷ cause.BadName ∷ cause.UnknownOption ∷ cause.OptionTwice ∷ cause.BadValue
+    ∷ cause.OptionMissing ∷ cause.NameTaken ∷ cause.NameUnknown ∷ []
 
 abbrev pub word_causes : List Cause
 word_causes = cause.UnknownWord ∷ statement_causes

@@ -44,7 +44,8 @@ line_gives r line text = unless (first_met r text) (words_say r line (words_of t
 unfoldable pub with_change : Reading → ℕ → Option LineEffect → Reading
 with_change r line None = r
 with_change r line (Some (change.Node s)) = record r { node_line = line; settings = s; count = r.count + 1 }
-with_change r line (Some (change.Caller n)) = record r { before = r.before ++ r.current ∷ []; current = record { line = line; name = n; statements = [] }; count = r.count + 1 }
+with_change r line (Some (change.Caller n)) =
+    record r { before = r.before ++ r.current ∷ []; current = record { line = line; name = n; statements = [] }; count = r.count + 1 }
 with_change r line (Some (change.Statement s)) = record r { current = record r.current { statements = r.current.statements ++ s ∷ [] }; count = r.count + 1 }
 
 -- the same at a line

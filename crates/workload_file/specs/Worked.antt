@@ -89,10 +89,13 @@ SetsUp text settings = line_gives start 1 text ≡ Ok (Some (change.Node setting
 
 -- the lines of the node, of callers, and of actions and tasks; an option that may be absent has the default of the table
 pub record WorkedTaskLines : Type 0 where
-  pub node : SetsUp (codes "node workers=2 max_tasks=31 max_actions=32 max_groups=33 max_queues=34 max_objects=35 priorities=6 generations=37") (record { workers = 2; tasks = 31; actions = 32; groups = 33; queues = 34; objects = 35; priorities = 6; generations = 37 })
-  pub node_absent : SetsUp (codes "node") (record { workers = 1; tasks = 1024; actions = 64; groups = 128; queues = 16; objects = 16; priorities = 4; generations = 4294967295 })
+  pub node : SetsUp (codes "node workers=2 max_tasks=31 max_actions=32 max_groups=33 max_queues=34 max_objects=35 priorities=6 generations=37")
+      (record { workers = 2; tasks = 31; actions = 32; groups = 33; queues = 34; objects = 35; priorities = 6; generations = 37 })
+  pub node_absent : SetsUp (codes "node")
+      (record { workers = 1; tasks = 1024; actions = 64; groups = 128; queues = 16; objects = 16; priorities = 4; generations = 4294967295 })
   pub node_greatest : SetsUp (codes "node workers=16 max_tasks=65536 max_actions=1024 max_groups=1024 max_queues=256 max_objects=256 priorities=8 generations=4294967295") (record { workers = 16; tasks = 65536; actions = 1024; groups = 1024; queues = 256; objects = 256; priorities = 8; generations = 4294967295 })
-  pub node_least : SetsUp (codes "node workers=1 max_tasks=1 max_actions=1 max_groups=1 max_queues=1 max_objects=1 priorities=1 generations=1") (record { workers = 1; tasks = 1; actions = 1; groups = 1; queues = 1; objects = 1; priorities = 1; generations = 1 })
+  pub node_least : SetsUp (codes "node workers=1 max_tasks=1 max_actions=1 max_groups=1 max_queues=1 max_objects=1 priorities=1 generations=1")
+      (record { workers = 1; tasks = 1; actions = 1; groups = 1; queues = 1; objects = 1; priorities = 1; generations = 1 })
   pub caller : line_gives said 40 (codes "caller c") ≡ Ok (Some (change.Caller (codes "c")))
   pub begin : Does (codes "begin") deed.Begin
   pub action : IsEffectOf (codes "action x job=21 kind=gcd cores=1,2") (codes "x") (deed.Action 21 kind.Gcd (cores 6))
@@ -100,10 +103,12 @@ pub record WorkedTaskLines : Type 0 where
   pub action_delete : Does (codes "action_delete a") (deed.ActionDelete 0)
   pub action_enable : Does (codes "action_enable a") (deed.ActionEnable 0)
   pub action_disable : Does (codes "action_disable a") (deed.ActionDisable 0)
-  pub started : IsEffectOf (codes "start x job=22 args=31,-32 priority=3 cores=0,2 detached=yes group=g") (codes "x") (deed.Start 22 (pos 31 ∷ negsuc 31 ∷ []) 3 (cores 5) true (Some 2))
+  pub started : IsEffectOf (codes "start x job=22 args=31,-32 priority=3 cores=0,2 detached=yes group=g") (codes "x")
+      (deed.Start 22 (pos 31 ∷ negsuc 31 ∷ []) 3 (cores 5) true (Some 2))
   pub start_absent : IsEffectOf (codes "start x job=1") (codes "x") (deed.Start 1 [] 0 every_core false None)
   pub start_last : IsEffectOf (codes "start x job=65535 priority=7") (codes "x") (deed.Start 65535 [] 7 every_core false None)
-  pub enqueue : IsEffectOf (codes "enqueue x queue=q args=33 cores=1,3 detached=yes group=g") (codes "x") (deed.Enqueue 3 (pos 33 ∷ []) (cores 10) true (Some 2))
+  pub enqueue : IsEffectOf (codes "enqueue x queue=q args=33 cores=1,3 detached=yes group=g") (codes "x")
+      (deed.Enqueue 3 (pos 33 ∷ []) (cores 10) true (Some 2))
   pub enqueue_absent : IsEffectOf (codes "enqueue x queue=q") (codes "x") (deed.Enqueue 3 [] every_core false None)
   pub wait : Does (codes "wait t timeout=41") (deed.Wait 1 (timeout.Looks 41))
   pub wait_once : Does (codes "wait t timeout=nowait") (deed.Wait 1 timeout.NoWait)

@@ -100,7 +100,8 @@ line_text words = join_with_byte 32 words
 
 -- a statement behind those before it in its part
 abbrev pub statement_text : List Statement → Statement → List ℕ
-statement_text before s = line_text (word_text (word_for s.deed) ∷ (bound_words s.name ++ (used_words before (used_place s.deed) ++ options_words before (fields (word_for s.deed)) (values s.deed))))
+statement_text before s = line_text (word_text (word_for s.deed)
+    ∷ (bound_words s.name ++ (used_words before (used_place s.deed) ++ options_words before (fields (word_for s.deed)) (values s.deed))))
 
 abbrev pub node_text : NodeSettings → List ℕ
 node_text settings = line_text (word_text word.Node ∷ options_words [] (fields word.Node) (setting_values settings))

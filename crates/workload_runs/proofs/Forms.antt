@@ -16,7 +16,8 @@ module _ {E F K : Type 0} (left : K → List E → Type 0) (whole : K → List F
   pub told_as : (k : K) (rest : List E) (P Q : List F → Type 0) → ((fs : List F) → P fs → Q fs) → Told k rest P → Told k rest Q
   told_as k rest P Q f x = record { front = x.front; behind = x.behind; is = x.is; shows = f x.front x.shows; left_is = x.left_is }
 
-  pub told_then : (k : K) (mid rest : List E) (P Q R : List F → Type 0) → ((xs ys : List F) → P xs → Q ys → R (xs ++ ys)) → (x : Told k mid P) → Told x.behind rest Q → Told k rest R
+  pub told_then : (k : K) (mid rest : List E) (P Q R : List F → Type 0) → ((xs ys : List F) → P xs → Q ys → R (xs ++ ys)) → (x : Told k mid P)
+      → Told x.behind rest Q → Told k rest R
   told_then k mid rest P Q R f x y = record {
     front = x.front ++ y.front;
     behind = y.behind;
@@ -28,16 +29,19 @@ module _ {E F K : Type 0} (left : K → List E → Type 0) (whole : K → List F
   module _ (from : Form E) (to : Form F) where
     -- each piece that the one form tells, the other tells
     pub record Tells : Type 0 where
-      pub made : (bound : List ℕ) (d : Deed) (es : List E) (r : Reply) → from.made (call_of bound d) es r → (k : K) (rest : List E) → left k (es ++ rest) → Told k rest (λ fs. to.made (call_of bound d) fs r)
+      pub made : (bound : List ℕ) (d : Deed) (es : List E) (r : Reply) → from.made (call_of bound d) es r → (k : K) (rest : List E) → left k (es ++ rest)
+          → Told k rest (λ fs. to.made (call_of bound d) fs r)
       pub head : (b : Bool) (k : K) (rest : List E) → left k (from.head b ++ rest) → Told k rest (λ fs. fs ≡ to.head b)
       pub tail : (k : K) → left k from.tail → whole k ≡ to.tail
       pub entered : (es : List E) → from.entrance es → (k : K) (rest : List E) → left k (es ++ rest) → Told k rest to.entrance
       pub none : (k : K) → left k [] → whole k ≡ []
 
     module _ (t : Tells) where
-      carried_told : (bound : List ℕ) (ss : List Statement) (es : List E) (rs : List Reply) → Carried from.made bound ss es rs → (k : K) (rest : List E) → left k (es ++ rest) → Told k rest (λ fs. Carried to.made bound ss fs rs)
+      carried_told : (bound : List ℕ) (ss : List Statement) (es : List E) (rs : List Reply) → Carried from.made bound ss es rs → (k : K) (rest : List E)
+          → left k (es ++ rest) → Told k rest (λ fs. Carried to.made bound ss fs rs)
       unfolding Carried
-      carried_told bound [] es [] c k rest l = record { front = []; behind = k; is = refl; shows = refl; left_is = subst (λ (u : List E). left k (u ++ rest)) c l }
+      carried_told bound [] es [] c k rest l =
+          record { front = []; behind = k; is = refl; shows = refl; left_is = subst (λ (u : List E). left k (u ++ rest)) c l }
       carried_told bound [] es (r ∷ rs) c k rest l = absurd c
       carried_told bound (s ∷ ss) es [] c k rest l = absurd c
       carried_told bound (s ∷ ss) es (r ∷ rs) c k rest l =

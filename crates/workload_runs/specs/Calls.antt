@@ -28,7 +28,8 @@ call_of bound (deed.ActionDelete place) = Once (op.ActionDelete (record { 0 = ha
 call_of bound (deed.ActionEnable place) = Once (op.ActionEnable (record { 0 = handle_at bound place }))
 call_of bound (deed.ActionDisable place) = Once (op.ActionDisable (record { 0 = handle_at bound place }))
 call_of bound (deed.Start job args priority cores detached group) = Once (op.TaskStart job args priority cores detached (option_map (group_at bound) group))
-call_of bound (deed.Enqueue queue args cores detached group) = Once (op.TaskEnqueue (record { 0 = handle_at bound queue }) args cores detached (option_map (group_at bound) group))
+call_of bound (deed.Enqueue queue args cores detached group) =
+    Once (op.TaskEnqueue (record { 0 = handle_at bound queue }) args cores detached (option_map (group_at bound) group))
 call_of bound (deed.Wait place timeout) = Looking true (λ last. op.TaskLook (record { 0 = handle_at bound place }) last) timeout
 call_of bound (deed.Cancel place) = Once (op.TaskCancel (record { 0 = handle_at bound place }))
 call_of bound deed.Group = Once op.GroupCreate

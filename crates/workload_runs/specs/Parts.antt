@@ -19,7 +19,8 @@ unfoldable pub Carried : {E : Type 0} → (Call → List E → Reply → Type 0)
 Carried {E} made bound [] es [] = es ≡ []
 Carried {E} made bound [] es (r ∷ rs) = ⊥
 Carried {E} made bound (s ∷ ss) es [] = ⊥
-Carried {E} made bound (s ∷ ss) es (r ∷ rs) = (front : List E) × (rest : List E) × (es ≡ front ++ rest) × made (call_of bound s.deed) front r × Carried made (bound ++ handle_of r ∷ []) ss rest rs
+Carried {E} made bound (s ∷ ss) es (r ∷ rs) =
+    (front : List E) × (rest : List E) × (es ≡ front ++ rest) × made (call_of bound s.deed) front r × Carried made (bound ++ handle_of r ∷ []) ss rest rs
 
 -- a way to tell what a seat makes
 pub record Form (E : Type 0) : Type 1 where

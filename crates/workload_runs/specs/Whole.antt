@@ -88,7 +88,8 @@ pub record RunBy (load : Workload) (s : State) (L : List NodeEntry) : Type 0 whe
 
 -- the lines of a seat in the journal of a history are those that are left of its turns
 abbrev pub LinesAreLeft : Type 0
-LinesAreLeft = (terms : Terms) (L : List NodeEntry) (who : ℕ) → who < 25 → lines_of who (kept (opening terms) L) (skipped (opening terms) no_counts L) ≡ lines_left 0 (turns_of who (opening terms) L)
+LinesAreLeft = (terms : Terms) (L : List NodeEntry) (who : ℕ) → who < 25
+    → lines_of who (kept (opening terms) L) (skipped (opening terms) no_counts L) ≡ lines_left 0 (turns_of who (opening terms) L)
 
 -- the seats of the workers and of the callers are at most 25
 abbrev pub HasSeats : Workload → Type 0

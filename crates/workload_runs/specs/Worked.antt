@@ -38,10 +38,13 @@ pub record WorkedTaskCalls : Type 0 where
   pub action_delete : Makes (deed.ActionDelete 1) (Once (op.ActionDelete (record { 0 = 911 })))
   pub action_enable : Makes (deed.ActionEnable 3) (Once (op.ActionEnable (record { 0 = 933 })))
   pub action_disable : Makes (deed.ActionDisable 4) (Once (op.ActionDisable (record { 0 = 944 })))
-  pub start : Makes (deed.Start 22 (pos 31 ∷ negsuc 31 ∷ []) 3 (cores 5) false (Some 6)) (Once (op.TaskStart 22 (pos 31 ∷ negsuc 31 ∷ []) 3 (cores 5) false (Some (group 966))))
+  pub start : Makes (deed.Start 22 (pos 31 ∷ negsuc 31 ∷ []) 3 (cores 5) false (Some 6))
+      (Once (op.TaskStart 22 (pos 31 ∷ negsuc 31 ∷ []) 3 (cores 5) false (Some (group 966))))
   pub start_detached : Makes (deed.Start 23 [] 4 (cores 9) true None) (Once (op.TaskStart 23 [] 4 (cores 9) true None))
-  pub enqueue : Makes (deed.Enqueue 5 (pos 33 ∷ []) (cores 10) false (Some 4)) (Once (op.TaskEnqueue (record { 0 = 955 }) (pos 33 ∷ []) (cores 10) false (Some (group 944))))
-  pub enqueue_detached : Makes (deed.Enqueue 3 (pos 34 ∷ pos 35 ∷ []) (cores 12) true None) (Once (op.TaskEnqueue (record { 0 = 933 }) (pos 34 ∷ pos 35 ∷ []) (cores 12) true None))
+  pub enqueue : Makes (deed.Enqueue 5 (pos 33 ∷ []) (cores 10) false (Some 4))
+      (Once (op.TaskEnqueue (record { 0 = 955 }) (pos 33 ∷ []) (cores 10) false (Some (group 944))))
+  pub enqueue_detached : Makes (deed.Enqueue 3 (pos 34 ∷ pos 35 ∷ []) (cores 12) true None)
+      (Once (op.TaskEnqueue (record { 0 = 933 }) (pos 34 ∷ pos 35 ∷ []) (cores 12) true None))
   pub wait : Makes (deed.Wait 1 (timeout.Looks 41)) (Looking true (λ last. op.TaskLook (record { 0 = 911 }) last) (timeout.Looks 41))
   pub wait_refused : Makes (deed.Wait 2 timeout.NoWait) (Looking true (λ last. op.TaskLook (record { 0 = 0 }) last) timeout.NoWait)
   pub cancel : Makes (deed.Cancel 6) (Once (op.TaskCancel (record { 0 = 966 })))
@@ -92,7 +95,8 @@ pub record WorkedSegmentCalls : Type 0 where
 
 -- the lines of a seat, in order, with their numbers; the looks of a call; and what main makes before its statements and behind them
 pub record WorkedSeats : Type 0 where
-  pub lines : lines_of 3 (entry 3 op.Enter reply.Ok ∷ entry 4 op.Enter reply.Pending ∷ entry 2 op.Pick reply.Idle ∷ entry 3 (op.QueueGet 9) (reply.Handle 911) ∷ []) (21 ∷ 22 ∷ 23 ∷ 24 ∷ []) ≡ line op.Enter reply.Ok 21 ∷ line (op.QueueGet 9) (reply.Handle 911) 24 ∷ []
+  pub lines : lines_of 3 (entry 3 op.Enter reply.Ok ∷ entry 4 op.Enter reply.Pending ∷ entry 2 op.Pick reply.Idle ∷ entry 3 (op.QueueGet 9) (reply.Handle 911)
+      ∷ []) (21 ∷ 22 ∷ 23 ∷ 24 ∷ []) ≡ line op.Enter reply.Ok 21 ∷ line (op.QueueGet 9) (reply.Handle 911) 24 ∷ []
   pub none_kept : before_it (op.QueueGet 9) None ≡ []
   pub one_kept : before_it (op.QueueGet 9) (Some 5) ≡ line (op.QueueGet 9) reply.Pending 5 ∷ []
   pub no_look_before : looks_before None ≡ 0

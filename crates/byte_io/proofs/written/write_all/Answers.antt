@@ -10,6 +10,7 @@ writing-preserved g c =
     let piece = rw (take_rest c.args.bytes.now c.writing.at) at c.in_ok-count.ensures.bytes in
     record {
       within = grind (arith, common_steps);
-      added = Appends-then (held c.args.out.now) (held c.writing.out) (held c.write.new.self) c.args.bytes.now c.writing.at c.in_ok-count.count c.writing.invariant.added piece;
+      added = Appends-then (held c.args.out.now) (held c.writing.out)
+          (held c.write.new.self) c.args.bytes.now c.writing.at c.in_ok-count.count c.writing.invariant.added piece;
       later = omega (arith, c.in_ok-count.ensures.cause.later, c.writing.invariant.later);
     }

@@ -12,5 +12,6 @@ pub deal-crew-requires-clause-seats : goal.deal-crew-requires-clause-seats
 deal-crew-requires-clause-seats g c =
     let workers : c.in_ok-cell.cell.terms.node.settings.workers ≡ 2 = search rules in
     let callers : c.in_ok-cell.cell.terms.node.callers ≡ 3 = search rules in
-    subst (λ (u : JournaledTerms). c.in_ok-cell.seats.items ≡ fresh_seats u c.in_ok-cell.cell.id 0 (journal_seats u)) (sym c.in_ok-cell.ensures.terms) c.in_ok-cell.ensures.seats
+    subst (λ (u : JournaledTerms). c.in_ok-cell.seats.items
+    ≡ fresh_seats u c.in_ok-cell.cell.id 0 (journal_seats u)) (sym c.in_ok-cell.ensures.terms) c.in_ok-cell.ensures.seats
     ∙ ap (λ (n : ℕ). fresh_seats c.in_ok-cell.cell.terms c.in_ok-cell.cell.id 0 n) (five_seats c.in_ok-cell.cell.terms workers callers)

@@ -17,8 +17,10 @@ returns-clause-ok c =
     let live = live_tells c.is_live.result (slot_value c.self.inside.pool c.args.g.0) c.is_live.ensures c.if-not-is_live.false in
     let some : c.remove.result ≡ Some tt = c.remove.ensures.value ∙ live in
     let removed : c.remove.new.self ≡ without c.self.inside.pool c.args.g.0 = rw some at c.remove.ensures.removed in
-    let P : GroupTable → Type 0 = λ o. table_of (without c.self.inside.pool c.args.g.0) (with_list c.self.inside.unended (slot_of c.args.g.0) []) (with_list c.self.inside.ended (slot_of c.args.g.0) []) ≡ record o { pool = without o.pool c.args.g.0 } in
-    rw (removed, c.clear.ensures, c.clear-2.ensures, c.slot_of-slot.ensures) (subst P c.self.view_is (rw (members-delete c.self.inside.pool c.self.inside.unended c.self.inside.ended c.args.g.0 c.self.invariant live) refl))
+    let P : GroupTable → Type 0 = λ o. table_of (without c.self.inside.pool c.args.g.0) (with_list c.self.inside.unended (slot_of c.args.g.0) [])
+    (with_list c.self.inside.ended (slot_of c.args.g.0) []) ≡ record o { pool = without o.pool c.args.g.0 } in
+    rw (removed, c.clear.ensures, c.clear-2.ensures, c.slot_of-slot.ensures)
+    (subst P c.self.view_is (rw (members-delete c.self.inside.pool c.self.inside.unended c.self.inside.ended c.args.g.0 c.self.invariant live) refl))
 
 pub clear-requires : goal.clear-requires
 clear-requires c =
@@ -35,4 +37,5 @@ invariant_of-self c =
     let live = live_tells c.is_live.result (slot_value c.self.inside.pool c.args.g.0) c.is_live.ensures c.if-not-is_live.false in
     let some : c.remove.result ≡ Some tt = c.remove.ensures.value ∙ live in
     let removed : c.remove.new.self ≡ without c.self.inside.pool c.args.g.0 = rw some at c.remove.ensures.removed in
-    rw (removed, c.clear.ensures, c.clear-2.ensures, c.slot_of-slot.ensures) (AreGroups-delete c.self.inside.pool c.self.inside.unended c.self.inside.ended c.args.g.0 c.self.invariant live)
+    rw (removed, c.clear.ensures, c.clear-2.ensures, c.slot_of-slot.ensures)
+    (AreGroups-delete c.self.inside.pool c.self.inside.unended c.self.inside.ended c.args.g.0 c.self.invariant live)

@@ -10,7 +10,12 @@ returns-then-not-is_live c =
 pub returns : goal.returns
 returns c =
     let live = live_tells c.is_live.result (slot_value c.self.inside.pool c.args.g.0) c.is_live.ensures c.if-not-is_live.false in
-    rw (get-live c.self.inside.pool c.self.inside.unended c.self.inside.ended c.args.g.0 c.args.self.now c.self.view_is live, c.len.ensures.count, c.len-ended.ensures.count, c.slot_of-slot.ensures) refl
+    rw (
+      get-live c.self.inside.pool c.self.inside.unended c.self.inside.ended c.args.g.0 c.args.self.now c.self.view_is live,
+      c.len.ensures.count,
+      c.len-ended.ensures.count,
+      c.slot_of-slot.ensures,
+    ) refl
 
 pub len-ended-requires : goal.len-ended-requires
 len-ended-requires c =

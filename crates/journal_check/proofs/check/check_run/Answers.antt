@@ -8,13 +8,15 @@ pub returns-in-Some : goal.returns-in-Some
 returns-in-Some c =
     let told : IsLegalOr (terms_of c.args.journal.now) c.args.journal.now.entries.entries c.in_ok-illegal.illegal =
     subst (λ (l : List NodeEntry). IsLegalOr (terms_of c.args.journal.now) l c.in_ok-illegal.illegal) c.as_slice.ensures c.in_ok-illegal.ensures in
-    illegal_verdict c.args.load.now c.args.journal.now c.in-Some.entry (subst (IsLegalOr (terms_of c.args.journal.now) c.args.journal.now.entries.entries) c.in-Some.is told)
+    illegal_verdict c.args.load.now c.args.journal.now c.in-Some.entry
+    (subst (IsLegalOr (terms_of c.args.journal.now) c.args.journal.now.entries.entries) c.in-Some.is told)
 
 pub returns-then-branch : goal.returns-then-branch
 returns-then-branch c =
     let told : IsLegalOr (terms_of c.args.journal.now) c.args.journal.now.entries.entries c.in_ok-illegal.illegal =
     subst (λ (l : List NodeEntry). IsLegalOr (terms_of c.args.journal.now) l c.in_ok-illegal.illegal) c.as_slice.ensures c.in_ok-illegal.ensures in
-    yes_verdict c.args.load.now c.args.journal.now (subst (IsLegalOr (terms_of c.args.journal.now) c.args.journal.now.entries.entries) c.in_default.is told) (c.in_ok-runs.ensures.0 c.if-branch.true)
+    yes_verdict c.args.load.now c.args.journal.now (subst (IsLegalOr (terms_of c.args.journal.now) c.args.journal.now.entries.entries) c.in_default.is told)
+    (c.in_ok-runs.ensures.0 c.if-branch.true)
 
 pub returns-else-branch : goal.returns-else-branch
 returns-else-branch c =

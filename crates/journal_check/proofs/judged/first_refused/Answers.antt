@@ -10,7 +10,12 @@ overflow_add-judged c = omega (arith, c.loop-entry.invariant.judged, c.loop-entr
 
 pub judge-requires : goal.judge-requires
 judge-requires c = record {
-  room = (take c.loop-entry.entry-index c.args.entries.now, c.loop-entry.invariant.followed, omega (arith, short_take c.args.entries.now c.loop-entry.entry-index, c.requires.few));
+  room = (
+    take c.loop-entry.entry-index c.args.entries.now,
+    c.loop-entry.invariant.followed,
+    omega
+        (arith, short_take c.args.entries.now c.loop-entry.entry-index, c.requires.few),
+  );
 }
 
 pub returns-then-not-branch : goal.returns-then-not-branch
@@ -21,7 +26,8 @@ returns-then-not-branch c =
     let e = c.entry-item.result in
     let short : length (take i es) < 4294967295 = omega (arith, short_take es i, c.requires.few) in
     let never : IsNext (after f.terms (take i es)) e → ⊥ =
-    λ n. let a : c.in_ok-judge.field-0 ≡ true = (c.in_ok-judge.ensures.exact (take i es) c.loop-entry.invariant.followed short).1 n in let b : c.in_ok-judge.field-0 ≡ false = c.if-not-branch.true in absurd (cc) in
+    λ n. let a : c.in_ok-judge.field-0 ≡ true = (c.in_ok-judge.ensures.exact (take i es) c.loop-entry.invariant.followed short).1 n in
+    let b : c.in_ok-judge.field-0 ≡ false = c.if-not-branch.true in absurd (cc) in
     let first : IsFirstIllegal f.terms es (i + 1) = first_here f.terms es i e c.loop-entry-test.true c.entry-item.is c.loop-entry.invariant.legal never in
     subst (λ (n : ℕ). IsFirstIllegal c.args.follower.now.terms es (n + 1)) (sym c.loop-entry.invariant.judged)
     (subst (λ (t : Terms). IsFirstIllegal t es (i + 1)) c.loop-entry.invariant.terms first)
@@ -39,7 +45,8 @@ loop-entry-preserved c =
     record {
       terms = j.terms ∙ c.loop-entry.invariant.terms;
       legal = subst (λ (t : Terms). Legal t (take (i + 1) es)) (sym j.terms)
-          (subst (Legal f.terms) (sym list) (legal_more f.terms (take i es) e c.loop-entry.invariant.legal ((j.exact (take i es) c.loop-entry.invariant.followed short).0 passed)));
+          (subst (Legal f.terms) (sym list) (legal_more f.terms (take i es) e c.loop-entry.invariant.legal
+          ((j.exact (take i es) c.loop-entry.invariant.followed short).0 passed)));
       followed = subst (HasFollowed c.judge.new.self) (sym list) (j.goes_on (take i es) c.loop-entry.invariant.followed short passed);
       judged = ap (λ (n : ℕ). n + 1) c.loop-entry.invariant.judged;
     }

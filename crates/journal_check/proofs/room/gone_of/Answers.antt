@@ -21,7 +21,9 @@ loop-handle-preserved c =
           record {
             few = omega (arith, last, before);
             told = λ terms s count m f.
-                gone_next k s hs i 0 c.loop-handle.gone false c.loop-handle-test.true (live_here c.laws.ensures n g k (get_or hs i 0) c.is_live.result told terms s count m f ∙ gone) (c.loop-handle.invariant.told terms s count m f) ∙ sym last;
+                gone_next k s hs i 0 c.loop-handle.gone false c.loop-handle-test.true
+                (live_here c.laws.ensures n g k (get_or hs i 0) c.is_live.result told terms s count m f
+                ∙ gone) (c.loop-handle.invariant.told terms s count m f) ∙ sym last;
           })
       | else-not-is_live w ↦
           (let live : c.is_live.result ≡ true = w.if-not-is_live.false in
@@ -30,7 +32,9 @@ loop-handle-preserved c =
           record {
             few = omega (arith, last, before);
             told = λ terms s count m f.
-                gone_next k s hs i 0 c.loop-handle.gone true c.loop-handle-test.true (live_here c.laws.ensures n g k (get_or hs i 0) c.is_live.result told terms s count m f ∙ live) (c.loop-handle.invariant.told terms s count m f)
+                gone_next k s hs i 0 c.loop-handle.gone true c.loop-handle-test.true
+                (live_here c.laws.ensures n g k (get_or hs i 0) c.is_live.result told terms s count m f
+                ∙ live) (c.loop-handle.invariant.told terms s count m f)
                 ∙ unmoved c.loop-handle.gone ∙ sym last;
           })
     ]
@@ -41,4 +45,5 @@ loop-handle-preserved c =
 pub returns-clause-told : goal.returns-clause-told
 returns-clause-told c terms s count m f =
     let hs = c.args.handles.now in
-    sym (ap (λ (l : List ℕ). gone_of c.args.kind s l) (take_all c.loop-handle.handle-index hs c.loop-handle-test.false)) ∙ c.loop-handle.invariant.told terms s count m f
+    sym (ap (λ (l : List ℕ). gone_of c.args.kind s l) (take_all c.loop-handle.handle-index hs c.loop-handle-test.false))
+    ∙ c.loop-handle.invariant.told terms s count m f

@@ -20,5 +20,6 @@ returns-in-Check-clause-idle g c = λ s. (refl, refl)
 pub returns-in-Report : goal.returns-in-Report
 returns-in-Report g c = record {
   comes = as_words (asked_of (texts c.args.words.now)) c.in-Some.asked (sym c.asked_of.ensures.value ∙ c.in-Some.is) c.carry_out.ensures.comes;
-  idle = λ s. c.carry_out.ensures.idle (subst (λ (w : Option Asked). (judges w ≡ true) ⊎ StartsNothing (status_of c.carry_out.result)) (sym c.asked_of.ensures.value ∙ c.in-Some.is) s);
+  idle = λ s. c.carry_out.ensures.idle (subst (λ (w : Option Asked). (judges w ≡ true)
+      ⊎ StartsNothing (status_of c.carry_out.result)) (sym c.asked_of.ensures.value ∙ c.in-Some.is) s);
 }

@@ -13,11 +13,16 @@ returns c s a v =
     let g = sym c.in_default.is ∙ c.open_refusal.ensures in
     elim c.match-create.branch [
       | in-Ok w ↦
-          kind_does Mutexes tt s c.args.who (op.MutexCreate c.args.id c.args.recursive) _ (the_view c.self.inside) t c.match-create.result c.create.new.self w.result-is
+          kind_does Mutexes tt s c.args.who (op.MutexCreate c.args.id c.args.recursive) _
+          (the_view c.self.inside) t c.match-create.result c.create.new.self w.result-is
           (past_open Mutexes s c.args.gate c.args.who a _ _ _ g
-          (creates_does Mutexes s keyed_mutexes p t.mutexes x c.args.id w.in-Ok.mutex.0 c.create.new.self refl w.in-Ok.ensures.new_id w.in-Ok.ensures.room w.in-Ok.ensures.made a.layout))
+          (creates_does Mutexes s keyed_mutexes p t.mutexes x c.args.id w.in-Ok.mutex.0 c.create.new.self refl w.in-Ok.ensures.new_id w.in-Ok.ensures.room
+          w.in-Ok.ensures.made a.layout))
       | in-Err w ↦
-          kind_does Mutexes tt s c.args.who (op.MutexCreate c.args.id c.args.recursive) _ (the_view c.self.inside) t c.match-create.result c.create.new.self w.result-is
+          kind_does Mutexes tt s c.args.who (op.MutexCreate c.args.id c.args.recursive) _
+          (the_view c.self.inside) t c.match-create.result c.create.new.self w.result-is
           (past_open Mutexes s c.args.gate c.args.who a _ _ _ g
-          (as_was Mutexes s _ _ p c.create.new.self w.in-Err.ensures.unchanged (refuses_does Mutexes s keyed_mutexes p t.mutexes ErrMutexExists ErrMutexLimit refl refl x c.args.id w.in-Err.status refl w.in-Err.ensures.refused)))
+          (as_was Mutexes s _ _ p c.create.new.self w.in-Err.ensures.unchanged
+          (refuses_does Mutexes s keyed_mutexes p t.mutexes ErrMutexExists ErrMutexLimit refl refl x c.args.id w.in-Err.status refl
+          w.in-Err.ensures.refused)))
     ]

@@ -9,4 +9,5 @@ returns c s a v =
     let w = subst (λ (t : ResourceTable). Stands s t) (sym c.self.view_is) v in
     kind_does Mutexes tt s c.args.who (op.MutexDelete c.args.mutex) _ (the_view c.self.inside) w c.done.result c.delete.new.self c.done.ensures
     (past_open Mutexes s c.args.gate c.args.who a _ _ _ (sym c.in_default.is ∙ c.open_refusal.ensures)
-    (deletes_does Mutexes s c.self.inside.mutexes w.mutexes ErrMutexInvalid refl c.args.mutex.0 mutex_delete_refusals c.delete.result c.delete.new.self c.delete.ensures.refused c.delete.ensures.removed c.delete.ensures.unchanged))
+    (deletes_does Mutexes s c.self.inside.mutexes w.mutexes ErrMutexInvalid refl c.args.mutex.0 mutex_delete_refusals c.delete.result c.delete.new.self
+    c.delete.ensures.refused c.delete.ensures.removed c.delete.ensures.unchanged))

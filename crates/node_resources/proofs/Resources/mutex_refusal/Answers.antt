@@ -3,11 +3,14 @@ use Rattle.node_resources.proofs.RefusalLemmas.{gate_met, gate_past, id_told}
 use Rattle.node_resources.proofs.Resources.mutex_refusal.Goals as goal
 
 pub returns-in-Some : goal.returns-in-Some
-returns-in-Some c s a v = gate_met s c.args.gate c.args.who a ((any_listed (λ x. x.id == c.args.id) s.mutexes, ErrMutexExists) ∷ []) c.in-Some.status (sym c.in-Some.is ∙ c.open_refusal.ensures)
+returns-in-Some c s a v = gate_met s c.args.gate c.args.who a ((any_listed (λ x. x.id == c.args.id) s.mutexes, ErrMutexExists)
+    ∷ []) c.in-Some.status (sym c.in-Some.is ∙ c.open_refusal.ensures)
 
 pub returns : goal.returns
 returns c s a v =
     let t = the_view c.self.inside in
     let w = subst (λ (t : ResourceTable). Stands s t) (sym c.self.view_is) v in
-    gate_past s c.args.gate c.args.who a ((any_listed (λ x. x.id == c.args.id) s.mutexes, ErrMutexExists) ∷ []) c.create_refusal.result (sym c.in_default.is ∙ c.open_refusal.ensures)
-    (id_told _ _ t.mutexes s.mutexes (λ x. x.id) c.args.id ErrMutexExists w.mutexes c.create_refusal.result c.create_refusal.ensures.exists c.create_refusal.ensures.new_id)
+    gate_past s c.args.gate c.args.who a ((any_listed (λ x. x.id == c.args.id) s.mutexes, ErrMutexExists) ∷ []) c.create_refusal.result (sym c.in_default.is
+    ∙ c.open_refusal.ensures)
+    (id_told _ _ t.mutexes s.mutexes (λ x. x.id) c.args.id ErrMutexExists w.mutexes c.create_refusal.result c.create_refusal.ensures.exists
+    c.create_refusal.ensures.new_id)

@@ -9,4 +9,5 @@ returns c s a v =
     let w = subst (λ (t : ResourceTable). Stands s t) (sym c.self.view_is) v in
     kind_does Rwls tt s c.args.who (op.RwlUnlock c.args.rwl c.args.writer) _ (the_view c.self.inside) w c.done.result c.unlock.new.self c.done.ensures
     (past_up Rwls s c.args.gate c.args.who a _ _ _ (sym c.in_default.is ∙ c.refusal.ensures)
-    (alters_does Rwls s c.self.inside.rwls w.rwls ErrRwlInvalid refl c.args.rwl.0 (rwl_unlock_refusals c.args.who c.args.writer) (rwl_given c.args.who c.args.writer) c.unlock.result c.unlock.new.self c.unlock.ensures.refused c.unlock.ensures.new c.unlock.ensures.unchanged))
+    (alters_does Rwls s c.self.inside.rwls w.rwls ErrRwlInvalid refl c.args.rwl.0 (rwl_unlock_refusals c.args.who c.args.writer)
+    (rwl_given c.args.who c.args.writer) c.unlock.result c.unlock.new.self c.unlock.ensures.refused c.unlock.ensures.new c.unlock.ensures.unchanged))

@@ -16,9 +16,12 @@ returns c s a v =
           kind_does Sems tt s c.args.who (op.SemCreate c.args.id c.args.limit) _ (the_view c.self.inside) t c.match-create.result c.create.new.self w.result-is
           (past_open Sems s c.args.gate c.args.who a _ _ _ g
           (past Sems s (sem_create_refusals c.args.limit) _ _ _ w.in-Ok.ensures.in_range
-          (creates_does Sems s keyed_sems p t.sems x c.args.id w.in-Ok.sem.0 c.create.new.self refl w.in-Ok.ensures.new_id w.in-Ok.ensures.room w.in-Ok.ensures.made a.layout)))
+          (creates_does Sems s keyed_sems p t.sems x c.args.id w.in-Ok.sem.0 c.create.new.self refl w.in-Ok.ensures.new_id w.in-Ok.ensures.room
+          w.in-Ok.ensures.made a.layout)))
       | in-Err w ↦
           kind_does Sems tt s c.args.who (op.SemCreate c.args.id c.args.limit) _ (the_view c.self.inside) t c.match-create.result c.create.new.self w.result-is
           (past_open Sems s c.args.gate c.args.who a _ _ _ g
-          (as_was Sems s _ _ p c.create.new.self w.in-Err.ensures.unchanged (refuses_within Sems s keyed_sems p t.sems (sem_create_refusals c.args.limit) ErrSemExists ErrSemLimit refl refl x c.args.id w.in-Err.status refl w.in-Err.ensures.refused)))
+          (as_was Sems s _ _ p c.create.new.self w.in-Err.ensures.unchanged
+          (refuses_within Sems s keyed_sems p t.sems
+          (sem_create_refusals c.args.limit) ErrSemExists ErrSemLimit refl refl x c.args.id w.in-Err.status refl w.in-Err.ensures.refused)))
     ]

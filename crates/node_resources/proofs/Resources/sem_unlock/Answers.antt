@@ -9,4 +9,5 @@ returns c s a v =
     let w = subst (λ (t : ResourceTable). Stands s t) (sym c.self.view_is) v in
     kind_does Sems tt s c.args.who (op.SemUnlock c.args.sem) _ (the_view c.self.inside) w c.done.result c.unlock.new.self c.done.ensures
     (past_up Sems s c.args.gate c.args.who a _ _ _ (sym c.in_default.is ∙ c.refusal.ensures)
-    (alters_does Sems s c.self.inside.sems w.sems ErrSemInvalid refl c.args.sem.0 (sem_unlock_refusals c.args.who) (sem_given c.args.who) c.unlock.result c.unlock.new.self c.unlock.ensures.refused c.unlock.ensures.new c.unlock.ensures.unchanged))
+    (alters_does Sems s c.self.inside.sems w.sems ErrSemInvalid refl c.args.sem.0 (sem_unlock_refusals c.args.who)
+    (sem_given c.args.who) c.unlock.result c.unlock.new.self c.unlock.ensures.refused c.unlock.ensures.new c.unlock.ensures.unchanged))

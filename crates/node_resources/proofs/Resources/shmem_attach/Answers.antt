@@ -9,4 +9,5 @@ returns c s a v =
     let w = subst (λ (t : ResourceTable). Stands s t) (sym c.self.view_is) v in
     kind_does Segments tt s c.args.who (op.ShmemAttach c.args.shmem) _ (the_view c.self.inside) w c.done.result c.attach.new.self c.done.ensures
     (past_up Segments s c.args.gate c.args.who a _ _ _ (sym c.in_default.is ∙ c.refusal.ensures)
-    (alters_does Segments s c.self.inside.segments w.segments ErrShmInvalid refl c.args.shmem.0 (attach_refusals c.args.who) (with_attached c.args.who true) c.attach.result c.attach.new.self c.attach.ensures.refused c.attach.ensures.new c.attach.ensures.unchanged))
+    (alters_does Segments s c.self.inside.segments w.segments ErrShmInvalid refl c.args.shmem.0 (attach_refusals c.args.who)
+    (with_attached c.args.who true) c.attach.result c.attach.new.self c.attach.ensures.refused c.attach.ensures.new c.attach.ensures.unchanged))

@@ -13,12 +13,17 @@ returns c s a v =
     let g = sym c.in_default.is ∙ c.open_refusal.ensures in
     elim c.match-create.branch [
       | in-Ok w ↦
-          kind_does Segments tt s c.args.who (op.ShmemCreate c.args.id c.args.cells) _ (the_view c.self.inside) t c.match-create.result c.create.new.self w.result-is
+          kind_does Segments tt s c.args.who (op.ShmemCreate c.args.id c.args.cells) _
+          (the_view c.self.inside) t c.match-create.result c.create.new.self w.result-is
           (past_open Segments s c.args.gate c.args.who a _ _ _ g
           (past Segments s (shmem_create_refusals c.args.cells) _ _ _ w.in-Ok.ensures.in_range
-          (creates_does Segments s keyed_segments p t.segments x c.args.id w.in-Ok.shmem.0 c.create.new.self refl w.in-Ok.ensures.new_id w.in-Ok.ensures.room w.in-Ok.ensures.made a.layout)))
+          (creates_does Segments s keyed_segments p t.segments x c.args.id w.in-Ok.shmem.0 c.create.new.self refl w.in-Ok.ensures.new_id w.in-Ok.ensures.room
+          w.in-Ok.ensures.made a.layout)))
       | in-Err w ↦
-          kind_does Segments tt s c.args.who (op.ShmemCreate c.args.id c.args.cells) _ (the_view c.self.inside) t c.match-create.result c.create.new.self w.result-is
+          kind_does Segments tt s c.args.who (op.ShmemCreate c.args.id c.args.cells) _
+          (the_view c.self.inside) t c.match-create.result c.create.new.self w.result-is
           (past_open Segments s c.args.gate c.args.who a _ _ _ g
-          (as_was Segments s _ _ p c.create.new.self w.in-Err.ensures.unchanged (refuses_within Segments s keyed_segments p t.segments (shmem_create_refusals c.args.cells) ErrShmExists ErrShmLimit refl refl x c.args.id w.in-Err.status refl w.in-Err.ensures.refused)))
+          (as_was Segments s _ _ p c.create.new.self w.in-Err.ensures.unchanged
+          (refuses_within Segments s keyed_segments p t.segments
+          (shmem_create_refusals c.args.cells) ErrShmExists ErrShmLimit refl refl x c.args.id w.in-Err.status refl w.in-Err.ensures.refused)))
     ]

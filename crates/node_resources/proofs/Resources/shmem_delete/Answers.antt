@@ -9,4 +9,5 @@ returns c s a v =
     let w = subst (λ (t : ResourceTable). Stands s t) (sym c.self.view_is) v in
     kind_does Segments tt s c.args.who (op.ShmemDelete c.args.shmem) _ (the_view c.self.inside) w c.done.result c.delete.new.self c.done.ensures
     (past_open Segments s c.args.gate c.args.who a _ _ _ (sym c.in_default.is ∙ c.open_refusal.ensures)
-    (deletes_does Segments s c.self.inside.segments w.segments ErrShmInvalid refl c.args.shmem.0 shmem_delete_refusals c.delete.result c.delete.new.self c.delete.ensures.refused c.delete.ensures.removed c.delete.ensures.unchanged))
+    (deletes_does Segments s c.self.inside.segments w.segments ErrShmInvalid refl c.args.shmem.0 shmem_delete_refusals c.delete.result c.delete.new.self
+    c.delete.ensures.refused c.delete.ensures.removed c.delete.ensures.unchanged))

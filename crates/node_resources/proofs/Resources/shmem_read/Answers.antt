@@ -9,6 +9,8 @@ pub returns : goal.returns
 returns c s a v =
     let w = subst (λ (t : ResourceTable). Stands s t) (sym c.self.view_is) v in
     subst (λ (t : ResourceTable). Does s c.args.who (op.ShmemRead c.args.shmem c.args.cell) c.number_read.result t) c.self.view_is
-    (kind_does Segments tt s c.args.who (op.ShmemRead c.args.shmem c.args.cell) _ (the_view c.self.inside) w c.number_read.result c.self.inside.segments c.number_read.ensures
+    (kind_does Segments tt s c.args.who (op.ShmemRead c.args.shmem c.args.cell) _
+    (the_view c.self.inside) w c.number_read.result c.self.inside.segments c.number_read.ensures
     (past_up Segments s c.args.gate c.args.who a _ _ _ (sym c.in_default.is ∙ c.refusal.ensures)
-    (reads_does Segments s c.self.inside.segments w.segments ErrShmInvalid refl c.args.shmem.0 reply.Number (cell_of c.args.cell) (cell_refusals c.args.who c.args.cell) c.read.result c.read.ensures)))
+    (reads_does Segments s c.self.inside.segments w.segments ErrShmInvalid refl c.args.shmem.0 reply.Number (cell_of c.args.cell)
+    (cell_refusals c.args.who c.args.cell) c.read.result c.read.ensures)))

@@ -8,10 +8,16 @@ returns c =
     let free : (x : Mutex) → slot_value p.mutexes c.args.mutex.0 ≡ Some x → is_some x.owner ≡ false =
     subst (λ (t : ResourceTable). (x : Mutex) → slot_value t.mutexes c.args.mutex.0 ≡ Some x → is_some x.owner ≡ false) (sym c.self.view_is) c.requires.free
     in
-    let ms = c.look.ensures.new ∙ changed_as p.mutexes c.args.mutex.0 (after_look c.args.who) (locked_by c.args.who) (λ x e. look_locks c.args.who x (free x e)) in
-    let gs = c.attach.ensures.new ∙ changed_as p.segments c.args.segment.0 (after_attach c.args.who) (with_attached c.args.who true) (λ y e. attach_marks c.args.who y) in
+    let ms = c.look.ensures.new ∙ changed_as p.mutexes c.args.mutex.0 (after_look c.args.who) (locked_by c.args.who)
+    (λ x e. look_locks c.args.who x (free x e)) in
+    let gs = c.attach.ensures.new ∙ changed_as p.segments c.args.segment.0 (after_attach c.args.who) (with_attached c.args.who true)
+    (λ y e. attach_marks c.args.who y) in
     subst
     (λ (t : ResourceTable).
     the_view (record p { mutexes = c.look.new.self; segments = c.attach.new.self })
-    ≡ record t { mutexes = changed t.mutexes c.args.mutex.0 (locked_by c.args.who); segments = changed t.segments c.args.segment.0 (with_attached c.args.who true) }) c.self.view_is
+    ≡ record t {
+      mutexes = changed t.mutexes c.args.mutex.0 (locked_by c.args.who);
+      segments =
+          changed t.segments c.args.segment.0 (with_attached c.args.who true);
+    }) c.self.view_is
     (λ i. record (the_view p) { mutexes = ms i; segments = gs i })

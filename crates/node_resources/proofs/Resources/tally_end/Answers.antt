@@ -6,8 +6,10 @@ pub returns-clause-ends : goal.returns-clause-ends
 returns-clause-ends c s x v f o d =
     let p = c.self.inside in
     let w = subst (λ (t : ResourceTable). Stands s t) (sym c.self.view_is) v in
-    subst (λ (t : ResourceTable). Stands (after_moves (alters Segments c.args.segment.0 (with_attached c.args.who false) ∷ alters Mutexes c.args.mutex.0 unlocked ∷ []) s) t)
-    (λ i. record (the_view p) { mutexes = sym c.unlock.ensures.new i; segments = sym c.detach.ensures.new i }) (gives_stand s (the_view p) c.args.who c.args.mutex.0 c.args.segment.0 x w f o d)
+    subst (λ (t : ResourceTable). Stands (after_moves (alters Segments c.args.segment.0 (with_attached c.args.who false)
+    ∷ alters Mutexes c.args.mutex.0 unlocked ∷ []) s) t)
+    (λ i. record (the_view p) { mutexes = sym c.unlock.ensures.new i; segments = sym c.detach.ensures.new i })
+    (gives_stand s (the_view p) c.args.who c.args.mutex.0 c.args.segment.0 x w f o d)
 
 pub returns-clause-new : goal.returns-clause-new
 returns-clause-new c =
@@ -15,5 +17,9 @@ returns-clause-new c =
     subst
     (λ (t : ResourceTable).
     the_view (record p { mutexes = c.unlock.new.self; segments = c.detach.new.self })
-    ≡ record t { mutexes = changed t.mutexes c.args.mutex.0 (after_unlock c.args.who 1); segments = changed t.segments c.args.segment.0 (after_detach c.args.who) }) c.self.view_is
+    ≡ record t {
+      mutexes = changed t.mutexes c.args.mutex.0 (after_unlock c.args.who 1);
+      segments =
+          changed t.segments c.args.segment.0 (after_detach c.args.who);
+    }) c.self.view_is
     (λ i. record (the_view p) { mutexes = c.unlock.ensures.new i; segments = c.detach.ensures.new i })

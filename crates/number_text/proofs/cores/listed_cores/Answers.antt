@@ -9,7 +9,8 @@ loop-core-init c = rw c.new-cores.ensures (record { so_far = sym (cores_none c.a
 pub loop-core-preserved : goal.loop-core-preserved
 loop-core-preserved c = elim c.if-has_core.branch [
   | then-has_core w ↦ record {
-    so_far = rw (w.cores-is, w.push.ensures.items) (cores_yes c.args.mask c.loop-core.core _ (sym c.has_core.ensures ∙ w.if-has_core.true) c.loop-core.invariant.so_far);
+    so_far = rw (w.cores-is, w.push.ensures.items)
+        (cores_yes c.args.mask c.loop-core.core _ (sym c.has_core.ensures ∙ w.if-has_core.true) c.loop-core.invariant.so_far);
     room = rw w.cores-is (omega (arith, w.push.ensures.len, c.loop-core.invariant.room));
     within = omega arith;
   }

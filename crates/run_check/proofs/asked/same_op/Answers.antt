@@ -7,5 +7,6 @@ use Rattle.run_check.proofs.asked.same_op.Goals as goal
 pub returns-in_default : goal.returns-in_default
 returns-in_default c =
     let d : Decides c.eq.result (c.args.op.now ≡ c.args.asked.now) =
-    subst (λ (b : Bool). Decides b (c.args.op.now ≡ c.args.asked.now)) (sym c.eq.ensures) (op_decides c.args.op.now c.args.asked.now (no_finish c.args.asked.now c.in_default.not-Finish)) in
+    subst (λ (b : Bool). Decides b (c.args.op.now ≡ c.args.asked.now)) (sym c.eq.ensures)
+    (op_decides c.args.op.now c.args.asked.now (no_finish c.args.asked.now c.in_default.not-Finish)) in
     record { same = d.0; other = λ stated e. d.1 e }

@@ -17,7 +17,8 @@ returns-then-not-branch t c =
     let front = at_front c.args.parts.now p c.in-len1-up.len_at_least c.part-item.is in (
       λ x. absurd (let y = x in cc),
       λ s. absurd (not_first made c.args.who p rest
-          (λ r. let x = c.in_ok-caller_made.ensures.1 r in let y = c.if-not-branch.true in absurd (cc)) (subst (λ (ps : List Part). Some made c.args.who ps) front s)),
+          (λ r. let x = c.in_ok-caller_made.ensures.1 r in let y = c.if-not-branch.true in
+          absurd (cc)) (subst (λ (ps : List Part). Some made c.args.who ps) front s)),
     )
 
 pub returns : goal.returns
@@ -27,4 +28,5 @@ returns t c =
     let rest = take (length c.args.parts.now - 1) (drop 1 c.args.parts.now) in
     let front = at_front c.args.parts.now p c.in-len1-up.len_at_least c.part-item.is in
     subst (λ (ps : List Part). IsTrue c.in_ok-rest_ran.rest_ran ↔ Some made c.args.who ps) (sym front)
-    (and_rest made c.args.who p rest (c.args.who + 1) c.in_ok-rest_ran.rest_ran (c.in_ok-caller_made.ensures.0 c.if-not-branch.false) refl c.in_ok-rest_ran.ensures)
+    (and_rest made c.args.who p rest (c.args.who
+    + 1) c.in_ok-rest_ran.rest_ran (c.in_ok-caller_made.ensures.0 c.if-not-branch.false) refl c.in_ok-rest_ran.ensures)

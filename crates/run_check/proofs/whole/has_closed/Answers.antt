@@ -7,5 +7,6 @@ loop-e-init c = closes_none c.args.main
 
 pub loop-e-preserved : goal.loop-e-preserved
 loop-e-preserved c =
-    closes_at c.args.main (take c.loop-e.e-index c.args.entries.now) c.e-item.result c.loop-e.e-index c.args.entries.now c.loop-e.closed c.closed_after-closed.result
+    closes_at c.args.main (take c.loop-e.e-index c.args.entries.now) c.e-item.result c.loop-e.e-index c.args.entries.now c.loop-e.closed
+    c.closed_after-closed.result
     refl c.loop-e-test.true c.e-item.is c.loop-e.invariant c.closed_after-closed.ensures

@@ -4,4 +4,5 @@ use Rattle.task_core.proofs.Tasks.asked.Goals as goal
 
 pub invariant_of-self : goal.invariant_of-self
 invariant_of-self c =
-    rw c.ask.ensures.new (AreCounted-changed c.self.inside.pool c.args.t.0 (after_asked c.args.worker) c.self.inside.starts c.self.inside.ends (is_unended-asked c.args.worker) c.self.invariant)
+    rw c.ask.ensures.new (AreCounted-changed c.self.inside.pool c.args.t.0 (after_asked c.args.worker) c.self.inside.starts c.self.inside.ends
+    (is_unended-asked c.args.worker) c.self.invariant)

@@ -10,4 +10,5 @@ invariant_of-self c =
     let found = sym c.remove.ensures.value ∙ c.in-Some.is in
     let live = ap (λ (t : TaskTable). slot_value t.pool c.args.t.0) (sym c.self.view_is) ∙ found in
     let over : IsLiveAnd (λ t. not (is_unended t)) (Some c.in-Some.record) = rw live at c.requires in
-    rw c.in-Some.ensures.removed (AreCounted-give_up c.self.inside.pool c.args.t.0 c.in-Some.record c.self.inside.starts c.self.inside.ends found (is_ended c.in-Some.record over) c.self.invariant)
+    rw c.in-Some.ensures.removed (AreCounted-give_up c.self.inside.pool c.args.t.0 c.in-Some.record c.self.inside.starts c.self.inside.ends found
+    (is_ended c.in-Some.record over) c.self.invariant)

@@ -8,5 +8,6 @@ with_change-requires-clause-named c =
     record {
       statements = rw same c.requires.statements;
       count = rw same c.requires.count;
-      names = λ other. c.in_ok-cause.ensures.bound c.in-None.is other ∙ rw (same, c.change_with.ensures, name_changed c.args.line c.args.word c.name_in-name.result.now _ _, c.requires.names other) refl;
+      names = λ other. c.in_ok-cause.ensures.bound c.in-None.is other
+          ∙ rw (same, c.change_with.ensures, name_changed c.args.line c.args.word c.name_in-name.result.now _ _, c.requires.names other) refl;
     }

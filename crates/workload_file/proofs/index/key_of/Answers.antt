@@ -15,12 +15,14 @@ overflow_mul-key c =
 pub overflow_add-key : goal.overflow_add-key
 overflow_add-key c =
     let n : ℕ = length c.args.name.now in
-    let next = key_next n c.digits.at c.digits.key c.from.result c.digits-test.true c.digits.auto.at c.digits.invariant.1 (rw c.from.ensures (c.type_inv.name (c.digits.at - 1)).fits) in
+    let next = key_next n c.digits.at c.digits.key c.from.result c.digits-test.true c.digits.auto.at c.digits.invariant.1
+    (rw c.from.ensures (c.type_inv.name (c.digits.at - 1)).fits) in
     record { fits = key_wide (n - (c.digits.at - 1)) _ (omega (arith, c.requires.short)) next }
 
 pub digits-preserved : goal.digits-preserved
 digits-preserved c =
     let n : ℕ = length c.args.name.now in (
       rw c.from.ensures (key_more c.args.name.now c.digits.at c.digits.key _ c.digits-test.true c.digits.auto.at c.digits.invariant.0),
-      key_next n c.digits.at c.digits.key c.from.result c.digits-test.true c.digits.auto.at c.digits.invariant.1 (rw c.from.ensures (c.type_inv.name (c.digits.at - 1)).fits),
+      key_next n c.digits.at c.digits.key c.from.result c.digits-test.true c.digits.auto.at c.digits.invariant.1
+          (rw c.from.ensures (c.type_inv.name (c.digits.at - 1)).fits),
     )

@@ -12,4 +12,5 @@ pub loop-place-preserved : goal.loop-place-preserved
 loop-place-preserved c = not_opened c.args.fields.now c.args.word.now c.loop-place.place _ c.loop-place-test.true c.loop-place.invariant c.in_default.ensures
 
 pub returns-clause-known : goal.returns-clause-known
-returns-clause-known c = sym (none_known c.args.fields.now c.args.word.now (rw (take_all c.loop-place.place c.args.fields.now c.loop-place-test.false) at c.loop-place.invariant))
+returns-clause-known c = sym (none_known c.args.fields.now c.args.word.now
+    (rw (take_all c.loop-place.place c.args.fields.now c.loop-place-test.false) at c.loop-place.invariant))

@@ -8,7 +8,8 @@ pub words-init : goal.words-init
 words-init c = let none = no_words c.args.words.now in (rw none c.requires, rw none (none_twice [] (omega arith)), rw none refl)
 
 pub returns-in_default-clause-known : goal.returns-in_default-clause-known
-returns-in_default-clause-known c = unknown_at (is_known (fields c.args.word)) c.args.words.now (c.words.at - 1) _ (omega (arith, c.words-test.true, c.words.auto.at)) (rw c.fields-fields.ensures at (sym c.in_default.ensures.known))
+returns-in_default-clause-known c = unknown_at (is_known (fields c.args.word)) c.args.words.now (c.words.at - 1) _
+    (omega (arith, c.words-test.true, c.words.auto.at)) (rw c.fields-fields.ensures at (sym c.in_default.ensures.known))
 
 pub index-requires : goal.index-requires
 index-requires c =
@@ -24,10 +25,15 @@ pub words-preserved : goal.words-preserved
 words-preserved c =
     let option = rw c.fields-fields.ensures at c.in-Some.ensures.place in
     let known = rw c.fields-fields.ensures at (sym c.in-Some.ensures.known) in (
-      given_more c.words.given.items c.args.words.now c.words.at _ c.in-Some.value c.args.word c.in-Some.place c.words-test.true c.words.auto.at c.words.invariant.0 option c.in-Some.ensures.value,
+      given_more c.words.given.items c.args.words.now c.words.at _ c.in-Some.value c.args.word c.in-Some.place c.words-test.true c.words.auto.at
+          c.words.invariant.0 option c.in-Some.ensures.value,
       elim c.if-is_some.branch [
-        | then-is_some w ↦ twice_more c.words.given.items c.args.words.now c.words.at _ c.args.word c.in-Some.place c.index.result.now c.is_some.result c.if-is_some.twice _ c.words-test.true c.words.auto.at c.words.invariant.0 option c.words.invariant.1 c.index.ensures c.is_some.ensures (inl (w.if-is_some.true, w.twice-is ∙ w.if-is_some.true))
-        | else-is_some w ↦ twice_more c.words.given.items c.args.words.now c.words.at _ c.args.word c.in-Some.place c.index.result.now c.is_some.result c.if-is_some.twice _ c.words-test.true c.words.auto.at c.words.invariant.0 option c.words.invariant.1 c.index.ensures c.is_some.ensures (inr (w.if-is_some.false, w.twice-is))
+        | then-is_some w ↦ twice_more c.words.given.items c.args.words.now c.words.at _ c.args.word c.in-Some.place c.index.result.now c.is_some.result
+            c.if-is_some.twice _ c.words-test.true c.words.auto.at c.words.invariant.0 option c.words.invariant.1 c.index.ensures c.is_some.ensures
+            (inl (w.if-is_some.true, w.twice-is ∙ w.if-is_some.true))
+        | else-is_some w ↦ twice_more c.words.given.items c.args.words.now c.words.at _ c.args.word c.in-Some.place c.index.result.now c.is_some.result
+            c.if-is_some.twice _ c.words-test.true c.words.auto.at c.words.invariant.0 option c.words.invariant.1 c.index.ensures c.is_some.ensures
+            (inr (w.if-is_some.false, w.twice-is))
       ],
       known_more (is_known (fields c.args.word)) c.args.words.now c.words.at _ c.words-test.true c.words.auto.at c.words.invariant.2 known,
     )

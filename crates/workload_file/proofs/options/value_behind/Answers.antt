@@ -12,4 +12,5 @@ pub returns-then-ne : goal.returns-then-ne
 returns-then-ne c = shut_key c.args.key c.args.word.now (rw c.text-text.ensures at (not-true _ (sym c.ne.ensures ∙ c.if-ne.true)))
 
 pub returns : goal.returns
-returns c = opens_key c.args.key c.args.word.now c.text-text.result.now 0 c.text-text.ensures c.if-word-end.false c.if-word-end-ne61.false (not-false _ (sym c.ne.ensures ∙ c.if-ne.false))
+returns c = opens_key c.args.key c.args.word.now c.text-text.result.now 0 c.text-text.ensures c.if-word-end.false c.if-word-end-ne61.false
+    (not-false _ (sym c.ne.ensures ∙ c.if-ne.false))

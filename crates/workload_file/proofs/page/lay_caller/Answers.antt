@@ -6,4 +6,6 @@ pub returns-then-line-eq0-clause-text : goal.returns-then-line-eq0-clause-text
 returns-then-line-eq0-clause-text c = no_line c.args.page.now.text.items (caller_text c.args.name.now) c.args.page.now.line c.args.line c.if-line-eq0.true
 
 pub returns-clause-text : goal.returns-clause-text
-returns-clause-text c = on_ok c.push_caller.result _ _ (λ e. one_line c.args.page.now.text.items c.feed.new.page.text.items c.push_caller.new.out.items (caller_text c.args.name.now) c.args.page.now.line c.args.line c.if-line-eq0.false c.in_ok-feed.ensures.text e) c.push_caller.ensures
+returns-clause-text c = on_ok c.push_caller.result _ _
+    (λ e. one_line c.args.page.now.text.items c.feed.new.page.text.items c.push_caller.new.out.items
+    (caller_text c.args.name.now) c.args.page.now.line c.args.line c.if-line-eq0.false c.in_ok-feed.ensures.text e) c.push_caller.ensures

@@ -13,6 +13,7 @@ loop-i-preserved c =
     let text = statement_text (take c.loop-i.i c.args.statements.now) s in
     let fed = rw c.loop-i.invariant.line at c.in_ok-feed.ensures.text in
     rw more (record {
-      text = text_more c.args.page.now.text.items c.loop-i.page.text.items c.feed.new.page.text.items text c.push_statement.new.out.items c.args.page.now.line s.line xs c.loop-i.invariant.text fed c.in_ok-push_statement.ensures;
+      text = text_more c.args.page.now.text.items c.loop-i.page.text.items c.feed.new.page.text.items text c.push_statement.new.out.items c.args.page.now.line
+          s.line xs c.loop-i.invariant.text fed c.in_ok-push_statement.ensures;
       line = c.in_ok-feed.ensures.line ∙ sym (line_more c.args.page.now.line s.line text xs);
     })

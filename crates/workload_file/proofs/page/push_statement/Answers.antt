@@ -10,7 +10,10 @@ returns c =
     let first = c.extend_from_slice.new.self.items in
     let names = led_more first c.push_bound.new.out.items c.push_used.new.out.items bound used c.in_ok-push_bound.ensures c.in_ok-push_used.ensures in
     let options = options_words c.args.before.now c.fields.result.now c.deref.result.now in
-    let all = on_ok c.push_options.result _ _ (λ e. words_more out first c.push_options.new.out.items c.text.result.now ((bound ++ used) ++ options) c.in_ok-extend_from_slice.ensures.items (led_more first c.push_used.new.out.items c.push_options.new.out.items (bound ++ used) options names e)) c.push_options.ensures in
+    let all = on_ok c.push_options.result _ _
+    (λ e. words_more out first c.push_options.new.out.items c.text.result.now ((bound ++ used)
+    ++ options) c.in_ok-extend_from_slice.ensures.items
+    (led_more first c.push_used.new.out.items c.push_options.new.out.items (bound ++ used) options names e)) c.push_options.ensures in
     let values = ap (λ (s : Spelled). s.values) (sym c.in_ok-word.ensures) in
     let place = ap (λ (s : Spelled). s.place) (sym c.in_ok-word.ensures) in
     let word = ap (λ (s : Spelled). s.word) (sym c.in_ok-word.ensures) in

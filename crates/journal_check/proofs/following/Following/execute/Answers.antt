@@ -13,7 +13,10 @@ returns-clause-judges c =
     let told : c.renamed_answer-told.result ≡ renamed_reply (renaming_of f.names) e.op e.reply = cc in
     executed c.laws.ensures f e m given c.requires.idle c.answer-given.ensures.terms
     (subst (λ (o : Op). (L : List NodeEntry) → Stands f.node L → Stands m (L ++ entry e.who o given ∷ [])) op c.answer-given.ensures.stands)
-    (subst (λ (r : Reply). (L : List NodeEntry) → Stands f.node L → takes_task (renamed_op (renaming_of f.names) e.op) r ≡ true → Allows (row (after (terms_of f.node) L) e.who (renamed_op (renaming_of f.names) e.op) r) r → given ≡ r) told
-    (subst (λ (o : Op). (L : List NodeEntry) → Stands f.node L → takes_task o c.renamed_answer-told.result ≡ true → Allows (row (after (terms_of f.node) L) e.who o c.renamed_answer-told.result) c.renamed_answer-told.result → given ≡ c.renamed_answer-told.result) op c.answer-given.ensures.toward))
+    (subst (λ (r : Reply). (L : List NodeEntry) → Stands f.node L → takes_task (renamed_op (renaming_of f.names) e.op) r ≡ true
+    → Allows (row (after (terms_of f.node) L) e.who (renamed_op (renaming_of f.names) e.op) r) r → given ≡ r) told
+    (subst (λ (o : Op). (L : List NodeEntry) → Stands f.node L → takes_task o c.renamed_answer-told.result ≡ true
+    → Allows (row (after (terms_of f.node) L) e.who o c.renamed_answer-told.result) c.renamed_answer-told.result
+    → given ≡ c.renamed_answer-told.result) op c.answer-given.ensures.toward))
     c.same_reply.result
     (subst (λ (r : Reply). Decides c.same_reply.result (r ≡ given)) told c.same_reply.ensures)

@@ -20,8 +20,10 @@ overflow_sub-made-3 c =
     let made : c.made-made.result ≡ made_count (of_kind f.made c.args.kind) = cc in
     let lasts : c.lasts-lasts.result.now ≡ last_handles (of_kind f.made c.args.kind) = cc in
     let all : c.from-live.result + c.gone_of-gone.result ≤ made_count (of_kind f.made c.args.kind) =
-    all_made c.laws.ensures f c.args.kind c.from-live.result c.from-most.result (λ K a. c.live.ensures K a ∙ live) (λ s e. c.most_of.ensures s e ∙ most) c.gone_of-gone.result
-    (λ L h. ap (gone_of c.args.kind (after f.terms L)) (sym lasts) ∙ c.gone_of-gone.ensures.told f.terms (after f.terms L) (length L) h.node h.follows) c.requires.followed.0 c.requires.followed.1 in
+    all_made c.laws.ensures f c.args.kind c.from-live.result c.from-most.result (λ K a. c.live.ensures K a ∙ live) (λ s e. c.most_of.ensures s e
+    ∙ most) c.gone_of-gone.result
+    (λ L h. ap (gone_of c.args.kind (after f.terms L)) (sym lasts)
+    ∙ c.gone_of-gone.ensures.told f.terms (after f.terms L) (length L) h.node h.follows) c.requires.followed.0 c.requires.followed.1 in
     omega (arith, all, made)
 
 pub returns-clause-full : goal.returns-clause-full
@@ -30,7 +32,8 @@ returns-clause-full c L h =
     let live : c.live.result ≡ c.from-live.result = cc in
     let most : c.most_of.result ≡ c.from-most.result = cc in
     let lasts : c.lasts-lasts.result.now ≡ last_handles (of_kind f.made c.args.kind) = cc in
-    let gone : gone_of c.args.kind (after f.terms L) c.lasts-lasts.result.now ≡ c.gone_of-gone.result = c.gone_of-gone.ensures.told f.terms (after f.terms L) (length L) h.node h.follows in
+    let gone : gone_of c.args.kind (after f.terms L) c.lasts-lasts.result.now ≡ c.gone_of-gone.result =
+    c.gone_of-gone.ensures.told f.terms (after f.terms L) (length L) h.node h.follows in
     full_here c.laws.ensures f c.args.kind c.from-live.result c.from-most.result
     (λ K a. c.live.ensures K a ∙ live) (λ s e. c.most_of.ensures s e ∙ most) L h
     ∙ ap (λ (hs : List ℕ). c.from-live.result + gone_of c.args.kind (after f.terms L) hs == c.from-most.result) (sym lasts)
@@ -43,7 +46,10 @@ returns-clause-same c =
     let most : c.most_of.result ≡ c.from-most.result = cc in
     let made : c.made-made.result ≡ made_count (of_kind f.made c.args.kind) = cc in
     let lasts : c.lasts-lasts.result.now ≡ last_handles (of_kind f.made c.args.kind) = cc in
-    let ends : Ends c.args.kind c.gone_of-gone.result (made_count (of_kind f.made c.args.kind) - c.from-live.result - c.gone_of-gone.result) f.made c.end.new.self =
+    let ends : Ends c.args.kind c.gone_of-gone.result
+    (made_count (of_kind f.made c.args.kind) - c.from-live.result - c.gone_of-gone.result) f.made c.end.new.self =
     subst (λ (n : ℕ). Ends c.args.kind c.gone_of-gone.result (n - c.from-live.result - c.gone_of-gone.result) f.made c.end.new.self) made c.end.ensures in
-    same_gone c.laws.ensures f c.args.kind c.from-live.result c.from-most.result (λ K a. c.live.ensures K a ∙ live) (λ s e. c.most_of.ensures s e ∙ most) c.gone_of-gone.result
-    (λ L h. ap (gone_of c.args.kind (after f.terms L)) (sym lasts) ∙ c.gone_of-gone.ensures.told f.terms (after f.terms L) (length L) h.node h.follows) c.requires.followed.0 c.requires.followed.1 c.end.new.self ends
+    same_gone c.laws.ensures f c.args.kind c.from-live.result c.from-most.result (λ K a. c.live.ensures K a ∙ live) (λ s e. c.most_of.ensures s e
+    ∙ most) c.gone_of-gone.result
+    (λ L h. ap (gone_of c.args.kind (after f.terms L)) (sym lasts)
+    ∙ c.gone_of-gone.ensures.told f.terms (after f.terms L) (length L) h.node h.follows) c.requires.followed.0 c.requires.followed.1 c.end.new.self ends

@@ -10,7 +10,8 @@ returns-then-is_full c =
     let e = c.args.entry.now in
     judges_same c.laws.ensures f e c.args.kind c.requires.makes c.is_full.new.self c.same_reply.result c.is_full.ensures.same
     (judged_full c.laws.ensures f e c.args.kind c.requires.makes c.requires.accepted c.same_reply.result
-    (subst (λ (r : Reply). Decides c.same_reply.result (e.reply ≡ r)) c.limit_of.ensures c.same_reply.ensures) (λ L h. c.is_full.ensures.full L h ∙ c.if-is_full.true))
+    (subst (λ (r : Reply). Decides c.same_reply.result (e.reply ≡ r)) c.limit_of.ensures c.same_reply.ensures) (λ L h. c.is_full.ensures.full L h
+    ∙ c.if-is_full.true))
 
 pub make-requires-clause-seat : goal.make-requires-clause-seat
 make-requires-clause-seat c = subst (λ (n : PoolNode). c.args.entry.now.who < seat_count (terms_of n)) (sym c.is_full.ensures.same.node) c.requires.seat
@@ -20,11 +21,13 @@ make-requires-clause-room c = (c.requires.room.0, c.is_full.ensures.same.there c
 
 pub make-requires-clause-accepted : goal.make-requires-clause-accepted
 make-requires-clause-accepted c L h =
-    subst (λ (t : Terms). refusal_of (after t L) c.args.entry.now.who c.args.entry.now.op ≡ None) (sym c.is_full.ensures.same.terms) (c.requires.accepted L (c.is_full.ensures.same.back L h))
+    subst (λ (t : Terms). refusal_of (after t L) c.args.entry.now.who c.args.entry.now.op
+    ≡ None) (sym c.is_full.ensures.same.terms) (c.requires.accepted L (c.is_full.ensures.same.back L h))
 
 pub make-requires-clause-more : goal.make-requires-clause-more
 make-requires-clause-more c L h =
-    subst (λ (t : Terms). is_full_of c.args.kind (after t L) ≡ false) (sym c.is_full.ensures.same.terms) (c.is_full.ensures.full L (c.is_full.ensures.same.back L h) ∙ c.if-is_full.false)
+    subst (λ (t : Terms). is_full_of c.args.kind (after t L)
+    ≡ false) (sym c.is_full.ensures.same.terms) (c.is_full.ensures.full L (c.is_full.ensures.same.back L h) ∙ c.if-is_full.false)
 
 pub returns : goal.returns
 returns c =

@@ -10,7 +10,8 @@ pub close-requires-clause-complete : goal.close-requires-clause-complete
 close-requires-clause-complete g c k l =
     let two : journal_seats (journal_terms c.with-object.result) ≡ 2 =
     ap journal_seats c.with-object.ensures.terms ∙ (ap seat_count c.in_ok-node.ensures.terms ∙ ap (λ (s : NodeSettings). s.workers + 1) c.new.ensures) in
-    two_complete _ _ _ _ _ _ _ _ _ _ _ _ two c.in_ok-cell.ensures.seats c.in-Some.ensures.items c.in-Some-pop.ensures.items c.call-idle.ensures.number c.call-opened.ensures.number c.in_ok-push.ensures.items c.in_ok-push-2.ensures.items k
+    two_complete _ _ _ _ _ _ _ _ _ _ _ _ two c.in_ok-cell.ensures.seats c.in-Some.ensures.items c.in-Some-pop.ensures.items c.call-idle.ensures.number
+    c.call-opened.ensures.number c.in_ok-push.ensures.items c.in_ok-push-2.ensures.items k
     (subst (λ (t : JournaledTerms). k < journal_seats t) c.in_ok-cell.ensures.terms l)
 
 pub call-idle-requires : goal.call-idle-requires
@@ -23,4 +24,5 @@ pub close-requires-clause-own : goal.close-requires-clause-own
 close-requires-clause-own g c =
     let two : journal_seats (journal_terms c.with-object.result) ≡ 2 =
     ap journal_seats c.with-object.ensures.terms ∙ (ap seat_count c.in_ok-node.ensures.terms ∙ ap (λ (s : NodeSettings). s.workers + 1) c.new.ensures) in
-    two_own _ _ _ _ _ _ _ _ _ _ _ _ two c.in_ok-cell.ensures.seats c.in-Some.ensures.items c.in-Some-pop.ensures.items c.call-idle.ensures.cell c.call-opened.ensures.cell c.in_ok-push.ensures.items c.in_ok-push-2.ensures.items
+    two_own _ _ _ _ _ _ _ _ _ _ _ _ two c.in_ok-cell.ensures.seats c.in-Some.ensures.items c.in-Some-pop.ensures.items c.call-idle.ensures.cell
+    c.call-opened.ensures.cell c.in_ok-push.ensures.items c.in_ok-push-2.ensures.items

@@ -4,4 +4,10 @@ use Rattle.run_beside.proofs.beside.fn.pair.scope.Goals as goal
 
 pub returns-in-Ok : goal.returns-in-Ok
 returns-in-Ok g c =
-    record { same = search rules; done = search rules; ran = ran_of g.F.FnOnce g.B.Beside.refusals c.captures.b c.captures.carry c.b-t.result _ _ _ _ c.b-t.ensures (search rules) (search rules); refused = tt }
+    record {
+      same = search rules;
+      done = search rules;
+      ran =
+          ran_of g.F.FnOnce g.B.Beside.refusals c.captures.b c.captures.carry c.b-t.result _ _ _ _ c.b-t.ensures (search rules) (search rules);
+      refused = tt;
+    }
