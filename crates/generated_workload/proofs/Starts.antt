@@ -184,8 +184,7 @@ last_is r few group = record {
   callers = refl;
   placed = refl;
   named = refl;
-  known =
-      refl;
+  known = refl;
   once = refl;
   sound = refl;
   free = refl;

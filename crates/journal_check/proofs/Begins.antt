@@ -86,14 +86,3 @@ module _ (w : Laws) (f : Following) (e : NodeEntry) where
     );
     goes_on = j.goes_on;
   }
-
-  pub judged_seatless : seat_count (terms_of f.node) ≤ e.who → JudgesNext f e false f
-  judged_seatless none = record {
-    terms = refl;
-    exact = λ L h short. (
-      λ p. absurd (cc),
-      λ i. let a : e.who < seats (after f.terms L) = i.seat in let b = same_seats L h in
-          absurd (omega (arith, a, b, none)),
-    );
-    goes_on = λ L h short p. absurd (cc);
-  }

@@ -9,9 +9,6 @@ none_legal terms L unfit = record { some = omega arith; illegal = λ h. unfit h.
 pub few_callers : (terms : Terms) → terms.callers < 1 → Fits terms → ⊥
 few_callers terms few f = let a : 1 ≤ terms.callers = f.some_caller in omega (arith, a, few)
 
-pub many_callers : (terms : Terms) → 9 < terms.callers → Fits terms → ⊥
-many_callers terms many f = let a : terms.callers ≤ 9 = f.callers in omega (arith, a, many)
-
 -- the empty list
 pub empty_legal : (terms : Terms) → Fits terms → Legal terms []
 unfolding LegalFrom

@@ -29,27 +29,6 @@ module _ (w : Laws) (f : Following) (k : ObjectKind) (most : ℕ) (mosts : (s : 
   pub most_of_it : most_of k reached ≡ most
   most_of_it = mosts reached (ap (λ (t : Terms). t.settings) (w.terms f.terms L))
 
-  -- where fewer were made, but for those that are known to take no slot, it isn't full
-  pub few_taken : made_count (of_kind f.made k) - freed_count (of_kind f.made k) < most → is_full_of k reached ≡ false
-  few_taken less =
-      let made : made_count (of_kind f.made k) ≡ made_in k reached = h.made.made k in
-      let free : freed_count (of_kind f.made k) + taken_in k reached ≤ made_in k reached = h.made.freed k in
-      w.room f.terms L k ∙ unequal (taken_in k reached) (most_of k reached) (omega (arith, made, free, less, most_of_it))
-    where
-      unequal : (m n : ℕ) → m < n → (m == n) ≡ false
-      unequal m n below = grind (arith, nat_tests)
-
-  -- with as many handles of the last generation it is
-  pub all_last : length (last_handles (of_kind f.made k)) ≡ most → is_full_of k reached ≡ true
-  all_last all =
-      let lasts : length (last_handles (of_kind f.made k)) ≡ length (lasts_of k reached) = ap length (h.made.lasts k) in
-      let more : length (lasts_of k reached) ≤ taken_in k reached = (w.gone f.terms L k).lasts in
-      let kept : taken_in k reached ≤ most_of k reached = w.kept f.terms L k in
-      w.room f.terms L k ∙ equal (taken_in k reached) (most_of k reached) (omega (arith, lasts, more, kept, all, most_of_it))
-    where
-      equal : (m n : ℕ) → m ≡ n → (m == n) ≡ true
-      equal m n same = grind (arith, nat_tests)
-
   -- where the live ones and those that are known to be gone take all, it is full
   pub all_taken : (alive : ℕ) → live_in k reached ≡ alive → alive + gone_count (of_kind f.made k) ≡ most → is_full_of k reached ≡ true
   all_taken alive live all =

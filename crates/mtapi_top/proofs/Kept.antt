@@ -39,8 +39,7 @@ writable load j f r =
     record {
       some = omega (arith, some, same);
       few = omega (arith, few, same);
-      places =
-          all_placed (head_for j) j.entries.entries r.layout (seats_are load j r);
+      places = all_placed (head_for j) j.entries.entries r.layout (seats_are load j r);
     }
 
 pub kept_input : (bytes front : List ℕ) (load : Workload) (j : Journal) → length bytes ≤ 67108864 → IsSplit bytes front (journal_text j)

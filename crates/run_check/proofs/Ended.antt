@@ -101,8 +101,7 @@ module _ (main : ℕ) (L : List NodeEntry) (e : NodeEntry) where
           before = c.before;
           behind = s.0;
           closes = s.2;
-          callers_ended =
-              λ who l. (both_nil (entries_of who s.0) _ (sym (of_more who s.0 e) ∙ (ap (entries_of who) (sym s.1) ∙ c.callers_ended who l))).0;
+          callers_ended = λ who l. (both_nil (entries_of who s.0) _ (sym (of_more who s.0 e) ∙ (ap (entries_of who) (sym s.1) ∙ c.callers_ended who l))).0;
         },
         low s.0 s.1,
       )
@@ -147,14 +146,6 @@ ends_by main before es last b is final so = (λ t. there (so.0 t), λ c. so.1 (b
         let all : before ++ last ∷ [] ≡ (c.before ++ entry main ops.Close replies.Ok ∷ c.behind) ++ entry main ops.Final replies.Ok ∷ [] =
         sym is ∙ (c.closes ∙ sym (append_assoc c.before (entry main ops.Close replies.Ok ∷ c.behind) (entry main ops.Final replies.Ok ∷ []))) in
         record { before = c.before; behind = c.behind; closes = (last_same before _ last _ all).0; callers_ended = c.callers_ended }
-
--- another last entry ends no run
-pub ends_not : (main : ℕ) (before es : List NodeEntry) (last : NodeEntry) → es ≡ before ++ last ∷ [] → (last ≡ entry main ops.Final replies.Ok → ⊥)
-    → ClosesAtEnd main es → ⊥
-ends_not main before es last is not c =
-    let all : before ++ last ∷ [] ≡ (c.before ++ entry main ops.Close replies.Ok ∷ c.behind) ++ entry main ops.Final replies.Ok ∷ [] =
-    sym is ∙ (c.closes ∙ sym (append_assoc c.before (entry main ops.Close replies.Ok ∷ c.behind) (entry main ops.Final replies.Ok ∷ []))) in
-    not (last_same before _ last _ all).1
 
 -- a list that isn't empty, from behind
 pub at_last : (L : List NodeEntry) (x : NodeEntry) → 1 ≤ length L → x ≡ get_or L (length L - 1) x → L ≡ take (length L - 1) L ++ x ∷ []

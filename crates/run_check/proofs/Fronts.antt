@@ -16,19 +16,6 @@ last_in (SemLook x last) = last
 last_in (RwlLook x writer last) = last
 last_in op = false
 
-pub last_of_look : (w : Wanted) → IsTimed w → (last : Bool) → last_in (op_of w last) ≡ last
-last_of_look (Task t) timed last = refl
-last_of_look Entrance timed last = elim timed [ ]
-last_of_look (AllMembers g) timed last = refl
-last_of_look (FirstMember g) timed last = refl
-last_of_look (Mutex x) timed last = refl
-last_of_look (Sem x) timed last = refl
-last_of_look (Rwl x writer) timed last = refl
-
--- the op of a look tells whether it is the last one
-pub same_last : (w : Wanted) → IsTimed w → (o : Op) (a b : Bool) → o ≡ op_of w a → o ≡ op_of w b → a ≡ b
-same_last w timed o a b p q = sym (last_of_look w timed a) ∙ (ap last_in (sym p ∙ q) ∙ last_of_look w timed b)
-
 -- a line is its three fields
 pub of_line : (l : Line) → l ≡ line l.op l.reply l.beside
 of_line l = refl

@@ -19,8 +19,7 @@ to_rest bound (s ∷ ss) body rest (r ∷ rs) c = (
   record {
     front = c.0;
     is = ap (λ l. l ++ rest) c.2 ∙ append_assoc c.0 c.1 rest;
-    made =
-        c.3;
+    made = c.3;
   },
   to_rest (bound ++ handle_of r ∷ []) ss c.1 rest rs c.4,
 )
@@ -85,12 +84,6 @@ module _ (ss : List Statement) (lines : List Line) where
       let e : first ∷ rest ≡ line ops.Enter replies.Ok m.1.entered.0 ∷ m.1.body = sym is ∙ (m.1.is ∙ ap (λ f. f ++ m.1.body) m.1.entered.1) in
       let behind : rest ≡ m.1.body = cc in
       subst (λ (z : List Line). CarriedTo [] ss z []) (append-nil m.1.body ∙ sym behind) (to_rest [] ss m.1.body [] m.0 m.1.carried)
-
-  pub caller_enters : (first : Line) (rest : List Line) → lines ≡ first ∷ rest → SomeCaller → Enters first
-  caller_enters first rest is m =
-      let e : first ∷ rest ≡ line ops.Enter replies.Ok m.1.entered.0 ∷ m.1.body = sym is ∙ (m.1.is ∙ ap (λ f. f ++ m.1.body) m.1.entered.1) in
-      let here : first ≡ line ops.Enter replies.Ok m.1.entered.0 = cc in
-      (ap (λ l. l.op) here, ap (λ l. l.reply) here)
 
   pub caller_is : (first : Line) (rest : List Line) → lines ≡ first ∷ rest → Enters first → CarriedTo [] ss rest [] → SomeCaller
   caller_is first rest is enters c =

@@ -7,9 +7,6 @@ pub record Reached (ss : List Statement) (lines : List Line) (bound : List ℕ) 
   pub to : (end : List Line) → CarriedTo bound left rest end → CarriedTo [] ss lines end
   pub from : (end : List Line) → CarriedTo [] ss lines end → CarriedTo bound left rest end
 
-pub at_start : (ss : List Statement) (lines : List Line) → Reached ss lines [] ss lines
-at_start ss lines = record { to = λ end c. c; from = λ end c. c }
-
 module _ (ss : List Statement) (lines : List Line) (bound : List ℕ) (rest : List Line) (i : ℕ) (s : Statement) (here : i < length ss) (is : s ≡ get_or ss i s)
     (reached : Reached ss lines bound (drop i ss) rest) where
   next_is : drop i ss ≡ s ∷ drop (i + 1) ss

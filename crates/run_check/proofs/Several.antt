@@ -33,13 +33,6 @@ module _ (made : ℕ → List Line) where
   abbrev pub All : ℕ → List Part → Type 0
   All main ps = (rss : List (List Reply)) × PartsRan in_lines made main ps rss
 
-  pub no_main : (main : ℕ) → All main [] → ⊥
-  no_main main (rss, c) = c
-
-  pub not_main : (main : ℕ) (p : Part) (ps : List Part) → (((rs : List Reply) × MainRan in_lines p.statements (made main) rs) → ⊥) → All main (p ∷ ps) → ⊥
-  not_main main p ps none ([], c) = c
-  not_main main p ps none (rs ∷ rss, c) = none (rs, c.0)
-
   pub and_callers : (main : ℕ) (p : Part) (ps : List Part) (next : ℕ) (b : Bool) → ((rs : List Reply) × MainRan in_lines p.statements (made main) rs)
       → next ≡ main + 1
       → IsTrue b ↔ Some next ps → IsTrue b ↔ All main (p ∷ ps)

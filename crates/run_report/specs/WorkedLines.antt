@@ -162,8 +162,7 @@ abbrev pub one_end : Told
 one_end = record {
   name = codes "c";
   statements = statement 12 (codes "a") asks ∷ statement 13 (codes "g") deed.Group ∷ [];
-  replies =
-      reply.Handle 73 ∷ reply.Handle 72 ∷ [];
+  replies = reply.Handle 73 ∷ reply.Handle 72 ∷ [];
 }
 
 pub record WorkedEnds : Type 0 where
@@ -217,8 +216,7 @@ further_told =
     record {
       name = codes "c";
       statements = statement 12 (codes "g") deed.Group ∷ using 13 (deed.WaitAny 0 timeout.Infinite) ∷ [];
-      replies =
-          reply.Handle 35 ∷ reply.Handle 38 ∷ [];
+      replies = reply.Handle 35 ∷ reply.Handle 38 ∷ [];
     }
     ∷ record { name = codes "d"; statements = []; replies = [] } ∷ []
 

@@ -85,8 +85,7 @@ cut who (e ∷ es) (n ∷ ns) A l B i = by (e.who == who) refl i (cut who es ns)
       first = [];
       rest = ns;
       is = λ j. entry (eqb-true e.who who w j) (h j).op (h j).reply ∷ es;
-      numbers =
-          λ j. (h j).beside ∷ ns;
+      numbers = λ j. (h j).beside ∷ ns;
       same = refl;
       alike = λ k. omega arith;
       done = sym a;
@@ -280,8 +279,7 @@ bound_longer t before more place b = record {
   statement = b.statement;
   found = get_front before more place b.early ∙ b.found;
   binding = b.binding;
-  early =
-      (let k : place < length before = b.early in let n : length (before ++ more) ≡ length before + length more = length-append before more in omega arith);
+  early = (let k : place < length before = b.early in let n : length (before ++ more) ≡ length before + length more = length-append before more in omega arith);
 }
 
 pub bound_shorter : (t : Sort) (before more : List Statement) (place : ℕ) → place < length before → BoundBy t (before ++ more) place → BoundBy t before place
@@ -319,8 +317,7 @@ found all ls rs c =
         replies = r;
         front = front;
         reply = q;
-        step =
-            subst (λ (z : Statement). Step all ls rs b l r z front q) k.0 x;
+        step = subst (λ (z : Statement). Step all ls rs b l r z front q) k.0 x;
         early = k.1;
       }
     ]) c (λ place s e. absurd (cc))

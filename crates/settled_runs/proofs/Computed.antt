@@ -12,8 +12,7 @@ worked_settled = record {
   failing_summary = refl;
   shared_settled = refl;
   shared_report = refl;
-  sum_settled =
-      refl;
+  sum_settled = refl;
   sum_report = refl;
   sum_summary = refl;
   two_actions = refl;
@@ -35,8 +34,7 @@ worked_unsettled = record {
   no_begin = refl;
   late_action = refl;
   further_action = refl;
-  no_action =
-      refl;
+  no_action = refl;
   no_action_of_queue = refl;
   no_core = refl;
   one_core = refl;
@@ -44,8 +42,7 @@ worked_unsettled = record {
   queue_priority = refl;
   detached = refl;
   ids = refl;
-  bounded =
-      refl;
+  bounded = refl;
   bounded_all = refl;
   twice = refl;
   member = refl;
@@ -54,16 +51,14 @@ worked_unsettled = record {
   groups = refl;
   actions = refl;
   queues = refl;
-  limit =
-      refl;
+  limit = refl;
   faults = refl;
   faults_apart = refl;
   cancel = refl;
   wait_any = refl;
   mutex = refl;
   cancelled_unsettled = refl;
-  cancelled_plain =
-      refl;
+  cancelled_plain = refl;
   cancelled_report = refl;
   full_unsettled = refl;
   full_plain = refl;

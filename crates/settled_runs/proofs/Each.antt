@@ -223,14 +223,12 @@ module _ (load : Workload) (es : List NodeEntry) (ns : List ℕ) where
     finish = tail_of_main;
     known = [];
     is = x.is;
-    carried =
-        x.carried;
+    carried = x.carried;
     first = main_first (has_begin p.statements);
     last = (refl, (refl, tt));
     enters = λ k. absurd (omega arith);
     settled = e;
-    no_set_up =
-        λ k. absurd (omega arith);
+    no_set_up = λ k. absurd (omega arith);
     within = w;
   }
 

@@ -92,8 +92,7 @@ action_map M N p f x = record {
   kind = x.kind;
   mask = x.mask;
   handle = x.handle;
-  made =
-      f (Op.ActionCreate x.job x.kind x.mask) x.handle x.made;
+  made = f (Op.ActionCreate x.job x.kind x.mask) x.handle x.made;
   passes = x.passes;
 }
 
@@ -185,8 +184,7 @@ pub gave_in : (k : ObjectKind) (h : ℕ) (L start ls X : List Line) → L ≡ (s
 gave_in k h L start ls X e g = record {
   op = g.op;
   makes_it = g.makes_it;
-  has =
-      subst (λ (q : List Line). Has q g.op h) (sym (e ∙ append_assoc start ls X)) (has_more start ls X g.op h g.has);
+  has = subst (λ (q : List Line). Has q g.op h) (sym (e ∙ append_assoc start ls X)) (has_more start ls X g.op h g.has);
 }
 
 module _ (k : ObjectKind) (h : ℕ) (y : IsListedKind k) (terms : Terms) (es : List NodeEntry) (ns : List ℕ) (legal : Legal terms es) where
@@ -258,8 +256,7 @@ module _ (k : ObjectKind) (t : Sort) (y : Binds k t) where
       record {
         op = x.op;
         makes_it = x.makes_it;
-        has =
-            one_has ls f.first f.front f.step.more x.op h f.step.is (x.is ∙ ap (λ (j : ℕ). line x.op (Reply.Handle j) 0 ∷ []) same);
+        has = one_has ls f.first f.front f.step.more x.op h f.step.is (x.is ∙ ap (λ (j : ℕ). line x.op (Reply.Handle j) 0 ∷ []) same);
       }
 
   -- and is that of no other place

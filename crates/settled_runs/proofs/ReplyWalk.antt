@@ -90,8 +90,7 @@ module _ (layout : Layout) (load : Workload) (es : List NodeEntry) (ns : List �
           let x : Asks terms c.before who Op.Release r =
           record {
             legal = legal_here layout load es ns u who (start ++ l1) (line Op.Release r 0) (B ++ finish) c;
-            quiet =
-                quiet_before layout load es ns u who (start ++ l1) (line Op.Release r 0) (B ++ finish) c;
+            quiet = quiet_before layout load es ns u who (start ++ l1) (line Op.Release r 0) (B ++ finish) c;
             opened = f.opened l1 (line Op.Release r 0) B c;
           } in
           ap is_status (passed (not (is_open (after terms c.before).phase)) (Reply.Mtapi MtapiStatus.ErrNodeNotinit) (gives Reply.Ok (released ∷ [])) r
@@ -147,8 +146,7 @@ module _ (layout : Layout) (load : Workload) (es : List NodeEntry) (ns : List �
                 cores = cores.0;
                 detached = detached;
                 group = group;
-                queue =
-                    Some queue;
+                queue = Some queue;
               }) q) ≡ true
               → IsBoundAt Sort.Queue before queue → Made (call_of (map handle_of r1) (Deed.Enqueue queue args cores detached group)) front r → (h : ℕ)
               → r ≡ Reply.Handle h
@@ -160,8 +158,7 @@ module _ (layout : Layout) (load : Workload) (es : List NodeEntry) (ns : List �
                 cores = cores.0;
                 detached = detached;
                 group = group;
-                queue =
-                    Some queue;
+                queue = Some queue;
               }) q) r
           by_queue queue args cores detached group None e k o n h i = true_false k refl
           by_queue queue args cores detached group (Some x) e k o n h i =

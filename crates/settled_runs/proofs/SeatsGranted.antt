@@ -255,11 +255,9 @@ module _ (layout : Layout) (load : Workload) (es : List NodeEntry) (ns : List �
     pub further_finds : (all : List Statement) → set_up all ≡ false → Finds layout load es ns who entrance [] all (actions_in part.statements)
     further_finds all n = record {
       opened = λ A l B c. opened_late A l B c;
-      unclosed =
-          λ A l B c. further_unclosed layout load es ns u who (entrance ++ A) l (B ++ []) c late;
+      unclosed = λ A l B c. further_unclosed layout load es ns u who (entrance ++ A) l (B ++ []) c late;
       outside = (refl, tt);
-      acts =
-          λ A l B c p e. made_late A l B c p e;
+      acts = λ A l B c p e. made_late A l B c p e;
       alone = inl n;
     }
 

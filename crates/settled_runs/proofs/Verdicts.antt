@@ -89,11 +89,9 @@ one_faulty g (r ∷ rs) c o f = by (one_more g r rs) (λ d. later (one_faulty g 
     later x = record {
       handle = x.handle;
       task = x.task;
-      found =
-          at_skip r rs x.handle (grind (arith, nat_tests, o x.handle, live_listed x.handle rs (ap is_some x.found))) ∙ x.found;
+      found = at_skip r rs x.handle (grind (arith, nat_tests, o x.handle, live_listed x.handle rs (ap is_some x.found))) ∙ x.found;
       member = x.member;
-      fault =
-          x.fault;
+      fault = x.fault;
     }
 
     by : Joins g r rs ⊎ Passes g r rs → (first_fault (endings g (live_of rs)) ≡ Some c → IsFaulty g (r ∷ rs) c) → IsFaulty g (r ∷ rs) c
@@ -105,8 +103,7 @@ one_faulty g (r ∷ rs) c o f = by (one_more g r rs) (λ d. later (one_faulty g 
             task = r.fields;
             found = at_here r rs r.handle x.live (eq-eqb r.handle r.handle refl);
             member = x.member;
-            fault =
-                e;
+            fault = e;
           }
           | inr e ↦ k e
         ]
@@ -396,8 +393,7 @@ fine_along g hs s (e ∷ es) l q c k v =
     fine_along g (members_behind g hs e) (next s e) es l.1 q.1 (calm_next s e l.0 q.0 c) k.1
     (record {
       up = by_moves (λ t. is_open t.phase ≡ true) s e (λ t x y u. open_move e.op (unclosed g e.op k.0) t x y u) v.up;
-      group =
-          there_next s e Op.GroupCreate g q.0 v.group;
+      group = there_next s e Op.GroupCreate g q.0 v.group;
       members = members_next g hs s e l.0 q.0 c k.0 v;
     })
 

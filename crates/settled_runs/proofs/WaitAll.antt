@@ -139,8 +139,7 @@ module _ (actions : List Action) (all : List Statement) (ends : ℕ → Option T
               priority = x.priority;
               cores = cores.0;
               detached = detached;
-              group =
-                  group;
+              group = group;
               queue = Some queue;
             }) q
             → IsPlainTask actions ends (option_map (λ x. record {
@@ -149,8 +148,7 @@ module _ (actions : List Action) (all : List Statement) (ends : ℕ → Option T
               priority = x.priority;
               cores = cores.0;
               detached = detached;
-              group =
-                  group;
+              group = group;
               queue = Some queue;
             }) q) r
             → front ≡ line (Op.TaskEnqueue (record { 0 = handle_at bound queue }) args cores detached (option_map (group_at bound) group)) r 0 ∷ []
@@ -162,8 +160,7 @@ module _ (actions : List Action) (all : List Statement) (ends : ℕ → Option T
               cores = cores.0;
               detached = detached;
               group = group;
-              queue =
-                  Some queue;
+              queue = Some queue;
             }) q) faults place)
         by_queue queue args cores detached group None o i w n = none_some w.1
         by_queue queue args cores detached group (Some x) o i w n =

@@ -102,8 +102,7 @@ module _ (layout : Layout) (load : Workload) (es : List NodeEntry) (ns : List â„
         quiet_looks_are_answered (run_terms layout load) c.before who (record { 0 = h }) r
         (record {
           legal = legal_here layout load es ns u who (start ++ (l1 ++ bi)) look (B ++ finish) c;
-          quiet =
-              quiet_before layout load es ns u who (start ++ (l1 ++ bi)) look (B ++ finish) c;
+          quiet = quiet_before layout load es ns u who (start ++ (l1 ++ bi)) look (B ++ finish) c;
           opened = f.opened (l1 ++ bi) look B c;
         })
         (record {

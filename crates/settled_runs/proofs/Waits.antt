@@ -22,8 +22,7 @@ new_own who h n s b e = (
   at_issue_here h (new_task n s.starts) s.tasks (fresh_unlisted ObjectKind.Task s h e),
   record {
     kept = b.0;
-    alone =
-        b.1;
+    alone = b.1;
     waiter = refl;
   },
 )

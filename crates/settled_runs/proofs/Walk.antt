@@ -108,8 +108,7 @@ module _ (layout : Layout) (load : Workload) (es : List NodeEntry) (ns : List �
       asking : Asks terms c.before who o r
       asking = record {
         legal = legal_here layout load es ns u who (start ++ l1) (line o r n) (B ++ finish) c;
-        quiet =
-            quiet_before layout load es ns u who (start ++ l1) (line o r n) (B ++ finish) c;
+        quiet = quiet_before layout load es ns u who (start ++ l1) (line o r n) (B ++ finish) c;
         opened = f.opened l1 (line o r n) B c;
       }
 
@@ -132,8 +131,7 @@ module _ (layout : Layout) (load : Workload) (es : List NodeEntry) (ns : List �
             kind = x.kind;
             mask = x.mask;
             handle = x.handle;
-            made =
-                subst (λ (j : ℕ). MadeBy (Op.ActionCreate j x.kind x.mask) x.handle c.before) same x.made;
+            made = subst (λ (j : ℕ). MadeBy (Op.ActionCreate j x.kind x.mask) x.handle c.before) same x.made;
           }
 
       is_served : (job cores : ℕ) → serves load.settings.workers (known ++ actions_in before) job cores ≡ true → IsServed terms c.before job cores
@@ -148,12 +146,10 @@ module _ (layout : Layout) (load : Workload) (es : List NodeEntry) (ns : List �
             kind = x.kind;
             mask = x.mask;
             handle = x.handle;
-            made =
-                subst (λ (j : ℕ). MadeBy (Op.ActionCreate j x.kind x.mask) x.handle c.before) same x.made;
+            made = subst (λ (j : ℕ). MadeBy (Op.ActionCreate j x.kind x.mask) x.handle c.before) same x.made;
             worker = w.0;
             is_worker = w.1;
-            in_action =
-                snd_true _ (in_mask w.0 x.mask.0) a;
+            in_action = snd_true _ (in_mask w.0 x.mask.0) a;
             in_task = snd_true _ (in_mask w.0 cores) x.passes;
           }
 
@@ -256,8 +252,7 @@ module _ (layout : Layout) (load : Workload) (es : List NodeEntry) (ns : List �
               cores = cores.0;
               detached = detached;
               group = group;
-              queue =
-                  Some queue;
+              queue = Some queue;
             }) q) ≡ true
             → AllFit before (fields (word_for (Deed.Enqueue queue args cores detached group))) (values (Deed.Enqueue queue args cores detached group))
             → how_many (λ e. puts_into queue e.deed) all

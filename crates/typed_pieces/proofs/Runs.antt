@@ -45,8 +45,7 @@ has_run promise client settings told j r =
         opened = c.opened;
         after = c.after;
         same = c.same;
-        goes_on =
-            c.goes_on;
+        goes_on = c.goes_on;
         promised = tt;
         begins = c.begins;
       };
@@ -133,29 +132,6 @@ awaited g n m a b c (Ok u) same s w = record { group = g; before = b; started = 
 
 abbrev pub AwaitsPieces : {C : Type 0} → (C → ℕ) → C → Seat → Seat → Result (Unit {0}) MtapiStatus → Type 0
 AwaitsPieces places all old new told = IfOk told (λ _. HasAwaited (places all) old new) × IfErr told (λ status. EndsRefused status new)
-
-pub told_all : {C : Type 0} (places : C → ℕ) (client : C) (settings : NodeSettings) (told : Result (Unit {0}) MtapiStatus) (u : Unit {0}) (j : Journal)
-    → IsRun (AwaitsPieces places) client settings told j → told ≡ Ok u → HasRunAll settings (places client) j
-told_all places client settings told u j r is =
-    let c = r.called in
-    record {
-      history = r.history;
-      legal = r.legal;
-      kept = r.kept;
-      mine = r.mine;
-      called = record {
-        before = c.before;
-        number = c.number;
-        terms = c.terms;
-        opened = c.opened;
-        after = c.after;
-        same = c.same;
-        goes_on = c.goes_on;
-        promised = subst (λ (x : Result (Unit {0}) MtapiStatus). IfOk x (λ _. HasAwaited (places client) c.before c.after)) is c.promised.0;
-        begins = c.begins;
-      };
-      ended = r.ended;
-    }
 
 pub told_why : {C : Type 0} (places : C → ℕ) (client : C) (settings : NodeSettings) (told : Result (Unit {0}) MtapiStatus) (status : MtapiStatus) (j : Journal)
     → IsRun (AwaitsPieces places) client settings told j → told ≡ Err status → RefusesPieces settings status

@@ -384,8 +384,7 @@ reread [] r s line f le e = record {
   lines = [];
   shows = ap shown (sym (ok_is r s e)) ∙ sym (append-nil (shown r));
   from = tt;
-  read =
-      nothing_read r s line (ok_is r s e);
+  read = nothing_read r s line (ok_is r s e);
   short = inr (refl, refl);
 }
 reread (text ∷ texts) r s line f le e =

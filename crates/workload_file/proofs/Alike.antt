@@ -242,8 +242,7 @@ swapped r line first front x y back h = λ w name os read.
           ∙ read.name_is) b.again (record {
             known = sym (all_swap (is_known (fields w)) b.ahead x y back) ∙ known;
             once = once.0;
-            values =
-                values;
+            values = values;
           }),
       change_instead r line w name os qs values,
     )

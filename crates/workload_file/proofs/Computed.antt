@@ -18,16 +18,14 @@ worked_task_lines = record {
   node_least = refl;
   caller = refl;
   begin = refl;
-  action =
-      refl;
+  action = refl;
   action_absent = refl;
   action_delete = refl;
   action_enable = refl;
   action_disable = refl;
   started = refl;
   start_absent = refl;
-  start_last =
-      refl;
+  start_last = refl;
   enqueue = refl;
   enqueue_absent = refl;
   wait = refl;
@@ -49,8 +47,7 @@ worked_group_lines = record {
   group_delete = refl;
   queue_ordered = refl;
   queue_retains = refl;
-  queue_absent =
-      refl;
+  queue_absent = refl;
   queue_least = refl;
   queue_get = refl;
   queue_enable = refl;
@@ -72,8 +69,7 @@ worked_lock_lines = record {
   mutex_made = refl;
   lock = refl;
   unlock = refl;
-  sem =
-      refl;
+  sem = refl;
   sem_get = refl;
   sem_delete = refl;
   sem_made = refl;
@@ -82,8 +78,7 @@ worked_lock_lines = record {
   rwl = refl;
   rwl_get = refl;
   rwl_delete = refl;
-  rwl_made =
-      refl;
+  rwl_made = refl;
   rwl_lock_reader = refl;
   rwl_lock_writer = refl;
   rwl_unlock_reader = refl;
@@ -103,8 +98,7 @@ worked_segment_lines = record {
   attach = refl;
   detach = refl;
   read = refl;
-  write =
-      refl;
+  write = refl;
 }
 
 worked_causes : WorkedCauses
@@ -119,24 +113,21 @@ worked_causes = record {
   tab = refl;
   tilde = refl;
   unknown_word = refl;
-  too_many_statements =
-      refl;
+  too_many_statements = refl;
   too_many_callers = refl;
   eighth_caller = refl;
   second_begin = refl;
   begin_of_caller = refl;
   late_node = refl;
   bad_name = refl;
-  no_name =
-      refl;
+  no_name = refl;
   unknown_option = refl;
   no_option = refl;
   option_twice = refl;
   bad_value = refl;
   option_missing = refl;
   name_taken = refl;
-  main_taken =
-      refl;
+  main_taken = refl;
   own_taken = refl;
   earlier_taken = refl;
   name_unknown = refl;
@@ -158,8 +149,7 @@ worked_bad_values = record {
   queues = refl;
   objects = refl;
   priorities = refl;
-  generations =
-      refl;
+  generations = refl;
   no_workers = refl;
   no_tasks = refl;
   no_actions = refl;
@@ -167,8 +157,7 @@ worked_bad_values = record {
   no_queues = refl;
   no_objects = refl;
   no_priorities = refl;
-  no_generations =
-      refl;
+  no_generations = refl;
   job = refl;
   no_job = refl;
   job_started = refl;
@@ -176,16 +165,14 @@ worked_bad_values = record {
   priority = refl;
   queue_id = refl;
   queue_job = refl;
-  no_queue_job =
-      refl;
+  no_queue_job = refl;
   queue_priority = refl;
   queue_limit = refl;
   no_queue_limit = refl;
   sem_limit = refl;
   no_sem_limit = refl;
   rwl_limit = refl;
-  no_rwl_limit =
-      refl;
+  no_rwl_limit = refl;
   cells = refl;
   no_cells = refl;
   cell = refl;
@@ -195,8 +182,7 @@ worked_bad_values = record {
   looks = refl;
   flag = refl;
   mode = refl;
-  name =
-      refl;
+  name = refl;
   no_args = refl;
 }
 
@@ -213,8 +199,7 @@ worked_names = record {
   digit = refl;
   line = refl;
   capital = refl;
-  last =
-      refl;
+  last = refl;
   before_letters = refl;
   after_letters = refl;
   before_digits = refl;
@@ -227,8 +212,7 @@ worked_lines = record {
   groups = worked_group_lines;
   locks = worked_lock_lines;
   segments = worked_segment_lines;
-  causes =
-      worked_causes;
+  causes = worked_causes;
   bad_values = worked_bad_values;
   names = worked_names;
 }

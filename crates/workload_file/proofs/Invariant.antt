@@ -143,8 +143,7 @@ deed_given r first rest w name options h read =
         word = ap (λ (x : Spelled). x.word) is;
         used = ap (λ (x : Spelled). x.place) is;
         bound = use_is (here r) (naming w) name read.bound;
-        fits =
-            rw same are.0;
+        fits = rw same are.0;
       },
       same,
     )
@@ -267,20 +266,17 @@ statement_keeps r line first rest w name options place d f le read g =
           (λ (e : length r.before ≡ 0) (m : IsMain r.current). record {
             line = m.line;
             name = m.name;
-            begin =
-                elim b [ inl same ↦ rw same m.begin | inr one ↦ rw one.1 (omega arith) ];
+            begin = elim b [ inl same ↦ rw same m.begin | inr one ↦ rw one.1 (omega arith) ];
           })
           (λ (ge : 1 ≤ length r.before) (m : IsFurther r.current). record {
             line = m.line;
-            begin =
-                elim b [ inl same ↦ rw same m.begin | inr one ↦ absurd (omega (arith, ge, one.0)) ];
+            begin = elim b [ inl same ↦ rw same m.begin | inr one ↦ absurd (omega (arith, ge, one.0)) ];
           });
       names = names_last r.before r.current p refl f.names;
       parts = last_all IsPart r.before r.current p f.parts
           (λ (q : IsPart r.current). record {
             name = q.name;
-            statements =
-                push_statement [] r.current.statements s q.statements (statement_formed r line first rest w name options place d read g);
+            statements = push_statement [] r.current.statements s q.statements (statement_formed r line first rest w name options place d read g);
           });
       count = rw lines (length_push (lines_so_far r) line ∙ rw f.count refl);
       few = omega (arith, fewer);
@@ -372,8 +368,7 @@ none_keeps r line f = record {
   count = f.count;
   few = f.few;
   rise = f.rise;
-  below =
-      below_more line (lines_so_far r) f.below;
+  below = below_more line (lines_so_far r) f.below;
   usual = f.usual;
   settings = f.settings;
 }

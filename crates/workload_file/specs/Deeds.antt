@@ -34,15 +34,13 @@ deed_spelled (deed.Start job args priority cores detached group) =
     record {
       word = word.Start;
       place = None;
-      values =
-          given.Number job ∷ given.Args args ∷ given.Number priority ∷ given.Cores cores ∷ given.Flag detached ∷ given.Place group ∷ [];
+      values = given.Number job ∷ given.Args args ∷ given.Number priority ∷ given.Cores cores ∷ given.Flag detached ∷ given.Place group ∷ [];
     }
 deed_spelled (deed.Enqueue queue args cores detached group) =
     record {
       word = word.Enqueue;
       place = None;
-      values =
-          given.Place (Some queue) ∷ given.Args args ∷ given.Cores cores ∷ given.Flag detached ∷ given.Place group ∷ [];
+      values = given.Place (Some queue) ∷ given.Args args ∷ given.Cores cores ∷ given.Flag detached ∷ given.Place group ∷ [];
     }
 deed_spelled (deed.Wait place timeout) = record { word = word.Wait; place = Some place; values = given.Timeout timeout ∷ [] }
 deed_spelled (deed.Cancel place) = record { word = word.Cancel; place = Some place; values = [] }
@@ -54,8 +52,7 @@ deed_spelled (deed.Queue id job priority limit ordered retain) =
     record {
       word = word.Queue;
       place = None;
-      values =
-          given.Number id ∷ given.Number job ∷ given.Number priority ∷ given.Number limit ∷ given.Flag ordered ∷ given.Flag retain ∷ [];
+      values = given.Number id ∷ given.Number job ∷ given.Number priority ∷ given.Number limit ∷ given.Flag ordered ∷ given.Flag retain ∷ [];
     }
 deed_spelled (deed.QueueGet id) = record { word = word.QueueGet; place = None; values = given.Number id ∷ [] }
 deed_spelled (deed.QueueEnable place) = record { word = word.QueueEnable; place = Some place; values = [] }

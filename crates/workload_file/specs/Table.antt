@@ -46,8 +46,7 @@ row word.Begin = record { text = codes "begin"; naming = rule.Bare; fields = [] 
 row word.Action = record {
   text = codes "action";
   naming = rule.Binds sort.Action;
-  fields =
-      needs key.Job (shape.Number 1 65535) ∷ needs key.Kind shape.Kind ∷ may key.Cores shape.Cores ∷ [];
+  fields = needs key.Job (shape.Number 1 65535) ∷ needs key.Kind shape.Kind ∷ may key.Cores shape.Cores ∷ [];
 }
 row word.ActionDelete = record { text = codes "action_delete"; naming = rule.Uses sort.Action; fields = [] }
 row word.ActionEnable = record { text = codes "action_enable"; naming = rule.Uses sort.Action; fields = [] }
@@ -86,8 +85,7 @@ row word.QueueDelete = record { text = codes "queue_delete"; naming = rule.Uses 
 row word.Mutex = record {
   text = codes "mutex";
   naming = rule.Binds sort.Mutex;
-  fields =
-      needs key.Id (shape.Number 0 4294967295) ∷ may key.Recursive shape.Flag ∷ [];
+  fields = needs key.Id (shape.Number 0 4294967295) ∷ may key.Recursive shape.Flag ∷ [];
 }
 row word.MutexGet = record { text = codes "mutex_get"; naming = rule.Binds sort.Mutex; fields = needs key.Id (shape.Number 0 4294967295) ∷ [] }
 row word.MutexDelete = record { text = codes "mutex_delete"; naming = rule.Uses sort.Mutex; fields = [] }
@@ -96,8 +94,7 @@ row word.Unlock = record { text = codes "unlock"; naming = rule.Uses sort.Mutex;
 row word.Sem = record {
   text = codes "sem";
   naming = rule.Binds sort.Sem;
-  fields =
-      needs key.Id (shape.Number 0 4294967295) ∷ needs key.Limit (shape.Number 1 65535) ∷ [];
+  fields = needs key.Id (shape.Number 0 4294967295) ∷ needs key.Limit (shape.Number 1 65535) ∷ [];
 }
 row word.SemGet = record { text = codes "sem_get"; naming = rule.Binds sort.Sem; fields = needs key.Id (shape.Number 0 4294967295) ∷ [] }
 row word.SemDelete = record { text = codes "sem_delete"; naming = rule.Uses sort.Sem; fields = [] }
@@ -106,8 +103,7 @@ row word.SemUnlock = record { text = codes "sem_unlock"; naming = rule.Uses sort
 row word.Rwl = record {
   text = codes "rwl";
   naming = rule.Binds sort.Rwl;
-  fields =
-      needs key.Id (shape.Number 0 4294967295) ∷ needs key.Limit (shape.Number 1 32) ∷ [];
+  fields = needs key.Id (shape.Number 0 4294967295) ∷ needs key.Limit (shape.Number 1 32) ∷ [];
 }
 row word.RwlGet = record { text = codes "rwl_get"; naming = rule.Binds sort.Rwl; fields = needs key.Id (shape.Number 0 4294967295) ∷ [] }
 row word.RwlDelete = record { text = codes "rwl_delete"; naming = rule.Uses sort.Rwl; fields = [] }
@@ -116,8 +112,7 @@ row word.RwlUnlock = record { text = codes "rwl_unlock"; naming = rule.Uses sort
 row word.Shmem = record {
   text = codes "shmem";
   naming = rule.Binds sort.Shmem;
-  fields =
-      needs key.Id (shape.Number 0 4294967295) ∷ needs key.Cells (shape.Number 1 4096) ∷ [];
+  fields = needs key.Id (shape.Number 0 4294967295) ∷ needs key.Cells (shape.Number 1 4096) ∷ [];
 }
 row word.ShmemGet = record { text = codes "shmem_get"; naming = rule.Binds sort.Shmem; fields = needs key.Id (shape.Number 0 4294967295) ∷ [] }
 row word.ShmemDelete = record { text = codes "shmem_delete"; naming = rule.Uses sort.Shmem; fields = [] }
@@ -127,8 +122,7 @@ row word.Read = record { text = codes "read"; naming = rule.Uses sort.Shmem; fie
 row word.Write = record {
   text = codes "write";
   naming = rule.Uses sort.Shmem;
-  fields =
-      needs key.Cell (shape.Number 0 4095) ∷ needs key.Value shape.Whole ∷ [];
+  fields = needs key.Cell (shape.Number 0 4095) ∷ needs key.Value shape.Whole ∷ [];
 }
 
 -- the first word of the statement

@@ -37,8 +37,7 @@ module _ (R : ℕ → List NodeEntry → Type 0) where
   adds_more a b c x m = record {
     same = same_then a b c x.same (record { cell = m.cell; number = m.number; terms = m.terms });
     own = x.own;
-    mine =
-        m.mine ∙ x.mine;
+    mine = m.mine ∙ x.mine;
     is = x.is;
   }
 

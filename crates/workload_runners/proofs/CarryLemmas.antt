@@ -6,10 +6,6 @@ use Rattle.workload_runners.proofs.Adds.{adds_none, adds_then, adds_as}
 pub stated_once : (old new : Seat) (o : Op) (r : Reply) (h : ℕ) → h ≡ handle_of r → Turned old o r new → AddsOwn (StatedAs (Once o) h) old new
 stated_once old new o r h e t = record { same = t.same; own = _; mine = t.mine; is = record { reply = r; made = refl; is = e } }
 
-pub stated_look : (old new : Seat) (w : Wanted) (timeout : Timeout) (r : Reply) (h : ℕ) → h ≡ handle_of r → Looked w (looks_of timeout) old new r
-    → AddsOwn (StatedAs (Looking (waits w) (op_of w) timeout) h) old new
-stated_look old new w timeout r h e1 e2 = grind (arith, nat_tests)
-
 -- the statements so far: what is left may follow
 pub record SoFar (bound now : List ℕ) (done : List Statement) (w : ℕ) (own : List NodeEntry) : Type 0 where
   pub replies : List Reply
@@ -54,37 +50,10 @@ all_taken (x ∷ ss) (suc i) l = ap (λ k. x ∷ k) (all_taken ss i (omega (arit
 
 -- Main's part
 
-pub opens_alone : (a b : Seat) (begins : Bool) (r : Reply) → begins ≡ true → Turned a Initialize r b → AddsOwn (OpensAs begins) a b
-opens_alone a b begins r e1 e2 = grind (arith, nat_tests)
-
-pub opens_both : (a b c : Seat) (begins : Bool) (r q : Reply) → begins ≡ false → Turned a Initialize r b → Turned b Release q c → AddsOwn (OpensAs begins) a c
-opens_both a b c true r q e t u = absurd (cc)
-opens_both a b c false r q e t u = adds_then (OpensAs false) (λ w es. es ≡ entry w Initialize r ∷ []) (λ w es. es ≡ entry w Release q ∷ []) a b c
-    (record { same = t.same; own = _; mine = t.mine; is = refl }) (record { same = u.same; own = _; mine = u.mine; is = refl })
-    (λ xs ys x y. record { first = r; lets = entry a.number Release q ∷ []; is = λ i. x i ++ y i; let_is = (q, refl) })
-
-pub main_adds : (ss : List Statement) (a b c : Seat) (begins : Bool) → begins ≡ has_begin ss → AddsOwn (OpensAs begins) a b → AddsOwn (CarriedAs [] ss) b c
-    → AddsOwn (MainAs ss) a c
-main_adds ss a b c begins e x y = adds_then (MainAs ss) (OpensAs begins) (CarriedAs [] ss) a b c x y
-    (λ xs ys p q. record { front = xs; own = ys; is = refl; opens = subst (λ (d : Bool). OpensAs d a.number xs) e p; carried = q })
-
 -- A further caller's part
 
 pub enters : (a b : Seat) (r : Reply) → Looked Entrance None a b r → AddsOwn (EntersAs r) a b
 enters a b r l = record { same = l.same; own = _; mine = l.mine; is = record { pending = l.pending; is = refl; decides = l.decides l.bound } }
-
-pub entered_adds : (ss : List Statement) (a b c : Seat) (r : Reply) → is_ok r ≡ true → Looked Entrance None a b r → AddsOwn (CarriedAs [] ss) b c
-    → AddsOwn (CallerAs ss) a c
-entered_adds ss a b c r e l y = adds_then (CallerAs ss) (EntersAs r) (CarriedAs [] ss) a b c (enters a b r l) y
-    (λ xs ys p q. record {
-      reply = r;
-      front = xs;
-      own = ys;
-      is = refl;
-      enters = p;
-      carried =
-          subst (λ (d : Bool). CarriedAs [] (if d then ss else []) a.number ys) (sym e) q;
-    })
 
 pub refused_adds : (ss : List Statement) (a b : Seat) (r : Reply) → is_ok r ≡ false → Looked Entrance None a b r → AddsOwn (CallerAs ss) a b
 unfolding Carried
@@ -95,6 +64,5 @@ refused_adds ss a b r e l = adds_as (CallerAs ss) (EntersAs r) a b (enters a b r
       own = [];
       is = sym (append-nil es);
       enters = p;
-      carried =
-          subst (λ (d : Bool). CarriedAs [] (if d then ss else []) a.number []) (sym e) (record { replies = []; carried = refl });
+      carried = subst (λ (d : Bool). CarriedAs [] (if d then ss else []) a.number []) (sym e) (record { replies = []; carried = refl });
     })

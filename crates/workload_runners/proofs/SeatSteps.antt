@@ -156,8 +156,7 @@ heard_stop a b c h args n most true e p q =
       same = same_then a b c p.same q.same;
       mine = heard_mine a b c h p.heard true p.same p.mine q.mine;
       looks = n;
-      seen =
-          true;
+      seen = true;
       work = q.work;
       over = refl;
     }
@@ -224,12 +223,4 @@ rounds_more a b c p q = record {
         ∙ ap (λ (m : List NodeEntry). a.mine ++ m) (sym (all_in-push a.number p.rounds q.0));
     rest = q.1.rest;
   };
-}
-
-pub rounds_stop : (a b c : Seat) → Rounds a b → Rounded b false c → AddsOwn WorkerAs a c
-rounds_stop a b c p q = record {
-  same = same_then a b c p.added.same q.0;
-  own = all_in a.number p.rounds ++ entry a.number op.Pick reply.Stop ∷ [];
-  mine = mine_then a b c (λ w. all_in w p.rounds) (λ w. entry w op.Pick reply.Stop ∷ []) p.added.same p.added.mine q.1;
-  is = record { rounds = p.rounds; is = refl };
 }

@@ -73,8 +73,7 @@ came_seat R z from n k m backs all did known among low high =
       has = among y.0 y.1;
       did = all_own R (fresh_seat z.terms z.id k) y.0 refl y.2;
       knows = all_has (Knows m) backs y.0 known y.1;
-      number =
-          y.2.same.number;
+      number = y.2.same.number;
     }
 
 -- in a history that goes on behind what m had seen

@@ -78,8 +78,7 @@ takes_both a b c t args (Some false) got e p q =
       locked = (q.0, refl);
       does = record {
         same = same_then a b c p.same q.1.same;
-        mine =
-            behind a b c t p.pending (op.TallyLock t) (reply.Asked false) p.same p.mine q.1.mine;
+        mine = behind a b c t p.pending (op.TallyLock t) (reply.Asked false) p.same p.mine q.1.mine;
         work = q.1.work;
       };
     })
@@ -92,8 +91,7 @@ takes_both a b c t args (Some true) got e p q =
       does = record {
         same = same_then a b c p.same q.2.same;
         mine = behind a b c t p.pending (op.TallyLock t) (reply.Asked true) p.same p.mine q.2.mine;
-        work =
-            q.2.work;
+        work = q.2.work;
       };
     })
 

@@ -34,8 +34,7 @@ first_own w (h ∷ H) e es k = by_seat (h.who == w) refl (λ k. first_own w H e 
       is = ap (λ (x : NodeEntry). x ∷ H) (head k);
       others = refl;
       rest = tail k;
-      by =
-          ap (λ (x : NodeEntry). x.who) (sym (head k)) ∙ seat_is h.who w d;
+      by = ap (λ (x : NodeEntry). x.who) (sym (head k)) ∙ seat_is h.who w d;
     }
     by_seat false d rest k =
         let c = rest k in
@@ -43,8 +42,7 @@ first_own w (h ∷ H) e es k = by_seat (h.who == w) refl (λ k. first_own w H e 
           before = h ∷ c.before;
           behind = c.behind;
           is = ap (λ (l : List NodeEntry). h ∷ l) c.is;
-          others =
-              (λ i. cond (d i) (h ∷ entries_of w c.before) (entries_of w c.before)) ∙ c.others;
+          others = (λ i. cond (d i) (h ∷ entries_of w c.before) (entries_of w c.before)) ∙ c.others;
           rest = c.rest;
           by = c.by;
         }
@@ -106,8 +104,7 @@ look_at_live s w h (Some x) e a =
       at-update h (with_notes (with_waiter (Some w))) x s.tasks e,
       record {
         mark = self_is w;
-        kept =
-            first_false x.notes.detached _ d;
+        kept = first_false x.notes.detached _ d;
         alone = no_some x.notes.group (second_false x.notes.detached _ d);
       },
     )

@@ -137,8 +137,7 @@ says_by (want.Mutex h) s who _ _ _ (is.locks_mutex _ last x k b) =
       pending = λ i e. refl;
       stays = λ e b. refl;
       early = λ v e. refl;
-      found =
-          λ v d e. key_found x.depth (every_at Shallow s.mutexes h.0 x d k.found).deep;
+      found = λ v d e. key_found x.depth (every_at Shallow s.mutexes h.0 x d k.found).deep;
     }
 says_by (want.Mutex h) s who _ _ _ (is.refuses o c e) = absurd (cc)
 says_by (want.Sem h) s who _ _ _ (is.refuses_caller o c e) = mcode c (not_caller_timeout c e) (not_spent_caller done c e)

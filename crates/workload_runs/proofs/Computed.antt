@@ -12,8 +12,7 @@ worked_task_calls = record {
   action_enable = refl;
   action_disable = refl;
   start = refl;
-  start_detached =
-      refl;
+  start_detached = refl;
   enqueue = refl;
   enqueue_detached = refl;
   wait = refl;
@@ -29,8 +28,7 @@ worked_group_calls = record {
   group_delete = refl;
   queue_ordered = refl;
   queue_retains = refl;
-  queue_get =
-      refl;
+  queue_get = refl;
   queue_enable = refl;
   queue_disable = refl;
   queue_delete = refl;
@@ -45,8 +43,7 @@ worked_lock_calls = record {
   lock = refl;
   unlock = refl;
   sem = refl;
-  sem_get =
-      refl;
+  sem_get = refl;
   sem_delete = refl;
   sem_lock = refl;
   sem_unlock = refl;
@@ -54,8 +51,7 @@ worked_lock_calls = record {
   rwl_get = refl;
   rwl_delete = refl;
   rwl_lock_reader = refl;
-  rwl_lock_writer =
-      refl;
+  rwl_lock_writer = refl;
   rwl_unlock_reader = refl;
   rwl_unlock_writer = refl;
 }
@@ -72,15 +68,13 @@ worked_seats = record {
   no_look_before = refl;
   looks_before_it = refl;
   one_look = refl;
-  looks =
-      refl;
+  looks = refl;
   no_last_look = refl;
   mtapi_timeout = refl;
   mrapi_timeout = refl;
   no_timeout = refl;
   no_lock_timeout = refl;
-  head_with_begin =
-      refl;
+  head_with_begin = refl;
   head_without_begin = refl;
   tail = refl;
 }
@@ -94,14 +88,12 @@ worked_work = record {
   pick_pending = refl;
   pick_refused = refl;
   asked_refused = refl;
-  watch_end_refused =
-      refl;
+  watch_end_refused = refl;
   tally_lock_refused = refl;
   tally_lock_pending = refl;
   tally_read_refused = refl;
   tally_read_pending = refl;
-  tally_write_refused =
-      refl;
+  tally_write_refused = refl;
   tally_end_refused = refl;
   look = refl;
   creates = refl;
@@ -116,7 +108,6 @@ worked_calls = record {
   groups = worked_group_calls;
   locks = worked_lock_calls;
   segments = worked_segment_calls;
-  seats =
-      worked_seats;
+  seats = worked_seats;
   work = worked_work;
 }

@@ -88,8 +88,7 @@ made_leaves (Once o) ts rest r m = record {
   front = line o r 0 ∷ [];
   behind = rest;
   left_is = refl;
-  is =
-      ap (λ (x : List Turn). lines_left 0 (x ++ rest)) m.0;
+  is = ap (λ (x : List Turn). lines_left 0 (x ++ rest)) m.0;
   shows = (refl, m.1);
 }
 made_leaves (Looking waits o timeout) ts rest r m =
@@ -200,8 +199,7 @@ worker_left (t ∷ ts) n e = at t.stays (worker_left ts 0 (both_right (cond t.st
       work = line t.op t.reply n ∷ x.work;
       beside = x.beside;
       is = ap (λ (l : List Line). line t.op t.reply n ∷ l) x.is;
-      works =
-          both_true (is_work t.op t.reply) (all_work x.work) w x.works;
+      works = both_true (is_work t.op t.reply) (all_work x.work) w x.works;
     }
     at false x y w = y
 

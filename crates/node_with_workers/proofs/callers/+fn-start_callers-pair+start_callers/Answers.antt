@@ -9,8 +9,7 @@ invariant_of-job g t c =
       client = c.args.hands.client;
       seats = c.pop-2.new.self;
       others = c.pop.new.self;
-      told =
-          c.args.hands.told;
+      told = c.args.hands.told;
     } in
     let n = new_in c.args.cell.now c.args.hands given c.in-Some-pop.seat
     (taken_out c.args.cell.now c.args.hands c.pop.new.self.items c.in-Some.client given c.in-Some-pop.seat c.requires refl refl refl c.in-Some.ensures.items
@@ -24,8 +23,7 @@ returns-in_ok-company-in-Ok-clause-back g t c =
       client = c.args.hands.client;
       seats = c.pop-2.new.self;
       others = c.pop.new.self;
-      told =
-          c.args.hands.told;
+      told = c.args.hands.told;
     } in
     let out = taken_out c.args.cell.now c.args.hands c.pop.new.self.items c.in-Some.client given c.in-Some-pop.seat c.requires refl refl refl
     c.in-Some.ensures.items c.in-Some-pop.ensures.items in
@@ -42,8 +40,7 @@ returns-in_ok-company-in-Ok-clause-failed g t c =
       client = c.args.hands.client;
       seats = c.pop-2.new.self;
       others = c.pop.new.self;
-      told =
-          c.args.hands.told;
+      told = c.args.hands.told;
     } in
     let out = taken_out c.args.cell.now c.args.hands c.pop.new.self.items c.in-Some.client given c.in-Some-pop.seat c.requires refl refl refl
     c.in-Some.ensures.items c.in-Some-pop.ensures.items in
@@ -57,8 +54,7 @@ pair-outcome-requires-after_bounds g t c κs within =
       client = c.args.hands.client;
       seats = c.pop-2.new.self;
       others = c.pop.new.self;
-      told =
-          c.args.hands.told;
+      told = c.args.hands.told;
     } in
     let out = taken_out c.args.cell.now c.args.hands c.pop.new.self.items c.in-Some.client given c.in-Some-pop.seat c.requires refl refl refl
     c.in-Some.ensures.items c.in-Some-pop.ensures.items in

@@ -10,8 +10,7 @@ loop-number-preserved c = record {
   kept = kept_more c.args.totals c.loop-number.totals c.with_number-totals.result _ c.loop-number.invariant.kept c.with_number-totals.ensures.value;
   near = record {
     low = omega (arith, ints, c.with_number-totals.ensures.near.low, c.loop-number.invariant.near.low);
-    high =
-        omega (arith, ints, c.with_number-totals.ensures.near.high, c.loop-number.invariant.near.high);
+    high = omega (arith, ints, c.with_number-totals.ensures.near.high, c.loop-number.invariant.near.high);
   };
   within = omega (arith, c.loop-number-test.true);
 }

@@ -12,8 +12,7 @@ returns-in-Ok-clause-ended g c = ended_turn c.args.op c.args.crew _ c.meet_all.n
 pub returns-in-Ok-clause-of_cell : goal.returns-in-Ok-clause-of_cell
 returns-in-Ok-clause-of_cell g c = record {
   main = c.in-Ok.ensures.turned.same.cell ∙ (c.meet_all.ensures.met.main.cell ∙ c.requires.of_crew.main);
-  others =
-      of_met c.args.cell.now _ _ _ _ c.meet_all.ensures.met c.requires.of_crew.others;
+  others = of_met c.args.cell.now _ _ _ _ c.meet_all.ensures.met c.requires.of_crew.others;
 }
 
 pub returns-in-Err-clause-ended : goal.returns-in-Err-clause-ended
@@ -22,6 +21,5 @@ returns-in-Err-clause-ended g c = ended_spent c.args.op c.args.crew _ _ c.meet_a
 pub returns-in-Err-clause-of_cell : goal.returns-in-Err-clause-of_cell
 returns-in-Err-clause-of_cell g c = record {
   main = c.in-Err.ensures.spent.same.cell ∙ (c.meet_all.ensures.met.main.cell ∙ c.requires.of_crew.main);
-  others =
-      of_met c.args.cell.now _ _ _ _ c.meet_all.ensures.met c.requires.of_crew.others;
+  others = of_met c.args.cell.now _ _ _ _ c.meet_all.ensures.met c.requires.of_crew.others;
 }
