@@ -24,7 +24,7 @@ fn push_task(
 {
     match reply {
         Reply::Handle(handle) => match ended.get(handle) {
-            Some(end) => push_end(alloc, out, &end.full()),
+            Some(end) => push_end(alloc, out, end),
             _ => Ok(()),
         },
         Reply::Mtapi(status) => {

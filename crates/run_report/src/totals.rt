@@ -1,6 +1,7 @@
 //! The tasks of a run, counted by how they ended.
-ghost use Rattle.std.specs.Prelude.{◌≡◌, ◌≤◌, ◌<◌, ◌+◌, ◌*◌, ◌+ℤ◌, ◌≤ℤ◌, pos, neg_ℤ, Some, length, if◌then◌else◌, nat_eq};
+ghost use Rattle.std.specs.Prelude.{◌≡◌, ◌≤◌, ◌<◌, ◌+◌, ◌*◌, ◌+ℤ◌, ◌≤ℤ◌, ◌∷◌, [], pos, neg_ℤ, Some, length, if◌then◌else◌, nat_eq};
 ghost use Rattle.std.specs.HashMap.{get};
+ghost use Rattle.mtapi_values.specs.declared.ends.TaskEnd.TheVariants.{Completed};
 ghost use Rattle.run_report.specs.Replies.{nows};
 ghost use Rattle.run_report.specs.Calls.{shown_of, is_task};
 ghost use Rattle.run_report.specs.Summary.{no_totals, with_number, with_numbers, with_end, with_fate, with_task, with_tasks, IsNear, AreTotals};
@@ -82,6 +83,36 @@ fn with_end(totals: Totals, end: &TaskEnd) -> Totals
     }
 }
 
+/// With a task that answered one number.
+fn with_answer(totals: Totals, number: i64) -> Totals
+    requires totals { AreTotals totals.tasks totals }
+    requires few { totals.tasks < 20000 }
+    ensures value { result ≡ with_end totals (Some (Completed (number ∷ []))) }
+    ensures totals { AreTotals (totals.tasks + 1) result }
+    ensures tasks { result.tasks ≡ totals.tasks }
+{
+    let completed = totals.completed + 1;
+    let summed = with_number(totals, number);
+    Totals {
+        completed,
+        ..summed
+    }
+}
+
+/// With a task that ended so. Most answer one number, which is added without a list of it.
+fn with_short(totals: Totals, end: &ShortEnd) -> Totals
+    requires totals { AreTotals totals.tasks totals }
+    requires few { totals.tasks < 20000 }
+    ensures value { result ≡ with_end totals (Some end.now) }
+    ensures totals { AreTotals (totals.tasks + 1) result }
+    ensures tasks { result.tasks ≡ totals.tasks }
+{
+    match end.number() {
+        Some(number) => with_answer(totals, number),
+        None => with_end(totals, &end.full()),
+    }
+}
+
 /// With what became of a task, by the reply to its statement.
 fn with_fate(totals: Totals, ended: &HashMap<u64, ShortEnd>, reply: &Reply) -> Totals
     requires totals { AreTotals totals.tasks totals }
@@ -92,7 +123,7 @@ fn with_fate(totals: Totals, ended: &HashMap<u64, ShortEnd>, reply: &Reply) -> T
 {
     match reply {
         Reply::Handle(handle) => match ended.get(handle) {
-            Some(end) => with_end(totals, &end.full()),
+            Some(end) => with_short(totals, end),
             _ => totals,
         },
         Reply::Mtapi(_) => Totals {
