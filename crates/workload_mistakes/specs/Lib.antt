@@ -1,3 +1,4 @@
 pub mod Mending
 pub mod Told
 pub mod Page
+pub mod Worked

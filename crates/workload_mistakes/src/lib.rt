@@ -13,6 +13,7 @@ mod reading;
 mod search;
 mod table;
 mod words;
+pub mod worked;
 
 pub use explaining::{ExplainEnd, explain};
 pub use mistakes::{Meant, Mistake, Mistakes};

@@ -1,0 +1,100 @@
+-- Worked rows of what is told of mistakes and of how lines are mended, with values that all differ. Each is decided by computing.
+use Rattle.std.specs.Prelude.{◌≡◌, ℕ, true, false, List, [], ◌∷◌, codes, map, Vec}
+use Rattle.std.specs.Global.{Global}
+use Rattle.workload_file.specs.declared.faults.Cause.{Cause}
+use Rattle.workload_file.specs.declared.faults.Cause.TheVariants as cause
+use Rattle.workload_mistakes.specs.declared.mistakes.Meant.TheVariants as meant
+use Rattle.workload_mistakes.specs.declared.mistakes.Part.{Part}
+use Rattle.workload_mistakes.specs.declared.mistakes.Mend.{Mend}
+use Rattle.workload_mistakes.specs.declared.mistakes.Mend.TheVariants as mend
+use Rattle.workload_mistakes.specs.declared.mistakes.Mistake.{Mistake}
+use Rattle.workload_mistakes.specs.Mending.{binding, part_in, usual_text, read_for, mended, after}
+use Rattle.workload_mistakes.specs.Page.{mistake_text, is_behind, in_order, page_text}
+
+abbrev pub part : ℕ → ℕ → Part
+part from long = record { from = from; long = long }
+
+-- two lines of which each has a name and a word that isn't taken
+abbrev pub lines : List ℕ
+lines = codes "actio Sum job=7\nwait tt  for=9 0123456789 group=g\n"
+
+-- the first is read as the binding of its name, and of the second a word gives way to an option with a value
+abbrev pub first_mend : Mend
+first_mend = mend.Line meant.Action (part 6 3)
+
+abbrev pub second_mend : Mend
+second_mend = mend.Word (part 9 5) 8 (part 16 14)
+
+module _ (hint : Vec ℕ Global) where
+  abbrev pub told : ℕ → ℕ → Cause → Mend → Mistake
+  told line column why instead = record { line = line; cause = why; column = column; hint = hint; mend = instead }
+
+  abbrev pub nothing : Mend
+  nothing = mend.Line meant.Nothing (part 0 0)
+
+  -- in line 3 at column 14, in line 2 at column 9, in line 2 at column 5, and in line 4 at column 1
+  abbrev pub late : Mistake
+  late = told 3 14 cause.BadValue nothing
+
+  abbrev pub middle : Mistake
+  middle = told 2 9 cause.OptionMissing nothing
+
+  abbrev pub early : Mistake
+  early = told 2 5 cause.UnknownOption nothing
+
+  abbrev pub last : Mistake
+  last = told 4 1 cause.UnknownWord nothing
+
+  abbrev pub at_name : Mistake
+  at_name = told 1 1 cause.UnknownWord first_mend
+
+  abbrev pub at_option : Mistake
+  at_option = told 2 9 cause.UnknownOption second_mend
+
+  -- Mistakes stand by their lines, then by their columns, and those of one place as they were found.
+  pub record WorkedOrder : Type 0 where
+    pub later_line : is_behind late middle ≡ true
+    pub earlier_line : is_behind middle late ≡ false
+    pub later_column : is_behind middle early ≡ true
+    pub earlier_column : is_behind early middle ≡ false
+    pub line_first : is_behind last late ≡ true
+    pub itself : is_behind late late ≡ false
+    pub sorted : in_order (late ∷ middle ∷ last ∷ early ∷ []) ≡ (early ∷ middle ∷ late ∷ last ∷ [])
+    pub as_found : map (λ m. m.cause) (in_order (told 2 9 cause.BadValue nothing ∷ middle ∷ told 2 9 cause.NameTaken nothing ∷ []))
+        ≡ (cause.BadValue ∷ cause.OptionMissing ∷ cause.NameTaken ∷ [])
+
+  -- What a page says where this hint is the text "7 to 9".
+  pub record WorkedPage : Type 0 where
+    pub line : mistake_text late ≡ codes "line 3, column 14: bad value: 7 to 9\n"
+    pub none : page_text [] false ≡ codes "no mistake\n"
+    pub one : page_text (last ∷ []) false ≡ codes "line 4, column 1: unknown word: 7 to 9\n"
+    pub more : page_text (late ∷ middle ∷ []) true
+        ≡ codes "line 2, column 9: option missing: 7 to 9\nline 3, column 14: bad value: 7 to 9\nand perhaps more\n"
+
+  -- What is read in place of faulty lines.
+  pub record WorkedMends : Type 0 where
+    pub first : mended at_name lines ≡ codes "action Sum job=1 kind=add\nwait tt  for=9 0123456789 group=g\n"
+    pub second : mended at_option lines ≡ codes "actio Sum job=7\nwait tt timeout=nowait789 group=g\n"
+    pub both : after (at_name ∷ at_option ∷ []) lines ≡ codes "action Sum job=1 kind=add\nwait tt timeout=nowait789 group=g\n"
+
+-- Each meaning of a line has one that binds the name.
+pub record WorkedBindings : Type 0 where
+  pub nothing : binding meant.Nothing (codes "N") ≡ []
+  pub node : binding meant.Node (codes "N") ≡ codes "node"
+  pub begin : binding meant.Begin (codes "N") ≡ codes "begin"
+  pub caller : binding meant.Caller (codes "N") ≡ codes "caller N"
+  pub action : binding meant.Action (codes "N") ≡ codes "action N job=1 kind=add"
+  pub task : binding meant.Task (codes "N") ≡ codes "start N job=1"
+  pub group : binding meant.Group (codes "N") ≡ codes "group N"
+  pub queue : binding meant.Queue (codes "N") ≡ codes "queue_get N id=0"
+  pub mutex : binding meant.Mutex (codes "N") ≡ codes "mutex_get N id=0"
+  pub sem : binding meant.Sem (codes "N") ≡ codes "sem_get N id=0"
+  pub rwl : binding meant.Rwl (codes "N") ≡ codes "rwl_get N id=0"
+  pub shmem : binding meant.Shmem (codes "N") ≡ codes "shmem_get N id=0"
+  pub usual : part_in (part 16 14) usual_text ≡ codes "timeout=nowait"
+
+pub record WorkedMistakes : Type 0 where
+  pub order : (hint : Vec ℕ Global) → WorkedOrder hint
+  pub page : (hint : Vec ℕ Global) → hint.items ≡ codes "7 to 9" → WorkedPage hint
+  pub mends : (hint : Vec ℕ Global) → WorkedMends hint
+  pub bindings : WorkedBindings
