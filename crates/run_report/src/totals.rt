@@ -55,6 +55,23 @@ fn with_numbers(totals: Totals, numbers: &[i64]) -> Totals
     totals
 }
 
+/// With a task that completed with these numbers.
+fn with_completed(totals: Totals, numbers: &[i64]) -> Totals
+    requires totals { AreTotals totals.tasks totals }
+    requires few { totals.tasks < 20000 }
+    requires args { length numbers.now ≤ 16 }
+    ensures value { result ≡ with_end totals (Some (Completed numbers.now)) }
+    ensures totals { AreTotals (totals.tasks + 1) result }
+    ensures tasks { result.tasks ≡ totals.tasks }
+{
+    let completed = totals.completed + 1;
+    let summed = with_numbers(totals, numbers);
+    Totals {
+        completed,
+        ..summed
+    }
+}
+
 /// With a task that ended so.
 fn with_end(totals: Totals, end: &TaskEnd) -> Totals
     requires totals { AreTotals totals.tasks totals }
@@ -64,14 +81,7 @@ fn with_end(totals: Totals, end: &TaskEnd) -> Totals
     ensures tasks { result.tasks ≡ totals.tasks }
 {
     match end {
-        TaskEnd::Completed(numbers) => {
-            let completed = totals.completed + 1;
-            let summed = with_numbers(totals, numbers.as_slice());
-            Totals {
-                completed,
-                ..summed
-            }
-        }
+        TaskEnd::Completed(numbers) => with_completed(totals, numbers.as_slice()),
         TaskEnd::Cancelled => Totals {
             cancelled: totals.cancelled + 1,
             ..totals
@@ -80,22 +90,6 @@ fn with_end(totals: Totals, end: &TaskEnd) -> Totals
             failed: totals.failed + 1,
             ..totals
         },
-    }
-}
-
-/// With a task that answered one number.
-fn with_answer(totals: Totals, number: i64) -> Totals
-    requires totals { AreTotals totals.tasks totals }
-    requires few { totals.tasks < 20000 }
-    ensures value { result ≡ with_end totals (Some (Completed (number ∷ []))) }
-    ensures totals { AreTotals (totals.tasks + 1) result }
-    ensures tasks { result.tasks ≡ totals.tasks }
-{
-    let completed = totals.completed + 1;
-    let summed = with_number(totals, number);
-    Totals {
-        completed,
-        ..summed
     }
 }
 
@@ -108,7 +102,7 @@ fn with_short(totals: Totals, end: &ShortEnd) -> Totals
     ensures tasks { result.tasks ≡ totals.tasks }
 {
     match end.number() {
-        Some(number) => with_answer(totals, number),
+        Some(number) => with_completed(totals, &[number]),
         None => with_end(totals, &end.full()),
     }
 }
