@@ -1,6 +1,6 @@
 #!/usr/bin/env python3
-"""What refuses a slip that a definition and the code share: `bench/slips.py [NAME..]`, with the names of slips, or the first
-letters of some, and all if none is named.
+"""What refuses a slip that a definition and the code share, or a wrong body: `bench/slips.py [NAME..]`, with the names of slips,
+or the first letters of some, and all if none is named.
 
 A slip is a file `bench/slips/NAME.slip` of such lines, of which the three in the middle may stand several times:
 
@@ -11,17 +11,19 @@ A slip is a file `bench/slips/NAME.slip` of such lines, of which the three in th
     refused by: action_fn worked_answers
 
 The old text stands once in its file, and becomes the new one. Where both a definition and the code have what slips, both are
-changed, so that the code's own proof refuses nothing; a definition that no code computes is changed alone. Further pairs of
-`old` and `new` behind a `file` are of the same file.
+changed, so that the code's own proof refuses nothing; a definition that no code computes is changed alone. A wrong body is a
+slip of the code alone, which the clauses of its function have to refuse. Further pairs of `old` and `new` behind a `file` are
+of the same file.
 
-`refused by` names what has to fail: a crate and one of its functions, whose proof is tried (`rt check --only`); a crate alone,
-all of whose proofs are; or `case NAME`, where NAME is a crate, whose tests, program and cases are run unproved, or what a
-line of the output of `mtapi_examples` has that isn't as the stored output says.
+`refused by` names what has to fail: a crate and one of its functions (`table::Results::put`), whose proof is tried
+(`rt check --only`); a crate alone, all of whose proofs are; or `case NAME`, where NAME is a crate, whose tests, program and
+cases are run unproved, or what a line of the output of `mtapi_examples` has that isn't as the stored output says.
 
 Each slip is made in a copy of the repository in a scratch folder, over the proved libraries that checks left in `out/rlib` here
-and what else they kept on this machine, and is taken back before the next one. Prints for each `refused`, with the first complaint; `PROVES`, if nothing fails; or `BAD SLIP`, if the
-text doesn't stand there once or a changed file has a fault of its own. Fails if a slip isn't refused. A slip takes 10 to 60
-seconds; several calls may run beside one another, each on slips of its own.
+and what else they kept on this machine, and is taken back before the next one. Prints for each `refused`, with the first
+complaint; `PROVES`, if nothing fails; or `BAD SLIP`, if the text doesn't stand there once or a changed file has a fault of its
+own. Fails if a slip isn't refused. A slip takes 10 to 60 seconds; several calls may run beside one another, each on slips of its
+own.
 """
 
 import collections
