@@ -73,7 +73,7 @@ count_run() {
     printf '%s%-6s%s %4d s  %s: %d passed, %d failed%s\n' "$colour" "$word" "$plain" "$2" "$1" "$3" "$4" "${5:+: $5}"
 }
 
-show_run() {
+show_output() {
     { cat "$scratch/$1.out" && cat "$scratch/$1.err"; } | tail -n 60 | sed 's/^/    /'
 }
 
@@ -90,7 +90,7 @@ end_tests() {
     fi
     if [ "${failed:-0}" -eq 0 ]; then failed=1; fi
     count_run "$1" "$2" "${passed:-0}" "$failed" "$why"
-    show_run "$1"
+    show_output "$1"
 }
 
 end_program() {
@@ -110,7 +110,7 @@ end_program() {
         return
     fi
     count_run "$1" "$2" 0 1 "$why"
-    show_run "$1"
+    show_output "$1"
 }
 
 # How each input of the folder cases/ ends stands in the file cases.wanted beside it; its output is compared where cases/ has it.
@@ -125,6 +125,17 @@ end_cases() {
     fi
     count_run "$1" "$2" 0 "$failed" 'other ends than in its file cases.wanted'
     grep -ah '^case=' "$scratch/$1.out" "$scratch/$1.err" | sed 's/^/    /'
+}
+
+# All files of the script are read into one shell, where the function of a name is the one that was read last.
+test_script() {
+    local twice
+    twice=$(cat "$top/mtapi" "$top"/commands/*.sh | grep -o '^[a-z_]*()' | sort | uniq -d | tr -d '\n')
+    if [ -z "$twice" ]; then
+        count_run "functions of the script" 0 1 0
+    else
+        count_run "functions of the script" 0 0 1 "two files have $twice"
+    fi
 }
 
 # Tells of a run that has ended, and of what is left.
@@ -159,6 +170,7 @@ test_all() {
     echo "every test and every program, unproved, $at_once at a time. This proves nothing: .ci/run does, and runs them again."
     SECONDS=0
     tell "${#parts[@]} crates and programs: $(time_left)"
+    test_script
     for each in "${parts[@]}"; do
         while [ "${#processes[@]}" -ge "$at_once" ]; do
             sleep 0.2
