@@ -1,5 +1,6 @@
 #!/usr/bin/env python3
-"""Breaks the lines of specs and proofs that have more than 160 columns, at the outermost operator that lets them fit.
+"""Breaks the lines of specs and proofs that have more than 160 columns, at the outermost operator that lets them fit, and
+joins a field of a record with its value where both fit on one line.
 
 usage: proof_tools/long_lines.py [--count] [CRATE ..]
 
@@ -7,6 +8,7 @@ Without names all crates are read. With --count nothing is written, and the line
 aside: rt fmt writes an import that doesn't stand on one line with a line for each name. Run `rt fmt` afterwards.
 """
 import os
+import re
 import subprocess
 import sys
 
@@ -22,6 +24,7 @@ BEFORE = [["→"], ["×", "⊎", "↔"], ["≡", "≤", "<"], ["∙", "++", "∷
 BEHIND = ["=", "in", "of", "↦"]
 # No break before and behind these.
 FOLLOWS = ["=", ":", ".", "in", "of", "↦", "}", "at", "as", "is"]
+FIELD = re.compile(r"^ +[^\s:]+ =$")
 HOLDS = ["λ", "let", "pub", "by", "rw", "if", "with", "module", "record", "elim", "subst", "at", "as", "is", ":", "∃", "∀"]
 
 
@@ -89,6 +92,25 @@ def is_long(line):
     return len(line) > WIDTH and not is_left(line)
 
 
+def depth_of(line):
+    return len(line) - len(line.lstrip(" ")) if line.strip() else 0
+
+
+def joined(lines):
+    """The lines, with a field's name and its value on one where the value has one line and both fit."""
+    found, at = [], 0
+    while at < len(lines):
+        line, value, behind = (lines[at : at + 3] + ["", ""])[:3]
+        one = f"{line} {value.strip()}"
+        if FIELD.match(line) and depth_of(value) > depth_of(line) >= depth_of(behind) and not is_long(one) and "--" not in value:
+            found.append(one)
+            at += 2
+        else:
+            found.append(line)
+            at += 1
+    return found
+
+
 def files_of(crates):
     folders = [f"crates/{crate}" for crate in crates] or ["crates"]
     listed = subprocess.run(["git", "ls-files", *folders], cwd=TOP, check=True, capture_output=True, text=True)
@@ -102,8 +124,9 @@ def main():
         lines = read(path).split("\n")
         long = sum(is_long(line) for line in lines)
         count += long
-        if long and not only_count:
-            write(path, "\n".join(part for line in lines for part in (broken(line) if is_long(line) else [line])))
+        laid_out = joined([part for line in lines for part in (broken(line) if is_long(line) else [line])])
+        if laid_out != lines and not only_count:
+            write(path, "\n".join(laid_out))
     print(f"{count} lines of more than {WIDTH} columns")
 
 
