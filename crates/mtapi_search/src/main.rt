@@ -2,7 +2,7 @@
 //! the search, and the others are cancelled: by themselves they would look on for hours. Its result is taken while the node runs.
 #![tactic(auto)]
 
-use mtapi_values::{NodeAttr, TaskAttr, TaskHandle, Timeout};
+use mtapi_values::{MtapiStatus, NodeAttr, TaskAttr, TaskHandle, Timeout};
 use sched_workers::Caller;
 use std::alloc::Global;
 use std::io;
@@ -82,7 +82,11 @@ impl PieceClient<Search> for UntilFound {
                 pieces.cancel(rt, caller, other, tasks[other as usize])?;
             }
         }
-        caller.group_wait_all(rt, group, Timeout::Infinite)?;
+        match caller.group_wait_all(rt, group, Timeout::Infinite) {
+            // A search may have been cancelled before a worker began it.
+            Ok(()) | Err(MtapiStatus::ErrTaskCancelled) => {}
+            Err(status) => return Err(status.into()),
+        }
         let divisor = match first {
             Some(place) => pieces.take_done(rt, place).flatten(),
             None => None,
