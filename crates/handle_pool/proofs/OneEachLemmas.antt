@@ -34,13 +34,6 @@ module _ {T : Type 0} (key : T → ℕ) where
     ];
   }
 
-  -- the same after an insert that may have been refused
-  pub OneEach-insert_or_not : (p new : Slots T) (result : Result ℕ T) (value : T) (id : ℕ) → OneEach key p → key value ≡ id
-      → NoneLive (slot_value p) (λ v. key v ≡ id) → OnErr result (new ≡ p) → IfOk result (λ handle. Inserts p new handle value) → OneEach key new
-  OneEach-insert_or_not p new (Ok handle) value id each is free unchanged inserts =
-      OneEach-insert p new handle value each (λ h v found same. free h v found (same ∙ is)) inserts
-  OneEach-insert_or_not p new (Err back) value id each is free unchanged inserts = rw unchanged each
-
   -- what was live before, with the same key
   record Was (p : Slots T) (h : ℕ) (v : T) : Type 0 where
     value : T

@@ -293,13 +293,11 @@ module _ {T : Type 0} where
         | inl last ↦ rw last.0 (Replaces-retire p l h value
             (record { generation = generation_of h; value = None; retired = true }) stands found refl record {
               generation = at.count;
-              at_most =
-                  at.at_most;
+              at_most = at.at_most;
               retired = λ gone. (last.1, refl);
             } (sym last.0))
         | inr before ↦ rw before.0 (Replaces-retire p l h value (free_slot (generation_of h + 1)) stands found refl record {
-          generation =
-              ap (λ n. n + 1) at.count;
+          generation = ap (λ n. n + 1) at.count;
           at_most = omega (arith, at.at_most, before.1);
           retired = λ gone. absurd (cc);
         } (sym before.0))

@@ -12,13 +12,6 @@ module _ {A : Type 0} where
   pub starts_longer : (xs ys more : List A) → StartsWith xs ys → StartsWith (xs ++ more) ys
   starts_longer xs ys more s = (s.0 ++ more, ap (λ l. l ++ more) s.1 ∙ append_assoc ys s.0 more)
 
-  pub starts_through : (xs ys zs : List A) → StartsWith xs ys → StartsWith ys zs → StartsWith xs zs
-  starts_through xs ys zs a b = subst (λ l. StartsWith l zs) (sym a.1) (starts_longer ys zs a.0 b)
-
-  -- what holds of each prefix of a list holds of what the list begins with
-  pub of_start : (L : List A → Type 0) (xs ys : List A) → ((l more : List A) → L (l ++ more) → L l) → StartsWith xs ys → L xs → L ys
-  of_start L xs ys prefix s h = prefix ys s.0 (subst L s.1 h)
-
 module _ {Op Reply : Type 0} where
   -- one entry more, of the seat `who`
   pub own_more : (who : ℕ) (l : List (Entry Op Reply)) (e : Entry Op Reply) → e.who ≡ who → entries_of who (l ++ e ∷ []) ≡ entries_of who l ++ e ∷ []
@@ -44,12 +37,3 @@ module _ {Op Reply : Type 0} where
       elim (x.who == who) as (λ b. cond b (x ∷ entries_of who (l ++ m)) (entries_of who (l ++ m))
       ≡ cond b (x ∷ entries_of who l) (entries_of who l) ++ entries_of who m)
       [ true ↦ ap (λ n. x ∷ n) rest | false ↦ rest ]
-
-  -- a list that an entry extended begins with the earlier list
-  pub extends_starts : (before : List (Entry Op Reply)) (e : Entry Op Reply) (after : List (Entry Op Reply)) → Extends before e after → StartsWith after before
-  extends_starts before e after x = starts_through after (before ++ x.0) before (e ∷ [], x.1) (x.0, refl)
-
-  -- what is extended later extends the earlier list
-  pub extends_later : (first before : List (Entry Op Reply)) (e : Entry Op Reply) (after : List (Entry Op Reply)) → StartsWith before first
-      → Extends before e after → Extends first e after
-  extends_later first before e after s x = (s.0 ++ x.0, x.1 ∙ ap (λ l. l ++ e ∷ []) (ap (λ l. l ++ x.0) s.1 ∙ append_assoc first s.0 x.0))

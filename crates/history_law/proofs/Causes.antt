@@ -150,8 +150,7 @@ has_cause s (x ∷ xs) h e l n i = by_end (end_at (next s x).tasks h) refl (λ z
       by = r.by;
       behind = r.behind;
       cut = ap (λ (L : List NodeEntry). x ∷ L) r.cut;
-      task =
-          r.task;
+      task = r.task;
       is = r.is;
       cause = r.cause;
     }

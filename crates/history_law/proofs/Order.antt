@@ -269,8 +269,7 @@ given_in_order terms es g legal A B C x y a b cut i j =
     left_along g v.number (after terms A) (x
     ∷ B) prefix (record {
       next = gave_below _ g a _ (once_from terms A) (numbered_after terms A) v;
-      all =
-          from_endings g v.number (after terms A).tasks v.least;
+      all = from_endings g v.number (after terms A).tasks v.least;
     }) in
     let gone : Gone kind.Task a (after_from (after terms A) (x ∷ B)).tasks =
     (stays_gone kind.Task a (next (after terms A) x) B prefix.1 (gave_gone (after terms A) g a _ (once_from terms A) v)).0 in

@@ -47,8 +47,7 @@ pure_more h a l job k p =
       action = x.0;
       found = x.1;
       of_job = ap (λ (y : Action). y.job) x.2 ∙ p.of_job;
-      of_kind =
-          ap (λ (y : Action). y.kind) x.2 ∙ p.of_kind;
+      of_kind = ap (λ (y : Action). y.kind) x.2 ∙ p.of_kind;
       pure = p.pure;
     }
 
@@ -144,8 +143,7 @@ takes s w t a x y v e d m = record {
       found = d;
       of_job = job ∙ ap (λ (z : Task). z.job) i;
       of_kind = refl;
-      pure =
-          every_at IsPure s.actions a y v.pure d;
+      pure = every_at IsPure s.actions a y v.pure d;
     }
 
 -- a task that runs as this kind has the kind of an action of its job
@@ -176,8 +174,7 @@ on_close s v =
     record {
       pure = v.pure;
       on = v.on;
-      goes =
-          every_steps (Goes s.actions) s (closing s) s.tasks _ (λ h t i. tt) (λ r q x. by r q x) (tasks_go s (closing s)) v.goes;
+      goes = every_steps (Goes s.actions) s (closing s) s.tasks _ (λ h t i. tt) (λ r q x. by r q x) (tasks_go s (closing s)) v.goes;
     }
   where
     by : (r q : Listed Task) → Step s r (closing s) q → Goes s.actions r.fields → Goes s.actions q.fields

@@ -48,8 +48,7 @@ gone_move k h s o m e v =
     (λ j x b i w. record { some = listed_issue_some h j x _ w.some; dead = dead_issue h j x _ (fresh_apart k s h j w.some i) w.dead })
     (λ l a w. record {
       some = subst (λ (n : ℕ). 1 ≤ n) (sym (listed_ages (SameFields k) h _ l a)) w.some;
-      dead =
-          dead_ages (SameFields k) h _ l a w.dead;
+      dead = dead_ages (SameFields k) h _ l a w.dead;
     }) m e v
 
 -- An entry that issues a handle finds it unlisted

@@ -102,8 +102,7 @@ waits s who o h w t e n = (
     waiter = inl n;
     work = inr (record { looks = refl; seen = refl; tally = refl });
     detached = refl;
-    group =
-        inl refl;
+    group = inl refl;
     verdict = λ v. v;
   },
   stays refl,
@@ -166,8 +165,7 @@ by_answer s who _ _ _ i (is.any_given g last v y ys t z n a b e d) = (
       work = inr (record { looks = refl; seen = refl; tally = refl });
       detached = refl;
       group = inr refl;
-      verdict =
-          λ v. v;
+      verdict = λ v. v;
     },
     stays refl,
   ),

@@ -56,8 +56,7 @@ abbrev pub the_queue : Bool → Listed Queue
 the_queue enabled = record {
   handle = next_handle;
   live = true;
-  fields =
-      record { id = 1; job = 1; priority = 0; limit = 2; ordered = false; retain = true; enabled = enabled };
+  fields = record { id = 1; job = 1; priority = 0; limit = 2; ordered = false; retain = true; enabled = enabled };
 }
 
 abbrev pub with_queue : Bool → State

@@ -72,27 +72,6 @@ union_so_far p hs index job (Cores mask) h = h.1
 pub CoversBefore-zero : (p : Slots Action) (hs : List ℕ) (job : ℕ) → CoversBefore p hs 0 job NoAction
 CoversBefore-zero p hs job = NoneBefore-zero p hs (Passes (has_job job))
 
--- the walk goes on over a place of which no test speaks
-CoversBefore-past : (p : Slots Action) (hs : List ℕ) (index job : ℕ) (cover : Cover)
-    → ((q : Action → Bool) → ((a : Action) → q a ≡ true → has_job job a ≡ true) → NoneBefore p hs index (Passes q) → NoneBefore p hs (index + 1) (Passes q))
-    → CoversBefore p hs index job cover → CoversBefore p hs (index + 1) job cover
-CoversBefore-past p hs index job NoAction past h = past (has_job job) (λ a r. r) h
-CoversBefore-past p hs index job AllDisabled past h = (h.0, past (has_enabled_job job) (enabled_has_job job) h.1)
-CoversBefore-past p hs index job (Cores mask) past h = (
-  h.0,
-  record {
-    covered = h.1.covered;
-    uncovered = λ core is. past (runs_job_on job core) (λ a r. enabled_has_job job a (runs_has_job job core a r)) (h.1.uncovered core is);
-  },
-)
-
--- an action of another job
-pub CoversBefore-other : (p : Slots Action) (hs : List ℕ) (index job handle : ℕ) (a : Action) (cover : Cover) → slice_get hs index ≡ Some handle
-    → slot_value p handle ≡ Some a → has_job job a ≡ false → CoversBefore p hs index job cover → CoversBefore p hs (index + 1) job cover
-CoversBefore-other p hs index job handle a cover at live other h =
-    CoversBefore-past p hs index job cover (λ q has. NoneBefore-one p hs index handle a (Passes q) at live
-    (λ passes. not_both (has_job job a) other (has a passes))) h
-
 module _ (p : Slots Action) (hs : List ℕ) (index job handle : ℕ) (a : Action) (at : slice_get hs index ≡ Some handle) (live : slot_value p handle
     ≡ Some a) (has : has_job job a ≡ true) where
   enabled_covers : (cover : Cover) → a.enabled ≡ true → CoversBefore p hs index job cover

@@ -13,16 +13,13 @@ unfolding digits number number_within whole wholes list_of kind_named handle_nam
 worked_node_ops = record {
   initialize = record { one = refl; two = refl };
   released = record { one = refl; two = refl };
-  enters =
-      record { one = refl; two = refl };
+  enters = record { one = refl; two = refl };
   closes = record { one = refl; two = refl };
   final = record { one = refl; two = refl };
-  job_get =
-      record { one = refl; two = refl };
+  job_get = record { one = refl; two = refl };
   action_create = record { one = refl; two = refl };
   action_delete = record { one = refl; two = refl };
-  action_disable =
-      record { one = refl; two = refl };
+  action_disable = record { one = refl; two = refl };
   action_enable = record { one = refl; two = refl };
 }
 
@@ -34,16 +31,13 @@ unfolding digits number number_within whole wholes list_of kind_named handle_nam
 worked_task_ops = record {
   task_start = record { one = refl; two = refl };
   task_start_alone = record { one = refl; two = refl };
-  task_enqueue =
-      record { one = refl; two = refl };
+  task_enqueue = record { one = refl; two = refl };
   task_enqueue_alone = record { one = refl; two = refl };
   task_look = record { one = refl; two = refl };
-  task_look_last =
-      record { one = refl; two = refl };
+  task_look_last = record { one = refl; two = refl };
   task_cancel = record { one = refl; two = refl };
   group_create = record { one = refl; two = refl };
-  group_delete =
-      record { one = refl; two = refl };
+  group_delete = record { one = refl; two = refl };
   all_look = record { one = refl; two = refl };
   any_look = record { one = refl; two = refl };
 }
@@ -56,12 +50,10 @@ unfolding digits number number_within whole wholes list_of kind_named handle_nam
 worked_queue_ops = record {
   queue_ordered = record { one = refl; two = refl };
   queue_retains = record { one = refl; two = refl };
-  queue_get =
-      record { one = refl; two = refl };
+  queue_get = record { one = refl; two = refl };
   queue_enable = record { one = refl; two = refl };
   queue_disable = record { one = refl; two = refl };
-  queue_delete =
-      record { one = refl; two = refl };
+  queue_delete = record { one = refl; two = refl };
 }
 
 worked_work_ops : WorkedWorkOps
@@ -72,16 +64,13 @@ unfolding digits number number_within whole wholes list_of kind_named handle_nam
 worked_work_ops = record {
   pick = record { one = refl; two = refl };
   finish = record { one = refl; two = refl };
-  finish_empty =
-      record { one = refl; two = refl };
+  finish_empty = record { one = refl; two = refl };
   finish_failed = record { one = refl; two = refl };
   asks = record { one = refl; two = refl };
-  watch_end =
-      record { one = refl; two = refl };
+  watch_end = record { one = refl; two = refl };
   tally_lock = record { one = refl; two = refl };
   tally_read = record { one = refl; two = refl };
-  tally_write =
-      record { one = refl; two = refl };
+  tally_write = record { one = refl; two = refl };
   tally_end = record { one = refl; two = refl };
 }
 
@@ -93,24 +82,19 @@ unfolding digits number number_within whole wholes list_of kind_named handle_nam
 worked_lock_ops = record {
   mutex_create = record { one = refl; two = refl };
   mutex_recursive = record { one = refl; two = refl };
-  mutex_get =
-      record { one = refl; two = refl };
+  mutex_get = record { one = refl; two = refl };
   mutex_delete = record { one = refl; two = refl };
   mutex_look = record { one = refl; two = refl };
-  mutex_unlock =
-      record { one = refl; two = refl };
+  mutex_unlock = record { one = refl; two = refl };
   sem_create = record { one = refl; two = refl };
   sem_get = record { one = refl; two = refl };
-  sem_delete =
-      record { one = refl; two = refl };
+  sem_delete = record { one = refl; two = refl };
   sem_look = record { one = refl; two = refl };
   sem_unlock = record { one = refl; two = refl };
-  rwl_create =
-      record { one = refl; two = refl };
+  rwl_create = record { one = refl; two = refl };
   rwl_get = record { one = refl; two = refl };
   rwl_delete = record { one = refl; two = refl };
-  rwl_look_last =
-      record { one = refl; two = refl };
+  rwl_look_last = record { one = refl; two = refl };
   rwl_look_writer = record { one = refl; two = refl };
   rwl_unlock = record { one = refl; two = refl };
 }
@@ -123,12 +107,10 @@ unfolding digits number number_within whole wholes list_of kind_named handle_nam
 worked_segment_ops = record {
   shmem_create = record { one = refl; two = refl };
   shmem_get = record { one = refl; two = refl };
-  shmem_delete =
-      record { one = refl; two = refl };
+  shmem_delete = record { one = refl; two = refl };
   shmem_attach = record { one = refl; two = refl };
   shmem_detach = record { one = refl; two = refl };
-  shmem_read =
-      record { one = refl; two = refl };
+  shmem_read = record { one = refl; two = refl };
   shmem_write = record { one = refl; two = refl };
 }
 
@@ -140,24 +122,19 @@ unfolding digits number number_within whole wholes list_of kind_named handle_nam
 worked_replies = record {
   ok = record { one = refl; two = refl };
   handle_action = record { one = refl; two = refl };
-  number =
-      record { one = refl; two = refl };
+  number = record { one = refl; two = refl };
   completed = record { one = refl; two = refl };
   completed_empty = record { one = refl; two = refl };
-  cancelled =
-      record { one = refl; two = refl };
+  cancelled = record { one = refl; two = refl };
   failed = record { one = refl; two = refl };
   given = record { one = refl; two = refl };
-  given_cancelled =
-      record { one = refl; two = refl };
+  given_cancelled = record { one = refl; two = refl };
   pending = record { one = refl; two = refl };
   picked = record { one = refl; two = refl };
-  idle =
-      record { one = refl; two = refl };
+  idle = record { one = refl; two = refl };
   stop = record { one = refl; two = refl };
   asked_not = record { one = refl; two = refl };
-  asked =
-      record { one = refl; two = refl };
+  asked = record { one = refl; two = refl };
   mtapi_status = record { one = refl; two = refl };
   mrapi_status = record { one = refl; two = refl };
 }
@@ -175,24 +152,21 @@ worked_heads = record {
   most_callers = refl;
   too_many_callers = refl;
   no_caller = refl;
-  third_text =
-      refl;
+  third_text = refl;
   first_worker = refl;
   last_caller = refl;
   line_read = refl;
   none_left_out = refl;
   no_worker = refl;
   no_further_caller = refl;
-  no_tally =
-      refl;
+  no_tally = refl;
   no_tally_lock = refl;
   no_tally_read = refl;
   no_tally_write = refl;
   no_tally_action = refl;
   no_tally_picked = refl;
   tally = refl;
-  unanswered =
-      refl;
+  unanswered = refl;
   no_handle = refl;
   handle_read = refl;
   group_absent = refl;
@@ -211,8 +185,7 @@ worked_journals = record {
   task_ops = worked_task_ops;
   queue_ops = worked_queue_ops;
   work_ops = worked_work_ops;
-  lock_ops =
-      worked_lock_ops;
+  lock_ops = worked_lock_ops;
   segment_ops = worked_segment_ops;
   replies = worked_replies;
   lines = worked_heads;

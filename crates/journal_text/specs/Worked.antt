@@ -26,8 +26,7 @@ use Rattle.journal_text.specs.Journals.{journal_text, journal_of}
 abbrev pub head : Layout → ℕ → Head
 head layout callers = record {
   layout = layout;
-  settings =
-      record { workers = 3; tasks = 31; actions = 32; groups = 33; queues = 34; objects = 35; priorities = 6; generations = 37 };
+  settings = record { workers = 3; tasks = 31; actions = 32; groups = 33; queues = 34; objects = 35; priorities = 6; generations = 37 };
   callers = callers;
 }
 
@@ -217,8 +216,7 @@ pair layout = record {
   layout = layout;
   settings = (head layout 4).settings;
   callers = 4;
-  entries =
-      record { entries = entry 3 op.Close reply.Ok ∷ entry 1 op.Pick reply.Stop ∷ []; skipped = 0 ∷ 8 ∷ [] };
+  entries = record { entries = entry 3 op.Close reply.Ok ∷ entry 1 op.Pick reply.Stop ∷ []; skipped = 0 ∷ 8 ∷ [] };
 }
 
 -- a head line, and the line feed behind it

@@ -11,9 +11,6 @@ use Rattle.std.proofs.lemmas.List.Edits.{length-insert, get_or-insert_below, get
 use Rattle.keyed_pool.specs.Index.{AreRising, Locates}
 use Rattle.keyed_pool.specs.declared.IndexEntry.{IndexEntry}
 
-id_at : List IndexEntry → ℕ → IndexEntry → ℕ
-id_at xs k d = (slice_index_or xs k d).id
-
 module _ (xs : List IndexEntry) (rising : AreRising xs) where
   -- two places with one id are one place
   pub same_place : (a b : ℕ) (d : IndexEntry) → a < length xs → b < length xs → (slice_index_or xs a d).id ≡ (slice_index_or xs b d).id → a ≡ b

@@ -84,8 +84,7 @@ split handle (x ∷ hs) has =
             before = x ∷ tail.before;
             after = tail.after;
             whole = ap (λ (ys : List ℕ). x ∷ ys) tail.whole;
-            rest =
-                rw apart.0 (ap (λ (ys : List ℕ). x ∷ ys) tail.rest);
+            rest = rw apart.0 (ap (λ (ys : List ℕ). x ∷ ys) tail.rest);
           }
     ]
 

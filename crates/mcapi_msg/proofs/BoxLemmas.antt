@@ -96,9 +96,6 @@ reserve_fits limit capacity h p old spare kept found = omega (arith, kept.count,
 pub reserve_has : (limit capacity : ℕ) (p : Slots Mailbox) (spare : List RingTable) → IsKept limit p spare capacity → HasFree p → 0 < length spare
 reserve_has limit capacity p spare kept room = omega (arith, kept.count)
 
-pub free_then : (p : Slots Mailbox) → HasFree p → IsFull p → ⊥
-free_then p room full = omega arith
-
 -- the limit stays
 either : (b : Bool) (x y : RingTable) (n : ℕ) → x.limit ≡ n → y.limit ≡ n → (cond b x y).limit ≡ n
 either b x y n e1 e2 = grind (arith, nat_tests)

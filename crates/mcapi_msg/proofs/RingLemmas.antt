@@ -123,10 +123,8 @@ first-is (x ∷ ws) w e = pick (next_of ws) refl e (λ y is. first-is ws y is)
     mine : IsFirst x ws → IsFirst x (x ∷ ws)
     mine f = record {
       rest = x ∷ f.rest;
-      front =
-          ap (λ b. cond b (x ∷ of_priority x.priority ws) (of_priority x.priority ws)) (own x) ∙ ap (λ (l : List Waiting). x ∷ l) f.front;
-      none =
-          λ q small. ap (λ b. cond b (x ∷ of_priority q ws) (of_priority q ws)) (one q small) ∙ f.none q small;
+      front = ap (λ b. cond b (x ∷ of_priority x.priority ws) (of_priority x.priority ws)) (own x) ∙ ap (λ (l : List Waiting). x ∷ l) f.front;
+      none = λ q small. ap (λ b. cond b (x ∷ of_priority q ws) (of_priority q ws)) (one q small) ∙ f.none q small;
     }
 
     lone : IsFirst x (x ∷ [])
@@ -165,10 +163,6 @@ first-is (x ∷ ws) w e = pick (next_of ws) refl e (λ y is. first-is ws y is)
     pick : (o : Option Waiting) → next_of ws ≡ o → Some (sooner x o) ≡ Some w → ((y : Waiting) → next_of ws ≡ Some y → IsFirst y ws) → IsFirst w (x ∷ ws)
     pick None is k more = subst (λ (v : Waiting). IsFirst v (x ∷ ws)) (same x w k) (subst (λ (l : List Waiting). IsFirst x (x ∷ l)) (sym (empty ws is)) lone)
     pick (Some y) is k more = by_test y _ refl (more y is) (same _ _ k)
-
-pub none-empty : (ws : List Waiting) → next_of ws ≡ None → ws ≡ []
-none-empty [] k = refl
-none-empty (y ∷ l) k = absurd (cc)
 
 pub take-none : (limit : ℕ) (ws : List Waiting) → next_of ws ≡ None
     → (first_in (rings_of limit ws) ≡ None) × (without_front (rings_of limit ws) ≡ rings_of limit ws)

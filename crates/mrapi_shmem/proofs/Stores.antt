@@ -40,10 +40,3 @@ IsStore-without p h old spare more room now store found one same = record {
 -- a segment that is live has its memory, so that there is room for one more piece of spare memory
 pub room_for_one : (p : Slots Segment) (h : ℕ) (old : Segment) (spare room : ℕ) → IsStore p spare room → slot_value p h ≡ Some old → spare < room
 room_for_one p h old spare room store found = omega (arith, store.counted, store.fits, live_count-without p h old found)
-
--- where a segment may still be made, there is memory for it
-pub some_spare : (p : Slots Segment) (spare room : ℕ) → IsStore p spare room → live_count p + retired_count p ≤ max_of p → (IsFull p → ⊥) → 0 < spare
-some_spare p spare room store fits more = by_cases (live_count p) (retired_count p) (max_of p) store.counted fits more
-  where
-    by_cases : (live retired max : ℕ) → spare + live ≡ max → live + retired ≤ max → (live + retired ≡ max → ⊥) → 0 < spare
-    by_cases live retired max counted fits more = omega arith

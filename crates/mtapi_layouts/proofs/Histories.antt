@@ -24,8 +24,7 @@ fits n = record {
   groups = n.groups;
   queues = n.queues;
   mutexes = n.mutexes;
-  sems =
-      n.sems;
+  sems = n.sems;
   rwls = n.rwls;
   segments = n.segments;
 }
@@ -39,8 +38,7 @@ named n = record {
   mutexes = n.mutexes;
   sems = n.sems;
   rwls = n.rwls;
-  segments =
-      n.segments;
+  segments = n.segments;
 }
 
 -- no moves change the terms
@@ -110,8 +108,7 @@ opening_turns terms = record {
     mutexes = tt;
     sems = tt;
     rwls = tt;
-    segments =
-        tt;
+    segments = tt;
   };
   turned = refl;
 }

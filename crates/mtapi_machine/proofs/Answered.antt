@@ -134,8 +134,7 @@ module _ (s : State) (who : ℕ) where
         first_mutex = i;
         first_segment = j;
         found_mutex = d;
-        found_segment =
-            f;
+        found_segment = f;
         in_cells = not_false _ e;
         free = k;
       })))))

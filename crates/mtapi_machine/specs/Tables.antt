@@ -63,8 +63,7 @@ node_of workers tasks others = record {
     queues = others;
     objects = others;
     priorities = 4;
-    generations =
-        4294967295;
+    generations = 4294967295;
   };
   callers = 2;
 }

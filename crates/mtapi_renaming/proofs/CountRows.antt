@@ -30,8 +30,7 @@ module _ (s : State) (h : ℕ) where
     one = one;
     slot = slot;
     others = λ i e. ap (λ (l : List (Listed (FieldsOf i))). length l) (others i e);
-    other_slots =
-        λ i e j. ap (λ (l : List (Listed (FieldsOf i))). issued_at j l) (others i e);
+    other_slots = λ i e j. ap (λ (l : List (Listed (FieldsOf i))). issued_at j l) (others i e);
   }
 
   one_sort : (t : Sort) (v : Fields t) → MakesOne s (apply (makes t h v) s) (all_of t).kind h

@@ -162,8 +162,7 @@ module _ {g : Renaming} {x : Room} {s : State} (n : Follows g s) {h other : ℕ}
         ∷ []) others.0 others.1 in
         record {
           same = ap (renamed (with_pair o.kind h other g) x) e ∙ p.same ∙ sym d;
-          follows =
-              subst (λ (t : State). Follows (with_pair o.kind h other g) t) (sym e) p.follows;
+          follows = subst (λ (t : State). Follows (with_pair o.kind h other g) t) (sym e) p.follows;
         };
   }
 

@@ -47,8 +47,7 @@ module _ {T : Type 0} where
   pub goes-issue : (last h : ℕ) (v : T) (l : List (Listed T)) → ListGoes 0 0 last last l (issue h v l)
   goes-issue last h v l = record {
     last = omega (arith, retired-issue last h v l);
-    other =
-        omega (arith, retired-issue last h v l, lives-issue h v l, length-issue h v l);
+    other = omega (arith, retired-issue last h v l, lives-issue h v l, length-issue h v l);
   }
 
   -- where a live object of this handle isn't live any more, one more is gone

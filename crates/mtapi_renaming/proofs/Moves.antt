@@ -64,8 +64,7 @@ has-with g s n Groups l v = record {
   tasks = n.tasks;
   groups = v;
   queues = n.queues;
-  mutexes =
-      n.mutexes;
+  mutexes = n.mutexes;
   sems = n.sems;
   rwls = n.rwls;
   segments = n.segments;
@@ -77,8 +76,7 @@ has-with g s n Queues l v = record {
   tasks = n.tasks;
   groups = n.groups;
   queues = v;
-  mutexes =
-      n.mutexes;
+  mutexes = n.mutexes;
   sems = n.sems;
   rwls = n.rwls;
   segments = n.segments;
@@ -90,8 +88,7 @@ has-with g s n Mutexes l v = record {
   tasks = n.tasks;
   groups = n.groups;
   queues = n.queues;
-  mutexes =
-      v;
+  mutexes = v;
   sems = n.sems;
   rwls = n.rwls;
   segments = n.segments;
@@ -103,8 +100,7 @@ has-with g s n Sems l v = record {
   tasks = n.tasks;
   groups = n.groups;
   queues = n.queues;
-  mutexes =
-      n.mutexes;
+  mutexes = n.mutexes;
   sems = v;
   rwls = n.rwls;
   segments = n.segments;
@@ -116,8 +112,7 @@ has-with g s n Rwls l v = record {
   tasks = n.tasks;
   groups = n.groups;
   queues = n.queues;
-  mutexes =
-      n.mutexes;
+  mutexes = n.mutexes;
   sems = n.sems;
   rwls = v;
   segments = n.segments;
@@ -129,8 +124,7 @@ has-with g s n Segments l v = record {
   tasks = n.tasks;
   groups = n.groups;
   queues = n.queues;
-  mutexes =
-      n.mutexes;
+  mutexes = n.mutexes;
   sems = n.sems;
   rwls = n.rwls;
   segments = v;
@@ -151,8 +145,7 @@ has-so g s n p b marks starts ends l ts v w =
       queues = n.queues;
       mutexes = n.mutexes;
       sems = n.sems;
-      rwls =
-          n.rwls;
+      rwls = n.rwls;
       segments = n.segments;
     }
 
@@ -184,8 +177,7 @@ module _ (g : Renaming) (x : Room) (s : State) (n : Fits g s) where
   pub stops-renames : (w : ℕ) → MoveRenames g x s (stops w) (stops w)
   stops-renames w = record {
     same = refl;
-    fits =
-        has-so g s n s.phase s.released (slice_set s.stopped w true) s.starts s.ends s.actions s.tasks n.actions n.tasks;
+    fits = has-so g s n s.phase s.released (slice_set s.stopped w true) s.starts s.ends s.actions s.tasks n.actions n.tasks;
   }
 
   pub enables-renames : (h : ℕ) → MoveRenames g x s (enables (g kind.Action h)) (enables h)
@@ -202,8 +194,7 @@ module _ (g : Renaming) (x : Room) (s : State) (n : Fits g s) where
   task_changes : (h : ℕ) (F G : Task → Task) → ((t : Task) → renamed_task g (F t) ≡ G (renamed_task g t))
       → renamed g x (record s { tasks = update h F s.tasks }) ≡ record (renamed g x s) { tasks = update (g kind.Task h) G (renamed g x s).tasks }
   task_changes h F G to = λ i. record (renamed g x s) {
-    tasks =
-        update-inside (g kind.Task) (λ j y. renamed_task g y) h F G s.tasks to (apart g n.one kind.Task (renamed_task g) (HasTask g) h s.tasks n.tasks) i;
+    tasks = update-inside (g kind.Task) (λ j y. renamed_task g y) h F G s.tasks to (apart g n.one kind.Task (renamed_task g) (HasTask g) h s.tasks n.tasks) i;
   }
 
   pub runs_task-renames : (h w : ℕ) (k : Kind) → MoveRenames g x s (runs_task (g kind.Task h) w k) (runs_task h w k)
@@ -231,8 +222,7 @@ module _ (g : Renaming) (x : Room) (s : State) (n : Fits g s) where
   pub leaves-renames : (h : ℕ) → MoveRenames g x s (leaves (g kind.Task h)) (leaves h)
   leaves-renames h = record {
     same = λ i. record (renamed g x s) {
-      tasks =
-          retire-inside (g kind.Task) (λ j y. renamed_task g y) h s.tasks (apart g n.one kind.Task (renamed_task g) (HasTask g) h s.tasks n.tasks) i;
+      tasks = retire-inside (g kind.Task) (λ j y. renamed_task g y) h s.tasks (apart g n.one kind.Task (renamed_task g) (HasTask g) h s.tasks n.tasks) i;
     };
     fits = with_tasks s.starts s.ends _ (has-change g kind.Task (HasTask g) h gone (λ r. refl) (λ r v. v) s.tasks n.tasks);
   }

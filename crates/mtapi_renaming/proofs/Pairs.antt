@@ -104,8 +104,7 @@ module _ (g : Renaming) (k : ObjectKind) (h other : ℕ) where
         group = option-same kind.Group t.notes.group n.notes.group i;
         tally = record t.notes.tally {
           mutex = none-same kind.Mutex t.notes.tally.mutex z n.notes.tally.mutex i;
-          segment =
-              none-same kind.Shmem t.notes.tally.segment w n.notes.tally.segment i;
+          segment = none-same kind.Shmem t.notes.tally.segment w n.notes.tally.segment i;
         };
       };
     }
@@ -117,8 +116,7 @@ module _ (g : Renaming) (k : ObjectKind) (h other : ℕ) where
         group = option-still kind.Group t.notes.group n.notes.group;
         tally = record {
           mutex = none-still kind.Mutex t.notes.tally.mutex n.notes.tally.mutex;
-          segment =
-              none-still kind.Shmem t.notes.tally.segment n.notes.tally.segment;
+          segment = none-still kind.Shmem t.notes.tally.segment n.notes.tally.segment;
         };
       };
     }
@@ -127,8 +125,7 @@ module _ (g : Renaming) (k : ObjectKind) (h other : ℕ) where
         → HasTask (with_pair k h other g) (new_task t start)
     new-still t start a b = record {
       queue = option-still kind.Queue t.queue b;
-      notes =
-          record { group = option-still kind.Group t.group a; tally = record { mutex = inl refl; segment = inl refl } };
+      notes = record { group = option-still kind.Group t.group a; tally = record { mutex = inl refl; segment = inl refl } };
     }
 
     new-same : (t : NewTask) → IfSome t.group (Has g kind.Group) → IfSome t.queue (Has g kind.Queue) → renamed_new (with_pair k h other g) t ≡ renamed_new g t

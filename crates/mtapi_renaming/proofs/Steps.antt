@@ -23,8 +23,7 @@ create_renames g x s who o k h other n i =
       makes = a.answers;
       allowed = a.made;
       leads = λ b c. (a.makes b c).same;
-      follows =
-          λ b c. (a.makes b c).follows;
+      follows = λ b c. (a.makes b c).follows;
     }
 
 -- what is decided, where the row reads nothing of the two replies

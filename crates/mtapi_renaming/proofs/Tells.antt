@@ -25,8 +25,7 @@ module _ {s : State} where
     why = Some y;
     is = refl;
     tells = λ r. (λ i. i, λ i. i);
-    plain =
-        λ r e. grind (arith, no_handle_in y p);
+    plain = λ r e. grind (arith, no_handle_in y p);
     stays = λ r i e. refl;
   }
 
@@ -36,8 +35,7 @@ module _ {s : State} where
     asks = refl;
     why = Some y;
     is = ap (λ (b : Bool). cond b None (Some y)) v.asks;
-    tells =
-        λ r. (λ i. i, λ i. i);
+    tells = λ r. (λ i. i, λ i. i);
     plain = λ r e. grind (arith, no_handle_in y p);
     stays = λ r i e. refl;
   }
@@ -48,8 +46,7 @@ module _ {s : State} where
         is = ap (λ (b : Bool). cond b None (refusal_in (own Ok))) v.asks ∙ v.is;
         tells = v.tells;
         plain = v.plain;
-        stays =
-            v.stays;
+        stays = v.stays;
       }
 
   creates_tells : {T : Type 0} {k : ObjectKind} (o : Objects T) (make : ℕ → Move) → is_full_of k s ≡ full o s → ((h : ℕ) → is_fresh_of k s h ≡ is_fresh o s h)

@@ -21,8 +21,7 @@ refusals = record {
   unrefused = refl;
   absent = refl;
   exists_told = refl;
-  exists_first =
-      refl;
+  exists_first = refl;
   limit_told = refl;
 }
 
@@ -38,7 +37,6 @@ lasts = record {
   no_lasts = refl;
   room = refl;
   no_limit = refl;
-  again =
-      refl;
+  again = refl;
   handle = refl;
 }

@@ -61,13 +61,6 @@ pub number_fits : (n : Node) (g : Log) (L : List NodeEntry) (who : ℕ) → Logg
 number_fits n g L who st l =
     subst (λ (c : List ℕ). slice_index c who < 2 ^ 63) (sym st.counts) (omega (arith, number_le (opening (terms_of n)) L who))
 
-pub seat_fits : (n : Node) (L : List NodeEntry) (who : ℕ) → Stands n L → who < seat_count (terms_of n) → who < 25
-seat_fits n L who st s =
-    let fits = (history_of n L st).fits in
-    let workers = fits.settings.workers.1 in
-    let callers = fits.callers in
-    omega arith
-
 -- nothing was called yet
 pub logged_none : (s : State) (g : Log) → KeepsOf s g.kept [] → g.counts ≡ no_counts → LoggedFrom s g []
 unfolding counts_after

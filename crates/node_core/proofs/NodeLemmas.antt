@@ -11,10 +11,6 @@ seen_legal n L entries seen small inside = subst (Legal (terms_of n)) seen (hist
 pub new_node : (n : Node) → StandsInside n.inner [] → Stands n []
 new_node n s = record { entries = []; seen = refl; small = tt; inside = s; legal = seen_legal n [] [] refl tt s }
 
-pub new_terms : (n : Node) (settings : NodeSettings) (callers : ℕ) → terms_inside n.inner ≡ record { layout = One; settings = settings; callers = callers }
-    → terms_of n ≡ record { layout = Two; settings = settings; callers = callers }
-new_terms n settings callers e = ap (λ (t : Terms). record t { layout = Two }) e
-
 pub same_terms : (n m : Node) → terms_inside m.inner ≡ terms_inside n.inner → terms_of m ≡ terms_of n
 same_terms n m e = ap (λ (t : Terms). record t { layout = Two }) e
 

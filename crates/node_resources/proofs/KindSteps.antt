@@ -41,29 +41,25 @@ parts Mutexes is s old v = record {
   holds = v.mutexes;
   same = refl;
   others = λ l. refl;
-  stands =
-      λ q l h. record { mutexes = h; sems = v.sems; rwls = v.rwls; segments = v.segments };
+  stands = λ q l h. record { mutexes = h; sems = v.sems; rwls = v.rwls; segments = v.segments };
 }
 parts Sems is s old v = record {
   holds = v.sems;
   same = refl;
   others = λ l. refl;
-  stands =
-      λ q l h. record { mutexes = v.mutexes; sems = h; rwls = v.rwls; segments = v.segments };
+  stands = λ q l h. record { mutexes = v.mutexes; sems = h; rwls = v.rwls; segments = v.segments };
 }
 parts Rwls is s old v = record {
   holds = v.rwls;
   same = refl;
   others = λ l. refl;
-  stands =
-      λ q l h. record { mutexes = v.mutexes; sems = v.sems; rwls = h; segments = v.segments };
+  stands = λ q l h. record { mutexes = v.mutexes; sems = v.sems; rwls = h; segments = v.segments };
 }
 parts Segments is s old v = record {
   holds = v.segments;
   same = refl;
   others = λ l. refl;
-  stands =
-      λ q l h. record { mutexes = v.mutexes; sems = v.sems; rwls = v.rwls; segments = h };
+  stands = λ q l h. record { mutexes = v.mutexes; sems = v.sems; rwls = v.rwls; segments = h };
 }
 
 module _ (k : Sort) (is : IsResource k) (s : State) (who : ℕ) (op : Op) where

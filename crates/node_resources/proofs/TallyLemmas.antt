@@ -135,8 +135,7 @@ writes_stand s old h cell value v = record {
   mutexes = v.mutexes;
   sems = v.sems;
   rwls = v.rwls;
-  segments =
-      holds_changed _ _ old.segments s.segments h (with_cell cell value) v.segments;
+  segments = holds_changed _ _ old.segments s.segments h (with_cell cell value) v.segments;
 }
 
 pub gives_stand : (s : State) (old : ResourceTable) (who a b : ℕ) (x : Mutex) → Stands s old → live_object s.mutexes a ≡ Some x → x.owner ≡ Some who
@@ -147,8 +146,7 @@ gives_stand s old who a b x v f o d =
     subst (λ (q : ResourceTable). Stands (after_moves (alters Segments b (with_attached who false) ∷ alters Mutexes a unlocked ∷ []) s) q)
     (λ i. record old {
       mutexes = changed_as old.mutexes a unlocked (after_unlock who 1) unlocks i;
-      segments =
-          changed_as old.segments b (with_attached who false) (after_detach who) (λ y e. sym (detach_marks who y)) i;
+      segments = changed_as old.segments b (with_attached who false) (after_detach who) (λ y e. sym (detach_marks who y)) i;
     })
     (record {
       mutexes = holds_changed _ _ old.mutexes s.mutexes a unlocked v.mutexes;

@@ -52,8 +52,7 @@ create_made n q l who job kind cores h v up f room i =
     (record {
       actions = holds_insert _ _ n.scheduler.actions q l.actions h (new_action job kind cores.0) v.actions i;
       tasks = v.tasks;
-      groups =
-          v.groups;
+      groups = v.groups;
       queues = v.queues;
       resources = v.resources;
     })
@@ -94,8 +93,7 @@ enable_steps n q l who j a v up e new =
       actions = holds_changed _ _ n.scheduler.actions l.actions a.0 (with_enabled true) v.actions;
       tasks = v.tasks;
       groups = v.groups;
-      queues =
-          v.queues;
+      queues = v.queues;
       resources = v.resources;
     })
     refl (omega arith) tt)

@@ -49,8 +49,7 @@ ended-kept h e n t l a d = change-as h (ended e n) (with_fields (with_state (End
     (λ r live is i. record {
       handle = r.handle;
       live = stays_live r.live r.fields.notes.detached (ap (λ (u : Task). u.notes.detached) is ∙ d) i;
-      fields =
-          with_state (Ended e n) r.fields;
+      fields = with_state (Ended e n) r.fields;
     })
 
 ended-gone : (h : ℕ) (e : TaskEnd) (n : ℕ) (t : Task) (l : List (Listed Task)) → live_object l h ≡ Some t → t.notes.detached ≡ true

@@ -71,8 +71,7 @@ holds_let_go size turns q l h t s g = by_end (is_unended t) refl
         subst (λ (k : List (Listed Task)). Holds size turns (with_value q h (without_group t)) k)
         (sym (change-as h let_go (with_fields without_group) t l at (λ r live is i. record {
           handle = r.handle;
-          live =
-              live-kept r.live (is_unended r.fields) (ap is_unended is ∙ e) i;
+          live = live-kept r.live (is_unended r.fields) (ap is_unended is ∙ e) i;
           fields = without_group r.fields;
         })))
         (holds_update size turns q l h without_group t s g)
@@ -81,8 +80,7 @@ holds_let_go size turns q l h t s g = by_end (is_unended t) refl
         (retire-update h without_group l ∙ sym (change-as h let_go
         (λ r. gone (with_fields without_group r)) t l at (λ r live is i. record {
           handle = r.handle;
-          live =
-              and_right r.live (is_unended r.fields) (ap is_unended is ∙ e) i;
+          live = and_right r.live (is_unended r.fields) (ap is_unended is ∙ e) i;
           fields = without_group r.fields;
         })))
         (holds_change_and_remove size turns q l h without_group t s g)
@@ -189,8 +187,7 @@ endings-keyed at g (e ∷ es) hs d is keyed = by_key (end_in g (membership (Some
     fewer = keyed-leave (λ h. end_in g (membership (lookup (e ∷ es) h))) (λ h. end_in g (membership (lookup es h))) e.0 hs
         (record {
           here = ap (λ (o : Option Task). end_in g (membership o)) d.0;
-          others =
-              λ k away. ap (λ (o : Option Task). end_in g (membership o)) (sym (lookup-away e es k away));
+          others = λ k away. ap (λ (o : Option Task). end_in g (membership o)) (sym (lookup-away e es k away));
         }) keyed
 
     have : HaveEnded at (λ h. end_in g (membership (lookup (e ∷ es) h))) hs

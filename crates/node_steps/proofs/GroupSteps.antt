@@ -68,8 +68,7 @@ group_create_steps n l who b (Ok g) v up c e =
     (record {
       actions = v.actions;
       tasks = v.tasks;
-      groups =
-          holds_insert _ _ (group_slots n.scheduler) (group_slots b) l.groups g.0 new_group v.groups i;
+      groups = holds_insert _ _ (group_slots n.scheduler) (group_slots b) l.groups g.0 new_group v.groups i;
       queues = v.queues;
       resources = v.resources;
     })
@@ -110,11 +109,6 @@ group_delete_steps n l who g x now b v up live go none gone e =
     slots = ap without_members gone ∙ (mapped-without (λ (y : Members). new_group) now.groups.pool g.0
         ∙ ap (λ (p : Slots Group). without p g.0) go.becomes.groups_are)
 
-pub group_delete_absent : (n : PoolNode) (l : Lists) (who : ℕ) (g : GroupHandle) → Live n l → is_open n.core.phase ≡ true
-    → slot_value n.scheduler.groups.pool g.0 ≡ None → Steps n l who (op.GroupDelete g) (reply.Mtapi m.ErrGroupInvalid) n
-group_delete_absent n l who g v up dead =
-    stays n l who (op.GroupDelete g) (reply.Mtapi m.ErrGroupInvalid) v tt (past _ _ _ _ _ _ (not_true _ up) (at_none _ _ _ _ (group_absent n l g.0 v dead)))
-
 -- Looking at all
 
 -- what a look that is too early is answered
@@ -122,14 +116,6 @@ abbrev pub early : Bool → Reply
 early last = cond last (reply.Mtapi m.Timeout) reply.Pending
 
 module _ (n : PoolNode) (l : Lists) (who : ℕ) (g : GroupHandle) (last : Bool) (v : Live n l) (up : is_up n.core.phase ≡ true) where
-  pub all_look_absent : slot_value n.scheduler.groups.pool g.0 ≡ None → Steps n l who (op.AllLook g last) (reply.Mtapi m.ErrGroupInvalid) n
-  all_look_absent dead = stays n l who (op.AllLook g last) (reply.Mtapi m.ErrGroupInvalid) v tt
-      (past _ _ _ _ _ _ (not_true _ up) (at_none _ _ _ _ (group_absent n l g.0 v dead)))
-
-  pub any_look_absent : slot_value n.scheduler.groups.pool g.0 ≡ None → Steps n l who (op.AnyLook g last) (reply.Mtapi m.ErrGroupInvalid) n
-  any_look_absent dead = stays n l who (op.AnyLook g last) (reply.Mtapi m.ErrGroupInvalid) v tt
-      (past _ _ _ _ _ _ (not_true _ up) (at_none _ _ _ _ (group_absent n l g.0 v dead)))
-
   module _ (k : IsScheduler n.scheduler) (x : Members) (live : slot_value n.scheduler.groups.pool g.0 ≡ Some x) where
     -- some member hasn't ended
     pub all_look_early : 0 < length x.unended → Steps n l who (op.AllLook g last) (early last) n

@@ -55,8 +55,7 @@ goes_on n m L who op r st seat s kept =
       state = leads;
       live = live;
       starts = starts;
-      keeps =
-          subst (λ (x : State). Keeps x m.scheduler) (sym leads) (keeps-scheduler m s.0 live kept);
+      keeps = subst (λ (x : State). Keeps x m.scheduler) (sym leads) (keeps-scheduler m s.0 live kept);
     })
     (record { fits = st.legal.fits; from = Legal-append _ L (e ∷ []) st.legal.from (Legal-one (after (terms_of n) L) e may) })
     (after-one _ L e ∙ (ap (λ (x : State). next x e) st.state ∙ s.1.leads))
@@ -97,8 +96,3 @@ sound n L st = subst Sound st.state (record {
 pub same_terms : (n m : PoolNode) (who : ℕ) (op : Op) (r : Reply) (L : List NodeEntry) (st : Stands n L)
     → ((l : Lists) → Live n l → Sound (state_of n l) → Steps n l who op r m) → terms_of m ≡ terms_of n
 same_terms n m who op r L st s = (s st.lists st.live (sound n L st)).1.terms
-
--- a step from a node whose pools stand for some lists leads to such a node, and starts one task at most
-pub stepped : (n m : PoolNode) (c who : ℕ) (op : Op) (r : Reply) → ((l : Lists) × Live n l × (n.scheduler.tasks.starts ≤ c))
-    → ((l : Lists) → Live n l → Steps n l who op r m) → (l : Lists) × Live m l × (m.scheduler.tasks.starts ≤ c + 1)
-stepped n m c who op r e1 e2 = grind (arith, nat_tests)

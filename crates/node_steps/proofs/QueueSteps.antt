@@ -35,11 +35,6 @@ holds_opened n l q on v =
     (sym (mapped-changed (λ (x : HeldQueue). x.queue) n.scheduler.queues.pool q (with_opened on) (opened on) (λ x. refl)))
     (holds_changed _ _ (records_of n.scheduler.queues.pool) l.queues q (opened on) v.queues)
 
--- numbers in their ranges
-pub right_numbers : (priority priorities limit : ℕ) → priority < priorities → 1 ≤ limit → limit ≤ 65536
-    → (not (nat_lt priority priorities) || not (nat_le 1 limit && nat_le limit 65536)) ≡ false
-right_numbers priority priorities limit p a b = grind (arith, nat_tests)
-
 -- Creating
 
 -- what a create or a get is answered
@@ -59,13 +54,6 @@ module _ (n : PoolNode) (l : Lists) (who id job priority limit : ℕ) (ordered r
 
   abbrev same_id : Queue → Bool
   same_id y = y.id == id
-
-  pub create_wrong : wrong ≡ true → Steps n l who create (reply.Mtapi m.ErrParameter) n
-  create_wrong w = stays n l who create (reply.Mtapi m.ErrParameter) v tt (past _ _ _ _ _ _ (not_true _ up) (met _ _ _ _ w))
-
-  pub create_jobless : wrong ≡ false → any_listed (has_job job) l.actions ≡ false → Steps n l who create (reply.Mtapi m.ErrJobInvalid) n
-  create_jobless w none = stays n l who create (reply.Mtapi m.ErrJobInvalid) v tt
-      (past _ _ _ _ _ _ (not_true _ up) (past _ _ _ _ _ _ w (met _ _ _ _ (ap not none))))
 
   module _ (right : wrong ≡ false) (jobs : any_listed (has_job job) l.actions ≡ true) where
     create_exists : SomeLive (slot_value n.scheduler.queues.pool) (HasId id) → Steps n l who create (reply.Mtapi m.ErrQueueExists) n
@@ -168,17 +156,6 @@ module _ (n : PoolNode) (l : Lists) (who : ℕ) (q : QueueHandle) (v : Live n l)
           (found _ _ (records_of n.scheduler.queues.pool) l.queues q.0 (Some x.queue) v.queues (record-value n.scheduler.queues.pool q.0 x live))
           (gives_this _ _ _)))
           (holds_opened n l q.0 true v) tt)
-
-  -- no live queue
-  pub disable_absent : slot_value n.scheduler.queues.pool q.0 ≡ None → Steps n l who (op.QueueDisable q) (reply.Mtapi m.ErrQueueInvalid) n
-  disable_absent dead = stays n l who (op.QueueDisable q) (reply.Mtapi m.ErrQueueInvalid) v tt
-      (past _ _ _ _ _ _ (not_true _ up) (at_none _ _ _ _
-      (found _ _ (records_of n.scheduler.queues.pool) l.queues q.0 None v.queues (record-none n.scheduler.queues.pool q.0 dead))))
-
-  pub delete_absent : slot_value n.scheduler.queues.pool q.0 ≡ None → Steps n l who (op.QueueDelete q) (reply.Mtapi m.ErrQueueInvalid) n
-  delete_absent dead = stays n l who (op.QueueDelete q) (reply.Mtapi m.ErrQueueInvalid) v tt
-      (past _ _ _ _ _ _ (not_true _ up) (at_none _ _ _ _
-      (found _ _ (records_of n.scheduler.queues.pool) l.queues q.0 None v.queues (record-none n.scheduler.queues.pool q.0 dead))))
 
   -- Disabling, and deleting
 
@@ -290,9 +267,6 @@ module _ (n : PoolNode) (l : Lists) (who : ℕ) (q : QueueHandle) (args : List �
     (up : is_open n.core.phase ≡ true) where
   abbrev enqueue : Op
   enqueue = op.TaskEnqueue q args cores detached group
-
-  pub enqueue_wrong : is_detached_member detached group ≡ true → Steps n l who enqueue (reply.Mtapi m.ErrParameter) n
-  enqueue_wrong w = stays n l who enqueue (reply.Mtapi m.ErrParameter) v tt (past _ _ _ _ _ _ (not_true _ up) (met _ _ _ _ w))
 
   pub enqueue_absent : is_detached_member detached group ≡ false → slot_value n.scheduler.queues.pool q.0 ≡ None
       → Steps n l who enqueue (reply.Mtapi m.ErrQueueInvalid) n

@@ -40,9 +40,6 @@ refused n l who o t f c e1 e2 e3 e4 = grind (arith, nat_tests)
 not_begun : (args : List ℤ) (y : TallyState) → (y ≡ Begun → ⊥) → ((notes_of args y).stage == 0) ≡ false
 not_begun args y e1 = grind (arith, nat_tests)
 
-not_locked : (args : List ℤ) (y : TallyState) → ((a : MutexHandle) (b : ShmemHandle) → y ≡ Locked a b → ⊥) → ((notes_of args y).stage == 1) ≡ false
-not_locked args y e1 = grind (arith, nat_tests)
-
 not_read : (args : List ℤ) (y : TallyState) → ((a : MutexHandle) (b : ShmemHandle) (z : ℤ) → y ≡ Read a b z → ⊥) → ((notes_of args y).stage == 2) ≡ false
 not_read args y e1 = grind (arith, nat_tests)
 
@@ -76,9 +73,6 @@ module _ (n : PoolNode) (l : Lists) (who : ℕ) (t : TaskHandle) (r : RunningTal
   stage_of : (y : TallyState) → r.state ≡ y → (i : ℕ) → (x.notes.tally.stage == i) ≡ ((notes_of x.args y).stage == i)
   stage_of y e i = ap (λ (z : TallyNotes). z.stage == i) (notes_are y e)
 
-  stage_is : (i : ℕ) → ((notes_of x.args r.state).stage == i) ≡ false → not (x.notes.tally.stage == i) ≡ true
-  stage_is i e = ap not (stage_of r.state refl i ∙ e)
-
   -- a step that notes how far it has come, beside other mutexes and segments
   noted : (o : Op) (y : Reply) (q : TallyState) (f : TallyNotes → TallyNotes) (new : ResourceTable) (z : State) (b : SchedulerTable)
       → notes_of x.args q ≡ f x.notes.tally → HoldsAll n.scheduler.settings new (resource_lists z) → IsHonest o
@@ -86,8 +80,7 @@ module _ (n : PoolNode) (l : Lists) (who : ℕ) (t : TaskHandle) (r : RunningTal
         tasks = update t.0 (with_notes (with_tally f)) l.tasks;
         mutexes = z.mutexes;
         sems = z.sems;
-        rwls =
-            z.rwls;
+        rwls = z.rwls;
         segments = z.segments;
       })
       → Becomes n.scheduler b n.scheduler.actions (record n.scheduler.tasks { pool = changed pool t.0 (tallied q) })
@@ -117,9 +110,6 @@ module _ (n : PoolNode) (l : Lists) (who : ℕ) (t : TaskHandle) (r : RunningTal
           ≡ with_notes (with_tally f) a) (some_of (sym k.found ∙ w)) (ap (λ (a : TallyNotes). record x { notes = record x.notes { tally = a } }) e))
 
   -- Locking
-
-  pub lock_wrong : (r.state ≡ Begun → ⊥) → Steps n l who (op.TallyLock t) (reply.Mtapi m.ErrParameter) n
-  lock_wrong h = stays n l who (op.TallyLock t) (reply.Mtapi m.ErrParameter) v tt (on_it _ _ _ (met _ _ _ _ (stage_is 0 (not_begun x.args r.state h))))
 
   module _ (begun : r.state ≡ Begun) where
     -- the rest of the row
@@ -198,9 +188,6 @@ module _ (n : PoolNode) (l : Lists) (who : ℕ) (t : TaskHandle) (r : RunningTal
 
   -- Reading
 
-  pub read_wrong : ((a : MutexHandle) (b : ShmemHandle) → r.state ≡ Locked a b → ⊥) → Steps n l who (op.TallyRead t) (reply.Mtapi m.ErrParameter) n
-  read_wrong h = stays n l who (op.TallyRead t) (reply.Mtapi m.ErrParameter) v tt (on_it _ _ _ (met _ _ _ _ (stage_is 1 (not_locked x.args r.state h))))
-
   pub reads : Sound s → (p : MutexHandle) (q : ShmemHandle) (cell : ℕ) (z : ℤ) (b : SchedulerTable) → r.state ≡ Locked p q
       → cell ≡ cell_in (option_map adds_of r.args) → ((y : Segment) → live_object s.segments q.0 ≡ Some y → z ≡ cell_of cell y)
       → Becomes n.scheduler b n.scheduler.actions (record n.scheduler.tasks { pool = changed pool t.0 (tallied (Read p q z)) })
@@ -223,10 +210,6 @@ module _ (n : PoolNode) (l : Lists) (who : ℕ) (t : TaskHandle) (r : RunningTal
           ∙ ap (λ (i : ℕ). cell_of i g.0) (c ∙ ap cell_in k.args)
 
   -- Writing
-
-  pub write_wrong : (value : ℤ) → ((a : MutexHandle) (b : ShmemHandle) (z : ℤ) → r.state ≡ Read a b z → ⊥)
-      → Steps n l who (op.TallyWrite t value) (reply.Mtapi m.ErrParameter) n
-  write_wrong value e1 = grind (arith, nat_tests)
 
   module _ (p : MutexHandle) (q : ShmemHandle) (kept number : ℤ) (is : r.state ≡ Read p q kept) (adds : number ≡ number_in (option_map adds_of r.args)) where
     added_is : added x ≡ kept +ℤ number
@@ -266,18 +249,6 @@ module _ (n : PoolNode) (l : Lists) (who : ℕ) (t : TaskHandle) (r : RunningTal
 
   -- Ending
 
-  pub is_unended_tally : IsLiveAnd is_unended (slot_value pool t.0)
-  is_unended_tally = subst (λ (o : Option Task). IsLiveAnd is_unended o) (sym k.found) (unended who x x.state refl k.runs)
-
-  pub end_early : ((x.notes.tally.stage == 0) || (x.notes.tally.stage == 1)) ≡ true → Steps n l who (op.TallyEnd t) (reply.Mtapi m.ErrParameter) n
-  end_early e1 = grind (arith, nat_tests)
-
-  pub end_begun : r.state ≡ Begun → Steps n l who (op.TallyEnd t) (reply.Mtapi m.ErrParameter) n
-  end_begun is = end_early (λ i. stage_of Begun is 0 i || stage_of Begun is 1 i)
-
-  pub end_locked : (p : MutexHandle) (q : ShmemHandle) → r.state ≡ Locked p q → Steps n l who (op.TallyEnd t) (reply.Mtapi m.ErrParameter) n
-  end_locked p q is = end_early (λ i. stage_of (Locked p q) is 0 i || stage_of (Locked p q) is 1 i)
-
   -- a step that ends it, beside other mutexes and segments
   ended_so : (y : Reply) (e : TaskEnd) (new : ResourceTable) (z : State) (b : SchedulerTable) → HoldsAll n.scheduler.settings new (resource_lists z)
       → Gives s (row s who (op.TallyEnd t) y) y
@@ -294,8 +265,7 @@ module _ (n : PoolNode) (l : Lists) (who : ℕ) (t : TaskHandle) (r : RunningTal
         actions = v.actions;
         tasks = holds_ended _ _ pool l.tasks t.0 e n.scheduler.tasks.ends x v.tasks k.found;
         groups = v.groups;
-        queues =
-            v.queues;
+        queues = v.queues;
         resources = h;
       }) refl (omega arith) tt)
 
@@ -333,8 +303,7 @@ module _ (n : PoolNode) (l : Lists) (who : ℕ) (t : TaskHandle) (r : RunningTal
           mutexes = after.mutexes;
           sems = after.sems;
           rwls = after.rwls;
-          segments =
-              after.segments;
+          segments = after.segments;
         })) (sym so) (gives_this _ _ _))))))) g.scheduler))
       where
         after : State

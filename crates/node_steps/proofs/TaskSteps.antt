@@ -50,13 +50,6 @@ module _ (n : PoolNode) (l : Lists) (who job : ℕ) (args : List ℤ) (priority 
   abbrev wrong : Bool
   wrong = not (nat_lt priority n.scheduler.settings.priorities) || is_detached_member detached group
 
-  pub start_wrong : wrong ≡ true → Steps n l who start (reply.Mtapi m.ErrParameter) n
-  start_wrong w = stays n l who start (reply.Mtapi m.ErrParameter) v tt (past _ _ _ _ _ _ (not_true _ up) (met _ _ _ _ w))
-
-  pub start_refused : (c : MtapiStatus) → wrong ≡ false → first (start_refusals (state_of n l) asks) ≡ Some c → Steps n l who start (reply.Mtapi c) n
-  start_refused c w f = stays n l who start (reply.Mtapi c) v tt
-      (past _ _ _ _ _ _ (not_true _ up) (past _ _ _ _ _ _ w (met_in _ (start_refusals (state_of n l) asks) c _ f)))
-
   start_full : wrong ≡ false → first (start_refusals (state_of n l) asks) ≡ None → IsFull n.scheduler.tasks.pool
       → Steps n l who start (reply.Mtapi m.ErrTaskLimit) n
   start_full e1 e2 e3 = grind (arith, nat_tests, not_true, past_all, start_refusals, state_of, full_list)
@@ -126,8 +119,7 @@ waited : (n : PoolNode) (l : Lists) (who : ℕ) (t : TaskHandle) (last : Bool) (
     → Steps n l who (op.TaskLook t last) (look_said (look_at_end None last))
     (record n {
       scheduler = record n.scheduler {
-        tasks =
-            with_pool n (with_value n.scheduler.tasks.pool t.0 (with_notes (with_waiter (waiter_after who last)) x));
+        tasks = with_pool n (with_value n.scheduler.tasks.pool t.0 (with_notes (with_waiter (waiter_after who last)) x));
       };
     })
 waited n l who t true v up x Scheduled g f e d =
@@ -189,8 +181,7 @@ look_told n l who t last q x v up e d =
     reported n l q _ who _ _ d (subst (λ (y : TaskLook). Steps n l who (op.TaskLook t last) (look_said y)
     (record n {
       scheduler = record n.scheduler {
-        tasks =
-            with_pool n (looked_in n.scheduler.tasks.pool t.0 who last (slot_value n.scheduler.tasks.pool t.0));
+        tasks = with_pool n (looked_in n.scheduler.tasks.pool t.0 who last (slot_value n.scheduler.tasks.pool t.0));
       };
     })) (sym e)
     (look_steps n l who t last v up (slot_value n.scheduler.tasks.pool t.0) refl))

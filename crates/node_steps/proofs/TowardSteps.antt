@@ -56,8 +56,7 @@ module _ (s : State) (w : ℕ) (t : TaskHandle) (a : ActionHandle) (k : Kind) (a
           task = found_x;
           action = found_y;
           may = e;
-          kind =
-              kind;
+          kind = kind;
           args_are = args_are;
         }
 

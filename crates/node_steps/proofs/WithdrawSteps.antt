@@ -186,8 +186,7 @@ becomes-twice a b c q x y = record {
   settings = y.settings ∙ x.settings;
   actions_are = y.actions_are ∙ x.actions_are;
   tasks_are = refl;
-  queues_are =
-      y.queues_are ∙ x.queues_are;
+  queues_are = y.queues_are ∙ x.queues_are;
   groups_are = y.groups_are ∙ x.groups_are;
 }
 

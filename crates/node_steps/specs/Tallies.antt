@@ -52,8 +52,7 @@ pub record GivesBack (n : PoolNode) (who t mutex segment : ℕ) (e : TaskEnd) (r
   pub scheduler : Becomes n.scheduler m.scheduler n.scheduler.actions
       (record n.scheduler.tasks {
         pool = ended_in n.scheduler.tasks.pool t e n.scheduler.tasks.ends (slot_value n.scheduler.tasks.pool t);
-        ends =
-            n.scheduler.tasks.ends + 1;
+        ends = n.scheduler.tasks.ends + 1;
       })
   pub resources : (s : State) (x : Mutex) → Stands s n.resources → live_object s.mutexes mutex ≡ Some x → x.owner ≡ Some who → x.depth ≡ 1
       → Stands (after_moves (alters Segments segment (with_attached who false) ∷ alters Mutexes mutex unlocked ∷ []) s) m.resources

@@ -15,8 +15,7 @@ worked_numbers = record {
   not_zero = refl;
   cores = refl;
   cores_written = refl;
-  descending =
-      refl;
+  descending = refl;
   repeated = refl;
   no_core = refl;
   least = refl;

@@ -66,8 +66,7 @@ pub record WorkedTokens : Type 0 where
         count = 5;
         told = (here, Completed) ∷ (other, Cancelled) ∷ [];
         heard = (other, Error) ∷ (here, Completed) ∷ [];
-        loads =
-            (3, 27) ∷ (7, 21) ∷ [];
+        loads = (3, 27) ∷ (7, 21) ∷ [];
       }
   pub count : seats_in (knows ∷ also ∷ []) ≡ 5
   pub hears : map (heard_of here) (Ended Cancelled ∷ NotYet ∷ Gone ∷ Foreign ∷ []) ≡ (((here, Cancelled) ∷ []) ∷ [] ∷ [] ∷ [] ∷ [])

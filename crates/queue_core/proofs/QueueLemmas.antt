@@ -148,9 +148,6 @@ module _ (pool : Slots Queue) (tasks : HandleLists) where
   pub room_held : (old : QueueTable) → table_of pool tasks ≡ old → (IsFull pool → ⊥) → IsFull old.pool → ⊥
   room_held old is room full = let P : QueueTable → Type 0 = λ o. IsFull o.pool in room (IsFull-held (subst P (sym is) full))
 
-  pub AreQueues-create : (new : Slots Queue) (q : ℕ) (v : Queue) → Inserts pool new q v → AreQueues pool tasks → AreQueues new tasks
-  AreQueues-create new q v inserts are = record { beside = AreBeside-insert pool new tasks.lists q v inserts are.beside; few = are.few }
-
   pub Inserts-held : (old : QueueTable) (new : Slots Queue) (q : ℕ) (v : Queue) → table_of pool tasks ≡ old → Inserts pool new q v → AreQueues pool tasks
       → Inserts old.pool (pool_beside held new tasks.lists) q (held v [])
   Inserts-held old new q v is inserts are =

@@ -31,8 +31,7 @@ new_queue id job attr = record {
   limit = attr.limit;
   ordered = attr.ordered;
   retain = attr.retain;
-  enabled =
-      true;
+  enabled = true;
 }
 
 -- a queue with these tasks
@@ -116,8 +115,7 @@ facts_with q unended = record {
   ordered = q.ordered;
   retain = q.retain;
   limit = q.limit;
-  unended =
-      unended;
+  unended = unended;
 }
 
 abbrev pub facts_of : HeldQueue → QueueFacts

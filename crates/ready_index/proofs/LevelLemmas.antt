@@ -84,9 +84,6 @@ pub none_from_top : (bits summary top : List ℕ) → AreLevels bits summary top
 none_from_top bits summary top h e =
     no_bits bits (none_below summary bits h.words (no_bits summary (none_below top summary h.summaries (no_bits top (one_word top h.one_top e)))))
 
-pub full_word : (upper lower : List ℕ) → Summarizes upper lower → (word : ℕ) → has_bit upper word ≡ true → is_empty_word lower word ≡ false
-full_word upper lower h word e = not-true (is_empty_word lower word) (sym (h word) ∙ e)
-
 pub AreLevels-put : (bits summary top bits' summary' top' : List ℕ) (n : ℕ) → AreLevels bits summary top
     → ((w : ℕ) → is_empty_word bits' w ≡ (if nat_eq w (n / 64) then false else is_empty_word bits w)) → length bits' ≡ length bits
     → ((o : ℕ) → has_bit summary' o ≡ (if nat_eq o (n / 64) then true else has_bit summary o))

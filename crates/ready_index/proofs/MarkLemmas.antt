@@ -75,16 +75,9 @@ pick_false false b on x = refl
 pub record Replaces (mark : Mark) (on : Bool) (before after : Option Mark) : Type 0 where
   pub says : (w p : ℕ) → (if in_mask w mark.mask.0 && nat_eq p mark.priority then on else is_for_at w p before) ≡ is_for_at w p after
 
-kept_true : (x : Bool) → (if x then true else false) ≡ x
-kept_true true = refl
-kept_true false = refl
-
 gone_false : (x : Bool) → (if x then false else x) ≡ false
 gone_false true = refl
 gone_false false = refl
-
-pub Replaces-none : (mark : Mark) → Replaces mark true None (Some mark)
-Replaces-none mark = record { says = λ w p. kept_true (in_mask w mark.mask.0 && nat_eq p mark.priority) }
 
 pub Replaces-some : (mark : Mark) → Replaces mark false (Some mark) None
 Replaces-some mark = record { says = λ w p. gone_false (in_mask w mark.mask.0 && nat_eq p mark.priority) }

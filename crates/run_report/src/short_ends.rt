@@ -100,16 +100,6 @@ impl ShortEnd {
         Ok(ShortEnd { short })
     }
 
-    /// The number, where the task answered one alone.
-    pub fn number(&self) -> Option<i64>
-        ensures { IfSome result (λ number. self.now ≡ Completed (number ∷ [])) }
-    {
-        match &self.short {
-            Short::Number(number) => Some(*number),
-            Short::Cancelled | Short::Failed(_) | Short::Full(_) => None,
-        }
-    }
-
     /// The end in full. It takes no memory.
     pub fn full(&self) -> TaskEnd
         ensures { result ≡ self.now }

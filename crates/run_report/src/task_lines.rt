@@ -24,7 +24,7 @@ fn push_task(
 {
     match reply {
         Reply::Handle(handle) => match ended.get(handle) {
-            Some(end) => push_end(alloc, out, end),
+            Some(end) => push_end(alloc, out, &end.full()),
             _ => Ok(()),
         },
         Reply::Mtapi(status) => {

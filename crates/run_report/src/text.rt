@@ -1,13 +1,11 @@
 //! Pieces of the report's text.
-ghost use Rattle.std.specs.Prelude.{◌≡◌, ◌++◌, ◌∷◌, [], OnOk, Some};
-ghost use Rattle.mtapi_values.specs.declared.ends.TaskEnd.TheVariants.{Completed};
+ghost use Rattle.std.specs.Prelude.{◌≡◌, ◌++◌, OnOk, Some};
 ghost use Rattle.workload_file.specs.Reading.{name_text};
 ghost use Rattle.run_report.specs.Tasks.{numbers_text, end_text};
 ghost use Rattle.run_report.specs.Calls.{marked_line};
 
-use crate::short_ends::ShortEnd;
 use mtapi_values::TaskEnd;
-use number_text::{push_list, push_number, push_whole};
+use number_text::{push_list, push_number};
 use std::alloc::{AllocError, Global};
 use workload_file::Statement;
 
@@ -35,7 +33,7 @@ fn push_numbers(alloc: Global, out: &mut Vec<u8>, numbers: &[i64]) -> Result<(),
 
 /// How a task ended.
 #[tactic(auto, unfolding(crate::specs::Tasks::end_text))]
-fn push_full_end(alloc: Global, out: &mut Vec<u8>, end: &TaskEnd) -> Result<(), AllocError>
+pub fn push_end(alloc: Global, out: &mut Vec<u8>, end: &TaskEnd) -> Result<(), AllocError>
     ensures { OnOk result (out.new.items ≡ out.old.items ++ end_text end.now) }
 {
     match end {
@@ -48,25 +46,6 @@ fn push_full_end(alloc: Global, out: &mut Vec<u8>, end: &TaskEnd) -> Result<(), 
             out.extend_from_slice(b"error ")?;
             out.extend_from_slice(status.name().as_bytes())
         }
-    }
-}
-
-// How a task ended that answered one number.
-#[tactic(auto, unfolding(crate::specs::Tasks::end_text, crate::specs::Tasks::numbers_text))]
-fn push_answer(alloc: Global, out: &mut Vec<u8>, number: i64) -> Result<(), AllocError>
-    ensures { OnOk result (out.new.items ≡ out.old.items ++ end_text (Completed (number ∷ []))) }
-{
-    out.extend_from_slice(b"completed ")?;
-    push_whole(alloc, out, number)
-}
-
-/// How a task ended. Most answer one number, which is written without a list of it.
-pub fn push_end(alloc: Global, out: &mut Vec<u8>, end: &ShortEnd) -> Result<(), AllocError>
-    ensures { OnOk result (out.new.items ≡ out.old.items ++ end_text end.now) }
-{
-    match end.number() {
-        Some(number) => push_answer(alloc, out, number),
-        None => push_full_end(alloc, out, &end.full()),
     }
 }
 

@@ -1,7 +1,6 @@
 //! The tasks of a run, counted by how they ended.
-ghost use Rattle.std.specs.Prelude.{◌≡◌, ◌≤◌, ◌<◌, ◌+◌, ◌*◌, ◌+ℤ◌, ◌≤ℤ◌, ◌∷◌, [], pos, neg_ℤ, Some, length, if◌then◌else◌, nat_eq};
+ghost use Rattle.std.specs.Prelude.{◌≡◌, ◌≤◌, ◌<◌, ◌+◌, ◌*◌, ◌+ℤ◌, ◌≤ℤ◌, pos, neg_ℤ, Some, length, if◌then◌else◌, nat_eq};
 ghost use Rattle.std.specs.HashMap.{get};
-ghost use Rattle.mtapi_values.specs.declared.ends.TaskEnd.TheVariants.{Completed};
 ghost use Rattle.run_report.specs.Replies.{nows};
 ghost use Rattle.run_report.specs.Calls.{shown_of, is_task};
 ghost use Rattle.run_report.specs.Summary.{no_totals, with_number, with_numbers, with_end, with_fate, with_task, with_tasks, IsNear, AreTotals};
@@ -55,23 +54,6 @@ fn with_numbers(totals: Totals, numbers: &[i64]) -> Totals
     totals
 }
 
-/// With a task that completed with these numbers.
-fn with_completed(totals: Totals, numbers: &[i64]) -> Totals
-    requires totals { AreTotals totals.tasks totals }
-    requires few { totals.tasks < 20000 }
-    requires args { length numbers.now ≤ 16 }
-    ensures value { result ≡ with_end totals (Some (Completed numbers.now)) }
-    ensures totals { AreTotals (totals.tasks + 1) result }
-    ensures tasks { result.tasks ≡ totals.tasks }
-{
-    let completed = totals.completed + 1;
-    let summed = with_numbers(totals, numbers);
-    Totals {
-        completed,
-        ..summed
-    }
-}
-
 /// With a task that ended so.
 fn with_end(totals: Totals, end: &TaskEnd) -> Totals
     requires totals { AreTotals totals.tasks totals }
@@ -81,7 +63,14 @@ fn with_end(totals: Totals, end: &TaskEnd) -> Totals
     ensures tasks { result.tasks ≡ totals.tasks }
 {
     match end {
-        TaskEnd::Completed(numbers) => with_completed(totals, numbers.as_slice()),
+        TaskEnd::Completed(numbers) => {
+            let completed = totals.completed + 1;
+            let summed = with_numbers(totals, numbers.as_slice());
+            Totals {
+                completed,
+                ..summed
+            }
+        }
         TaskEnd::Cancelled => Totals {
             cancelled: totals.cancelled + 1,
             ..totals
@@ -90,20 +79,6 @@ fn with_end(totals: Totals, end: &TaskEnd) -> Totals
             failed: totals.failed + 1,
             ..totals
         },
-    }
-}
-
-/// With a task that ended so. Most answer one number, which is added without a list of it.
-fn with_short(totals: Totals, end: &ShortEnd) -> Totals
-    requires totals { AreTotals totals.tasks totals }
-    requires few { totals.tasks < 20000 }
-    ensures value { result ≡ with_end totals (Some end.now) }
-    ensures totals { AreTotals (totals.tasks + 1) result }
-    ensures tasks { result.tasks ≡ totals.tasks }
-{
-    match end.number() {
-        Some(number) => with_completed(totals, &[number]),
-        None => with_end(totals, &end.full()),
     }
 }
 
@@ -117,7 +92,7 @@ fn with_fate(totals: Totals, ended: &HashMap<u64, ShortEnd>, reply: &Reply) -> T
 {
     match reply {
         Reply::Handle(handle) => match ended.get(handle) {
-            Some(end) => with_short(totals, end),
+            Some(end) => with_end(totals, &end.full()),
             _ => totals,
         },
         Reply::Mtapi(_) => Totals {

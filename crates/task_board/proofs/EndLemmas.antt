@@ -38,8 +38,7 @@ going-first walk p e b next k is = record {
   settings = refl;
   actions = refl;
   records = refl;
-  groups =
-      refl;
+  groups = refl;
   list = refl;
   left = omega arith;
   next_is = is;

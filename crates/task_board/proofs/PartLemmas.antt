@@ -149,8 +149,7 @@ takes-made b q t g h n e f x used told pool groups = record {
       actions_are = refl;
       tasks_are = pool;
       queues_are = refl;
-      groups_are =
-          ap (λ (z : GroupTable). without_members z.pool) groups ∙ members-unseen b.groups.pool g without_first used;
+      groups_are = ap (λ (z : GroupTable). without_members z.pool) groups ∙ members-unseen b.groups.pool g without_first used;
     };
   };
 }
@@ -174,8 +173,7 @@ leaves-made b q t g h f x used pool groups = record {
       actions_are = refl;
       tasks_are = pool;
       queues_are = refl;
-      groups_are =
-          ap (λ (z : GroupTable). without_members z.pool) groups ∙ members-unseen b.groups.pool g without_first_unended used;
+      groups_are = ap (λ (z : GroupTable). without_members z.pool) groups ∙ members-unseen b.groups.pool g without_first_unended used;
     };
   };
 }

@@ -17,8 +17,7 @@ abbrev pub with_waiting : WaitingTable → ℕ → ℕ → WaitingTable
 with_waiting w job h = record {
   places = w.places;
   lists = slice_set w.lists 0 (list_at w.lists 0 ++ h ∷ []);
-  by_job =
-      slice_set w.by_job (job % length w.by_job) (job_list w job ++ h ∷ []);
+  by_job = slice_set w.by_job (job % length w.by_job) (job_list w job ++ h ∷ []);
 }
 
 -- without a task of this job
@@ -26,8 +25,7 @@ abbrev pub without_waiting : WaitingTable → ℕ → ℕ → WaitingTable
 without_waiting w job h = record {
   places = w.places;
   lists = slice_set w.lists 0 (without_handle h (list_at w.lists 0));
-  by_job =
-      slice_set w.by_job (job % length w.by_job) (without_handle h (job_list w job));
+  by_job = slice_set w.by_job (job % length w.by_job) (without_handle h (job_list w job));
 }
 
 -- there is one list of all, and so many by jobs over as many places

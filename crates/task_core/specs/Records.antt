@@ -27,8 +27,7 @@ asked_task t = record {
   cores = t.cores.0;
   detached = t.detached;
   group = group_number t.group;
-  queue =
-      queue_number t.queue;
+  queue = queue_number t.queue;
 }
 
 -- how far the task has come

@@ -18,13 +18,6 @@ module _ {T P Q : Type 0} where
       let one = by_numbers k seats in let two = by_numbers k others in let some_seat = c k below in
       let alike = ap (total (λ n. one_if (n == k))) same in omega arith
 
-  -- the order doesn't count
-  pub complete_swapped : (n : ℕ) (left right : List (SeatView T P Q)) → IsComplete n (left ++ right) → IsComplete n (right ++ left)
-  complete_swapped n left right c = λ k below.
-      let one = total-append (λ (s : SeatView T P Q). one_if (s.number == k)) left right in
-      let two = total-append (λ (s : SeatView T P Q). one_if (s.number == k)) right left in
-      let some_seat = c k below in omega arith
-
 fresh_has : (T P Q : Type 0) (t : T) (z : TableId) (from n k : ℕ) → from < suc k → k < from + n → 0 < numbered {P = P} {Q = Q} k (fresh_seats t z from n)
 fresh_has T P Q t z from zero k low high = absurd (omega arith)
 fresh_has T P Q t z from (suc n) k low high = grind (arith, nat_tests, fresh_has T P Q t z (suc from) n k, one_same)

@@ -153,8 +153,7 @@ module _ {O T P Q : Type 0} (terms_of : O → T) (seat_count : T → ℕ) (legal
       × K t record {
         words = set ws 1 (either (get_or ws 1 0 == first) (first + 1) (get_or ws 1 0));
         homes = homes_after s.homes [] a;
-        views =
-            set s.views id w;
+        views = set s.views id w;
       }
       × drew terms_of seat_count legal stands (step slots 1 first (first + 1) none) (p ∷ [], []) (get_or ws 1 0) (w, carried_after [] a) in
       subst Drew (sym r.words) (
@@ -265,8 +264,7 @@ module _ {O T P Q : Type 0} (terms_of : O → T) (seat_count : T → ℕ) (legal
                   same_terms = z.3 ∙ sym f.terms;
                   begins = f.seen;
                   own = f.mine;
-                  short =
-                      omega arith;
+                  short = omega arith;
                   seat = subst (λ (x : T). p.number < seat_count x) (sym f.terms) f.number;
                 },
               )),
@@ -302,8 +300,7 @@ module _ {O T P Q : Type 0} (terms_of : O → T) (seat_count : T → ℕ) (legal
       → K t record {
         words = (length r.history + 1) ∷ r.tickets ∷ [];
         homes = some (Some o) ∷ [];
-        views =
-            set s.views id (after_pass p (part_entry p op reply) ∷ []);
+        views = set s.views id (after_pass p (part_entry p op reply) ∷ []);
       }
   pass_keeps t s r id p k op reply o law at holds same_terms stood =
       let e : E = part_entry p op reply in

@@ -58,8 +58,7 @@ module _ {O T P Q : Type 0} (terms_of : O → T) (seat_count : T → ℕ) (legal
       mine = refl;
       seen_mine = refl;
       shown = omega arith;
-      holds =
-          λ j e. cc;
+      holds = λ j e. cc;
     },
     fresh_fits t (suc k) m (omega arith),
   )

@@ -107,8 +107,7 @@ module _ {O T P Q : Type 0} (terms_of : O → T) (seat_count : T → ℕ) (legal
     mine = f.mine;
     seen_mine = f.mine;
     shown = f.shown;
-    holds =
-        λ k is. (refl, (f.holds k is).1);
+    holds = λ k is. (refl, (f.holds k is).1);
   }
 
   knows : (t : T) (h : List E) (n : ℕ) → legal t h → (p : D) → F t h n p → Knows terms_of seat_count legal stands h p

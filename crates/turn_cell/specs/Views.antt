@@ -23,8 +23,7 @@ module _ {T P Q : Type 0} where
     number = (first_or d v).number;
     terms = (first_or d v).terms;
     seen = (first_or d v).seen;
-    mine =
-        (first_or d v).mine;
+    mine = (first_or d v).mine;
     shown = (first_or d v).shown;
   }
 

@@ -6,9 +6,6 @@ module _ {T P Q : Type 0} (legal : T → List (Entry P Q) → Type 0) (op_of : B
   pub same_then : (a b c : SeatView T P Q) → SameSeat a b → SameSeat b c → SameSeat a c
   same_then a b c s t = record { cell = t.cell ∙ s.cell; number = t.number ∙ s.number; terms = t.terms ∙ s.terms }
 
-  pub pended_none : (a : SeatView T P Q) → Pended legal op_of waits a 0 a
-  pended_none a = record { same = record { cell = refl; number = refl; terms = refl }; mine = sym (append-nil a.mine) }
-
   behind : (n : ℕ) (a b c : SeatView T P Q) (o : P) (r : Q) → Pended legal op_of waits a n b → Turned legal b o r c
       → c.mine ≡ a.mine ++ (pends legal op_of waits a.number n ++ entry a.number o r ∷ [])
   behind n a b c o r p t =

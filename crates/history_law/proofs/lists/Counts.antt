@@ -41,6 +41,5 @@ passes p (e ∷ es) i = on_test (λ b. cond b true (some_entry p es) ≡ true �
       by = r.by;
       behind = r.behind;
       cut = ap (λ (l : List NodeEntry). e ∷ l) r.cut;
-      is =
-          r.is;
+      is = r.is;
     }) i

@@ -24,8 +24,7 @@ has_move k h F c s o m e v =
     (λ j x b i w. record { some = listed_issue_some h j x _ w.some; under = under_issue h F j x _ (λ d. true_false d (fresh_apart k s h j w.some i)) w.under })
     (λ l a w. record {
       some = subst (λ (n : ℕ). 1 ≤ n) (sym (listed_ages (SameFields k) h _ l a)) w.some;
-      under =
-          under_ages (SameFields k) h F c _ l a w.under;
+      under = under_ages (SameFields k) h F c _ l a w.under;
     }) m e v
 
 pub has_along : (k : ObjectKind) (h : ℕ) (F : FieldsOf k → Type 0) → ((x y : FieldsOf k) → SameFields k x y → F x → F y) → (s : State) (L : List NodeEntry)
@@ -44,8 +43,7 @@ task_then a x y s t = record {
   args = s.args ∙ t.args;
   priority = s.priority ∙ t.priority;
   cores = s.cores ∙ t.cores;
-  queue =
-      s.queue ∙ t.queue;
+  queue = s.queue ∙ t.queue;
   start = s.start ∙ t.start;
 }
 

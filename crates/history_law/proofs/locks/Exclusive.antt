@@ -207,8 +207,7 @@ lock_got s who _ _ (is.lock_got t x y a b k z h) = (
     at-update t.0 (with_notes (with_tally (tally_has a b))) x s.tasks k.found,
     record {
       runs = k.runs;
-      both =
-          refl;
+      both = refl;
       mutex = refl;
     },
   ),

@@ -136,8 +136,7 @@ module _ (k : ObjectKind) {M : Type 0} (K : ℕ → Lock M (FieldsOf k)) (gets g
       seats = seats_next s e g.seats;
       once = once_next k s e g.once;
       some = listed_next k s e h g.some;
-      fit =
-          (good_step top s e i g).fit;
+      fit = (good_step top s e i g).fit;
     }
 
     -- no entry passes that needs the lock, where that isn't listed in the end
@@ -180,8 +179,7 @@ module _ (k : ObjectKind) {M : Type 0} (K : ℕ → Lock M (FieldsOf k)) (gets g
         along (λ t. OnceIn (l t)) (once_move k) (opening terms) A (λ j. let z : listed j (l (opening terms)) ≡ 0 = none_times k j terms in omega arith) in
         let good : Good top now = record {
           seats = seats_next (after terms A) e (seats_after terms A (record { fits = legal.fits; from = front }));
-          once =
-              once_next k (after terms A) e once;
+          once = once_next k (after terms A) e once;
           some = made.some;
           fit = made.fit;
         } in

@@ -8,9 +8,6 @@ use Rattle.history_law.proofs.lists.Sums.{record_view}
 use Rattle.history_law.proofs.TaskSteps as step
 use Rattle.history_law.proofs.TaskSteps.{Step, tasks_go, sum_steps}
 
-and_off : (b c : Bool) → c ≡ false → (b && c) ≡ false
-and_off b c e1 = grind (arith, nat_tests)
-
 module _ (S C : ℕ) where
   -- what a tally with these notes and arguments adds to
   abbrev pub adds : TallyNotes → List ℤ → Bool

@@ -84,6 +84,5 @@ tallies_add_up = record {
   segment = twelve;
   found = holds_twelve;
   holds = refl;
-  sum =
-      sum_twelve;
+  sum = sum_twelve;
 }

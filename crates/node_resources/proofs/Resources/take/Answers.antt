@@ -17,7 +17,6 @@ returns c =
     the_view (record p { mutexes = c.look.new.self; segments = c.attach.new.self })
     ≡ record t {
       mutexes = changed t.mutexes c.args.mutex.0 (locked_by c.args.who);
-      segments =
-          changed t.segments c.args.segment.0 (with_attached c.args.who true);
+      segments = changed t.segments c.args.segment.0 (with_attached c.args.who true);
     }) c.self.view_is
     (λ i. record (the_view p) { mutexes = ms i; segments = gs i })

@@ -19,7 +19,6 @@ returns-clause-new c =
     the_view (record p { mutexes = c.unlock.new.self; segments = c.detach.new.self })
     ≡ record t {
       mutexes = changed t.mutexes c.args.mutex.0 (after_unlock c.args.who 1);
-      segments =
-          changed t.segments c.args.segment.0 (after_detach c.args.who);
+      segments = changed t.segments c.args.segment.0 (after_detach c.args.who);
     }) c.self.view_is
     (λ i. record (the_view p) { mutexes = c.unlock.ensures.new i; segments = c.detach.ensures.new i })

@@ -58,8 +58,7 @@ returns c s v =
     Locks s c.args.who c.args.mutex_id c.args.segment_id c.args.cell (Both c.in-Some.mutex c.in-Some-tally_segment.segment)
     (record t {
       mutexes = changed t.mutexes c.in-Some.mutex.0 (locked_by c.args.who);
-      segments =
-          changed t.segments c.in-Some-tally_segment.segment.0 (with_attached c.args.who true);
+      segments = changed t.segments c.in-Some-tally_segment.segment.0 (with_attached c.args.who true);
     })) (sym all)
     (both s c.args.self.now v c.args.who c.args.mutex_id c.args.segment_id c.args.cell c.in-Some.mutex c.in-Some.ensures.only m c.in-Some-tally_segment.segment
     one g has is_owned))

@@ -22,8 +22,7 @@ returns c = empty _ by_kind
       tasks = c.new-2.result;
       groups = c.new-3.result;
       queues = c.new-4.result;
-      mutexes =
-          c.new-5.result;
+      mutexes = c.new-5.result;
       sems = c.new-6.result;
       rwls = c.new-7.result;
       segments = c.new-8.result;

@@ -5,6 +5,5 @@ use Rattle.node_core.proofs.journaled.Journaled.with.Goals as goal
 pub returns-clause-stands : goal.returns-clause-stands
 returns-clause-stands c st = record {
   node = st;
-  log =
-      logged_none (opening (terms_of c.args.node)) _ (kept_none (opening (terms_of c.args.node)) c.new.result c.new.ensures) refl;
+  log = logged_none (opening (terms_of c.args.node)) _ (kept_none (opening (terms_of c.args.node)) c.new.result c.new.ensures) refl;
 }

@@ -25,8 +25,7 @@ returns-in-Ok-enqueue c l who v =
       priority = f.priority;
       cores = c.args.cores.0;
       detached = c.args.detached;
-      group =
-          number_of c.args.group;
+      group = number_of c.args.group;
       queue = Some c.args.queue.0;
     } in
     let same : y ≡ asked_of c.args.queue.0 x.0.queue c.args.args.now c.args.cores c.args.detached c.args.group =
@@ -36,8 +35,7 @@ returns-in-Ok-enqueue c l who v =
       priority = (x.2 i).priority;
       cores = c.args.cores.0;
       detached = c.args.detached;
-      group =
-          number_of c.args.group;
+      group = number_of c.args.group;
       queue = Some c.args.queue.0;
     }) in
     let none = causes_are n l who c.args.queue c.args.args.now c.args.cores c.args.detached c.args.group v may.opened c.is_kept.ensures may.alone x.0 x.1 f None
@@ -61,8 +59,7 @@ returns-in-Err-enqueue c l who v =
       priority = f.priority;
       cores = c.args.cores.0;
       detached = c.args.detached;
-      group =
-          number_of c.args.group;
+      group = number_of c.args.group;
       queue = Some c.args.queue.0;
     } in
     let same : y ≡ asked_of c.args.queue.0 x.0.queue c.args.args.now c.args.cores c.args.detached c.args.group =
@@ -72,8 +69,7 @@ returns-in-Err-enqueue c l who v =
       priority = (x.2 i).priority;
       cores = c.args.cores.0;
       detached = c.args.detached;
-      group =
-          number_of c.args.group;
+      group = number_of c.args.group;
       queue = Some c.args.queue.0;
     }) in
     let none = causes_are n l who c.args.queue c.args.args.now c.args.cores c.args.detached c.args.group v may.opened c.is_kept.ensures may.alone x.0 x.1 f None

@@ -9,8 +9,7 @@ push-requires-clause-apart c =
       settings = c.self.inside.settings;
       actions = c.self.inside.actions;
       tasks = c.self.inside.tasks;
-      queues =
-          c.self.inside.queues;
+      queues = c.self.inside.queues;
       ready = c.self.inside.ready;
       waiting = c.self.inside.waiting;
       running = c.self.inside.running;
@@ -24,8 +23,7 @@ push-requires-clause-nowhere c =
       settings = c.self.inside.settings;
       actions = c.self.inside.actions;
       tasks = c.self.inside.tasks;
-      queues =
-          c.self.inside.queues;
+      queues = c.self.inside.queues;
       ready = c.self.inside.ready;
       waiting = c.self.inside.waiting;
       running = c.self.inside.running;
@@ -39,8 +37,7 @@ refresh-requires-clause-place c =
       settings = c.self.inside.settings;
       actions = c.self.inside.actions;
       tasks = c.self.inside.tasks;
-      queues =
-          c.self.inside.queues;
+      queues = c.self.inside.queues;
       ready = c.self.inside.ready;
       waiting = c.self.inside.waiting;
       running = c.self.inside.running;
@@ -54,8 +51,7 @@ refresh-requires-clause-ranked c =
       settings = c.self.inside.settings;
       actions = c.self.inside.actions;
       tasks = c.self.inside.tasks;
-      queues =
-          c.self.inside.queues;
+      queues = c.self.inside.queues;
       ready = c.self.inside.ready;
       waiting = c.self.inside.waiting;
       running = c.self.inside.running;
@@ -71,8 +67,7 @@ invariant_of-self c =
       settings = c.self.inside.settings;
       actions = c.self.inside.actions;
       tasks = c.self.inside.tasks;
-      queues =
-          c.self.inside.queues;
+      queues = c.self.inside.queues;
       ready = c.self.inside.ready;
       waiting = c.self.inside.waiting;
       running = c.self.inside.running;
@@ -96,8 +91,7 @@ join-requires-clause-slot c =
       settings = c.self.inside.settings;
       actions = c.self.inside.actions;
       tasks = c.self.inside.tasks;
-      queues =
-          c.self.inside.queues;
+      queues = c.self.inside.queues;
       ready = c.self.inside.ready;
       waiting = c.self.inside.waiting;
       running = c.self.inside.running;

@@ -9,8 +9,7 @@ invariant_of-self c =
       settings = c.self.inside.settings;
       actions = c.self.inside.actions;
       tasks = c.self.inside.tasks;
-      queues =
-          c.self.inside.queues;
+      queues = c.self.inside.queues;
       ready = c.self.inside.ready;
       waiting = c.self.inside.waiting;
       running = c.self.inside.running;

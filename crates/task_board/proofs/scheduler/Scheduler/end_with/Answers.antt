@@ -11,8 +11,7 @@ leave_queue-requires-clause-member c =
       settings = c.self.inside.settings;
       actions = c.self.inside.actions;
       tasks = c.self.inside.tasks;
-      queues =
-          c.self.inside.queues;
+      queues = c.self.inside.queues;
       ready = c.self.inside.ready;
       waiting = c.self.inside.waiting;
       running = c.self.inside.running;
@@ -27,8 +26,7 @@ leave_queue-requires-clause-place c h e =
       settings = c.self.inside.settings;
       actions = c.self.inside.actions;
       tasks = c.self.inside.tasks;
-      queues =
-          c.self.inside.queues;
+      queues = c.self.inside.queues;
       ready = c.self.inside.ready;
       waiting = c.self.inside.waiting;
       running = c.self.inside.running;
@@ -45,8 +43,7 @@ leave_queue-requires-clause-ranked c =
       settings = c.self.inside.settings;
       actions = c.self.inside.actions;
       tasks = c.self.inside.tasks;
-      queues =
-          c.self.inside.queues;
+      queues = c.self.inside.queues;
       ready = c.self.inside.ready;
       waiting = c.self.inside.waiting;
       running = c.self.inside.running;
@@ -65,8 +62,7 @@ remove-requires-clause-job c =
       settings = c.self.inside.settings;
       actions = c.self.inside.actions;
       tasks = c.self.inside.tasks;
-      queues =
-          c.self.inside.queues;
+      queues = c.self.inside.queues;
       ready = c.self.inside.ready;
       waiting = c.self.inside.waiting;
       running = c.self.inside.running;
@@ -82,8 +78,7 @@ remove-requires-clause-has c =
       settings = c.self.inside.settings;
       actions = c.self.inside.actions;
       tasks = c.self.inside.tasks;
-      queues =
-          c.self.inside.queues;
+      queues = c.self.inside.queues;
       ready = c.self.inside.ready;
       waiting = c.self.inside.waiting;
       running = c.self.inside.running;
@@ -98,8 +93,7 @@ invariant_of-self c =
       settings = c.self.inside.settings;
       actions = c.self.inside.actions;
       tasks = c.self.inside.tasks;
-      queues =
-          c.self.inside.queues;
+      queues = c.self.inside.queues;
       ready = c.self.inside.ready;
       waiting = c.self.inside.waiting;
       running = c.self.inside.running;
@@ -125,8 +119,7 @@ bounds-self-inside-worker c =
       settings = c.self.inside.settings;
       actions = c.self.inside.actions;
       tasks = c.self.inside.tasks;
-      queues =
-          c.self.inside.queues;
+      queues = c.self.inside.queues;
       ready = c.self.inside.ready;
       waiting = c.self.inside.waiting;
       running = c.self.inside.running;
@@ -141,8 +134,7 @@ invariant_of-self-in-Running c =
       settings = c.self.inside.settings;
       actions = c.self.inside.actions;
       tasks = c.self.inside.tasks;
-      queues =
-          c.self.inside.queues;
+      queues = c.self.inside.queues;
       ready = c.self.inside.ready;
       waiting = c.self.inside.waiting;
       running = c.self.inside.running;
@@ -170,8 +162,7 @@ returns-in-Scheduled c =
       tasks_are = subst (λ (b : SchedulerTable). c.end_with.new.self
           ≡ record b.tasks {
             pool = ended_in b.tasks.pool c.args.t.0 c.args.end b.tasks.ends (slot_value b.tasks.pool c.args.t.0);
-            ends =
-                b.tasks.ends + 1;
+            ends = b.tasks.ends + 1;
           }) is c.end_with.ensures;
       queues_are = ap (λ (z : QueueTable). records_of z.pool) c.leave_queue.ensures.left ∙ records-left c.self.inside.queues.pool _ c.args.t.0 c.is_kept.ensures
           ∙ ap (λ (b : SchedulerTable). records_of b.queues.pool) is;
@@ -187,8 +178,7 @@ returns-in-Running c =
       tasks_are = subst (λ (b : SchedulerTable). c.end_with.new.self
           ≡ record b.tasks {
             pool = ended_in b.tasks.pool c.args.t.0 c.args.end b.tasks.ends (slot_value b.tasks.pool c.args.t.0);
-            ends =
-                b.tasks.ends + 1;
+            ends = b.tasks.ends + 1;
           }) is c.end_with.ensures;
       queues_are = ap (λ (z : QueueTable). records_of z.pool) c.leave_queue.ensures.left ∙ records-left c.self.inside.queues.pool _ c.args.t.0 c.is_kept.ensures
           ∙ ap (λ (b : SchedulerTable). records_of b.queues.pool) is;

@@ -10,8 +10,7 @@ push-requires-clause-apart c =
       settings = c.self.inside.settings;
       actions = c.self.inside.actions;
       tasks = c.self.inside.tasks;
-      queues =
-          c.self.inside.queues;
+      queues = c.self.inside.queues;
       ready = c.self.inside.ready;
       waiting = c.self.inside.waiting;
       running = c.self.inside.running;
@@ -25,8 +24,7 @@ push-requires-clause-nowhere c =
       settings = c.self.inside.settings;
       actions = c.self.inside.actions;
       tasks = c.self.inside.tasks;
-      queues =
-          c.self.inside.queues;
+      queues = c.self.inside.queues;
       ready = c.self.inside.ready;
       waiting = c.self.inside.waiting;
       running = c.self.inside.running;
@@ -40,8 +38,7 @@ put_in-requires-clause-slot c =
       settings = c.self.inside.settings;
       actions = c.self.inside.actions;
       tasks = c.self.inside.tasks;
-      queues =
-          c.self.inside.queues;
+      queues = c.self.inside.queues;
       ready = c.self.inside.ready;
       waiting = c.self.inside.waiting;
       running = c.self.inside.running;
@@ -55,8 +52,7 @@ put_in-requires-clause-alone c =
       settings = c.self.inside.settings;
       actions = c.self.inside.actions;
       tasks = c.self.inside.tasks;
-      queues =
-          c.self.inside.queues;
+      queues = c.self.inside.queues;
       ready = c.self.inside.ready;
       waiting = c.self.inside.waiting;
       running = c.self.inside.running;
@@ -70,8 +66,7 @@ refresh-requires-clause-place c =
       settings = c.self.inside.settings;
       actions = c.self.inside.actions;
       tasks = c.self.inside.tasks;
-      queues =
-          c.self.inside.queues;
+      queues = c.self.inside.queues;
       ready = c.self.inside.ready;
       waiting = c.self.inside.waiting;
       running = c.self.inside.running;
@@ -85,8 +80,7 @@ refresh-requires-clause-ranked c =
       settings = c.self.inside.settings;
       actions = c.self.inside.actions;
       tasks = c.self.inside.tasks;
-      queues =
-          c.self.inside.queues;
+      queues = c.self.inside.queues;
       ready = c.self.inside.ready;
       waiting = c.self.inside.waiting;
       running = c.self.inside.running;
@@ -103,8 +97,7 @@ invariant_of-self c =
       settings = c.self.inside.settings;
       actions = c.self.inside.actions;
       tasks = c.self.inside.tasks;
-      queues =
-          c.self.inside.queues;
+      queues = c.self.inside.queues;
       ready = c.self.inside.ready;
       waiting = c.self.inside.waiting;
       running = c.self.inside.running;
@@ -141,8 +134,7 @@ join-requires-clause-slot c =
       settings = c.self.inside.settings;
       actions = c.self.inside.actions;
       tasks = c.self.inside.tasks;
-      queues =
-          c.self.inside.queues;
+      queues = c.self.inside.queues;
       ready = c.self.inside.ready;
       waiting = c.self.inside.waiting;
       running = c.self.inside.running;

@@ -9,8 +9,7 @@ free-requires c =
       settings = c.self.inside.settings;
       actions = c.self.inside.actions;
       tasks = c.self.inside.tasks;
-      queues =
-          c.self.inside.queues;
+      queues = c.self.inside.queues;
       ready = c.self.inside.ready;
       waiting = c.self.inside.waiting;
       running = c.self.inside.running;
@@ -26,8 +25,7 @@ invariant_of-self c =
       settings = c.self.inside.settings;
       actions = c.self.inside.actions;
       tasks = c.self.inside.tasks;
-      queues =
-          c.self.inside.queues;
+      queues = c.self.inside.queues;
       ready = c.self.inside.ready;
       waiting = c.self.inside.waiting;
       running = c.self.inside.running;
@@ -44,8 +42,7 @@ returns-in-Some c =
       settings = c.self.inside.settings;
       actions = c.self.inside.actions;
       tasks = c.self.inside.tasks;
-      queues =
-          c.self.inside.queues;
+      queues = c.self.inside.queues;
       ready = c.self.inside.ready;
       waiting = c.self.inside.waiting;
       running = c.self.inside.running;

@@ -45,8 +45,7 @@ invariant_of-seat-in-Err-1 g c = let v = c.seat.invariant in let p = v.part in
       me_is = c.in-Err.ensures.spent.1 p v.me_is;
       idle = refl;
       number_is = v.number_is;
-      shown_is =
-          refl;
+      shown_is = refl;
       lawful = v.lawful;
       own = v.own;
     }

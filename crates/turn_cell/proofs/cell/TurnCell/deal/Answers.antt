@@ -16,11 +16,9 @@ pub invariant_of-push : goal.invariant_of-push
 invariant_of-push g c = let v = c.loop-number.invariant in
     record {
       part = fresh_part c.args.self.now.terms c.loop-number.number;
-      me_is =
-          first_part c.args.self.now.terms c.loop-number.number c.args.count _ _ v.few v.parts c.split_seat-rest.ensures.2;
+      me_is = first_part c.args.self.now.terms c.loop-number.number c.args.count _ _ v.few v.parts c.split_seat-rest.ensures.2;
       idle = refl;
-      number_is =
-          refl;
+      number_is = refl;
       shown_is = refl;
       lawful = c.requires.legal;
       own = refl;
@@ -39,12 +37,10 @@ pub invariant_of-push-2 : goal.invariant_of-push-2
 invariant_of-push-2 g c = let v = c.loop-number.invariant in
     record {
       part = fresh_part c.args.self.now.terms (c.args.count - 1);
-      me_is =
-          last_part c.args.self.now.terms c.loop-number.number c.args.count _ (omega arith) c.requires.some v.parts;
+      me_is = last_part c.args.self.now.terms c.loop-number.number c.args.count _ (omega arith) c.requires.some v.parts;
       idle = refl;
       number_is = refl;
-      shown_is =
-          refl;
+      shown_is = refl;
       lawful = c.requires.legal;
       own = refl;
     }

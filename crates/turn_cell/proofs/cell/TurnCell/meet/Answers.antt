@@ -52,8 +52,7 @@ invariant_of-a g c =
       idle = v.idle;
       number_is = v.number_is;
       shown_is = v.shown_is;
-      lawful =
-          m.first_knows.lawful;
+      lawful = m.first_knows.lawful;
       own = m.first_knows.own;
     }
 
@@ -69,8 +68,7 @@ invariant_of-b g c =
       idle = v.idle;
       number_is = v.number_is;
       shown_is = v.shown_is;
-      lawful =
-          m.second_knows.lawful;
+      lawful = m.second_knows.lawful;
       own = m.second_knows.own;
     }
 
@@ -89,8 +87,7 @@ returns g c =
         number = refl;
         terms = refl;
         seen = m.first_knows.begins;
-        mine =
-            refl;
+        mine = refl;
         shown = refl;
       },
       m.first_knows.lawful,
@@ -105,8 +102,7 @@ returns g c =
             ∙ (ap (λ f. f.cell) c.a.view_is ∙ (c.requires.0 ∙ (sym c.requires.1 ∙ sym (ap (λ f. f.cell) c.b.view_is))))));
         number = refl;
         terms = refl;
-        seen =
-            m.second_knows.begins;
+        seen = m.second_knows.begins;
         mine = refl;
         shown = refl;
       },

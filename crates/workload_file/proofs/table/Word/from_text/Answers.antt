@@ -10,4 +10,5 @@ unfolding word_of row
 starts text e = subst (λ (t : List ℕ). Some Start ≡ word_of t) (sym e) refl
 
 pub returns-then-eq : goal.returns-then-eq
-returns-then-eq c = starts c.args.text.now ((slice_eq-Decides Decides-eqb c.args.text.now c.text.result.now c.eq.result c.eq.ensures).0 c.if-eq.true ∙ c.text.ensures)
+returns-then-eq c = starts c.args.text.now ((slice_eq-Decides Decides-eqb c.args.text.now c.text.result.now c.eq.result c.eq.ensures).0 c.if-eq.true
+    ∙ c.text.ensures)

@@ -7,7 +7,6 @@ returns-in-Ok g c =
     record {
       same = search rules;
       done = search rules;
-      ran =
-          ran_of g.F.FnOnce g.B.Beside.refusals c.captures.b c.captures.carry c.b-t.result _ _ _ _ c.b-t.ensures (search rules) (search rules);
+      ran = ran_of g.F.FnOnce g.B.Beside.refusals c.captures.b c.captures.carry c.b-t.result _ _ _ _ c.b-t.ensures (search rules) (search rules);
       refused = tt;
     }
