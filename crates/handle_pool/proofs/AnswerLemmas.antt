@@ -1,7 +1,6 @@
 -- What is asked of a list of issued objects, answered from the slots that stand for it.
-use Rattle.handle_pool.proofs.Names.{◌≡◌, ℕ, zero, suc, ◌+◌, ◌*◌, ◌^◌, ◌<◌, ◌≤◌, Bool, true, false, ◌&&◌, cond, List, [], ◌∷◌, length, Option, Some, None, count_by, slice_get, refl, sym, ap, ◌∙◌, inl, inr, arith, ◌==◌, cases_Bool, nat_tests, sum_by-cons, Slot, Slots, slot_of, generation_of, value_at, slot_value, value_passes, count_in, SomeLive, NoneLive, Listed, how_many, live_of, lookup, any_listed, any_live, first_handle, count_listed, change_all, Distinct, Stands}
+use Rattle.handle_pool.proofs.Names.{◌≡◌, ℕ, zero, suc, ◌+◌, ◌*◌, ◌^◌, ◌<◌, ◌≤◌, Bool, true, false, cond, List, [], ◌∷◌, length, Option, Some, None, count_by, slice_get, refl, sym, ap, ◌∙◌, inl, inr, arith, ◌==◌, cases_Bool, nat_tests, sum_by-cons, Slot, Slots, slot_of, generation_of, value_at, slot_value, value_passes, count_in, SomeLive, NoneLive, Listed, how_many, live_of, lookup, any_listed, first_handle, count_listed, change_all, Distinct, Stands}
 use Rattle.handle_pool.proofs.LiveLemmas.{passing, any_live-at, first_live-passes, first_live-any, first_live-none, how_many-same}
-use Rattle.handle_pool.proofs.StandsLemmas.{value_at-none}
 
 -- the handle of a generation at a place
 abbrev handle_at : ℕ → ℕ → ℕ
@@ -64,43 +63,19 @@ module _ {T : Type 0} where
   lookup-used : (slots : List (Slot T)) (place i h : ℕ) → slot_of h ≡ place + i → place + length slots ≤ 65536
       → lookup (used_from place slots) h ≡ value_at (slice_get slots i) (generation_of h)
   lookup-used [] place i h is few = refl
-  lookup-used (s ∷ slots) place zero h is few = pick s.value refl (lookup-used_before slots (place + 1) h (omega arith) (omega arith))
-    where
-      pick : (o : Option T) → s.value ≡ o → lookup (used_from (place + 1) slots) h ≡ None
-          → lookup (in_front (handle_at s.generation place) o (used_from (place + 1) slots)) h ≡ value_at (Some s) (generation_of h)
-      pick None has more = more ∙ sym (value_at-none s (generation_of h) has)
-      pick (Some v) has more =
-          ap (λ b. cond b (Some v) (lookup (used_from (place + 1) slots) h)) (same_test s.generation place h (omega arith))
-          ∙ ap (λ o. cond (s.generation == generation_of h) (Some v) o) more
-          ∙ ap (λ o. cond (s.generation == generation_of h) o None) (sym has)
-  lookup-used (s ∷ slots) place (suc i) h is few = pick s.value (lookup-used slots (place + 1) i h (omega arith) (omega arith))
-    where
-      pick : (o : Option T) → lookup (used_from (place + 1) slots) h ≡ value_at (slice_get slots i) (generation_of h)
-          → lookup (in_front (handle_at s.generation place) o (used_from (place + 1) slots)) h ≡ value_at (slice_get slots i) (generation_of h)
-      pick None more = more
-      pick (Some v) more = ap (λ b. cond b (Some v) (lookup (used_from (place + 1) slots) h))
-          (other_slot s.generation place h (omega arith) (λ at. omega arith)) ∙ more
+  lookup-used (s ∷ slots) place zero h is few = grind (arith, nat_tests, lookup-used_before slots (place + 1) h (omega arith) (omega arith))
+  lookup-used (s ∷ slots) place (suc i) h is few = grind (arith, nat_tests, lookup-used slots (place + 1) i h (omega arith) (omega arith))
 
   Distinct-used : (slots : List (Slot T)) (place : ℕ) → place + length slots ≤ 65536 → Distinct (used_from place slots)
   Distinct-used [] place few = tt
-  Distinct-used (s ∷ slots) place few = pick s.value (Distinct-used slots (place + 1) (omega arith))
-    where
-      pick : (o : Option T) → Distinct (used_from (place + 1) slots) → Distinct (in_front (handle_at s.generation place) o (used_from (place + 1) slots))
-      pick None more = more
-      pick (Some v) more =
-          let own = slot_of-handle_at s.generation place (omega arith) in
-          (lookup-used_before slots (place + 1) (handle_at s.generation place) (omega arith) (omega arith), more)
+  Distinct-used (s ∷ slots) place few =
+      let before = lookup-used_before slots (place + 1) (handle_at s.generation place) (omega arith) (omega arith) in
+      grind (arith, nat_tests, Distinct-used slots (place + 1) (omega arith))
 
   how_many-used : (q : T → Bool) (slots : List (Slot T)) (place : ℕ) → how_many (λ e. q e.1) (used_from place slots) ≡ count_by (value_passes q) slots
   how_many-used q [] place = refl
-  how_many-used q (s ∷ slots) place = pick s.value refl (how_many-used q slots (place + 1))
-      ∙ sym (sum_by-cons (λ (t : Slot T). cond (value_passes q t) 1 0) s slots)
-    where
-      pick : (o : Option T) → s.value ≡ o → how_many (λ e. q e.1) (used_from (place + 1) slots) ≡ count_by (value_passes q) slots
-          → how_many (λ e. q e.1) (in_front (handle_at s.generation place) o (used_from (place + 1) slots))
-          ≡ cond (value_passes q s) 1 0 + count_by (value_passes q) slots
-      pick None has more = rw has (omega arith)
-      pick (Some v) has more = rw has (omega arith)
+  how_many-used q (s ∷ slots) place =
+      grind (arith, nat_tests, sum_by-cons (λ (t : Slot T). cond (value_passes q t) 1 0) s slots, how_many-used q slots (place + 1))
 
   how_many-live : (q : T → Bool) (l : List (Listed T)) → count_listed q l ≡ how_many (λ e. q e.1) (live_of l)
   unfolding live_of
@@ -122,13 +97,4 @@ module _ {T : Type 0} where
   pub change_all-none : (q : T → Bool) (f : Listed T → Listed T) (l : List (Listed T)) → any_listed q l ≡ false → change_all q f l ≡ l
   unfolding live_of change_all
   change_all-none q f [] none = refl
-  change_all-none q f (r ∷ rs) none = pick q f r.handle r.live r.fields (q r.fields) rs refl none (λ more. change_all-none q f rs more)
-    where
-      pick : (q : T → Bool) (f : Listed T → Listed T) (n : ℕ) (live : Bool) (v : T) (b : Bool) (rs : List (Listed T)) → q v ≡ b
-          → any_live q (cond live ((n, v) ∷ live_of rs) (live_of rs)) ≡ false → (any_live q (live_of rs) ≡ false → change_all q f rs ≡ rs)
-          → cond (live && b) (f (record { handle = n; live = live; fields = v })) (record { handle = n; live = live; fields = v }) ∷ change_all q f rs
-          ≡ record { handle = n; live = live; fields = v } ∷ rs
-      pick q f n true v true rs is none more = let some = ap (λ b. cond b true (any_live q (live_of rs))) is in absurd (cc)
-      pick q f n true v false rs is none more =
-          ap (λ l. record { handle = n; live = true; fields = v } ∷ l) (more (sym (ap (λ b. cond b true (any_live q (live_of rs))) is) ∙ none))
-      pick q f n false v b rs is none more = ap (λ l. record { handle = n; live = false; fields = v } ∷ l) (more none)
+  change_all-none q f (r ∷ rs) none = grind (arith, nat_tests, change_all-none q f rs)

@@ -1,9 +1,6 @@
 -- How many slots are in use after each change, and how many there are.
-use Rattle.handle_pool.proofs.Names.{nat_tests, ◌≡◌, ℕ, ◌+◌, Bool, Some, cond, replicate, refl, arith, length-set, length-replicate, sum_by-replicate, Slot, Slots, slot_of, generation_of, free_slot, used_slot, slot_after, slot_value, is_live, live_count, max_of, Inserts, with_value, without}
+use Rattle.handle_pool.proofs.Names.{nat_tests, ◌≡◌, ℕ, ◌+◌, Some, cond, slice_get, replicate, refl, arith, length-set, length-replicate, sum_by-replicate, Slot, Slots, slot_of, generation_of, free_slot, used_slot, slot_after, slot_value, is_live, live_count, max_of, Inserts, with_value, without}
 use Rattle.handle_pool.proofs.StandsLemmas.{used_at_live, count_by-set}
-
-not_live : (T : Type 0) (generations generation : ℕ) → ◌≡◌ {A = ℕ} (cond (is_live (slot_after {T = T} generations generation)) 1 0) 0
-not_live T generations generation = grind (arith, nat_tests)
 
 module _ {T : Type 0} where
   pub live_count-new : (p : Slots T) (max : ℕ) → p.slots ≡ replicate max (free_slot 1) → live_count p ≡ 0
@@ -21,25 +18,16 @@ module _ {T : Type 0} where
 
   pub live_count-with_value : (p : Slots T) (h : ℕ) (old new : T) → slot_value p h ≡ Some old → live_count (with_value p h new) ≡ live_count p
   live_count-with_value p h old new found =
-      let slot = used_at_live _ (generation_of h) old found in
-      let one : Bool → ℕ = λ b. cond b 1 0 in
-      let before : one (is_live slot.0) ≡ 1 = rw slot.3 refl in
-      omega (arith, count_by-set is_live p.slots (slot_of h) slot.0 (used_slot (generation_of h) new) slot.1)
+      let slot = used_at_live (slice_get p.slots (slot_of h)) (generation_of h) old found in
+      grind (arith, nat_tests, count_by-set is_live p.slots (slot_of h) slot.0 (used_slot (generation_of h) new) slot.1)
 
   pub max_of-with_value : (p : Slots T) (h : ℕ) (v : T) → max_of (with_value p h v) ≡ max_of p
   max_of-with_value p h v = length-set p.slots (slot_of h) (used_slot (generation_of h) v)
 
   pub live_count-without : (p : Slots T) (h : ℕ) (old : T) → slot_value p h ≡ Some old → live_count (without p h) + 1 ≡ live_count p
   live_count-without p h old found =
-      let slot = used_at_live _ (generation_of h) old found in
-      let one : Bool → ℕ = λ b. cond b 1 0 in
-      let before : one (is_live slot.0) ≡ 1 = rw slot.3 refl in
-      omega (
-        arith,
-        not_live T p.generations (generation_of h),
-        count_by-set is_live p.slots (slot_of h) slot.0
-            (slot_after p.generations (generation_of h)) slot.1,
-      )
+      let slot = used_at_live (slice_get p.slots (slot_of h)) (generation_of h) old found in
+      grind (arith, nat_tests, count_by-set is_live p.slots (slot_of h) slot.0 (slot_after p.generations (generation_of h)) slot.1)
 
   pub max_of-without : (p : Slots T) (h : ℕ) → max_of (without p h) ≡ max_of p
   max_of-without p h = length-set p.slots (slot_of h) (slot_after p.generations (generation_of h))

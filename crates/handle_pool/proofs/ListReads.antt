@@ -44,3 +44,9 @@ module _ {X : Type 0} where
   set-same [] i x found = refl
   set-same (y ∷ xs) zero x found = let is : y ≡ x = cc in ap (λ z. z ∷ xs) (sym is)
   set-same (y ∷ xs) (suc i) x found = ap (λ zs. y ∷ zs) (set-same xs i x found)
+
+  -- the second write at a place is the one that stays
+  pub set-set : (xs : List X) (i : ℕ) (x y : X) → set (set xs i x) i y ≡ set xs i y
+  set-set [] i x y = refl
+  set-set (z ∷ xs) zero x y = refl
+  set-set (z ∷ xs) (suc i) x y = ap (λ rest. z ∷ rest) (set-set xs i x y)

@@ -1,5 +1,5 @@
 -- What each move of the list of issued objects does to the live ones and to the counts.
-use Rattle.handle_pool.proofs.Names.{nat_tests, ◌≡◌, ℕ, ◌+◌, Bool, true, false, not, ◌&&◌, cond, List, [], ◌∷◌, ◌++◌, length, Some, None, refl, sym, ◌∙◌, ap, arith, ◌==◌, slot_of, generation_of, Listed, how_many, live_of, lookup, live_object, issue, change, with_fields, update, retire, listed, issued_at, retired, Distinct}
+use Rattle.handle_pool.proofs.Names.{nat_tests, ◌≡◌, ℕ, ◌+◌, Bool, true, not, ◌&&◌, cond, List, [], ◌∷◌, ◌++◌, length, length_push, Some, None, refl, ◌∙◌, ap, arith, ◌==◌, slot_of, generation_of, Listed, how_many, live_of, lookup, live_object, issue, change, with_fields, update, retire, listed, issued_at, retired, Distinct}
 use Rattle.handle_pool.proofs.LiveLemmas.{pairs_changed, pairs_without, lookup-changed, lookup-without, lookup-append, Distinct-append, Distinct-changed, Distinct-without, length-changed, how_many-without}
 
 -- the handle's slot, as a handle, names itself
@@ -13,39 +13,20 @@ how_many-push q (y ∷ xs) x = omega (arith, how_many-push q xs x)
 module _ {T : Type 0} where
   -- the live objects after each move
 
-  cond_append : (b : Bool) (a : ℕ × T) (xs ys zs : List (ℕ × T)) → xs ≡ ys ++ zs → cond b (a ∷ xs) xs ≡ cond b (a ∷ ys) ys ++ zs
-  cond_append b a xs ys zs e1 = grind (arith, nat_tests)
-
   pub live_of-issue : (h : ℕ) (v : T) (l : List (Listed T)) → live_of (issue h v l) ≡ live_of l ++ (h, v) ∷ []
   unfolding live_of issue
   live_of-issue h v [] = refl
-  live_of-issue h v (r ∷ rs) = cond_append r.live (r.handle, r.fields) _ (live_of rs) ((h, v) ∷ []) (live_of-issue h v rs)
-
-  abbrev prefix : Listed T → List (ℕ × T) → List (ℕ × T)
-  prefix r xs = cond r.live ((r.handle, r.fields) ∷ xs) xs
-
-  update_one : (h : ℕ) (f : T → T) (b : Bool) (n : ℕ) (live : Bool) (v : T) (xs rs : List (Listed T)) → (n == h) ≡ b
-      → live_of xs ≡ pairs_changed h f (live_of rs)
-      → live_of (cond (live && b) (record { handle = n; live = live; fields = f v } ∷ rs) (record { handle = n; live = live; fields = v } ∷ xs))
-      ≡ pairs_changed h f (prefix (record { handle = n; live = live; fields = v }) (live_of rs))
-  unfolding live_of
-  update_one h f b n live v xs rs e1 e2 = grind (arith, nat_tests)
+  live_of-issue h v (r ∷ rs) = grind (arith, nat_tests, live_of-issue h v rs)
 
   pub live_of-update : (h : ℕ) (f : T → T) (l : List (Listed T)) → live_of (update h f l) ≡ pairs_changed h f (live_of l)
   unfolding live_of change
   live_of-update h f [] = refl
-  live_of-update h f (r ∷ rs) = update_one h f (r.handle == h) r.handle r.live r.fields (update h f rs) rs refl (live_of-update h f rs)
-
-  retire_one : (h : ℕ) (b : Bool) (n : ℕ) (live : Bool) (v : T) (xs rs : List (Listed T)) → (n == h) ≡ b → live_of xs ≡ pairs_without h (live_of rs)
-      → live_of (cond (live && b) (record { handle = n; live = false; fields = v } ∷ rs) (record { handle = n; live = live; fields = v } ∷ xs))
-      ≡ pairs_without h (prefix (record { handle = n; live = live; fields = v }) (live_of rs))
-  unfolding live_of
-  retire_one h b n live v xs rs e1 e2 = grind (arith, nat_tests)
+  live_of-update h f (r ∷ rs) = grind (arith, nat_tests, live_of-update h f rs)
 
   pub live_of-retire : (h : ℕ) (l : List (Listed T)) → live_of (retire h l) ≡ pairs_without h (live_of l)
   unfolding live_of change
   live_of-retire h [] = refl
-  live_of-retire h (r ∷ rs) = retire_one h (r.handle == h) r.handle r.live r.fields (retire h rs) rs refl (live_of-retire h rs)
+  live_of-retire h (r ∷ rs) = grind (arith, nat_tests, live_of-retire h rs)
 
   -- what stands at each handle after each move
 
@@ -73,11 +54,7 @@ module _ {T : Type 0} where
   length_many (e ∷ es) = omega (arith, length_many es)
 
   pub length-issue : (h : ℕ) (v : T) (l : List (Listed T)) → length (live_of (issue h v l)) ≡ length (live_of l) + 1
-  length-issue h v l = ap length (live_of-issue h v l) ∙ pushed (live_of l)
-    where
-      pushed : (es : List (ℕ × T)) → length (es ++ (h, v) ∷ []) ≡ length es + 1
-      pushed [] = refl
-      pushed (e ∷ es) = omega (arith, pushed es)
+  length-issue h v l = ap length (live_of-issue h v l) ∙ length_push (live_of l) (h, v)
 
   pub length-update : (h : ℕ) (f : T → T) (l : List (Listed T)) → length (live_of (update h f l)) ≡ length (live_of l)
   length-update h f l = ap length (live_of-update h f l) ∙ length-changed h f (live_of l)
@@ -128,33 +105,14 @@ module _ {T : Type 0} where
   unfolding issued_at
   issued_at-slot h l = ap (λ s. how_many (λ r. slot_of r.handle == s) l) (slot_of-slot h)
 
-  retired_one : (last h : ℕ) (b : Bool) (n : ℕ) (live : Bool) (v w : T) (xs rs : List (Listed T)) → (n == h) ≡ b
-      → lookup (prefix (record { handle = n; live = live; fields = v }) (live_of rs)) h ≡ Some w
-      → (lookup (live_of rs) h ≡ Some w → retired last xs ≡ retired last rs + cond (generation_of h == last) 1 0)
-      → retired last (cond (live && b) (record { handle = n; live = false; fields = v } ∷ rs) (record { handle = n; live = live; fields = v } ∷ xs))
-      ≡ retired last (record { handle = n; live = live; fields = v } ∷ rs) + cond (generation_of h == last) 1 0
-  unfolding retired
-  retired_one last h b n live v w xs rs e1 e2 e3 = grind (arith, nat_tests)
-
   pub retired-retire : (last h : ℕ) (v : T) (l : List (Listed T)) → live_object l h ≡ Some v
       → retired last (retire h l) ≡ retired last l + cond (generation_of h == last) 1 0
-  unfolding live_of change
+  unfolding live_of change retired
   retired-retire last h v [] is = absurd (cc)
-  retired-retire last h v (r ∷ rs) is = retired_one last h (r.handle == h) r.handle r.live r.fields v
-      (retire h rs) rs refl is (λ more. retired-retire last h v rs more)
+  retired-retire last h v (r ∷ rs) is = grind (arith, nat_tests, retired-retire last h v rs)
 
   -- a change of a handle that isn't live is none
   pub change-none : (h : ℕ) (f : Listed T → Listed T) (l : List (Listed T)) → live_object l h ≡ None → change h f l ≡ l
   unfolding live_of change
   change-none h f [] off = refl
-  change-none h f (r ∷ rs) off = none_one h f (r.handle == h) r.handle r.live r.fields rs refl off (λ more. change-none h f rs more)
-    where
-      none_one : (h : ℕ) (f : Listed T → Listed T) (b : Bool) (n : ℕ) (live : Bool) (v : T) (rs : List (Listed T)) → (n == h) ≡ b
-          → lookup (prefix (record { handle = n; live = live; fields = v }) (live_of rs)) h ≡ None → (lookup (live_of rs) h ≡ None → change h f rs ≡ rs)
-          → cond (live && b) (f (record { handle = n; live = live; fields = v }) ∷ rs) (record { handle = n; live = live; fields = v } ∷ change h f rs)
-          ≡ record { handle = n; live = live; fields = v } ∷ rs
-      none_one h f true n true v rs e off more = let found = ap (λ b. cond b (Some v) (lookup (live_of rs) h)) e in absurd (cc)
-      none_one h f false n true v rs e off more =
-          ap (λ l. record { handle = n; live = true; fields = v } ∷ l) (more (sym (ap (λ b. cond b (Some v) (lookup (live_of rs) h)) e) ∙ off))
-      none_one h f true n false v rs e off more = ap (λ l. record { handle = n; live = false; fields = v } ∷ l) (more off)
-      none_one h f false n false v rs e off more = ap (λ l. record { handle = n; live = false; fields = v } ∷ l) (more off)
+  change-none h f (r ∷ rs) off = grind (arith, nat_tests, change-none h f rs)

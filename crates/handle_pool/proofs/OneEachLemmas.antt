@@ -1,7 +1,5 @@
 -- Live values with a key of their own each go on to have one.
-use Rattle.handle_pool.proofs.Names.{◌≡◌, ℕ, Some, None, replicate, refl, sym, ap, ◌∙◌, inl, inr, Result, cases_eq, Slots, slot_of, generation_of, free_slot, slot_value, Inserts, with_value, without, NoneLive, OneEach}
-use Rattle.std.proofs.Common.{Ok, Err}
-use Rattle.std.specs.Result.{IfOk, OnErr}
+use Rattle.handle_pool.proofs.Names.{arith, nat_tests, ◌≡◌, ℕ, Some, None, replicate, refl, sym, ap, ◌∙◌, inl, inr, cases_eq, Slots, slot_of, generation_of, free_slot, slot_value, Inserts, with_value, without, NoneLive, OneEach}
 use Rattle.handle_pool.proofs.StandsLemmas.{get-fresh}
 use Rattle.handle_pool.proofs.GetLemmas.{get-insert_same, get-insert_other, get-with_value_same, get-with_value_other, get-without_same, get-without_other}
 
@@ -15,23 +13,10 @@ module _ {T : Type 0} (key : T → ℕ) where
   pub OneEach-insert : (p new : Slots T) (handle : ℕ) (value : T) → OneEach key p → NoneLive (slot_value p) (λ v. key v ≡ key value)
       → Inserts p new handle value → OneEach key new
   OneEach-insert p new handle value each free inserts = record {
-    only = λ h k v w found other same. elim (cases_eq h handle) [
-      | inl here ↦ elim (cases_eq k handle) [
-        | inl too ↦ here ∙ sym too
-        | inr apart ↦
-            let read = rw (here, get-insert_same p new handle value inserts) at found in
-            let is : value ≡ v = cc in
-            absurd (free k w (sym (get-insert_other p new handle k value inserts apart) ∙ other) (sym same ∙ ap key (sym is)))
-      ]
-      | inr away ↦ elim (cases_eq k handle) [
-        | inl too ↦
-            let read = rw (too, get-insert_same p new handle value inserts) at other in
-            let is : value ≡ w = cc in
-            absurd (free h v (sym (get-insert_other p new handle h value inserts away) ∙ found) (same ∙ ap key (sym is)))
-        | inr apart ↦ each.only h k v w (sym (get-insert_other p new handle h value inserts away)
-            ∙ found) (sym (get-insert_other p new handle k value inserts apart) ∙ other) same
-      ]
-    ];
+    only = λ h k v w found other same.
+        let here = get-insert_same p new handle value inserts in
+        let before = λ (j : ℕ). get-insert_other p new handle j value inserts in
+        grind (arith, nat_tests, each.only h k v w, free h v, free k w, before h, before k);
   }
 
   -- what was live before, with the same key
@@ -43,10 +28,7 @@ module _ {T : Type 0} (key : T → ℕ) where
   was_with : (p : Slots T) (handle : ℕ) (old new : T) (h : ℕ) (v : T) → slot_value p handle ≡ Some old → key new ≡ key old
       → slot_value (with_value p handle new) h ≡ Some v → Was p h v
   was_with p handle old new h v live keeps found = elim (cases_eq h handle) [
-    | inl here ↦
-        let read = rw (here, get-with_value_same p handle old new live) at found in
-        let is : new ≡ v = cc in
-        record { value = old; found = ap (slot_value p) here ∙ live; same = sym keeps ∙ ap key is }
+    | inl here ↦ record { value = old; found = ap (slot_value p) here ∙ live; same = grind (arith, nat_tests, get-with_value_same p handle old new live) }
     | inr away ↦ record { value = v; found = sym (get-with_value_other p handle h old new live away) ∙ found; same = refl }
   ]
 
@@ -62,12 +44,7 @@ module _ {T : Type 0} (key : T → ℕ) where
 
   pub OneEach-without : (p : Slots T) (handle : ℕ) (old : T) → OneEach key p → slot_value p handle ≡ Some old → OneEach key (without p handle)
   OneEach-without p handle old each live = record {
-    only = λ h k v w found other same. elim (cases_eq h handle) [
-      | inl here ↦ let read = rw (here, get-without_same p handle old live) at found in absurd (cc)
-      | inr away ↦ elim (cases_eq k handle) [
-        | inl too ↦ let read = rw (too, get-without_same p handle old live) at other in absurd (cc)
-        | inr apart ↦ each.only h k v w (sym (get-without_other p handle h old live away) ∙ found) (sym (get-without_other p handle k old live apart)
-            ∙ other) same
-      ]
-    ];
+    only = λ h k v w found other same.
+        let none = get-without_same p handle old live in
+        grind (arith, nat_tests, each.only h k v w, get-without_other p handle h old live, get-without_other p handle k old live);
   }

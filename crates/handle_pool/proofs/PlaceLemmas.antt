@@ -1,5 +1,5 @@
 -- How each change of the places keeps the counts and the list of free places.
-use Rattle.handle_pool.proofs.Names.{◌≡◌, ◌≢◌, ℕ, true, zero, suc, ◌+◌, ◌-◌, ◌*◌, ◌<◌, ◌≤◌, ◌^◌, Bool, List, [], ◌∷◌, ◌++◌, map, length, get_or, set, Option, Some, None, count_by, cond, slice_get, IsSome, refl, sym, ap, subst, ◌∙◌, arith, length-set, map-set, map_push, length-map, length_push, get_or-map, sum_by-set, sum_by_push, slice_get_within, get_or_from_slice_get, Place, Free, Live, Retired, Slot, is_live, is_retired, value_at, slot_of, generation_of, free_slot, slot_after, used_slot, with_value, Inserts, slice_get-map, option_map, nat_tests, slot_in, fresh, IsFreeList, HasGeneration, HasValue, IsSound}
+use Rattle.handle_pool.proofs.Names.{◌≡◌, ◌≢◌, ℕ, zero, suc, ◌+◌, ◌-◌, ◌*◌, ◌<◌, ◌≤◌, ◌^◌, Bool, List, [], ◌∷◌, ◌++◌, map, length, get_or, set, Option, Some, None, count_by, cond, slice_get, IsSome, refl, sym, ap, subst, ◌∙◌, arith, length-set, map-set, map_push, length-map, length_push, get_or-map, sum_by-set, sum_by_push, slice_get_within, get_or_from_slice_get, Place, Free, Live, Retired, Slot, Slots, slot_value, is_live, is_retired, value_at, slot_of, generation_of, slot_after, used_slot, with_value, Inserts, slice_get-map, option_map, nat_tests, slot_in, fresh, IsFreeList, HasGeneration, HasValue, IsSound}
 use Rattle.handle_pool.proofs.FreshLemmas.{fresh-length, fresh-push}
 use Rattle.handle_pool.proofs.ListReads.{slice_get-set_same, slice_get-set_other, slice_get-push_old, slice_get-push_last, slice_get-push_cases, slice_get-set_cases, set-same}
 
@@ -15,17 +15,12 @@ module _ {T : Type 0} where
   pub IsSound-push : (es : List (Place T)) (generations next : ℕ) → next ≡ length es + 1 → length es < 65536 → IsSound es generations 0 0 0
       → IsSound (es ++ Free 1 next ∷ []) generations 0 0 0
   IsSound-push es generations next at few sound =
+      let d = slot_in generations (Free 1 (length es + 1)) in
+      let pushed = map_push (slot_in generations) es (Free 1 (length es + 1)) in
+      let es_in = map (slot_in generations) es in
       rw at record {
-        live_counted = rw (
-          map_push (slot_in generations) es (Free 1 (length es + 1)),
-          sum_by_push (λ (s : Slot T). cond (is_live s) 1 0)
-              (map (slot_in generations) es) (slot_in generations (Free 1 (length es + 1))),
-        ) (omega (arith, sound.live_counted));
-        retired_counted = rw (
-          map_push (slot_in generations) es (Free 1 (length es + 1)),
-          sum_by_push (λ (s : Slot T). cond (is_retired s) 1 0)
-              (map (slot_in generations) es) (slot_in generations (Free 1 (length es + 1))),
-        ) (omega (arith, sound.retired_counted));
+        live_counted = grind (arith, nat_tests, sound.live_counted, sum_by_push (λ (s : Slot T). cond (is_live s) 1 0) es_in d);
+        retired_counted = grind (arith, nat_tests, sound.retired_counted, sum_by_push (λ (s : Slot T). cond (is_retired s) 1 0) es_in d);
         free = suc sound.free;
         total = omega (arith, length_push es (Free 1 (length es + 1)), sound.total);
         linked = IsFreeList-push es 1 sound.free 0 sound.linked;
@@ -70,10 +65,7 @@ module _ {T : Type 0} where
   IsFreeList-count_unique es zero (suc n) place p q = absurd (omega (arith, slice_get_within es place _ q.2))
   IsFreeList-count_unique es (suc m) zero place p q = absurd (omega (arith, slice_get_within es place _ p.2))
   IsFreeList-count_unique es (suc m) (suc n) place p q =
-      let first = p.2 in
-      let second = q.2 in
-      let same : q.1 ≡ p.1 = cc in
-      ap suc (IsFreeList-count_unique es m n p.1 p.3 (subst (IsFreeList es n) same q.3))
+      grind (arith, nat_tests, p.2, q.2, IsFreeList-count_unique es m n p.1 p.3)
 
   -- a write at a place that is not on the list keeps the list
   pub IsFreeList-set : (es : List (Place T)) (place : ℕ) (e : Place T) (n from : ℕ) → ((m : ℕ) → m < n → IsFreeList es (suc m) place → ⊥) → IsFreeList es n from
@@ -101,6 +93,33 @@ module _ {T : Type 0} where
       (omega (arith, length-map es (slot_in generations))) in
       rw (map-set (slot_in generations) es place new) (rw read at counted)
 
+  -- one value at least
+  pub live-positive : (es : List (Place T)) (generations live retired next place generation : ℕ) (value : T) → IsSound es generations live retired next
+      → slice_get es place ≡ Some (Live generation value) → 1 ≤ live
+  live-positive es generations live retired next place generation value sound found =
+      omega (arith, sound.live_counted, count-set is_live generations es place (Live generation value) Retired found)
+
+  -- what a write has to keep
+  IsSound-set : (es : List (Place T)) (generations live retired next place : ℕ) (old new : Place T) (live_now retired_now free next_now : ℕ)
+      → IsSound es generations live retired next → slice_get es place ≡ Some old → HasGeneration generations new
+      → live_now + cond (is_live (slot_in generations old)) 1 0 ≡ live + cond (is_live (slot_in generations new)) 1 0
+      → retired_now + cond (is_retired (slot_in generations old)) 1 0 ≡ retired + cond (is_retired (slot_in generations new)) 1 0
+      → live_now + retired_now + free ≡ length es → IsFreeList (set es place new) free next_now
+      → IsSound (set es place new) generations live_now retired_now next_now
+  IsSound-set es generations live retired next place old new live_now retired_now free next_now sound found is_generated lives retires total linked =
+      let size = length-set es place new in
+      record {
+        live_counted = omega (arith, sound.live_counted, count-set is_live generations es place old new found);
+        retired_counted = omega (arith, sound.retired_counted, count-set is_retired generations es place old new found);
+        free = free;
+        total = omega arith;
+        linked = linked;
+        some = omega (arith, sound.some);
+        few = omega (arith, sound.few);
+        top = sound.top;
+        generated = λ at e read. slice_get-set_cases es place at _ e read (sound.generated at e) (λ same. subst (HasGeneration generations) same is_generated);
+      }
+
   -- a value goes into the first free place: the rest of the list is shorter, so it doesn't come back to it
   pub IsSound-fill : (es : List (Place T)) (generations live retired next generation after : ℕ) (value : T) → IsSound es generations live retired next
       → slice_get es next ≡ Some (Free generation after) → IsSound (set es next (Live generation value)) generations (live + 1) retired after
@@ -112,91 +131,39 @@ module _ {T : Type 0} where
       by_count (suc n) total linked =
           let listed = linked.2 in
           let same : linked.1 ≡ after = cc in
-          let off : (m : ℕ) → m < n → IsFreeList es (suc m) next → ⊥ =
-          λ m below p. omega (arith, IsFreeList-count_unique es (suc m) (suc n) next p linked) in
-          record {
-            live_counted = omega (arith, sound.live_counted, count-set is_live generations es next (Free generation after) (Live generation value) found);
-            retired_counted = omega (
-              arith,
-              sound.retired_counted,
-              count-set is_retired generations es next (Free generation after)
-                  (Live generation value) found,
-            );
-            free = n;
-            total = omega (arith, length-set es next (Live generation value));
-            linked = IsFreeList-set es next (Live generation value) n after off (subst (IsFreeList es n) same linked.3);
-            some = omega (arith, length-set es next (Live generation value), sound.some);
-            few = omega (arith, length-set es next (Live generation value), sound.few);
-            top = sound.top;
-            generated = λ place e read. slice_get-set_cases es next place _ e read (sound.generated place e)
-                (λ same. subst (HasGeneration generations) same (sound.generated next _ found));
-          }
+          IsSound-set es generations live retired next next _ (Live generation value) (live + 1) retired n after sound found (sound.generated next _ found)
+          (omega arith) (omega arith) (omega arith)
+          (IsFreeList-set es next (Live generation value) n after
+          (λ m below p. omega (arith, IsFreeList-count_unique es (suc m) (suc n) next p linked)) (subst (IsFreeList es n) same linked.3))
 
   -- a value is taken out before the last generation
   pub IsSound-vacate : (es : List (Place T)) (generations live retired next place generation : ℕ) (value : T) → IsSound es generations live retired next
       → slice_get es place ≡ Some (Live generation value) → generation < generations
       → IsSound (set es place (Free (generation + 1) next)) generations (live - 1) retired place
   IsSound-vacate es generations live retired next place generation value sound found below =
-      let more = count-set is_live generations es place (Live generation value) (Free (generation + 1) next) found in
-      let same = count-set is_retired generations es place (Live generation value) (Free (generation + 1) next) found in
-      let size = length-set es place (Free (generation + 1) next) in
-      record {
-        live_counted = omega (arith, sound.live_counted);
-        retired_counted = omega (arith, sound.retired_counted);
-        free = suc sound.free;
-        total = omega (arith, sound.live_counted, sound.total);
-        linked = (
-          generation + 1,
-          next,
-          slice_get-set_same es place _ _ found,
-          IsFreeList-set es place _ sound.free next
-              (λ m _. live_is_off_list es place generation value found m) sound.linked,
-        );
-        some = omega (arith, sound.some);
-        few = omega (arith, sound.few);
-        top = sound.top;
-        generated = λ at e read. slice_get-set_cases es place at _ e read (sound.generated at e)
-            (λ is. subst (HasGeneration generations) is (omega arith, omega arith));
-      }
+      let some = live-positive es generations live retired next place generation value sound found in
+      IsSound-set es generations live retired next place _ _ (live - 1) retired (suc sound.free) place sound found (omega arith, omega arith)
+      (omega arith) (omega arith) (omega (arith, sound.total)) (
+        generation + 1,
+        next,
+        slice_get-set_same es place _ _ found,
+        IsFreeList-set es place _ sound.free next (λ m _. live_is_off_list es place generation value found m) sound.linked,
+      )
 
   -- a value is taken out at the last generation
   pub IsSound-retire : (es : List (Place T)) (generations live retired next place generation : ℕ) (value : T) → IsSound es generations live retired next
       → slice_get es place ≡ Some (Live generation value) → IsSound (set es place Retired) generations (live - 1) (retired + 1) next
   IsSound-retire es generations live retired next place generation value sound found =
-      let more = count-set is_live generations es place (Live generation value) Retired found in
-      let same = count-set is_retired generations es place (Live generation value) Retired found in
-      let size = length-set es place Retired in
-      record {
-        live_counted = omega (arith, sound.live_counted);
-        retired_counted = omega (arith, sound.retired_counted);
-        free = sound.free;
-        total = omega (arith, sound.live_counted, sound.total);
-        linked = IsFreeList-set es place _ sound.free next (λ m _. live_is_off_list es place generation value found m) sound.linked;
-        some = omega (arith, sound.some);
-        few = omega (arith, sound.few);
-        top = sound.top;
-        generated = λ at e read. slice_get-set_cases es place at _ e read (sound.generated at e) (λ is. subst (HasGeneration generations) is tt);
-      }
+      let some = live-positive es generations live retired next place generation value sound found in
+      IsSound-set es generations live retired next place _ Retired (live - 1) (retired + 1) sound.free next sound found tt (omega arith) (omega arith)
+      (omega (arith, sound.total)) (IsFreeList-set es place _ sound.free next (λ m _. live_is_off_list es place generation value found m) sound.linked)
 
   -- a value is written in place
   pub IsSound-rewrite : (es : List (Place T)) (generations live retired next place generation : ℕ) (old new : T) → IsSound es generations live retired next
       → slice_get es place ≡ Some (Live generation old) → IsSound (set es place (Live generation new)) generations live retired next
   IsSound-rewrite es generations live retired next place generation old new sound found =
-      let more = count-set is_live generations es place (Live generation old) (Live generation new) found in
-      let same = count-set is_retired generations es place (Live generation old) (Live generation new) found in
-      let size = length-set es place (Live generation new) in
-      record {
-        live_counted = omega (arith, sound.live_counted);
-        retired_counted = omega (arith, sound.retired_counted);
-        free = sound.free;
-        total = omega (arith, sound.total);
-        linked = IsFreeList-set es place _ sound.free next (λ m _. live_is_off_list es place generation old found m) sound.linked;
-        some = omega (arith, sound.some);
-        few = omega (arith, sound.few);
-        top = sound.top;
-        generated = λ at e read. slice_get-set_cases es place at _ e read (sound.generated at e)
-            (λ is. subst (HasGeneration generations) is (sound.generated place _ found));
-      }
+      IsSound-set es generations live retired next place _ (Live generation new) live retired sound.free next sound found (sound.generated place _ found)
+      refl refl sound.total (IsFreeList-set es place _ sound.free next (λ m _. live_is_off_list es place generation old found m) sound.linked)
 
   -- the value under a place and a generation
   pub live_at : (es : List (Place T)) (generations place generation : ℕ) → IsSome (value_at (slice_get (map (slot_in generations) es) place) generation)
@@ -209,6 +176,11 @@ module _ {T : Type 0} where
       by_place (Some (Free g next)) is some = grind (arith, nat_tests)
       by_place (Some (Live g value)) is some = grind (arith, nat_tests)
       by_place (Some Retired) is some = grind (arith, nat_tests)
+
+  -- the same, for the slots that a pool shows
+  pub live_in : (es : List (Place T)) (generations handle : ℕ) (p : Slots T) → record { generations = generations; slots = map (slot_in generations) es } ≡ p
+      → IsSome (slot_value p handle) → (value : T) × (slice_get es (slot_of handle) ≡ Some (Live (generation_of handle) value))
+  live_in es generations handle p is present = live_at es generations (slot_of handle) (generation_of handle) (rw (← is) at present)
 
   -- one place has one value
   pub same_value : (es : List (Place T)) (place g k : ℕ) (v w : T) → slice_get es place ≡ Some (Live g v) → slice_get es place ≡ Some (Live k w)
@@ -224,14 +196,7 @@ module _ {T : Type 0} where
   pub get-taken : (es : List (Place T)) (generations place generation other : ℕ) (value taken : T) → slice_get es place ≡ Some (Live generation value)
       → slice_get es place ≡ Some (Live other taken) → value_at (slice_get (map (slot_in generations) es) place) generation ≡ Some taken
   get-taken es generations place generation other value taken found was =
-      let same : value ≡ taken = cc in
-      get-live es generations place generation value found ∙ ap Some same
-
-  -- one value at least
-  pub live-positive : (es : List (Place T)) (generations live retired next place generation : ℕ) (value : T) → IsSound es generations live retired next
-      → slice_get es place ≡ Some (Live generation value) → 1 ≤ live
-  live-positive es generations live retired next place generation value sound found =
-      omega (arith, sound.live_counted, count-set is_live generations es place (Live generation value) Retired found)
+      grind (arith, nat_tests, get-live es generations place generation value found)
 
   pub HasValue-live : (es : List (Place T)) (place generation : ℕ) (value : T) → slice_get es place ≡ Some (Live generation value)
       → HasValue (slice_get es place)
@@ -252,22 +217,15 @@ module _ {T : Type 0} where
         now = rw (place, turn, map-set) refl;
       }
 
-  slot_after-last : (generations generation : ℕ) → generation ≡ generations
-      → slot_after {T = T} generations generation ≡ record { generation = generations; value = None; retired = true }
-  slot_after-last generations generation same = rw same (grind (arith, nat_tests))
-
-  slot_after-next : (generations generation : ℕ) → generation ≢ generations → slot_after {T = T} generations generation ≡ free_slot (generation + 1)
-  slot_after-next generations generation other = grind (arith, nat_tests)
-
   -- the slots after a value was taken at the last generation
   pub without-retire : (es : List (Place T)) (generations place generation : ℕ) → generation ≡ generations
       → map (slot_in generations) (set es place Retired) ≡ set (map (slot_in generations) es) place (slot_after generations generation)
-  without-retire es generations place generation same = rw (map-set, slot_after-last generations generation same) refl
+  without-retire es generations place generation same = rw map-set (grind (arith, nat_tests))
 
   -- the slots after a value was taken before it
   pub without-vacate : (es : List (Place T)) (generations place generation next : ℕ) → generation ≢ generations
       → map (slot_in generations) (set es place (Free (generation + 1) next)) ≡ set (map (slot_in generations) es) place (slot_after generations generation)
-  without-vacate es generations place generation next other = rw (map-set, slot_after-next generations generation other) refl
+  without-vacate es generations place generation next other = rw map-set (grind (arith, nat_tests))
 
   -- what was there, written back, changes nothing
   pub with_value-same : (es : List (Place T)) (generations handle : ℕ) (value lent : T)
@@ -275,7 +233,5 @@ module _ {T : Type 0} where
       → with_value (record { generations = generations; slots = map (slot_in generations) es }) handle lent
       ≡ record { generations = generations; slots = map (slot_in generations) es }
   with_value-same es generations handle value lent found is =
-      let same : value ≡ lent = cc in
-      let read : slice_get (map (slot_in generations) es) (slot_of handle) ≡ Some (used_slot (generation_of handle) lent) =
-      rw (slice_get-map, found, same) refl in
-      ap (λ slots. record { generations = generations; slots = slots }) (set-same (map (slot_in generations) es) (slot_of handle) _ read)
+      let read = slice_get-map (slot_in generations) es (slot_of handle) in
+      grind (arith, nat_tests, set-same (map (slot_in generations) es) (slot_of handle) (used_slot (generation_of handle) lent))

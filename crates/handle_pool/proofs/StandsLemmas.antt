@@ -1,6 +1,6 @@
 -- Each call of a pool is a move of the list of issued objects.
-use Rattle.handle_pool.proofs.Names.{◌≡◌, ◌≢◌, ◌↔◌, ℕ, zero, suc, ◌+◌, ◌<◌, ◌≤◌, Bool, true, false, ◌&&◌, List, [], ◌∷◌, length, Option, Some, None, count_by, cond, set, slice_get, replicate, refl, sym, ap, ◌∙◌, inl, inr, arith, length-set, ◌==◌, nat_le, eq-eqb, ne_eqb, eqb-true, cases_eq, cases_lt, eqb_tells, nat_tests, length-replicate, sum_by-set, sum_by-replicate, slice_get_within, get_or_from_slice_get, Slot, Slots, slot_of, generation_of, free_slot, used_slot, slot_after, value_at, slot_value, is_live, is_retired, live_count, retired_count, max_of, IsFull, Inserts, without, with_value, changed, Listed, live_of, lookup, live_object, issue, with_fields, gone, update, retire, listed, issued_at, retired, is_full, may_issue, Distinct, SlotStands, Stands}
-use Rattle.handle_pool.proofs.ListReads.{slice_get-set_same, slice_get-set_other}
+use Rattle.handle_pool.proofs.Names.{◌≡◌, ◌≢◌, ◌↔◌, ℕ, zero, suc, ◌+◌, ◌<◌, ◌≤◌, Bool, true, false, List, [], Option, Some, None, count_by, cond, set, slice_get, replicate, refl, sym, ap, ◌∙◌, inl, inr, arith, length-set, ◌==◌, eq-eqb, ne_eqb, eqb-true, cases_lt, nat_tests, length-replicate, sum_by-set, sum_by-replicate, slice_get_within, get_or_from_slice_get, Slot, Slots, slot_of, generation_of, free_slot, used_slot, slot_after, value_at, slot_value, is_live, is_retired, live_count, retired_count, max_of, IsFull, Inserts, without, with_value, changed, Listed, live_of, live_object, issue, with_fields, gone, update, retire, listed, issued_at, retired, is_full, may_issue, SlotStands, Stands}
+use Rattle.handle_pool.proofs.ListReads.{set-set, slice_get-set_same, slice_get-set_other}
 use Rattle.handle_pool.proofs.ListedLemmas.{at-issue, at-update, at-retire, Distinct-issue, Distinct-update, Distinct-retire, length-issue, length-update, length-retire, listed-change, issued_at-change, retired-update, listed-issue, issued_at-issue, retired-issue, issued_at-slot, retired-retire, change-none}
 
 -- two handles of one slot and one generation are one
@@ -9,9 +9,6 @@ same_handle a b slots generations = omega arith
 
 slot_of-place : (place : ℕ) → place < 65536 → slot_of place ≡ place
 slot_of-place place few = omega arith
-
-may_issue_tests : (listed g i last : ℕ) → listed ≡ 0 → g ≤ last → g ≡ i + 1 → ((listed == 0) && nat_le g last && (g == i + 1)) ≡ true
-may_issue_tests listed g i last new most next = grind (arith, nat_tests)
 
 module _ {T : Type 0} where
   -- a count of slots after a write
@@ -39,11 +36,7 @@ module _ {T : Type 0} where
   pub used_at_live : (o : Option (Slot T)) (generation : ℕ) (value : T) → value_at o generation ≡ Some value
       → (slot : Slot T) × (o ≡ Some slot) × (slot.generation ≡ generation) × (slot.value ≡ Some value)
   used_at_live None generation value found = absurd (cc)
-  used_at_live (Some slot) generation value found =
-      elim (eqb_tells slot.generation generation) [
-        | inl same ↦ (slot, refl, same.1, rw same.0 at found)
-        | inr apart ↦ let read = rw apart.0 at found in absurd (cc)
-      ]
+  used_at_live (Some slot) generation value found = (slot, refl, grind (arith, nat_tests), grind (arith, nat_tests))
 
   -- a slot that was never used stands for no turn
   SlotStands-fresh : (max generations : ℕ) (place : ℕ) (slot : Slot T) → 1 ≤ generations → slice_get (replicate max (free_slot 1)) place ≡ Some slot
@@ -91,8 +84,7 @@ module _ {T : Type 0} where
   unfolding may_issue
   may_issue-insert p new l h value stands inserts =
       let slot = stands.slots (slot_of h) _ inserts.was_free in
-      may_issue_tests (listed h l) (generation_of h) (issued_at h l) p.generations (unlisted p l h value new stands inserts) slot.at_most (slot.generation
-      ∙ ap (λ n. n + 1) (issued_at-slot h l))
+      grind (arith, nat_tests, unlisted p l h value new stands inserts, issued_at-slot h l)
 
   -- an insert is an issue
   pub Stands-insert : (p new : Slots T) (l : List (Listed T)) (h : ℕ) (value : T) → Stands p l → Inserts p new h value → Stands new (issue h value l)
@@ -103,136 +95,21 @@ module _ {T : Type 0} where
       let slot = stands.slots place _ inserts.was_free in
       let turn : issued_at h (issue h value l) ≡ issued_at h l + 1 =
       issued_at-issue h h value l ∙ ap (λ b. issued_at h l + cond b 1 0) (eq-eqb place place refl) in
+      let wrote = slice_get-set_same p.slots place used _ inserts.was_free in
+      let size = length-set p.slots place used in
       rw inserts.now record {
-        found = λ k. elim (cases_eq k h) [
-          | inl same ↦ rw (same, slice_get-set_same p.slots place used _ inserts.was_free, at-issue h h value l none, eq-eqb h h refl)
-              (value_at-used_same (generation_of h) value)
-          | inr differs ↦ rw (at-issue h k value l none, ne_eqb h k (λ is. differs (sym is))) (elim (cases_eq (slot_of k) place) [
-            | inl beside ↦
-                let read : slot_value p k ≡ None = rw (beside, inserts.was_free) (value_at-none (free_slot (generation_of h)) (generation_of k) refl) in
-                rw (beside, slice_get-set_same p.slots place used _ inserts.was_free)
-                (value_at-used_other (generation_of h) (generation_of k) value (λ turn. differs (same_handle k h beside turn)) ∙ sym read ∙ stands.found k)
-            | inr apart ↦ rw (slice_get-set_other p.slots place (slot_of k) used apart) (stands.found k)
-          ])
-        ];
+        found = λ k. let was = stands.found k in grind (arith, nat_tests, slice_get-set_other p.slots place (slot_of k) used, at-issue h k value l none);
         distinct = Distinct-issue h value l stands.distinct none;
-        slots = λ other it found. elim (cases_eq other place) [
-          | inl same ↦
-              let wrote = slice_get-set_same p.slots place used _ inserts.was_free in
-              let read = rw same at found in
-              let is : used ≡ it = cc in
-              rw (← is, same) record {
-                generation = slot.generation ∙ ap (λ n. n + 1) (issued_at-slot h l) ∙ sym turn
-                    ∙ sym (issued_at-slot h (issue h value l));
-                at_most = slot.at_most;
-                retired = λ gone. absurd (cc);
-              }
-          | inr apart ↦
-              let before = slice_get-set_other p.slots place other used apart in
-              let few = stands.few in
-              let size = length-set p.slots place used in
-              let own : slot_of other ≡ other = slot_of-place other (omega (arith, slice_get_within (set p.slots place used) other it found)) in
-              let away : (place == slot_of other) ≡ false = ne_eqb place (slot_of other) (λ is. apart (sym own ∙ sym is)) in
-              let same : issued_at other (issue h value l) ≡ issued_at other l =
-              issued_at-issue other h value l ∙ ap (λ b. issued_at other l + cond b 1 0) away ∙ omega arith in
-              rw same (stands.slots other it (sym before ∙ found))
-        ];
-        turns = λ k some. elim (cases_eq k h) [
-          | inl same ↦
-              let once = stands.once in
-              rw (same, turn) record {
-                has_slot = omega (arith, slice_get_within p.slots place _ inserts.was_free, length-set p.slots place used);
-                at_least = omega (arith, slot.generation);
-                at_most = omega (arith, slot.generation, issued_at-slot h l);
-              }
-          | inr differs ↦
-              let still : listed k (issue h value l) ≡ listed k l =
-              listed-issue k h value l ∙ ap (λ b. listed k l + cond b 1 0) (ne_eqb h k (λ is. differs (sym is))) ∙ omega arith in
-              let before = stands.turns k (omega arith) in
-              record {
-                has_slot = rw length-set before.has_slot;
-                at_least = before.at_least;
-                at_most = omega (arith, before.at_most, issued_at-issue k h value l);
-              }
-        ];
+        slots = λ other it found.
+            let few = slice_get_within (set p.slots place used) other it found in
+            let was = stands.slots other it in
+            grind (arith, nat_tests, slice_get-set_other p.slots place other used, issued_at-slot h l, issued_at-issue other h value l);
+        turns = λ k some.
+            let was = stands.turns k in
+            let within = slice_get_within p.slots place _ inserts.was_free in
+            grind (arith, nat_tests, issued_at-slot h l, issued_at-issue k h value l, listed-issue k h value l, stands.once);
         live = omega (arith, stands.live, count_by-set is_live p.slots place _ used inserts.was_free, length-issue h value l);
         retired = omega (arith, stands.retired, count_by-set is_retired p.slots place _ used inserts.was_free, retired-issue p.generations h value l);
-        few = rw length-set stands.few;
-        once = stands.once;
-      }
-
-  not_retired : (slot : Slot T) (generations turns : ℕ) (value : T) → SlotStands generations turns slot → slot.value ≡ Some value → slot.retired ≡ false
-  not_retired slot generations turns value e1 e2 = grind (arith, nat_tests)
-
-  -- what the slot of a live handle is
-  record AtLive (p : Slots T) (l : List (Listed T)) (h : ℕ) (value : T) : Type 0 where
-    slot : Slot T
-    read : slice_get p.slots (slot_of h) ≡ Some slot
-    turn : slot.generation ≡ generation_of h
-    used : slot.value ≡ Some value
-    not_gone : slot.retired ≡ false
-    count : generation_of h ≡ issued_at (slot_of h) l
-    at_most : generation_of h ≤ p.generations
-
-  at_live : (p : Slots T) (l : List (Listed T)) (h : ℕ) (value : T) → Stands p l → slot_value p h ≡ Some value → AtLive p l h value
-  at_live p l h value stands found =
-      let slot = used_at_live (slice_get p.slots (slot_of h)) (generation_of h) value found in
-      let was = stands.slots (slot_of h) slot.0 slot.1 in
-      record {
-        slot = slot.0;
-        read = slot.1;
-        turn = slot.2;
-        used = slot.3;
-        not_gone = not_retired slot.0 p.generations (issued_at (slot_of h) l) value was slot.3;
-        count = sym slot.2 ∙ rw slot.3 at was.generation;
-        at_most = omega (arith, was.at_most, slot.2);
-      }
-
-  -- another slot in a live handle's place, and what has become of the list
-  record Replaces (last h : ℕ) (l new : List (Listed T)) (slot : Slot T) : Type 0 where
-    same : value_at (Some slot) (generation_of h) ≡ live_object new h
-    none : (other : ℕ) → other ≢ generation_of h → value_at (Some slot) other ≡ None
-    others : (k : ℕ) → k ≢ h → live_object new k ≡ live_object l k
-    distinct : Distinct (live_of new)
-    stands : SlotStands last (issued_at (slot_of h) l) slot
-    listed_as_before : (k : ℕ) → listed k new ≡ listed k l
-    issued_as_before : (k : ℕ) → issued_at k new ≡ issued_at k l
-    live : length (live_of new) + 1 ≡ length (live_of l) + cond (is_live slot) 1 0
-    retired_now : retired last new ≡ retired last l + cond (is_retired slot) 1 0
-
-  Stands-replace : (p : Slots T) (l new : List (Listed T)) (h : ℕ) (value : T) (slot : Slot T) → Stands p l → (at : AtLive p l h value)
-      → Replaces p.generations h l new slot → Stands (record p { slots = set p.slots (slot_of h) slot }) new
-  Stands-replace p l new h value slot stands at replaces =
-      let place = slot_of h in
-      record {
-        found = λ k. elim (cases_eq k h) [
-          | inl same ↦ rw (same, slice_get-set_same p.slots place slot _ at.read) replaces.same
-          | inr differs ↦ rw (replaces.others k differs) (elim (cases_eq (slot_of k) place) [
-            | inl beside ↦
-                let apart : generation_of k ≢ generation_of h = λ turn. differs (same_handle k h beside turn) in
-                let was : slot_value p k ≡ None = rw (beside, at.read) (value_at-turned at.slot (generation_of k) (λ turn. apart (turn ∙ at.turn))) in
-                rw (beside, slice_get-set_same p.slots place slot _ at.read) (replaces.none (generation_of k) apart ∙ sym was ∙ stands.found k)
-            | inr apart ↦ rw (slice_get-set_other p.slots place (slot_of k) slot apart) (stands.found k)
-          ])
-        ];
-        distinct = replaces.distinct;
-        slots = λ other_place other found. rw (replaces.issued_as_before other_place) (elim (cases_eq other_place place) [
-          | inl same ↦
-              let wrote = slice_get-set_same p.slots place slot _ at.read in
-              let read = rw same at found in
-              let is : slot ≡ other = cc in
-              rw (← is, same) replaces.stands
-          | inr apart ↦ stands.slots other_place other (rw (slice_get-set_other p.slots place other_place slot apart) at found)
-        ]);
-        turns = λ k some. rw (length-set, replaces.issued_as_before k) (stands.turns k (rw (replaces.listed_as_before k) at some));
-        live =
-            let one : Bool → ℕ = λ b. cond b 1 0 in
-            let before : one (is_live at.slot) ≡ 1 = rw at.used refl in
-            omega (arith, stands.live, replaces.live, count_by-set is_live p.slots place at.slot slot at.read);
-        retired =
-            let one : Bool → ℕ = λ b. cond b 1 0 in
-            let before : one (is_retired at.slot) ≡ 0 = rw at.not_gone refl in
-            omega (arith, stands.retired, replaces.retired_now, count_by-set is_retired p.slots place at.slot slot at.read);
         few = rw length-set stands.few;
         once = stands.once;
       }
@@ -241,20 +118,27 @@ module _ {T : Type 0} where
   pub Stands-update : (p : Slots T) (l : List (Listed T)) (h : ℕ) (f : T → T) (value : T) → Stands p l → slot_value p h ≡ Some value
       → Stands (with_value p h (f value)) (update h f l)
   Stands-update p l h f value stands found =
-      let at = at_live p l h value stands found in
+      let slot = used_at_live (slice_get p.slots (slot_of h)) (generation_of h) value found in
+      let stood = stands.slots (slot_of h) slot.0 slot.1 in
       let listed_at = sym (stands.found h) ∙ found in
-      Stands-replace p l (update h f l) h value (used_slot (generation_of h) (f value)) stands at record {
-        same = value_at-used_same (generation_of h) (f value)
-            ∙ sym (at-update h h f value l listed_at ∙ ap (λ b. cond b (Some (f value)) (lookup (live_of l) h)) (eq-eqb h h refl));
-        none = λ other differs. value_at-used_other (generation_of h) other (f value) differs;
-        others = λ k differs. at-update h k f value l listed_at
-            ∙ ap (λ b. cond b (Some (f value)) (lookup (live_of l) k)) (ne_eqb h k (λ is. differs (sym is)));
+      let new = used_slot (generation_of h) (f value) in
+      let wrote = slice_get-set_same p.slots (slot_of h) new slot.0 slot.1 in
+      let size = length-set p.slots (slot_of h) new in
+      record {
+        found = λ k.
+            let was = stands.found k in
+            grind (arith, nat_tests, slice_get-set_other p.slots (slot_of h) (slot_of k) new, at-update h k f value l listed_at);
         distinct = Distinct-update h f l stands.distinct;
-        stands = record { generation = at.count; at_most = at.at_most; retired = λ gone. absurd (cc) };
-        listed_as_before = λ k. listed-change k h (with_fields f) (λ r. refl) l;
-        issued_as_before = λ k. issued_at-change k h (with_fields f) (λ r. refl) l;
-        live = ap (λ n. n + 1) (length-update h f l);
-        retired_now = retired-update p.generations h f l ∙ omega arith;
+        slots = λ place it read.
+            let was = stands.slots place it in
+            grind (arith, nat_tests, slice_get-set_other p.slots (slot_of h) place new, issued_at-change place h (with_fields f) (λ r. refl) l);
+        turns = λ k some.
+            let was = stands.turns k in
+            grind (arith, nat_tests, listed-change k h (with_fields f) (λ r. refl) l, issued_at-change k h (with_fields f) (λ r. refl) l);
+        live = grind (arith, nat_tests, stands.live, count_by-set is_live p.slots (slot_of h) slot.0 new slot.1, length-update h f l);
+        retired = grind (arith, nat_tests, stands.retired, count_by-set is_retired p.slots (slot_of h) slot.0 new slot.1, retired-update p.generations h f l);
+        few = rw length-set stands.few;
+        once = stands.once;
       }
 
   -- the same, where the handle may not be live
@@ -265,56 +149,41 @@ module _ {T : Type 0} where
       by_value None is = rw (is, change-none h (with_fields f) l (sym (stands.found h) ∙ is)) stands
       by_value (Some value) is = rw is (Stands-update p l h f value stands is)
 
-  Replaces-retire : (p : Slots T) (l : List (Listed T)) (h : ℕ) (value : T) (slot : Slot T) → Stands p l → slot_value p h ≡ Some value → slot.value ≡ None
-      → SlotStands p.generations (issued_at (slot_of h) l) slot → is_retired slot ≡ (generation_of h == p.generations)
-      → Replaces p.generations h l (retire h l) slot
-  Replaces-retire p l h value slot stands found empty slot_stands last =
-      let listed_at = sym (stands.found h) ∙ found in
-      let one : Bool → ℕ = λ b. cond b 1 0 in
-      let not_live : one (is_live slot) ≡ 0 = rw empty refl in
-      record {
-        same = value_at-none slot (generation_of h) empty
-            ∙ sym (at-retire h h l stands.distinct ∙ ap (λ b. cond b None (lookup (live_of l) h)) (eq-eqb h h refl));
-        none = λ other differs. value_at-none slot other empty;
-        others = λ k differs. at-retire h k l stands.distinct ∙ ap (λ b. cond b None (lookup (live_of l) k)) (ne_eqb h k (λ is. differs (sym is)));
-        distinct = Distinct-retire h l stands.distinct;
-        stands = slot_stands;
-        listed_as_before = λ k. listed-change k h gone (λ r. refl) l;
-        issued_as_before = λ k. issued_at-change k h gone (λ r. refl) l;
-        live = omega (arith, length-retire h value l listed_at, not_live);
-        retired_now = retired-retire p.generations h value l listed_at ∙ ap (λ b. retired p.generations l + cond b 1 0) (sym last);
-      }
-
   -- a removal retires the object
   pub Stands-remove : (p : Slots T) (l : List (Listed T)) (h : ℕ) (value : T) → Stands p l → slot_value p h ≡ Some value → Stands (without p h) (retire h l)
   Stands-remove p l h value stands found =
-      let at = at_live p l h value stands found in
-      Stands-replace p l (retire h l) h value (slot_after p.generations (generation_of h)) stands at (elim (eqb_tells (generation_of h) p.generations) [
-        | inl last ↦ rw last.0 (Replaces-retire p l h value
-            (record { generation = generation_of h; value = None; retired = true }) stands found refl record {
-              generation = at.count;
-              at_most = at.at_most;
-              retired = λ gone. (last.1, refl);
-            } (sym last.0))
-        | inr before ↦ rw before.0 (Replaces-retire p l h value (free_slot (generation_of h + 1)) stands found refl record {
-          generation = ap (λ n. n + 1) at.count;
-          at_most = omega (arith, at.at_most, before.1);
-          retired = λ gone. absurd (cc);
-        } (sym before.0))
-      ])
-
-  set-set : (slots : List (Slot T)) (place : ℕ) (a b : Slot T) → set (set slots place a) place b ≡ set slots place b
-  set-set [] place a b = refl
-  set-set (s ∷ slots) zero a b = refl
-  set-set (s ∷ slots) (suc place) a b = ap (λ rest. s ∷ rest) (set-set slots place a b)
+      let slot = used_at_live (slice_get p.slots (slot_of h)) (generation_of h) value found in
+      let stood = stands.slots (slot_of h) slot.0 slot.1 in
+      let listed_at = sym (stands.found h) ∙ found in
+      let new = slot_after p.generations (generation_of h) in
+      let wrote = slice_get-set_same p.slots (slot_of h) new slot.0 slot.1 in
+      let size = length-set p.slots (slot_of h) new in
+      record {
+        found = λ k.
+            let was = stands.found k in
+            grind (arith, nat_tests, slice_get-set_other p.slots (slot_of h) (slot_of k) new, at-retire h k l stands.distinct);
+        distinct = Distinct-retire h l stands.distinct;
+        slots = λ place it read.
+            let was = stands.slots place it in
+            grind (arith, nat_tests, slice_get-set_other p.slots (slot_of h) place new, issued_at-change place h gone (λ r. refl) l);
+        turns = λ k some.
+            let was = stands.turns k in
+            grind (arith, nat_tests, listed-change k h gone (λ r. refl) l, issued_at-change k h gone (λ r. refl) l);
+        live = grind (arith, nat_tests, stands.live, count_by-set is_live p.slots (slot_of h) slot.0 new slot.1, length-retire h value l listed_at);
+        retired =
+            let counted = count_by-set is_retired p.slots (slot_of h) slot.0 new slot.1 in
+            grind (arith, nat_tests, stands.retired, retired-retire p.generations h value l listed_at);
+        few = rw length-set stands.few;
+        once = stands.once;
+      }
 
   -- an object that changes and stops being live at once: the change leaves nothing in its slot
   pub Stands-change_and_remove : (p : Slots T) (l : List (Listed T)) (h : ℕ) (f : T → T) (value : T) → Stands p l → slot_value p h ≡ Some value
       → Stands (without p h) (retire h (update h f l))
   Stands-change_and_remove p l h f value stands found =
-      let at = at_live p l h value stands found in
+      let at = used_at_live (slice_get p.slots (slot_of h)) (generation_of h) value found in
       let read : slot_value (with_value p h (f value)) h ≡ Some (f value) =
-      rw (slice_get-set_same p.slots (slot_of h) (used_slot (generation_of h) (f value)) _ at.read) (value_at-used_same (generation_of h) (f value)) in
+      rw (slice_get-set_same p.slots (slot_of h) (used_slot (generation_of h) (f value)) _ at.1) (value_at-used_same (generation_of h) (f value)) in
       let removed = Stands-remove (with_value p h (f value)) (update h f l) h (f value) (Stands-update p l h f value stands found) read in
       rw (set-set p.slots (slot_of h) (used_slot (generation_of h) (f value)) (slot_after p.generations (generation_of h))) at removed
 

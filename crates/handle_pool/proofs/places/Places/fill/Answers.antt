@@ -24,21 +24,15 @@ push-requires g c =
 
 pub overflow_add-self : goal.overflow_add-self
 overflow_add-self g c =
-    let p = c.self.inside in
-    let below = free_below p.row.items p.made p.count c.args.place c.self.invariant.0 c.self.invariant.1 (rw (← c.self.view_is) at c.requires) in
-    omega (arith, below, c.self.invariant.4)
+    omega (arith, free_below _ _ _ _ c.self.invariant.0 c.self.invariant.1 (rw (← c.self.view_is) at c.requires), c.self.invariant.4)
 
 pub overflow_cast-result : goal.overflow_cast-result
 overflow_cast-result g c =
-    let p = c.self.inside in
-    let below = free_below p.row.items p.made p.count c.args.place c.self.invariant.0 c.self.invariant.1 (rw (← c.self.view_is) at c.requires) in
-    omega (arith, below, c.self.invariant.4)
+    omega (arith, free_below _ _ _ _ c.self.invariant.0 c.self.invariant.1 (rw (← c.self.view_is) at c.requires), c.self.invariant.4)
 
 pub overflow_add-result : goal.overflow_add-result
 overflow_add-result g c =
-    let p = c.self.inside in
-    let below = free_below p.row.items p.made p.count c.args.place c.self.invariant.0 c.self.invariant.1 (rw (← c.self.view_is) at c.requires) in
-    omega (arith, below, c.self.invariant.4)
+    omega (arith, free_below _ _ _ _ c.self.invariant.0 c.self.invariant.1 (rw (← c.self.view_is) at c.requires), c.self.invariant.4)
 
 pub invariant_of-self-2 : goal.invariant_of-self-2
 invariant_of-self-2 g c =
