@@ -1,5 +1,5 @@
 -- What each move of the slots, and of the lists beside them, is for the two together.
-use Rattle.linked_places.proofs.Names.{nat_tests, ◌≡◌, ◌↔◌, ℕ, zero, suc, ◌+◌, ◌*◌, ◌^◌, ◌<◌, ◌≤◌, Bool, true, false, List, [], ◌∷◌, length, replicate, Option, Some, None, count_by, fold, cond, set, slice_get, refl, sym, ap, subst, ◌∙◌, inl, inr, arith, length-set, ◌==◌, if◌then◌else◌, option_map, cases_eq, length-replicate, get_or_past, slice_get_within, Slot, Slots, slot_of, generation_of, free_slot, used_slot, slot_after, value_at, slot_value, is_live, is_retired, used_at, IsFull, Inserts, with_value, without, slice_get-set_other, slice_get-set_cases, list_at, stands_at, NowhereAt}
+use Rattle.linked_places.proofs.Names.{nat_tests, ◌≡◌, ◌↔◌, ℕ, zero, suc, ◌+◌, ◌*◌, ◌^◌, ◌<◌, ◌≤◌, Bool, true, false, List, [], ◌∷◌, length, replicate, Option, Some, None, count_by, fold, cond, set, slice_get, refl, sym, ap, subst, ◌∙◌, arith, length-set, option_map, length-replicate, get_or_past, slice_get_within, Slot, Slots, slot_of, generation_of, free_slot, used_slot, slot_after, slot_value, is_live, is_retired, used_at, IsFull, Inserts, with_value, without, slice_get-set_other, slice_get-set_cases, set-set, list_at, stands_at, NowhereAt}
 use Rattle.handle_pool.proofs.StandsLemmas.{used_at_live}
 use Rattle.handle_pool.proofs.WalkLemmas.{live-used_at, slot_of-live}
 use Rattle.linked_places.specs.Beside.{slot_beside, beside, pool_beside, AreBeside}
@@ -40,18 +40,15 @@ module _ {A C : Type 0} (f : A → List ℕ → C) where
   beside-list_at [] lists place s list found within = absurd (cc)
   beside-list_at (t ∷ ss) [] place s list found within = absurd (omega arith)
   beside-list_at (t ∷ ss) (l ∷ ls) zero s list found within = grind (arith, nat_tests)
-  beside-list_at (t ∷ ss) (l ∷ ls) (suc place) s list found within =
-      ap (λ (xs : List (Slot C)). slot_beside f t l ∷ xs) (beside-list_at ss ls place s list found (omega arith))
+  beside-list_at (t ∷ ss) (l ∷ ls) (suc place) s list found within = grind (arith, nat_tests, beside-list_at ss ls place s list found)
 
   -- a count of slots, and the same of those with lists beside them
   fold-beside : (t : Slot C → Bool) (u : Slot A → Bool) → ((s : Slot A) (list : List ℕ) → t (slot_beside f s list) ≡ u s)
       → (slots : List (Slot A)) (lists : List (List ℕ)) (n : ℕ)
       → fold (λ a x. a + cond (t x) 1 0) n (beside f slots lists) ≡ fold (λ a x. a + cond (u x) 1 0) n slots
   fold-beside t u same [] lists n = refl
-  fold-beside t u same (s ∷ ss) [] n = ap (λ (b : Bool). fold (λ a x. a + cond (t x) 1 0) (n + cond b 1 0) (beside f ss [])) (same s [])
-      ∙ fold-beside t u same ss [] (n + cond (u s) 1 0)
-  fold-beside t u same (s ∷ ss) (l ∷ ls) n =
-      ap (λ (b : Bool). fold (λ a x. a + cond (t x) 1 0) (n + cond b 1 0) (beside f ss ls)) (same s l) ∙ fold-beside t u same ss ls (n + cond (u s) 1 0)
+  fold-beside t u same (s ∷ ss) [] n = grind (arith, nat_tests, beside f ss [], fold-beside t u same ss [] (n + cond (u s) 1 0))
+  fold-beside t u same (s ∷ ss) (l ∷ ls) n = grind (arith, nat_tests, beside f ss ls, fold-beside t u same ss ls (n + cond (u s) 1 0))
 
   is_live-beside : (s : Slot A) (list : List ℕ) → is_live (slot_beside f s list) ≡ is_live s
   is_live-beside s list = grind (arith, nat_tests)
@@ -77,19 +74,7 @@ module _ {A C : Type 0} (f : A → List ℕ → C) where
   -- the value of a live handle, with its list
   pub get-beside : (p : Slots A) (lists : List (List ℕ)) (h : ℕ)
       → slot_value (pool_beside f p lists) h ≡ option_map (λ v. f v (list_at lists (slot_of h))) (slot_value p h)
-  get-beside p lists h = rw (slice_get-beside p.slots lists (slot_of h)) (by_slot (slice_get p.slots (slot_of h)))
-    where
-      list : List ℕ
-      list = list_at lists (slot_of h)
-
-      by_turn : (s : Slot A) (b : Bool) → (if b then (slot_beside f s list).value else None) ≡ option_map (λ v. f v list) (if b then s.value else None)
-      by_turn s true = refl
-      by_turn s false = refl
-
-      by_slot : (o : Option (Slot A)) → value_at (option_map (λ s. slot_beside f s list) o) (generation_of h)
-          ≡ option_map (λ v. f v list) (value_at o (generation_of h))
-      by_slot None = refl
-      by_slot (Some s) = by_turn s (s.generation == generation_of h)
+  get-beside p lists h = rw (slice_get-beside p.slots lists (slot_of h)) (grind (arith, nat_tests))
 
   -- a new value in a slot that was free
   pub Inserts-beside : (p new : Slots A) (lists : List (List ℕ)) (h : ℕ) (v : A) → AreBeside p.slots lists → Inserts p new h v
@@ -119,14 +104,9 @@ module _ {A C : Type 0} (f : A → List ℕ → C) where
       ap (λ (slots : List (Slot C)). record { generations = p.generations; slots = slots }) (beside-list_at p.slots lists (slot_of h) at.0 list at.1 within
       ∙ rw used refl)
     where
-      by_retired : (b : Bool) (s : Slot A) → s.retired ≡ b → s.generation ≡ generation_of h → s.value ≡ Some v → (s.retired ≡ true → s.value ≡ None)
-          → slot_beside f s list ≡ used_slot (generation_of h) (f v list)
-      by_retired true s is turn value empty = let none = empty is in absurd (cc)
-      by_retired false s is turn value empty = rw (is, turn, value) refl
-
       used_beside : (s : Slot A) → s.generation ≡ generation_of h → s.value ≡ Some v → (s.retired ≡ true → s.value ≡ None)
           → slot_beside f s list ≡ used_slot (generation_of h) (f v list)
-      used_beside s turn value empty = by_retired s.retired s refl turn value empty
+      used_beside s turn value empty = grind (arith, nat_tests)
 
   -- a slot that is given up, with its list
   pub without-beside : (p : Slots A) (lists : List (List ℕ)) (h : ℕ) (v : A) → AreBeside p.slots lists → slot_value p h ≡ Some v
@@ -141,17 +121,7 @@ module _ {A C : Type 0} (f : A → List ℕ → C) where
       (set-set (beside f p.slots lists) (slot_of h) (slot_beside f at.0 []) (slot_after p.generations (generation_of h)))))
     where
       gone : (generations generation : ℕ) → slot_beside f (slot_after generations generation) [] ≡ slot_after generations generation
-      gone generations generation = by_last (generation == generations)
-        where
-          by_last : (b : Bool) → slot_beside f (if b then record { generation = generation; value = None; retired = true } else free_slot (generation + 1)) []
-              ≡ (if b then record { generation = generation; value = None; retired = true } else free_slot (generation + 1))
-          by_last true = refl
-          by_last false = refl
-
-      set-set : (xs : List (Slot C)) (i : ℕ) (x y : Slot C) → set (set xs i x) i y ≡ set xs i y
-      set-set [] i x y = refl
-      set-set (z ∷ xs) zero x y = refl
-      set-set (z ∷ xs) (suc i) x y = ap (λ (ys : List (Slot C)). z ∷ ys) (set-set xs i x y)
+      gone generations generation = grind (arith, nat_tests)
 
 pub list_at-none : (count place : ℕ) → list_at (replicate count []) place ≡ []
 list_at-none zero place = refl
@@ -173,16 +143,6 @@ module _ {A : Type 0} where
     retired = λ place slot found gone. let P : Slot A → Type 0 = λ s. s.value ≡ None in subst P (sym (free-read count place slot found)) refl;
   }
 
-  pub AreBeside-insert : (p new : Slots A) (lists : List (List ℕ)) (h : ℕ) (v : A) → Inserts p new h v → AreBeside p.slots lists → AreBeside new.slots lists
-  AreBeside-insert p new lists h v inserts are = rw inserts.now record {
-    size = are.size ∙ sym (length-set p.slots (slot_of h) (used_slot (generation_of h) v));
-    few = rw (length-set p.slots (slot_of h) (used_slot (generation_of h) v)) are.few;
-    empty = λ place slot found none. slice_get-set_cases p.slots (slot_of h) place (used_slot (generation_of h) v) slot found
-        (λ old. are.empty place slot old none) (λ is. absurd (cc));
-    retired = λ place slot found gone. slice_get-set_cases p.slots (slot_of h) place (used_slot (generation_of h) v) slot found
-        (λ old. are.retired place slot old gone) (λ is. absurd (cc));
-  }
-
   pub AreBeside-value : (p : Slots A) (lists : List (List ℕ)) (h : ℕ) (v : A) → AreBeside p.slots lists → AreBeside (with_value p h v).slots lists
   AreBeside-value p lists h v are = record {
     size = are.size ∙ sym (length-set p.slots (slot_of h) (used_slot (generation_of h) v));
@@ -193,6 +153,9 @@ module _ {A : Type 0} where
         (λ old. are.retired place slot old gone) (λ is. absurd (cc));
   }
 
+  pub AreBeside-insert : (p new : Slots A) (lists : List (List ℕ)) (h : ℕ) (v : A) → Inserts p new h v → AreBeside p.slots lists → AreBeside new.slots lists
+  AreBeside-insert p new lists h v inserts are = rw inserts.now (AreBeside-value p lists h v are)
+
   pub AreBeside-list : (p : Slots A) (lists : List (List ℕ)) (h : ℕ) (v : A) (list : List ℕ) → slot_value p h ≡ Some v → AreBeside p.slots lists
       → AreBeside p.slots (set lists (slot_of h) list)
   AreBeside-list p lists h v list live are =
@@ -201,10 +164,8 @@ module _ {A : Type 0} where
         size = length-set lists (slot_of h) list ∙ are.size;
         few = are.few;
         empty = λ place slot found none.
-            elim (cases_eq place (slot_of h)) [
-              | inl same ↦ let there : slice_get p.slots (slot_of h) ≡ Some slot = rw same at found in absurd (cc (there, at.1, at.3, none))
-              | inr differs ↦ list_at-set_other lists (slot_of h) place list differs ∙ are.empty place slot found none
-            ];
+            let was = are.empty place slot found none in
+            grind (arith, nat_tests, at.1, at.3, list_at-set_other lists (slot_of h) place list);
         retired = are.retired;
       }
 
@@ -216,25 +177,16 @@ module _ {A : Type 0} where
         size = length-set lists (slot_of h) [] ∙ (are.size ∙ sym (length-set p.slots (slot_of h) (slot_after p.generations (generation_of h))));
         few = rw (length-set p.slots (slot_of h) (slot_after p.generations (generation_of h))) are.few;
         empty = λ place slot found none.
-            elim (cases_eq place (slot_of h)) [
-              | inl same ↦ rw same (list_at-set_same lists (slot_of h) [] within)
-              | inr differs ↦ list_at-set_other lists (slot_of h) place [] differs
-                  ∙ are.empty place slot (sym (slice_get-set_other p.slots (slot_of h) place (slot_after p.generations (generation_of h)) differs) ∙ found) none
-            ];
+            let other = slice_get-set_other p.slots (slot_of h) place (slot_after p.generations (generation_of h)) in
+            let same = list_at-set_same lists (slot_of h) [] within in
+            grind (arith, nat_tests, are.empty place slot, list_at-set_other lists (slot_of h) place []);
         retired = λ place slot found gone. slice_get-set_cases p.slots (slot_of h) place (slot_after p.generations (generation_of h)) slot found
             (λ old. are.retired place slot old gone) (λ is. let P : Slot A → Type 0 = λ s. s.value ≡ None in
             subst P is (empty_after p.generations (generation_of h)));
       }
     where
-      none : Option A
-      none = None
-
       empty_after : (generations generation : ℕ) → (slot_after {T = A} generations generation).value ≡ None
-      empty_after generations generation = by_last (generation == generations)
-        where
-          by_last : (b : Bool) → (if b then record { generation = generation; value = none; retired = true } else free_slot (generation + 1)).value ≡ None
-          by_last true = refl
-          by_last false = refl
+      empty_after generations generation = grind (arith, nat_tests)
 
   -- a place that stands in the list of no live handle stands in no list
   pub NowhereAt-beside : (p : Slots A) (lists : List (List ℕ)) (q : ℕ) → AreBeside p.slots lists

@@ -1,5 +1,5 @@
 -- Lists of handles, and which places stand in them.
-use Rattle.linked_places.proofs.Names.{nat_tests, arith, ◌≡◌, ◌≢◌, ◌⊎◌, ℕ, ◌<◌, ◌≤◌, Bool, true, false, List, [], ◌∷◌, ◌++◌, length, map, Some, set, slice_get, refl, sym, ap, subst, ◌∙◌, inl, inr, eqb, ◌||◌, ◌==◌, false≢true, eqb_tells, get_or-set_same, get_or-set_other, length-map, slot_of, list_at, stands_at, has_handle, without_handle, AreApart, or_parts}
+use Rattle.linked_places.proofs.Names.{cases_Bool, nat_tests, arith, ◌≡◌, ◌≢◌, ◌⊎◌, ℕ, ◌<◌, ◌≤◌, true, false, List, [], ◌∷◌, ◌++◌, length, map, Some, set, slice_get, refl, sym, ap, ◌∙◌, inl, inr, eqb, ◌||◌, ◌==◌, false≢true, eqb_tells, get_or-set_same, get_or-set_other, length-map, slot_of, list_at, stands_at, has_handle, without_handle, AreApart, or_parts}
 use Rattle.std.specs.List.{IsDistinct, AllByRecursion, list_any}
 use Rattle.std.proofs.lemmas.Map.Steps.{length-le_from_distinct_below}
 
@@ -16,11 +16,7 @@ stands_at-append place (x ∷ xs) ys = grind (arith, nat_tests, stands_at-append
 
 -- the head of a list in which a place doesn't stand has another place
 pub absent-head : (place x : ℕ) (xs : List ℕ) → stands_at place (x ∷ xs) ≡ false → slot_of x ≢ place
-absent-head place x xs absent same =
-    elim (eqb_tells (slot_of x) place) [
-      | inl is ↦ false≢true (sym (or_parts (slot_of x == place) (stands_at place xs) absent).0 ∙ is.0)
-      | inr apart ↦ apart.1 same
-    ]
+absent-head place x xs absent same = grind (arith, nat_tests)
 
 pub absent-tail : (place x : ℕ) (xs : List ℕ) → stands_at place (x ∷ xs) ≡ false → stands_at place xs ≡ false
 absent-tail place x xs absent = (or_parts (slot_of x == place) (stands_at place xs) absent).1
@@ -36,21 +32,13 @@ absent-append place xs ys left right = stands_at-append place xs ys ∙ rw (left
 
 -- a place stands in the list, or it doesn't
 pub stands_cases : (place : ℕ) (xs : List ℕ) → (stands_at place xs ≡ true) ⊎ (stands_at place xs ≡ false)
-stands_cases place xs = by_case (stands_at place xs)
-  where
-    by_case : (b : Bool) → (b ≡ true) ⊎ (b ≡ false)
-    by_case true = inl refl
-    by_case false = inr refl
+stands_cases place xs = cases_Bool (stands_at place xs)
 
 pub stands-left : (place : ℕ) (xs ys : List ℕ) → stands_at place xs ≡ true → stands_at place (xs ++ ys) ≡ true
 stands-left place xs ys left = stands_at-append place xs ys ∙ rw left refl
 
 pub stands-right : (place : ℕ) (xs ys : List ℕ) → stands_at place ys ≡ true → stands_at place (xs ++ ys) ≡ true
-stands-right place xs ys right = stands_at-append place xs ys ∙ by_left (stands_at place xs)
-  where
-    by_left : (b : Bool) → (b || stands_at place ys) ≡ true
-    by_left true = refl
-    by_left false = right
+stands-right place xs ys right = grind (arith, nat_tests, stands_at-append place xs ys)
 
 pub stands-head : (x : ℕ) (xs : List ℕ) → stands_at (slot_of x) (x ∷ xs) ≡ true
 stands-head x xs = grind (arith, nat_tests)
@@ -60,11 +48,7 @@ stands-tail place x xs e1 = grind (arith, nat_tests)
 
 -- what stands in one place of two parts
 pub stands-either : (place : ℕ) (xs ys : List ℕ) → stands_at place (xs ++ ys) ≡ true → (stands_at place xs ≡ true) ⊎ (stands_at place ys ≡ true)
-stands-either place xs ys stands =
-    elim (stands_cases place xs) [
-      | inl left ↦ inl left
-      | inr absent ↦ inr (sym (rw absent refl) ∙ (sym (stands_at-append place xs ys) ∙ stands))
-    ]
+stands-either place xs ys stands = grind (arith, nat_tests, stands_cases place xs, stands_at-append place xs ys)
 
 -- a list with a handle in it is what comes before, the handle, and what comes after
 pub record Split (handle : ℕ) (hs : List ℕ) : Type 0 where
@@ -99,11 +83,7 @@ AreApart-right (x ∷ xs) ys apart = AreApart-right xs ys apart.1
 -- what stands in the one part stands not in the other
 pub AreApart-across : (place : ℕ) (xs ys : List ℕ) → AreApart (xs ++ ys) → stands_at place xs ≡ true → stands_at place ys ≡ false
 AreApart-across place [] ys apart stands = absurd (false≢true stands)
-AreApart-across place (x ∷ xs) ys apart stands =
-    elim (eqb_tells (slot_of x) place) [
-      | inl is ↦ absent-right place xs ys (rw (← is.1) apart.0)
-      | inr differs ↦ AreApart-across place xs ys apart.1 (rw differs.0 at stands)
-    ]
+AreApart-across place (x ∷ xs) ys apart stands = grind (arith, nat_tests, absent-right place xs ys, AreApart-across place xs ys apart.1)
 
 pub AreApart-push : (xs : List ℕ) (h : ℕ) → AreApart xs → stands_at (slot_of h) xs ≡ false → AreApart (xs ++ h ∷ [])
 AreApart-push [] h apart absent = (refl, tt)
@@ -136,11 +116,7 @@ distinct_of (h ∷ hs) apart = (others_of (slot_of h) hs apart.0, distinct_of hs
 
 stands_of : (hs : List ℕ) (place : ℕ) → list_any (eqb place) (map slot_of hs) ≡ true → stands_at place hs ≡ true
 stands_of [] place has = has
-stands_of (h ∷ hs) place has =
-    elim (eqb_tells place (slot_of h)) [
-      | inl is ↦ let P : ℕ → Type 0 = λ q. stands_at q (h ∷ hs) ≡ true in subst P (sym is.1) (stands-head h hs)
-      | inr apart ↦ stands-tail place h hs (stands_of hs place (rw apart.0 at has))
-    ]
+stands_of (h ∷ hs) place has = grind (arith, nat_tests, stands-head h hs, stands-tail place h hs, stands_of hs place)
 
 -- handles with places below a bound, no two alike, are at most so many
 pub length-apart : (hs : List ℕ) (bound : ℕ) → AreApart hs → ((place : ℕ) → stands_at place hs ≡ true → place < bound) → length hs ≤ bound
@@ -151,11 +127,7 @@ length-apart hs bound apart below =
 -- a handle of a list stands there at its place
 pub stands-has : (h : ℕ) (hs : List ℕ) → has_handle h hs ≡ true → stands_at (slot_of h) hs ≡ true
 stands-has h [] has = has
-stands-has h (x ∷ hs) has =
-    elim (eqb_tells x h) [
-      | inl is ↦ let P : ℕ → Type 0 = λ q. stands_at (slot_of q) (x ∷ hs) ≡ true in subst P is.1 (stands-head x hs)
-      | inr apart ↦ stands-tail (slot_of h) x hs (stands-has h hs (rw apart.0 at has))
-    ]
+stands-has h (x ∷ hs) has = grind (arith, nat_tests, stands-head x hs, stands-tail (slot_of h) x hs, stands-has h hs)
 
 -- the first handle of a list is in it
 pub has-first : (h : ℕ) (hs : List ℕ) → slice_get hs 0 ≡ Some h → has_handle h hs ≡ true

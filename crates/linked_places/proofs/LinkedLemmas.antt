@@ -1,6 +1,6 @@
 -- Links and ends that stand for lists, and what each move leaves of that.
 use Rattle.linked_places.proofs.Names.{nat_tests, ◌≡◌, ◌≢◌, ◌⊎◌, ℕ, zero, suc, ◌<◌, ◌≤◌, true, false, List, [], ◌∷◌, ◌++◌, length, map, replicate, Option, Some, None, is_none, set, slice_get, get_or, refl, sym, ap, subst, ◌∙◌, inl, inr, arith, length-set, length-append, if◌then◌else◌, option_or, false≢true, cases_eq, length-replicate, length-map, slice_get_within, slice_get_read, slot_of, slice_get-set_other, HandleLists, list_at, stands_at, has_handle, without_handle, NowhereAt, with_list, link_of, handles_of, first_of, last_of, IsRun, AreApart, IsList, IsLinked, links_followed, links_with, ends_with, links_without, ends_without, IsBelow, Link, Ends, append-nil}
-use Rattle.linked_places.proofs.HandleLemmas.{list_at-set_same, list_at-set_other, absent-append, stands_cases, stands-left, stands-right, stands-head, stands-tail, stands-either, Split, split, AreApart-right, AreApart-across, AreApart-push, AreApart-without, length-apart}
+use Rattle.linked_places.proofs.HandleLemmas.{list_at-set_same, list_at-set_other, absent-append, stands-left, stands-right, stands-head, stands-tail, stands-either, Split, split, AreApart-right, AreApart-across, AreApart-push, AreApart-without, length-apart}
 use Rattle.linked_places.proofs.RunLemmas.{slice_get-set_in, last, Avoids, StandsIn, last_of-append, first_of-stands, last_of-stands, IsRun-within, IsRun-set, IsRun-followed, IsRun-following, length-followed, length-following, IsRun-push, IsRun-remove, IsRun-link, walk-run}
 
 -- the ends of no handle
@@ -30,9 +30,7 @@ lists-view links ends lists linked = same_lists links ends lists linked.size lin
 
 pub IsLinked-view : (links : List Link) (ends : List Ends) (lists : List (List ℕ)) → IsLinked links ends lists
     → IsLinked links ends (map (handles_of links) ends)
-IsLinked-view links ends lists linked =
-    let P : List (List ℕ) → Type 0 = λ ls. IsLinked links ends ls in
-    subst P (sym (lists-view links ends lists linked)) linked
+IsLinked-view links ends lists linked = grind (arith, nat_tests, lists-view links ends lists linked)
 
 -- one list becomes another, whose places stood in it before or stood in none
 pub IsLinked-set : (links after : List Link) (ends : List Ends) (lists : List (List ℕ)) (number : ℕ) (e : Ends) (list : List ℕ) → IsLinked links ends lists
@@ -67,34 +65,23 @@ IsLinked-set links after ends lists number e list linked within size new kept gr
 
     -- a place of the new list that stands in another one
     crossed : (other place : ℕ) → other ≢ number → stands_at place list ≡ true → stands_at place (list_at lists other) ≡ true → number ≡ other
-    crossed other place differs one two =
-        elim (grown place one) [
-          | inl before ↦ linked.apart number other place before two
-          | inr nowhere ↦ absurd (false≢true (sym (nowhere other) ∙ two))
-        ]
+    crossed other place differs one two = elim (grown place one) [
+      | inl before ↦ linked.apart number other place before two
+      | inr nowhere ↦ absurd (false≢true (sym (nowhere other) ∙ two))
+    ]
 
     apart : (i j place : ℕ) → stands_at place (list_at (set lists number list) i) ≡ true → stands_at place (list_at (set lists number list) j) ≡ true → i ≡ j
     apart i j place one two =
+        let same = list_at-set_same lists number list within in
         elim (cases_eq i number) [
-          | inl here ↦
-              elim (cases_eq j number) [
-                | inl there ↦ here ∙ sym there
-                | inr elsewhere ↦
-                    let first : stands_at place list ≡ true = rw (here, list_at-set_same lists number list within) at one in
-                    let second : stands_at place (list_at lists j) ≡ true = rw (list_at-set_other lists number j list elsewhere) at two in
-                    here ∙ crossed j place elsewhere first second
-              ]
-          | inr elsewhere ↦
-              elim (cases_eq j number) [
-                | inl there ↦
-                    let first : stands_at place (list_at lists i) ≡ true = rw (list_at-set_other lists number i list elsewhere) at one in
-                    let second : stands_at place list ≡ true = rw (there, list_at-set_same lists number list within) at two in
-                    sym (crossed i place elsewhere second first) ∙ sym there
-                | inr beyond ↦
-                    let first : stands_at place (list_at lists i) ≡ true = rw (list_at-set_other lists number i list elsewhere) at one in
-                    let second : stands_at place (list_at lists j) ≡ true = rw (list_at-set_other lists number j list beyond) at two in
-                    linked.apart i j place first second
-              ]
+          | inl here ↦ elim (cases_eq j number) [
+            | inl there ↦ here ∙ sym there
+            | inr away ↦ here ∙ crossed j place away (rw (here, same) at one) (rw (list_at-set_other lists number j list away) at two)
+          ]
+          | inr off ↦ elim (cases_eq j number) [
+            | inl there ↦ sym (crossed i place off (rw (there, same) at two) (rw (list_at-set_other lists number i list off) at one)) ∙ sym there
+            | inr away ↦ linked.apart i j place (rw (list_at-set_other lists number i list off) at one) (rw (list_at-set_other lists number j list away) at two)
+          ]
         ]
 
 pub IsLinked-clear : (links : List Link) (ends : List Ends) (lists : List (List ℕ)) (number : ℕ) → IsLinked links ends lists → number < length lists
@@ -108,11 +95,7 @@ avoids_other : (lists : List (List ℕ)) (number other : ℕ) (place : Option �
     → ((i j q : ℕ) → stands_at q (list_at lists i) ≡ true → stands_at q (list_at lists j) ≡ true → i ≡ j) → other ≢ number
     → StandsIn place (list_at lists number) → Avoids place (list_at lists other)
 avoids_other lists number other None apart differs stands = tt
-avoids_other lists number other (Some q) apart differs stands =
-    elim (stands_cases q (list_at lists other)) [
-      | inl there ↦ absurd (differs (sym (apart number other q stands there)))
-      | inr absent ↦ absent
-    ]
+avoids_other lists number other (Some q) apart differs stands = grind (arith, nat_tests, apart number other q stands)
 
 place_within : (links : List Link) (hs : List ℕ) (place : Option ℕ) → IsRun links None hs None → StandsIn place hs → IsBelow (length links) place
 place_within links hs None run stands = tt
@@ -325,8 +308,7 @@ list_at-past links (e ∷ es) (suc number) past = list_at-past links es number p
 pub IsLinked-new : (links : List Link) (count : ℕ) → length links ≤ 65536 → IsLinked links (replicate count no_ends) (replicate count [])
 IsLinked-new links count few = record {
   size = length-replicate count [] ∙ sym (length-replicate count no_ends);
-  each = λ number e at. let P : Ends → Type 0 = λ f. IsList links f [] in
-      rw (list_at-replicate count number) (subst P (replicate-read count number no_ends e at) (IsList-empty links));
+  each = λ number e at. grind (arith, nat_tests, Ends, list_at-replicate count number, replicate-read count number no_ends e, IsList-empty links);
   apart = λ i j place one two. absurd (false≢true (rw (list_at-replicate count i) at one));
   few = few;
 }
@@ -372,9 +354,7 @@ removed links ends old number h is linked has = by_ends (slice_get ends number) 
     by_ends : (o : Option Ends) → slice_get ends number ≡ o
         → (e : Ends) × (slice_get ends number ≡ Some e) × Removal links ends (map (handles_of links) ends) number e h
     by_ends (Some e) at = (e, at, removal links ends (map (handles_of links) ends) number e h linked at there)
-    by_ends None past =
-        let none : list_at (map (handles_of links) ends) number ≡ [] = list_at-past links ends number past in
-        absurd (false≢true (rw none at there))
+    by_ends None past = grind (arith, nat_tests, list_at-past links ends number past, there)
 
 -- a handle that has left its list stands in no list
 pub removed_gone : (links : List Link) (ends : List Ends) (old : HandleLists) (number : ℕ) (h : ℕ) → view_of links ends ≡ old
@@ -390,32 +370,20 @@ removed_gone links ends old number h is linked has =
     lists = map (handles_of links) ends
 
     absent_before : (xs ys : List ℕ) → AreApart (xs ++ h ∷ ys) → stands_at (slot_of h) xs ≡ false
-    absent_before xs ys apart =
-        elim (stands_cases (slot_of h) xs) [
-          | inl there ↦ absurd (false≢true (sym (AreApart-across (slot_of h) xs (h ∷ ys) apart there) ∙ stands-head h ys))
-          | inr absent ↦ absent
-        ]
+    absent_before xs ys apart = grind (arith, nat_tests, AreApart-across (slot_of h) xs (h ∷ ys) apart, stands-head h ys)
 
     gone : (e : Ends) → slice_get ends number ≡ Some e → Split h (list_at lists number)
         → NowhereAt (slot_of h) (set lists number (without_handle h (list_at lists number)))
     gone e at parts other =
-        elim (cases_eq other number) [
-          | inl same ↦
-              let within : number < length lists = rw linked.size (slice_get_within ends number e at) in
-              let L : List ℕ → Type 0 = λ zs. IsList links e zs in
-              let list = subst L parts.whole (linked.each number e at) in
-              let absent = absent-append (slot_of h) parts.before parts.after (absent_before parts.before parts.after list.apart)
-              (AreApart-right parts.before (h ∷ parts.after) list.apart).0 in
-              rw (same, list_at-set_same lists number (without_handle h (list_at lists number)) within, parts.rest) absent
-          | inr differs ↦
-              elim (stands_cases (slot_of h) (list_at lists other)) [
-                | inl there ↦
-                    let here : stands_at (slot_of h) (list_at lists number) ≡ true =
-                    rw parts.whole (stands-right (slot_of h) parts.before (h ∷ parts.after) (stands-head h parts.after)) in
-                    absurd (differs (sym (linked.apart number other (slot_of h) here there)))
-                | inr absent ↦ rw (list_at-set_other lists number other (without_handle h (list_at lists number)) differs) absent
-              ]
-        ]
+        let list : IsList links e (parts.before ++ h ∷ parts.after) = rw parts.whole at (linked.each number e at) in
+        let absent = absent-append (slot_of h) parts.before parts.after (absent_before parts.before parts.after list.apart)
+        (AreApart-right parts.before (h ∷ parts.after) list.apart).0 in
+        let here : stands_at (slot_of h) (list_at lists number) ≡ true =
+        rw parts.whole (stands-right (slot_of h) parts.before (h ∷ parts.after) (stands-head h parts.after)) in
+        let left = without_handle h (list_at lists number) in
+        let within = slice_get_within ends number e at in
+        let apart = linked.apart number other (slot_of h) here in
+        grind (arith, nat_tests, list_at-set_same lists number left, list_at-set_other lists number other left)
 
 -- what stands in a list without a handle stood in it before
 pub stands-without : (place h : ℕ) (hs : List ℕ) → stands_at place (without_handle h hs) ≡ true → stands_at place hs ≡ true

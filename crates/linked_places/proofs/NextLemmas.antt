@@ -1,5 +1,5 @@
 -- What follows a handle in its list.
-use Rattle.linked_places.proofs.Names.{◌≡◌, ℕ, zero, suc, ◌+◌, ◌<◌, Bool, true, false, List, [], ◌∷◌, map, Option, Some, None, slice_get, length, refl, sym, ap, subst, arith, add-one, ◌==◌, ◌||◌, false≢true, nat_tests, slice_get_within, slot_of, Link, Ends, HandleLists, list_at, has_handle, handles_of, first_of, IsRun, IsLinked, same_Some}
+use Rattle.linked_places.proofs.Names.{◌≡◌, ℕ, zero, suc, ◌+◌, ◌<◌, true, List, [], ◌∷◌, map, Option, Some, None, slice_get, length, refl, sym, ap, subst, arith, add-one, ◌==◌, false≢true, nat_tests, slice_get_within, slot_of, Link, Ends, HandleLists, list_at, has_handle, handles_of, first_of, IsRun, IsLinked, same_Some, cases_eq, inl, inr}
 use Rattle.linked_places.proofs.LinkedLemmas.{list_at-past}
 
 -- the place after a link, if there is one, has the handle that comes next
@@ -26,12 +26,10 @@ run-next links previous (x ∷ hs) (suc i) h run at = run-next links (Some (slot
 -- a handle of a list has a number there
 pub has-index : (h : ℕ) (hs : List ℕ) → has_handle h hs ≡ true → (i : ℕ) × (slice_get hs i ≡ Some h)
 has-index h [] has = absurd (false≢true has)
-has-index h (x ∷ hs) has = by_test (x == h) refl has (has-index h hs)
-  where
-    by_test : (b : Bool) → (x == h) ≡ b → (b || has_handle h hs) ≡ true → (has_handle h hs ≡ true → (i : ℕ) × (slice_get hs i ≡ Some h))
-        → (i : ℕ) × (slice_get (x ∷ hs) i ≡ Some h)
-    by_test true is has rest = let same : x ≡ h = grind (arith, nat_tests) in (0, ap Some same)
-    by_test false is has rest = let more = rest has in (suc more.0, more.1)
+has-index h (x ∷ hs) has = elim (cases_eq x h) [
+  | inl is ↦ (0, ap Some is)
+  | inr d ↦ let more = has-index h hs (grind (arith, nat_tests)) in (suc more.0, more.1)
+]
 
 pub index-has : (h i : ℕ) (hs : List ℕ) → slice_get hs i ≡ Some h → has_handle h hs ≡ true
 index-has h i [] at = absurd (cc)
@@ -72,11 +70,7 @@ pub within-link : (links : List Link) (h : ℕ) (o : Option ℕ) → Follows lin
 within-link links h o f = slice_get_within links (slot_of h) f.link f.read
 
 pub within-next : (links : List Link) (h : ℕ) (o : Option ℕ) (place : ℕ) (f : Follows links h o) → f.link.next ≡ Some place → place < length links
-within-next links h o place f e = by_next f.link.next f.next e
-  where
-    by_next : (n : Option ℕ) → NextIs links n o → n ≡ Some place → place < length links
-    by_next None k e = absurd (cc)
-    by_next (Some p) k e = subst (λ (q : ℕ). q < length links) (same_Some _ _ e) (slice_get_within links p k.0 k.1)
+within-next links h o place f e = grind (arith, nat_tests, slice_get_within links place)
 
 pub next-none : (links : List Link) (h : ℕ) (o : Option ℕ) (f : Follows links h o) → f.link.next ≡ None → None ≡ o
 next-none links h o f e1 = grind (arith, nat_tests)

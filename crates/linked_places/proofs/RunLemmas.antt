@@ -1,5 +1,5 @@
 -- Runs of links, and what writes leave of them.
-use Rattle.linked_places.proofs.Names.{nat_tests, ◌≡◌, ◌≢◌, ℕ, zero, suc, ◌<◌, Bool, true, false, List, [], ◌∷◌, ◌++◌, length, Option, Some, None, set, slice_get, refl, sym, ap, subst, ◌∙◌, inl, inr, arith, length-set, false≢true, eqb_tells, slice_get_within, slot_of, slice_get-set_same, slice_get-set_other, stands_at, link_of, walk, first_of, last_of, IsRun, AreApart, followed_at, links_followed, following_at, links_following, links_with, links_without, Link}
+use Rattle.linked_places.proofs.Names.{nat_tests, ◌≡◌, ◌≢◌, ℕ, zero, suc, ◌<◌, true, false, List, [], ◌∷◌, ◌++◌, length, Option, Some, None, set, slice_get, refl, sym, ap, subst, ◌∙◌, arith, length-set, false≢true, slice_get_within, slot_of, slice_get-set_same, slice_get-set_other, stands_at, link_of, walk, first_of, last_of, IsRun, AreApart, followed_at, links_followed, following_at, links_following, links_with, links_without, Link}
 use Rattle.linked_places.proofs.HandleLemmas.{absent-head, absent-tail, stands-head, stands-tail, AreApart-left, AreApart-right, AreApart-across}
 
 pub slice_get-set_in : {X : Type 0} (xs : List X) (i : ℕ) (y : X) → i < length xs → slice_get (set xs i y) i ≡ Some y
@@ -36,9 +36,7 @@ pub record Last (previous : Option ℕ) (xs : List ℕ) : Type 0 where
 
 pub last : (previous : Option ℕ) (x : ℕ) (xs : List ℕ) → Last previous (x ∷ xs)
 last previous x [] = record { place = slot_of x; is = refl; stands = stands-head x [] }
-last previous x (y ∷ ys) =
-    let tail = last (Some (slot_of x)) y ys in
-    record { place = tail.place; is = tail.is; stands = stands-tail tail.place x (y ∷ ys) tail.stands }
+last previous x (y ∷ ys) = grind (arith, nat_tests, last (Some (slot_of x)) y ys, stands-tail)
 
 pub last_of-stands : (xs : List ℕ) → StandsIn (last_of None xs) xs
 last_of-stands [] = tt
@@ -56,8 +54,7 @@ IsRun-append links previous (x ∷ xs) ys next left right = (
 pub IsRun-left : (links : List Link) (previous : Option ℕ) (xs ys : List ℕ) (next : Option ℕ) → IsRun links previous (xs ++ ys) next
     → IsRun links previous xs (first_of ys next)
 IsRun-left links previous [] ys next run = tt
-IsRun-left links previous (x ∷ xs) ys next run =
-    (run.0 ∙ ap (λ (after : Option ℕ). Some (link_of x previous after)) (first_of-append xs ys next), IsRun-left links (Some (slot_of x)) xs ys next run.1)
+IsRun-left links previous (x ∷ xs) ys next run = grind (arith, nat_tests, first_of-append xs ys next, IsRun-left links (Some (slot_of x)) xs ys next run.1)
 
 pub IsRun-right : (links : List Link) (previous : Option ℕ) (xs ys : List ℕ) (next : Option ℕ) → IsRun links previous (xs ++ ys) next
     → IsRun links (last_of previous xs) ys next
@@ -69,20 +66,17 @@ pub IsRun-within : (links : List Link) (previous : Option ℕ) (hs : List ℕ) (
     → stands_at place hs ≡ true → place < length links
 IsRun-within links previous [] next place run stands = absurd (false≢true stands)
 IsRun-within links previous (h ∷ hs) next place run stands =
-    elim (eqb_tells (slot_of h) place) [
-      | inl is ↦ rw (← is.1) (slice_get_within links (slot_of h) (link_of h previous (first_of hs next)) run.0)
-      | inr apart ↦ IsRun-within links (Some (slot_of h)) hs next place run.1 (rw apart.0 at stands)
-    ]
+    let within = slice_get_within links (slot_of h) (link_of h previous (first_of hs next)) run.0 in
+    grind (arith, nat_tests, IsRun-within links (Some (slot_of h)) hs next place run.1)
 
 -- a write elsewhere leaves a run
 pub IsRun-set : (links : List Link) (place : ℕ) (link : Link) (previous : Option ℕ) (hs : List ℕ) (next : Option ℕ) → stands_at place hs ≡ false
     → IsRun links previous hs next → IsRun (set links place link) previous hs next
 IsRun-set links place link previous [] next absent run = tt
-IsRun-set links place link previous (h ∷ hs) next absent run = (
-  slice_get-set_other links place (slot_of h) link (absent-head place h hs absent)
-      ∙ run.0,
-  IsRun-set links place link (Some (slot_of h)) hs next (absent-tail place h hs absent) run.1,
-)
+IsRun-set links place link previous (h ∷ hs) next absent run =
+    let apart = absent-head place h hs absent in
+    let rest = IsRun-set links place link (Some (slot_of h)) hs next (absent-tail place h hs absent) run.1 in
+    (slice_get-set_other links place (slot_of h) link apart ∙ run.0, rest)
 
 pub IsRun-followed : (links : List Link) (place after previous : Option ℕ) (hs : List ℕ) (next : Option ℕ) → Avoids place hs → IsRun links previous hs next
     → IsRun (links_followed links place after) previous hs next
@@ -104,19 +98,11 @@ IsRun-following links (Some place) before previous hs next avoids run = by_link 
 
 pub length-followed : (links : List Link) (place after : Option ℕ) → length (links_followed links place after) ≡ length links
 length-followed links None after = refl
-length-followed links (Some place) after = by_link (slice_get links place)
-  where
-    by_link : (o : Option Link) → length (followed_at links place after o) ≡ length links
-    by_link None = refl
-    by_link (Some link) = length-set links place (record link { next = after })
+length-followed links (Some place) after = grind (arith, nat_tests, length-set {A = Link})
 
 pub length-following : (links : List Link) (place before : Option ℕ) → length (links_following links place before) ≡ length links
 length-following links None before = refl
-length-following links (Some place) before = by_link (slice_get links place)
-  where
-    by_link : (o : Option Link) → length (following_at links place before o) ≡ length links
-    by_link None = refl
-    by_link (Some link) = length-set links place (record link { previous = before })
+length-following links (Some place) before = grind (arith, nat_tests, length-set {A = Link})
 
 -- a run with another place after it
 pub IsRun-followed_last : (links : List Link) (previous : Option ℕ) (xs : List ℕ) (next after : Option ℕ) → AreApart xs → IsRun links previous xs next
@@ -163,22 +149,15 @@ avoids_right (Some place) xs ys apart stands = AreApart-across place xs ys apart
 
 avoids_left : (place : Option ℕ) (xs ys : List ℕ) → AreApart (xs ++ ys) → StandsIn place ys → Avoids place xs
 avoids_left None xs ys apart stands = tt
-avoids_left (Some place) xs ys apart stands = by_case (stands_at place xs) refl
-  where
-    by_case : (b : Bool) → stands_at place xs ≡ b → stands_at place xs ≡ false
-    by_case true is = absurd (false≢true (sym (AreApart-across place xs ys apart is) ∙ stands))
-    by_case false is = is
+avoids_left (Some place) xs ys apart stands = grind (arith, nat_tests, AreApart-across place xs ys apart)
 
 -- a handle at the end of a run
 pub IsRun-push : (links : List Link) (hs : List ℕ) (h : ℕ) → AreApart hs → stands_at (slot_of h) hs ≡ false → slot_of h < length links
     → IsRun links None hs None → IsRun (links_with links (last_of None hs) h) None (hs ++ h ∷ []) None
 IsRun-push links hs h apart absent within run =
-    let followed = links_followed links (last_of None hs) (Some (slot_of h)) in
     let before = IsRun-followed_last links None hs None (Some (slot_of h)) apart run in
-    let link = link_of h (last_of None hs) None in
-    let room : slot_of h < length followed = rw (length-followed links (last_of None hs) (Some (slot_of h))) within in
-    IsRun-append (set followed (slot_of h) link) None hs (h
-    ∷ []) None (IsRun-set followed (slot_of h) link None hs (Some (slot_of h)) absent before) (slice_get-set_in followed (slot_of h) link room, tt)
+    let size = length-followed links (last_of None hs) (Some (slot_of h)) in
+    grind (arith, nat_tests, IsRun-append, IsRun-set, slice_get-set_in)
 
 -- a run without one of its handles
 pub IsRun-remove : (links : List Link) (xs : List ℕ) (h : ℕ) (ys : List ℕ) → AreApart (xs ++ h ∷ ys) → AreApart (xs ++ ys)
