@@ -1,5 +1,5 @@
 -- Entries in the order of their ids, after an insert and a removal, and what a search finds among them.
-use Rattle.std.proofs.Common.{◌≡◌, ◌≢◌, ◌⊎◌, inl, inr, ℕ, ◌+◌, ◌-◌, ◌<◌, ◌≤◌, List, length, Result, Ok, Err, sym, ap, ◌∙◌, subst, arith}
+use Rattle.std.proofs.Common.{◌≡◌, ◌≢◌, ◌⊎◌, inl, inr, ℕ, ◌+◌, ◌-◌, ◌<◌, ◌≤◌, List, length, Result, Ok, Err, sym, ap, ◌∙◌, arith}
 use Rattle.std.specs.List.{Contains, insert, remove}
 use Rattle.std.specs.List.Sorted.{IsSearchInRange, IsBinarySearchResult, IsNonDecreasingBy}
 use Rattle.std.specs.Ordering.{nat_cmp, ordering_index}
@@ -14,27 +14,10 @@ use Rattle.keyed_pool.specs.declared.IndexEntry.{IndexEntry}
 module _ (xs : List IndexEntry) (rising : AreRising xs) where
   -- two places with one id are one place
   pub same_place : (a b : ℕ) (d : IndexEntry) → a < length xs → b < length xs → (slice_index_or xs a d).id ≡ (slice_index_or xs b d).id → a ≡ b
-  same_place a b d within too same =
-      elim (cases_eq a b) [
-        | inl equal ↦ equal
-        | inr differs ↦ elim (cases_lt a b) [
-          | inl below ↦ absurd (omega (arith, same, rising a b d below too))
-          | inr above ↦ let lower : b < a = omega arith in absurd (omega (arith, same, rising b a d lower within))
-        ]
-      ]
+  same_place a b d within too same = grind (arith, nat_tests)
 
   comparisons_rise : (id : ℕ) → IsNonDecreasingBy (λ (e : IndexEntry). ordering_index (nat_cmp e.id id)) xs
-  comparisons_rise id i j d order within =
-      elim (cases_eq i j) [
-        | inl same ↦ let P : ℕ → Type 0 = λ n. ordering_index (nat_cmp (slice_index_or xs i d).id id)
-            ≤ ordering_index (nat_cmp (slice_index_or xs n d).id id) in subst P same (omega arith)
-        | inr differs ↦
-            let before : i < j = omega arith in
-            by_ids (slice_index_or xs i d).id (slice_index_or xs j d).id (rising i j d before within)
-      ]
-    where
-      by_ids : (m n : ℕ) → m < n → ordering_index (nat_cmp m id) ≤ ordering_index (nat_cmp n id)
-      by_ids m n below = grind (arith, nat_tests)
+  comparisons_rise id i j d order within = grind (arith, nat_tests)
 
 -- what a binary search by the id finds
 pub searched : (xs : List IndexEntry) (id : ℕ) (r : Result ℕ ℕ) → IsSearchInRange r (length xs)
@@ -88,26 +71,7 @@ module _ (xs : List IndexEntry) (place : ℕ) (y : IndexEntry) (within : place �
 
   pub rising-insert : AreRising xs → ((k : ℕ) (d : IndexEntry) → k < place → (slice_index_or xs k d).id < y.id)
       → ((k : ℕ) (d : IndexEntry) → place ≤ k → k < length xs → y.id < (slice_index_or xs k d).id) → AreRising (insert xs place y)
-  rising-insert rising lower higher a b d below inside = by_places (stands a d) (stands b d)
-    where
-      long : length (insert xs place y) ≡ length xs + 1
-      long = length-insert xs place y within
-
-      id : IndexEntry → ℕ
-      id e = e.id
-
-      by_places : Stands a d → Stands b d → (slice_index_or (insert xs place y) a d).id < (slice_index_or (insert xs place y) b d).id
-      by_places (New here is) (New too same) = absurd (omega (arith, here, too, below))
-      by_places (New here is) (Below low same) = absurd (omega (arith, here, low, below))
-      by_places (New here is) (Above j next high same) = omega (arith, ap id is, ap id same, higher j d high (omega (arith, next, inside, long)))
-      by_places (Below low is) (New too same) = omega (arith, ap id is, ap id same, lower a d low)
-      by_places (Below low is) (Below under same) = omega (arith, ap id is, ap id same, rising a b d below (omega (arith, under, within)))
-      by_places (Below low is) (Above j next high same) =
-          omega (arith, ap id is, ap id same, rising a j d (omega (arith, low, high)) (omega (arith, next, inside, long)))
-      by_places (Above i after up is) (New too same) = absurd (omega (arith, after, up, too, below))
-      by_places (Above i after up is) (Below under same) = absurd (omega (arith, after, up, under, below))
-      by_places (Above i after up is) (Above j next high same) =
-          omega (arith, ap id is, ap id same, rising i j d (omega (arith, after, next, below)) (omega (arith, next, inside, long)))
+  rising-insert rising lower higher a b d below inside = grind (arith, nat_tests, stands a d, stands b d, length-insert xs place y within)
 
 module _ (xs : List IndexEntry) (place : ℕ) (within : place < length xs) where
   -- what is left stood at another place
