@@ -1,5 +1,5 @@
 -- How a cover grows with each place of the walk.
-use Rattle.job_table.proofs.Names.{◌≡◌, ℕ, ◌+◌, Bool, true, false, bit_or, List, length, Some, slice_get, refl, sym, ap, ◌∙◌, inl, inr, arith, nat_tests, false≢true, cases_eq, ◌==◌, Slots, slot_value, max_of, SomeLive, NoneLive, HandleLists, list_at, has_handle, has-index, Action, has_job, has_enabled_job, Passes, runs_job_on, Covers, mask_of, cover_with, NoneBefore, IsUnionBefore, CoversBefore, list_of, AreListed, and_from, and_parts, eqb-true, same_Some}
+use Rattle.job_table.proofs.Names.{◌≡◌, ℕ, ◌+◌, Bool, true, false, bit_or, List, length, Some, slice_get, refl, sym, ap, ◌∙◌, arith, nat_tests, false≢true, ◌==◌, Slots, slot_value, max_of, SomeLive, NoneLive, HandleLists, list_at, has_handle, has-index, Action, has_job, has_enabled_job, Passes, runs_job_on, Covers, mask_of, cover_with, NoneBefore, IsUnionBefore, CoversBefore, list_of, AreListed, and_from, and_parts, eqb-true}
 use Rattle.std.proofs.lemmas.Option.{slice_get_within}
 use Rattle.std.proofs.lemmas.Nat.Bits.{bit_at_or, bit_at-lt, bit_at-zero}
 use Rattle.mtapi_values.specs.Masks.{in_mask}
@@ -27,13 +27,7 @@ NoneBefore-zero p hs P i h a less at live holds = omega arith
 -- an action more that does not pass
 pub NoneBefore-one : (p : Slots Action) (hs : List ℕ) (index handle : ℕ) (a : Action) (P : Action → Type 0) → slice_get hs index ≡ Some handle
     → slot_value p handle ≡ Some a → (P a → ⊥) → NoneBefore p hs index P → NoneBefore p hs (index + 1) P
-NoneBefore-one p hs index handle a P at live fails before i h b less is found holds = elim (cases_eq i index) [
-  | inl last ↦
-      let same : h ≡ handle = same_Some _ _ (sym is ∙ ap (slice_get hs) last ∙ at) in
-      let value : b ≡ a = same_Some _ _ (sym found ∙ ap (slot_value p) same ∙ live) in
-      fails (rw value at holds)
-  | inr earlier ↦ before i h b (omega arith) is found holds
-]
+NoneBefore-one p hs index handle a P at live fails before i h b less is found holds = grind (arith, nat_tests)
 
 -- what no action of the job's list passes, no live action passes that has the job
 pub none-of : (p : Slots Action) (jobs : HandleLists) (job : ℕ) → AreListed p jobs → (q : Action → Bool) → ((a : Action) → q a ≡ true → has_job job a ≡ true)
@@ -107,13 +101,7 @@ module _ (p : Slots Action) (hs : List ℕ) (index job handle : ℕ) (a : Action
         (weaker p hs index (Passes (has_job job)) (Passes (has_enabled_job job)) (enabled_has_job job) h),
   )
   disabled_covers AllDisabled off h = rw off (h.0, past_disabled off (has_enabled_job job) (λ r. r) h.1)
-  disabled_covers (Cores mask) off h = rw off (
-    h.0,
-    record {
-      covered = h.1.covered;
-      uncovered = λ core is. past_disabled off (runs_job_on job core) (runs_has_job job core a) (h.1.uncovered core is);
-    },
-  )
+  disabled_covers (Cores mask) off h = grind (arith, nat_tests, h.1.covered, past_disabled off, runs_has_job job, h.1.uncovered)
 
   pub CoversBefore-with : (cover : Cover) → CoversBefore p hs index job cover → CoversBefore p hs (index + 1) job (cover_with cover a)
   CoversBefore-with cover h = by_enabled a.enabled refl

@@ -1,5 +1,5 @@
 -- The lists of actions by their jobs, and what each move keeps of them.
-use Rattle.job_table.proofs.Names.{◌≡◌, ◌≢◌, ◌≤◌, ◌<◌, ◌%◌, ℕ, zero, suc, Bool, true, false, List, [], ◌∷◌, ◌++◌, length, length-set, replicate, Option, Some, None, slice_get, refl, sym, ap, subst, ◌∙◌, inl, inr, arith, cond, ◌==◌, ◌||◌, IsSome, false≢true, cases_eq, cases_Bool, nat_tests, Slot, Slots, slot_of, generation_of, free_slot, used_slot, slot_after, value_at, slot_value, max_of, Inserts, without, changed, put, with_value, HandleLists, list_at, has_handle, without_handle, stands_at, NowhereAt, with_list, index-has, Action, with_enabled, AreListed, list_of, eq-eqb, none-some, or_right, same_Some}
+use Rattle.job_table.proofs.Names.{◌≡◌, ◌≢◌, ◌≤◌, ◌<◌, ℕ, zero, suc, Bool, true, false, List, [], ◌∷◌, ◌++◌, length, length-set, replicate, Option, Some, None, slice_get, refl, sym, ap, subst, ◌∙◌, inl, inr, arith, ◌==◌, ◌||◌, IsSome, false≢true, cases_eq, cases_Bool, nat_tests, Slot, Slots, slot_of, generation_of, free_slot, used_slot, slot_after, value_at, slot_value, max_of, Inserts, without, changed, put, with_value, HandleLists, list_at, has_handle, without_handle, stands_at, NowhereAt, with_list, index-has, Action, with_enabled, AreListed, list_of, eq-eqb, none-some, or_right, same_Some}
 use Rattle.std.specs.Option.{option_map}
 use Rattle.std.proofs.lemmas.List.{length-replicate}
 use Rattle.handle_pool.proofs.StandsLemmas.{get-fresh, value_at-none}
@@ -12,50 +12,24 @@ use Rattle.linked_places.proofs.BesideLemmas.{list_at-none}
 
 has-append : (h : ℕ) (xs ys : List ℕ) → has_handle h (xs ++ ys) ≡ (has_handle h xs || has_handle h ys)
 has-append h [] ys = refl
-has-append h (x ∷ xs) ys = by_test (x == h) (has-append h xs ys)
-  where
-    by_test : (b : Bool) → has_handle h (xs ++ ys) ≡ (has_handle h xs || has_handle h ys)
-        → (b || has_handle h (xs ++ ys)) ≡ ((b || has_handle h xs) || has_handle h ys)
-    by_test true e = refl
-    by_test false e = e
+has-append h (x ∷ xs) ys = grind (arith, nat_tests, has-append h xs ys)
 
 or-left : (a b : Bool) → a ≡ true → (a || b) ≡ true
-or-left true b e = refl
-or-left false b e = absurd (false≢true e)
+or-left a b e = grind (arith, nat_tests)
 
 or-first : (a b : Bool) → b ≡ false → (a || b) ≡ true → a ≡ true
-or-first true b e f = refl
-or-first false b e f = absurd (false≢true (sym e ∙ f))
+or-first a b e f = grind (arith, nat_tests)
 
 eq-other : (h k : ℕ) → k ≢ h → (h == k) ≡ false
 eq-other h k d = grind (arith, nat_tests)
 
 has-without : (h k : ℕ) (hs : List ℕ) → k ≢ h → has_handle k (without_handle h hs) ≡ has_handle k hs
 has-without h k [] d = refl
-has-without h k (x ∷ xs) d = by_test (x == h) refl (has-without h k xs d)
-  where
-    by_test : (b : Bool) → (x == h) ≡ b → has_handle k (without_handle h xs) ≡ has_handle k xs
-        → has_handle k (cond b xs (x ∷ without_handle h xs)) ≡ ((x == k) || has_handle k xs)
-    by_test true is e = let off : (x == k) ≡ false = let same : x ≡ h = grind (arith, nat_tests) in eq-other x k (λ z. d (z ∙ same)) in
-        ap (λ (b : Bool). b || has_handle k xs) (sym off)
-    by_test false is e = ap (λ (b : Bool). (x == k) || b) e
+has-without h k (x ∷ xs) d = grind (arith, nat_tests, has-without h k xs d)
 
 stands-handle : (place : ℕ) (hs : List ℕ) → stands_at place hs ≡ true → (k : ℕ) × (has_handle k hs ≡ true) × (slot_of k ≡ place)
 stands-handle place [] e = absurd (false≢true e)
-stands-handle place (x ∷ hs) e = by_test (slot_of x == place) refl e (stands-handle place hs)
-  where
-    self : (x == x) ≡ true
-    self = grind (arith, nat_tests)
-
-    later : (b : Bool) (k : ℕ) → has_handle k hs ≡ true → (b || has_handle k hs) ≡ true
-    later true k e = refl
-    later false k e = e
-
-    by_test : (b : Bool) → (slot_of x == place) ≡ b → (b || stands_at place hs) ≡ true
-        → (stands_at place hs ≡ true → (k : ℕ) × (has_handle k hs ≡ true) × (slot_of k ≡ place))
-        → (k : ℕ) × (has_handle k (x ∷ hs) ≡ true) × (slot_of k ≡ place)
-    by_test true is e rest = let same : slot_of x ≡ place = grind (arith, nat_tests) in (x, ap (λ (b : Bool). b || has_handle x hs) self, same)
-    by_test false is e rest = let k = rest e in (k.0, later (x == k.0) k.0 k.1, k.2)
+stands-handle place (x ∷ hs) e = grind (arith, nat_tests, stands-handle place hs)
 
 -- Moves
 
@@ -78,10 +52,7 @@ listed-new p jobs max some few slots places lists = record {
 
 -- the list of a job is one of them
 pub list-below : (p : Slots Action) (jobs : HandleLists) (job : ℕ) → AreListed p jobs → list_of (max_of p) job < length jobs.lists
-list-below p jobs job l = subst (λ (n : ℕ). list_of (max_of p) job < n) (sym l.lists) (below (max_of p) l.some)
-  where
-    below : (m : ℕ) → 1 ≤ m → job % m < m
-    below m some = omega arith
+list-below p jobs job l = grind (arith, nat_tests)
 
 pub nowhere : (p q : Slots Action) (jobs : HandleLists) (h : ℕ) (a : Action) → AreListed p jobs → Inserts p q h a → NowhereAt (slot_of h) jobs.lists
 nowhere p q jobs h a l i number = elim (cases_Bool (stands_at (slot_of h) (list_at jobs.lists number))) [
@@ -115,10 +86,7 @@ module _ (p q : Slots Action) (old jobs : HandleLists) (h n : ℕ) (a : Action) 
     places = ap (λ (x : HandleLists). x.places) is ∙ l.places ∙ sym max;
     lists = ap (λ (x : HandleLists). length x.lists) is ∙ length-set old.lists n _ ∙ l.lists ∙ sym max;
     listed = λ k b e. subst (λ (m : ℕ). has_handle k (list_at jobs.lists (list_of m b.job)) ≡ true) (sym max) (listed k b e);
-    live = λ m k e. elim (cases_eq k h) [
-      | inl here ↦ (a, ap (slot_value q) here ∙ get-insert_same p q h a i)
-      | inr away ↦ let b = l.live m k (was m k away e) in (b.0, get-insert_other p q h k a i away ∙ b.1)
-    ];
+    live = λ m k e. grind (arith, nat_tests, get-insert_same p q h a i, l.live m k, was m k, get-insert_other p q h k a i);
   }
     where
       max : max_of q ≡ max_of p
@@ -128,19 +96,10 @@ module _ (p q : Slots Action) (old jobs : HandleLists) (h n : ℕ) (a : Action) 
       in_list k = ap (has_handle k) (same_list _ is) ∙ has-append k (list_at old.lists n) (h ∷ [])
 
       keeps : (m k : ℕ) → has_handle k (list_at old.lists m) ≡ true → has_handle k (list_at jobs.lists m) ≡ true
-      keeps m k e = elim (cases_eq m n) [
-        | inl here ↦ ap (λ (j : ℕ). has_handle k (list_at jobs.lists j)) here ∙ in_list k
-            ∙ or-left _ _ (ap (λ (j : ℕ). has_handle k (list_at old.lists j)) (sym here) ∙ e)
-        | inr away ↦ ap (has_handle k) (other_list _ m is away) ∙ e
-      ]
+      keeps m k e = grind (arith, nat_tests, in_list k, other_list _ m is)
 
       was : (m k : ℕ) → k ≢ h → has_handle k (list_at jobs.lists m) ≡ true → has_handle k (list_at old.lists m) ≡ true
-      was m k d e = elim (cases_eq m n) [
-        | inl here ↦ ap (λ (j : ℕ). has_handle k (list_at old.lists j)) here
-            ∙ or-first _ (has_handle k (h ∷ [])) (ap (λ (b : Bool). b || false) (eq-other h k d)) (sym (in_list k)
-            ∙ ap (λ (j : ℕ). has_handle k (list_at jobs.lists j)) (sym here) ∙ e)
-        | inr away ↦ sym (ap (has_handle k) (other_list _ m is away)) ∙ e
-      ]
+      was m k d e = grind (arith, nat_tests, in_list k, other_list _ m is)
 
       listed : (k : ℕ) (b : Action) → slot_value q k ≡ Some b → has_handle k (list_at jobs.lists (list_of (max_of p) b.job)) ≡ true
       listed k b e = elim (cases_eq k h) [
@@ -158,12 +117,7 @@ module _ (p q : Slots Action) (old jobs : HandleLists) (h n : ℕ) (a : Action) 
     few = subst (λ (k : ℕ). k ≤ 65536) (sym max) l.few;
     places = ap (λ (x : HandleLists). x.places) is ∙ l.places ∙ sym max;
     lists = ap (λ (x : HandleLists). length x.lists) is ∙ length-set old.lists n _ ∙ l.lists ∙ sym max;
-    listed = λ k b e. elim (cases_eq k h) [
-      | inl here ↦ absurd (none-some _ (sym (get-without_same p h a g) ∙ ap (slot_value (without p h)) (sym here) ∙ e))
-      | inr away ↦
-          subst (λ (m : ℕ). has_handle k (list_at jobs.lists (list_of m b.job)) ≡ true) (sym max)
-          (same k _ away ∙ l.listed k b (sym (get-without_other p h k a g away) ∙ e))
-    ];
+    listed = λ k b e. grind (arith, nat_tests, get-without_same p h a g, max, same k, l.listed k b, get-without_other p h k a g);
     live = λ m k e. elim (cases_eq k h) [
       | inl here ↦ absurd (false≢true (sym (gone m) ∙ stands-has h (list_at jobs.lists m) (ap (λ (z : ℕ). has_handle z (list_at jobs.lists m)) (sym here) ∙ e)))
       | inr away ↦ let b = l.live m k (sym (same k m away) ∙ e) in (b.0, get-without_other p h k a g away ∙ b.1)
@@ -174,11 +128,7 @@ module _ (p q : Slots Action) (old jobs : HandleLists) (h n : ℕ) (a : Action) 
       max = length-set p.slots (slot_of h) (slot_after p.generations (generation_of h))
 
       same : (k m : ℕ) → k ≢ h → has_handle k (list_at jobs.lists m) ≡ has_handle k (list_at old.lists m)
-      same k m d = elim (cases_eq m n) [
-        | inl here ↦ ap (λ (j : ℕ). has_handle k (list_at jobs.lists j)) here ∙ ap (has_handle k) (same_list _ is) ∙ has-without h k (list_at old.lists n) d
-            ∙ ap (λ (j : ℕ). has_handle k (list_at old.lists j)) (sym here)
-        | inr away ↦ ap (has_handle k) (other_list _ m is away)
-      ]
+      same k m d = grind (arith, nat_tests, same_list _ is, other_list _ m is, has-without h k (list_at old.lists n) d)
 
 pub listed-changed : (p : Slots Action) (jobs : HandleLists) (h : ℕ) (on : Bool) → AreListed p jobs → AreListed (changed p h (with_enabled on)) jobs
 listed-changed p jobs h on l = by_found (slot_value p h) refl
