@@ -1,7 +1,8 @@
 -- What each move of the slots and the lists is for the groups that they are seen as.
-use Rattle.group_core.proofs.Names.{◌≡◌, ◌↔◌, ℕ, zero, suc, ◌<◌, ◌≤◌, Bool, true, false, List, [], ◌∷◌, ◌++◌, length, replicate, Option, Some, None, set, slice_get, refl, sym, ap, subst, ◌∙◌, inl, inr, IsTrue, IsSome, false≢true, cases_eq, Slot, Slots, slot_of, generation_of, used_slot, free_slot, slot_value, live_count, IsFull, Inserts, with_value, without, changed, HandleLists, list_at, stands_at, has_handle, without_handle, NowhereAt, with_list, list_at-set_same, list_at-set_other, stands-either, stands_cases, alone, Members, GroupTable, no_members, with_ended, rest_of, NoMemberAt, IsUnendedMember, LiveAreUsed, of_unended, and_ended, members_in, table_of, AreGroups}
+use Rattle.std.proofs.Common.{arith}
+use Rattle.group_core.proofs.Names.{◌≡◌, ◌↔◌, ℕ, zero, suc, ◌<◌, ◌≤◌, Bool, true, false, List, [], ◌∷◌, ◌++◌, length, replicate, Option, Some, None, set, slice_get, refl, sym, ap, subst, ◌∙◌, inl, inr, IsTrue, IsSome, false≢true, Slot, Slots, slot_of, generation_of, used_slot, free_slot, slot_value, live_count, IsFull, Inserts, with_value, without, changed, HandleLists, list_at, stands_at, has_handle, without_handle, NowhereAt, with_list, list_at-set_same, list_at-set_other, stands-either, alone, Members, GroupTable, no_members, with_ended, rest_of, NoMemberAt, IsUnendedMember, LiveAreUsed, of_unended, and_ended, members_in, table_of, AreGroups}
 use Rattle.std.specs.Option.{option_map}
-use Rattle.std.proofs.lemmas.Bool.Decides.{eqb_tells}
+use Rattle.std.proofs.lemmas.Bool.Decides.{eqb_tells, nat_tests}
 use Rattle.handle_pool.proofs.StandsLemmas.{used_at_live}
 use Rattle.handle_pool.proofs.WalkLemmas.{slot_of-live}
 use Rattle.linked_places.specs.Beside.{slot_beside, beside, pool_beside, AreBeside}
@@ -109,12 +110,7 @@ module _ (pool : Slots (Unit {0})) (unended ended : HandleLists) (g : ℕ) where
         → ((q : ℕ) → stands_at q list ≡ true → stands_at q (list_at lists (slot_of g)) ≡ true) → stands_at slot (list_at (set lists (slot_of g) list) i) ≡ true
         → stands_at slot (list_at lists i) ≡ true
     stands-part lists list i slot within part stands =
-        elim (cases_eq i (slot_of g)) [
-          | inl same ↦
-              let here : stands_at slot list ≡ true = rw (same, list_at-set_same lists (slot_of g) list within) at stands in
-              rw same (part slot here)
-          | inr differs ↦ rw (list_at-set_other lists (slot_of g) i list differs) at stands
-        ]
+        grind (arith, nat_tests, part slot, list_at-set_same lists (slot_of g) list within, list_at-set_other lists (slot_of g) i list)
 
     pub AreGroups-fewer : (list : List ℕ) → ((q : ℕ) → stands_at q list ≡ true → stands_at q (list_at unended.lists (slot_of g)) ≡ true)
         → AreGroups pool (with_list unended (slot_of g) list) ended
@@ -137,11 +133,7 @@ module _ (pool : Slots (Unit {0})) (unended ended : HandleLists) (g : ℕ) where
     }
       where
         absent : (j slot : ℕ) → stands_at slot (list_at ended.lists j) ≡ false → stands_at slot (list_at (set ended.lists (slot_of g) list) j) ≡ false
-        absent j slot before =
-            elim (stands_cases slot (list_at (set ended.lists (slot_of g) list) j)) [
-              | inl there ↦ absurd (false≢true (sym before ∙ stands-part ended.lists list j slot within_ended part there))
-              | inr none ↦ none
-            ]
+        absent j slot before = grind (arith, nat_tests, stands-part ended.lists list j slot within_ended part)
 
     pub AreGroups-enter : (t : ℕ) → NowhereAt (slot_of t) ended.lists
         → AreGroups pool (with_list unended (slot_of g) (list_at unended.lists (slot_of g) ++ t ∷ [])) ended
@@ -156,17 +148,11 @@ module _ (pool : Slots (Unit {0})) (unended ended : HandleLists) (g : ℕ) where
         apart : (i j slot : ℕ) → stands_at slot (list_at (set unended.lists (slot_of g) (list_at unended.lists (slot_of g) ++ t ∷ [])) i) ≡ true
             → stands_at slot (list_at ended.lists j) ≡ false
         apart i j slot stands =
-            elim (cases_eq i (slot_of g)) [
-              | inl same ↦
-                  let here : stands_at slot (list_at unended.lists (slot_of g) ++ t ∷ []) ≡ true =
-                  rw (same, list_at-set_same unended.lists (slot_of g) (list_at unended.lists (slot_of g) ++ t ∷ []) within_unended) at stands in
-                  elim (stands-either slot (list_at unended.lists (slot_of g)) (t ∷ []) here) [
-                    | inl old ↦ are.apart (slot_of g) j slot old
-                    | inr new ↦ let P : ℕ → Type 0 = λ q. stands_at q (list_at ended.lists j) ≡ false in subst P (sym (alone slot t new)) (nowhere j)
-                  ]
-              | inr differs ↦ are.apart i j slot (rw (list_at-set_other unended.lists (slot_of g) i (list_at unended.lists (slot_of g) ++ t
-                  ∷ []) differs) at stands)
-            ]
+            let list = list_at unended.lists (slot_of g) in
+            let same = list_at-set_same unended.lists (slot_of g) (list ++ t ∷ []) within_unended in
+            let other = list_at-set_other unended.lists (slot_of g) i (list ++ t ∷ []) in
+            let two = stands-either slot list (t ∷ []) in
+            grind (arith, nat_tests, are.apart i j slot, are.apart (slot_of g) j slot, alone slot t, nowhere j)
 
     -- a task that stands in no list of members that haven't ended comes to those that have
     pub AreGroups-ended : (t : ℕ) → NowhereAt (slot_of t) unended.lists
@@ -182,23 +168,11 @@ module _ (pool : Slots (Unit {0})) (unended ended : HandleLists) (g : ℕ) where
         apart : (i j slot : ℕ) → stands_at slot (list_at unended.lists i) ≡ true
             → stands_at slot (list_at (set ended.lists (slot_of g) (list_at ended.lists (slot_of g) ++ t ∷ [])) j) ≡ false
         apart i j slot stands =
-            elim (stands_cases slot (list_at (set ended.lists (slot_of g) (list_at ended.lists (slot_of g) ++ t ∷ [])) j)) [
-              | inr none ↦ none
-              | inl there ↦
-                  elim (cases_eq j (slot_of g)) [
-                    | inr differs ↦ absurd (false≢true (sym (are.apart i j slot stands)
-                        ∙ (rw (list_at-set_other ended.lists (slot_of g) j (list_at ended.lists (slot_of g) ++ t ∷ []) differs) at there)))
-                    | inl same ↦
-                        let here : stands_at slot (list_at ended.lists (slot_of g) ++ t ∷ []) ≡ true =
-                        rw (same, list_at-set_same ended.lists (slot_of g) (list_at ended.lists (slot_of g) ++ t ∷ []) within_ended) at there in
-                        elim (stands-either slot (list_at ended.lists (slot_of g)) (t ∷ []) here) [
-                          | inl old ↦ absurd (false≢true (sym (are.apart i (slot_of g) slot stands) ∙ old))
-                          | inr new ↦
-                              let P : ℕ → Type 0 = λ q. stands_at q (list_at unended.lists i) ≡ true in
-                              absurd (false≢true (sym (nowhere i) ∙ subst P (alone slot t new) stands))
-                        ]
-                  ]
-            ]
+            let list = list_at ended.lists (slot_of g) in
+            let same = list_at-set_same ended.lists (slot_of g) (list ++ t ∷ []) within_ended in
+            let other = list_at-set_other ended.lists (slot_of g) j (list ++ t ∷ []) in
+            let two = stands-either slot list (t ∷ []) in
+            grind (arith, nat_tests, are.apart i j slot, are.apart i (slot_of g) slot, alone slot t, nowhere i)
 
     -- the group is given up, with its lists
     pub AreGroups-delete : AreGroups (without pool g) (with_list unended (slot_of g) []) (with_list ended (slot_of g) [])
