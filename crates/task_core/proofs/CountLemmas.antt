@@ -1,14 +1,14 @@
 -- What each move keeps of the numbers of starts and of ends.
-use Rattle.std.proofs.Common.{◌≡◌, ℕ, ◌+◌, ◌^◌, ◌<◌, Bool, true, false, not, cond, List, Option, Some, None, is_none, count_by, slice_get, set, refl, arith}
-use Rattle.std.specs.Prelude.{◌==◌, if◌then◌else◌}
+use Rattle.std.proofs.lemmas.Bool.Decides.{nat_tests}
+use Rattle.std.proofs.Common.{◌≡◌, ℕ, ◌+◌, ◌^◌, ◌<◌, Bool, true, false, not, cond, List, Option, Some, None, count_by, slice_get, set, refl, arith}
+use Rattle.std.specs.Prelude.{if◌then◌else◌}
 use Rattle.std.proofs.lemmas.Bool.{false≢true}
 use Rattle.std.proofs.lemmas.List.Sums.{sum_by-set}
 use Rattle.std.proofs.lemmas.Option.{slice_get_within, get_or_from_slice_get}
 use Rattle.mtapi_values.specs.declared.ends.TaskEnd.{TaskEnd}
 use Rattle.handle_pool.specs.Slots.{Slot, Slots, changed, slot_of, generation_of, used_slot, free_slot, slot_after, slot_value, Inserts, with_value, without}
 use Rattle.handle_pool.proofs.StandsLemmas.{used_at_live}
-use Rattle.mtapi_objects.specs.Tasks.{Task, TaskState, Scheduled, Running, Ended, scheduled, is_unstarted, is_unended, with_state, with_notes, asked_refusals, asked_once}
-use Rattle.mtapi_values.specs.Conditions.{first}
+use Rattle.mtapi_objects.specs.Tasks.{Task, TaskState, Scheduled, Running, Ended, scheduled, is_unstarted, is_unended, with_state}
 use Rattle.task_core.specs.Answers.{without_group, after_asked}
 use Rattle.task_core.specs.Table.{IsLiveAnd, ended_in, detached_in, holds_unended, unended_count, AreCounted}
 
@@ -25,11 +25,7 @@ holds_unended-used slot t used = rw used refl
 
 -- a slot that was given up holds no task
 holds_unended-after : (generations generation : ℕ) → holds_unended (slot_after generations generation) ≡ false
-holds_unended-after generations generation = by_last (generation == generations)
-  where
-    by_last : (b : Bool) → holds_unended (if b then record { generation = generation; value = None; retired = true } else free_slot (generation + 1)) ≡ false
-    by_last true = refl
-    by_last false = refl
+holds_unended-after generations generation = grind (arith, nat_tests)
 
 -- the count once the slot of a live task has become another
 count-slot : (p : Slots Task) (h : ℕ) (t : Task) (new : Slot Task) → slot_value p h ≡ Some t
@@ -41,10 +37,7 @@ count-slot p h t new live =
 
 pub AreCounted-write : (p : Slots Task) (h : ℕ) (t new : Task) (starts ends : ℕ) → slot_value p h ≡ Some t → is_unended new ≡ is_unended t
     → AreCounted p starts ends → AreCounted (with_value p h new) starts ends
-AreCounted-write p h t new starts ends live same counted =
-    let moved = count-slot p h t (used_slot (generation_of h) new) live in
-    let even = rw same at moved in
-    record { once = omega (arith, counted.once); few = counted.few }
+AreCounted-write p h t new starts ends live same counted = grind (arith, nat_tests, count-slot p h t (used_slot (generation_of h) new) live)
 
 pub AreCounted-give_up : (p : Slots Task) (h : ℕ) (t : Task) (starts ends : ℕ) → slot_value p h ≡ Some t → is_unended t ≡ false → AreCounted p starts ends
     → AreCounted (without p h) starts ends
@@ -106,22 +99,10 @@ AreCounted-detach p h (Some t) starts ends live counted = by_end (is_unended t) 
     by_end false is = AreCounted-give_up p h t starts ends live is counted
 
 pub is_ended : (t : Task) → not (is_unended t) ≡ true → is_unended t ≡ false
-is_ended t h = by_test (is_unended t) h
-  where
-    by_test : (b : Bool) → not b ≡ true → b ≡ false
-    by_test true e = absurd (false≢true e)
-    by_test false e = refl
+is_ended t h = grind (arith, nat_tests)
 
 pub is_unended-asked : (worker : ℕ) (t : Task) → is_unended (after_asked worker t) ≡ is_unended t
-is_unended-asked worker t = by_refusal (is_none (first (asked_refusals worker t)))
-  where
-    by_request : (b : Bool) → is_unended (with_notes (λ n. if b then record n { seen = true } else record n { looks = n.looks + 1 }) t) ≡ is_unended t
-    by_request true = refl
-    by_request false = refl
-
-    by_refusal : (b : Bool) → is_unended (if b then with_notes asked_once t else t) ≡ is_unended t
-    by_refusal true = by_request t.notes.requested
-    by_refusal false = refl
+is_unended-asked worker t = grind (arith, nat_tests, t.notes.requested)
 
 -- a live task that passes is there
 pub live-passes : (p : Task → Bool) (o : Option Task) → IsLiveAnd p o → (t : Task) × (o ≡ Some t) × (p t ≡ true)
