@@ -1,5 +1,5 @@
 -- What each move of the tasks keeps of the lists of waiting tasks by jobs.
-use Rattle.task_board.proofs.Names.{nat_tests, ◌≡◌, ℕ, ◌<◌, ◌≤◌, true, List, [], ◌∷◌, ◌++◌, length, length-set, Option, Some, None, set, refl, sym, ◌∙◌, ap, subst, inl, inr, arith, ◌==◌, ◌&&◌, ◌%◌, is_none, cases_eq, list_at, has_handle, without_handle, list_at-set_same, list_at-set_other, Seen, AreIn, AreByJob, waits_at, and_parts, none-some}
+use Rattle.task_board.proofs.Names.{nat_tests, ◌≡◌, ℕ, ◌<◌, ◌≤◌, true, List, [], ◌∷◌, ◌++◌, length, length-set, Option, Some, None, set, refl, sym, ◌∙◌, ap, arith, ◌==◌, ◌&&◌, ◌%◌, is_none, list_at, has_handle, without_handle, list_at-set_same, list_at-set_other, Seen, AreIn, AreByJob, waits_at, and_parts, none-some}
 use Rattle.task_board.proofs.SeenLemmas.{some_same}
 use Rattle.task_board.proofs.MarkLemmas.{same-number, number-same}
 use Rattle.task_board.proofs.KeyedLemmas.{Put, lists-push, lists-leave, lists-aside}
@@ -18,26 +18,9 @@ replaced : {n : ℕ} (at after : ℕ → Option Seen) (ls : List (List ℕ)) (jo
     → AreIn (waits_at (length ls) (job % length ls)) after hs
     → ((r : ℕ) → r < length ls → (r ≡ job % length ls → ⊥) → AreIn (waits_at (length ls) r) at (list_at ls r)
     → AreIn (waits_at (length ls) r) after (list_at ls r)) → AreByJob n after (set ls (job % length ls) hs)
-replaced at after ls job hs old mine others = record {
-  some = subst (λ (n : ℕ). 1 ≤ n) (sym size) old.some;
-  count = size ∙ old.count;
-  each = λ r less. subst (λ (n : ℕ). AreIn (waits_at n r) after (list_at (set ls place hs) r)) (sym size) (by_place r (subst (λ (n : ℕ). r < n) size less));
-}
-  where
-    place : ℕ
-    place = job % length ls
-
-    size : length (set ls place hs) ≡ length ls
-    size = length-set ls place hs
-
-    by_place : (r : ℕ) → r < length ls → AreIn (waits_at (length ls) r) after (list_at (set ls place hs) r)
-    by_place r less = elim (cases_eq r place) [
-      | inl here ↦
-          subst (λ (k : ℕ). AreIn (waits_at (length ls) k) after (list_at (set ls place hs) k)) (sym here)
-          (subst (λ (l : List ℕ). AreIn (waits_at (length ls) place) after l) (sym (list_at-set_same ls place hs (remainder (length ls) job old.some))) mine)
-      | inr away ↦ subst (λ (l : List ℕ). AreIn (waits_at (length ls) r) after l) (sym (list_at-set_other ls place r hs away))
-          (others r less away (old.each r less))
-    ]
+replaced at after ls job hs old mine others =
+    let less = remainder (length ls) job old.some in
+    grind (arith, nat_tests, length-set ls, list_at-set_same ls, list_at-set_other ls)
 
 -- a new task waits
 pub by-job-push : {n : ℕ} (at after : ℕ → Option Seen) (h : ℕ) (s : Seen) (ls : List (List ℕ)) → Put at h (Some s) after → at h ≡ None → s.on ≡ None

@@ -1,8 +1,10 @@
 -- What the walks over the members of a group keep.
-use Rattle.task_board.proofs.Names.{nat_tests, ◌≡◌, ℕ, ◌+◌, Bool, true, false, not, cond, List, [], ◌∷◌, ◌++◌, length, Option, Some, None, refl, sym, ◌∙◌, ap, subst, inl, inr, arith, is_none, option_or, false≢true, cases_eq, TaskEnd, MtapiStatus, Slots, slot_value, with_value, without, NoneLive, has_handle, Task, TaskState, Scheduled, Running, Ended, end_of, is_unended, is_member, is_unended_member, fault_of, first_fault, without_group, number_in, TaskTable, Members, no_members, ended_of, start_in, end_in, member_as, membership, members_in, SchedulerTable, IsScheduler, Becomes, is_ended_member, end_at, ending_of, endings_of, Each, frees, lets_go, Leaves, FreesAll, LetsUnendedGo, LetsAllGo, Freed, Left, and_from, and_parts, append-nil, none-some, not-true}
+use Rattle.task_board.proofs.Names.{nat_tests, ◌≡◌, ℕ, ◌+◌, Bool, true, false, not, cond, List, [], ◌∷◌, ◌++◌, length, Option, Some, None, refl, sym, ◌∙◌, ap, subst, arith, is_none, option_or, false≢true, TaskEnd, MtapiStatus, Slots, slot_value, with_value, without, NoneLive, has_handle, Task, TaskState, Scheduled, Running, Ended, end_of, is_unended, is_member, is_unended_member, fault_of, first_fault, without_group, number_in, TaskTable, Members, no_members, ended_of, start_in, end_in, member_as, membership, members_in, SchedulerTable, IsScheduler, Becomes, is_ended_member, end_at, ending_of, endings_of, Each, frees, lets_go, Leaves, FreesAll, LetsUnendedGo, LetsAllGo, Freed, Left, and_from, and_parts, append-nil, not-true}
 use Rattle.task_board.specs.GroupMoves.{Takes}
 use Rattle.task_board.proofs.SeenLemmas.{some_same}
 use Rattle.task_board.proofs.MoveLemmas.{slot-without}
+use Rattle.std.proofs.lemmas.List.{length_push}
+use Rattle.task_board.proofs.OrderLemmas.{append-middle}
 use Rattle.task_board.proofs.MarkLemmas.{named-is}
 use Rattle.task_board.proofs.MemberLemmas.{start-here, end-here, unnamed}
 
@@ -30,18 +32,9 @@ each-ended g (h ∷ hs) old new e = (
 )
   where
     gone : (b : Bool) → b ≡ false → cond b (with_value old h (without_group e.0)) (without old h) ≡ without old h
-    gone true off = absurd (false≢true (sym off))
-    gone false off = refl
+    gone b off = grind (arith, nat_tests)
 
 -- Lists
-
-append-more : (xs ys : List ℕ) (h : ℕ) → xs ++ h ∷ ys ≡ (xs ++ h ∷ []) ++ ys
-append-more [] ys h = refl
-append-more (x ∷ xs) ys h = ap (λ (l : List ℕ). x ∷ l) (append-more xs ys h)
-
-length-more : (xs : List ℕ) (h : ℕ) → length (xs ++ h ∷ []) ≡ length xs + 1
-length-more [] h = refl
-length-more (x ∷ xs) h = let e = length-more xs h in omega (arith, e)
 
 none-left : (xs ys : List ℕ) → length xs ≡ length (xs ++ ys) → ys ≡ []
 none-left [] [] e = refl
@@ -71,8 +64,8 @@ freed-next old now new g index h fault e f x = record {
   members = f.members;
   done = f.done ++ h ∷ [];
   rest = x.rest;
-  list = f.list ∙ ap (λ (l : List ℕ). f.done ++ l) rest ∙ append-more f.done x.rest h;
-  count = let n = length-more f.done h in let m = f.count in omega (arith, n, m);
+  list = f.list ∙ ap (λ (l : List ℕ). f.done ++ l) rest ∙ append-middle h f.done x.rest;
+  count = let n = length_push f.done h in let m = f.count in omega (arith, n, m);
   group = f.group;
   group_now = x.parts.group_now ∙ ap (λ (m : Members). Some (record m { ended = x.rest })) same;
   each = subst (λ (q : Slots Task). Each (is_ended_member g) frees (f.done ++ h ∷ []) old.tasks.pool q) (sym pool)
@@ -96,11 +89,7 @@ freed-next old now new g index h fault e f x = record {
     older : (k : ℕ) (t : Task) → slot_value (without now.tasks.pool h) k ≡ Some t → slot_value now.tasks.pool k ≡ Some t
     older k t is =
         let m = slot-without now.tasks.pool h x.t x.parts.task in
-        elim (cases_eq k h) [
-          | inl here ↦ absurd (none-some _ (sym m.here ∙ ap (slot_value (without now.tasks.pool h)) (sym here) ∙ is))
-          | inr away ↦
-              sym (m.others k away) ∙ is
-        ]
+        grind (arith, nat_tests, m.here, m.others k)
 
 pub freed-all : (old now : SchedulerTable) (g index : ℕ) (fault : Option MtapiStatus) → Freed old now g index fault
     → index ≡ length (ended_of (slot_value old.groups.pool g)) → FreesAll old now g fault
@@ -126,8 +115,8 @@ left-next old now new g index h f x = record {
   members = f.members;
   done = f.done ++ h ∷ [];
   rest = x.rest;
-  list = f.list ∙ ap (λ (l : List ℕ). f.done ++ l) rest ∙ append-more f.done x.rest h;
-  count = let n = length-more f.done h in let m = f.count in omega (arith, n, m);
+  list = f.list ∙ ap (λ (l : List ℕ). f.done ++ l) rest ∙ append-middle h f.done x.rest;
+  count = let n = length_push f.done h in let m = f.count in omega (arith, n, m);
   group = f.group;
   group_now = x.parts.group_now ∙ ap (λ (m : Members). Some (record m { unended = x.rest })) same;
   each = subst (λ (q : Slots Task). Each (is_member g) lets_go (f.done ++ h ∷ []) old.tasks.pool q)

@@ -1,5 +1,5 @@
 -- What is kept while the waiting tasks that pass end, one after the other.
-use Rattle.task_board.proofs.Names.{◌≡◌, ℕ, ◌<◌, ◌+◌, Bool, true, false, cond, List, [], ◌∷◌, ◌++◌, length, Option, Some, None, slice_get, refl, sym, ◌∙◌, ap, subst, arith, false≢true, nat_tests, ◌==◌, ◌||◌, ◌&&◌, IsSome, TaskEnd, holds, Slots, slot_value, list_at, has_handle, Task, is_unstarted, is_in, HeldQueue, tasks_of, TaskTable, ended_in, Seen, seen, seen_in, NoneWaitsIn, SchedulerTable, IsScheduler, Becomes, AreWaiting, records_of, group_slots, Walk, Waiting, AreIn, is_walked, passes, walk_of, ends_by, ended_next, ended_if, ended_each, EndsWaiting, and_parts}
+use Rattle.task_board.proofs.Names.{◌≡◌, ℕ, ◌<◌, ◌+◌, Bool, true, false, cond, List, [], ◌∷◌, ◌++◌, length, Option, Some, None, slice_get, refl, sym, ◌∙◌, ap, subst, arith, nat_tests, ◌==◌, ◌&&◌, IsSome, TaskEnd, holds, Slots, slot_value, list_at, has_handle, Task, is_unstarted, is_in, HeldQueue, tasks_of, TaskTable, ended_in, Seen, seen, seen_in, NoneWaitsIn, SchedulerTable, IsScheduler, Becomes, AreWaiting, records_of, group_slots, Walk, Waiting, AreIn, is_walked, passes, walk_of, ends_by, ended_next, ended_if, ended_each, EndsWaiting, and_parts}
 use Rattle.task_board.specs.declared.ends.WaitingTest.{WaitingTest}
 use Rattle.task_board.specs.declared.ends.WaitingTest.TheVariants.{Unserved, InQueue, Shut}
 use Rattle.task_board.proofs.SeenLemmas.{some_same, seen-as, seen-live, unstarted-seen}
@@ -31,42 +31,24 @@ pub record Going (walk : Walk) (p : Task → Bool) (e : TaskEnd) (first now : Sc
 
 pub going-first : (walk : Walk) (p : Task → Bool) (e : TaskEnd) (b : SchedulerTable) (next : Option ℕ) → IsScheduler b → next ≡ slice_get (list_of walk b) 0
     → Going walk p e b b 0 next
-going-first walk p e b next k is = record {
-  front = [];
-  rest = list_of walk b;
-  scheduler = k;
-  settings = refl;
-  actions = refl;
-  records = refl;
-  groups = refl;
-  list = refl;
-  left = omega arith;
-  next_is = is;
-  ends = refl;
-}
+going-first walk p e b next k is = grind (arith, nat_tests)
 
 module _ (walk : Walk) (p : Task → Bool) (e : TaskEnd) (first now : SchedulerTable) (index : ℕ) (next : Option ℕ)
     (g : Going walk p e first now index next) where
   pub going-some : index < length (list_of walk first) → next ≡ None → ⊥
   going-some less none = by_rest g.rest g.left g.next_is
     where
-      no : {h : ℕ} → None ≡ Some h → ⊥
-      no d = cc
-
       by_rest : (rest : List ℕ) → index + length rest ≡ length (list_of walk first) → next ≡ slice_get rest 0 → ⊥
       by_rest [] l n = omega (arith, less, l)
-      by_rest (x ∷ rest) l n = no (sym none ∙ n)
+      by_rest (x ∷ rest) l n = grind (arith, nat_tests)
 
   -- the rest begins with the next task
   pub going-next : (h : ℕ) → next ≡ Some h → (rest : List ℕ) × (g.rest ≡ h ∷ rest)
   going-next h is = by_rest g.rest g.next_is
     where
-      no : Some h ≡ None → ⊥
-      no d = cc
-
       by_rest : (rest : List ℕ) → next ≡ slice_get rest 0 → (more : List ℕ) × (rest ≡ h ∷ more)
-      by_rest [] n = absurd (no (sym is ∙ n))
-      by_rest (x ∷ rest) n = (rest, ap (λ (k : ℕ). k ∷ rest) (some_same (sym n ∙ is)))
+      by_rest [] n = grind (arith, nat_tests)
+      by_rest (x ∷ rest) n = (rest, grind (arith, nat_tests))
 
   pub going-has : (h : ℕ) → next ≡ Some h → has_handle h (list_of walk now) ≡ true
   going-has h is = grind (arith, nat_tests, going-next, has_handle, has-itself)
@@ -93,7 +75,8 @@ module _ (walk : Walk) (p : Task → Bool) (e : TaskEnd) (first now : SchedulerT
       let t = seen-live now.tasks.pool h s.0 s.1 in
       let pool : new.tasks.pool ≡ ended_in now.tasks.pool h e now.tasks.ends (Some t.0) =
       ap (λ (q : TaskTable). q.pool) becomes ∙ ap (λ (o : Option Task). ended_in now.tasks.pool h e now.tasks.ends o) t.1 in
-      let move = subst (λ (q : Slots Task). Put (seen_in now.tasks.pool) h None (seen_in q)) (sym pool) (put-ended now.tasks.pool h e now.tasks.ends t.0 t.1) in (
+      let move = subst (λ (q : Slots Task). Put (seen_in now.tasks.pool) h None (seen_in q)) (sym pool)
+      (put-ended now.tasks.pool h e now.tasks.ends t.0 t.1) in (
         g.front,
         lists-once (λ s. s.start) _ (seen_in new.tasks.pool) _ (g.front
             ++ rest) (are new k kept same) (lists-middle (λ s. s.start) _ (seen_in now.tasks.pool) (seen_in new.tasks.pool) h g.front rest move old),
@@ -173,54 +156,15 @@ walk-ends b workers test e new k is = record {
 left-seen : (k : ℕ) (e : TaskEnd) (hs : List ℕ) (q : TaskTable) (h : ℕ) (s : Seen) → seen_in (ended_each (is_in k) e hs q).pool h ≡ Some s
     → (seen_in q.pool h ≡ Some s) × (s.queue ≡ Some k → has_handle h hs ≡ false)
 left-seen k e [] q h s is = (is, λ n. refl)
-left-seen k e (x ∷ hs) q h s is =
-    let rest = left-seen k e hs (ended_if (is_in k) e x q) h s is in
-    by_test (holds (is_in k) (slot_value q.pool x)) refl rest.0 rest.1
+left-seen k e (x ∷ hs) q h s is = by_found (slot_value q.pool x) refl (left-seen k e hs (ended_if (is_in k) e x q) h s is)
   where
-    equal : (a b : ℕ) → (a == b) ≡ true → a ≡ b
-    equal a b e = grind (arith, nat_tests)
-
-    itself : (a : ℕ) → (a == a) ≡ true
-    itself a = grind (arith, nat_tests)
-
-    away : (b : Bool) → b ≡ false → has_handle h hs ≡ false → (b || has_handle h hs) ≡ false
-    away false e f = f
-    away true e f = absurd (false≢true (sym e))
-
-    named : (o : Option Task) → holds (is_in k) o ≡ true → (t : Task) × (o ≡ Some t)
-    named None f = absurd (false≢true f)
-    named (Some t) f = (t, refl)
-
-    none : {z : Seen} → None ≡ Some z → ⊥
-    none d = cc
-
-    in-queue : (o : Option ℕ) → o ≡ Some k → holds (λ j. j == k) o ≡ true
-    in-queue o d = ap (λ (z : Option ℕ). holds (λ j. j == k) z) d ∙ itself k
-
-    by_test : (b : Bool) → holds (is_in k) (slot_value q.pool x) ≡ b → seen_in (cond b (ended_next e x q) q).pool h ≡ Some s
-        → (s.queue ≡ Some k → has_handle h hs ≡ false) → (seen_in q.pool h ≡ Some s) × (s.queue ≡ Some k → ((x == h) || has_handle h hs) ≡ false)
-    by_test true test now more =
-        let t = named (slot_value q.pool x) test in
-        let move = subst (λ (o : Option Task). Put (seen_in q.pool) x None (seen_in (ended_in q.pool x e q.ends o))) (sym t.1)
-        (put-ended q.pool x e q.ends t.0 t.1) in
-        by_handle move (x == h) refl
-      where
-        by_handle : Put (seen_in q.pool) x None (seen_in (ended_next e x q).pool) → (b : Bool) → (x == h) ≡ b
-            → (seen_in q.pool h ≡ Some s) × (s.queue ≡ Some k → ((x == h) || has_handle h hs) ≡ false)
-        by_handle move true here = absurd (none (sym move.here ∙ ap (seen_in (ended_next e x q).pool) (equal x h here) ∙ now))
-        by_handle move false off = (
-          sym (move.others h (λ z. false≢true (sym off ∙ ap (λ (j : ℕ). x == j) z ∙ itself x)))
-              ∙ now,
-          λ n. away (x == h) off (more n),
-        )
-    by_test false test now more = (now, λ n. by_handle n (x == h) refl)
-      where
-        by_handle : s.queue ≡ Some k → (b : Bool) → (x == h) ≡ b → ((x == h) || has_handle h hs) ≡ false
-        by_handle n true here =
-            let t = seen-live q.pool h s now in
-            let is_named : is_in k t.0 ≡ true = in-queue t.0.queue (sym (seen-as t.0 t.0.state s t.2).queue ∙ n) in
-            absurd (false≢true (sym test ∙ ap (λ (j : ℕ). holds (is_in k) (slot_value q.pool j)) (equal x h here) ∙ ap (holds (is_in k)) t.1 ∙ is_named))
-        by_handle n false off = away (x == h) off (more n)
+    by_found : (o : Option Task) → slot_value q.pool x ≡ o
+        → (seen_in (ended_if (is_in k) e x q).pool h ≡ Some s) × (s.queue ≡ Some k → has_handle h hs ≡ false)
+        → (seen_in q.pool h ≡ Some s) × (s.queue ≡ Some k → has_handle h (x ∷ hs) ≡ false)
+    by_found None g rest = grind (arith, nat_tests)
+    by_found (Some t) g rest =
+        let move = put-ended q.pool x e q.ends t g in
+        grind (arith, nat_tests, move.here, move.others h, seen-as t t.state s)
 
 pub none-left : (k : ℕ) (e : TaskEnd) (old new : TaskTable) → EndsWaiting (is_in k) e old new → NoneWaitsIn k (seen_in new.pool)
 none-left k e old new e1 = grind (arith, nat_tests, left-seen, seen_in)

@@ -1,20 +1,5 @@
 -- Handles that were given to queues, and one queue that changes.
-use Rattle.task_board.proofs.Names.{nat_tests, ◌≡◌, ◌≢◌, ℕ, Option, Some, None, set, slice_get, ap, arith, option_map, cases_eq, Slot, Slots, slot_of, generation_of, free_slot, used_slot, slot_after, slot_value, Inserts, without, put, changed, slice_get-set_same, slice_get-set_other, used_at_live, get-with_value_same, get-with_value_other, get-insert_same, get-insert_other, get-without_same, get-without_other, HeldQueue, HasHad, WasGiven, same_Some}
-
--- the queue of one handle has become this, and all others are as they were
-pub record PutQueue (old : Slots HeldQueue) (q : ℕ) (y : Option HeldQueue) (new : Slots HeldQueue) : Type 0 where
-  pub here : slot_value new q ≡ y
-  pub others : (k : ℕ) → k ≢ q → slot_value new k ≡ slot_value old k
-
-pub put-queue_changed : (p : Slots HeldQueue) (q : ℕ) (f : HeldQueue → HeldQueue) (x : HeldQueue) → slot_value p q ≡ Some x
-    → PutQueue p q (Some (f x)) (changed p q f)
-put-queue_changed p q f x e1 = grind (arith, nat_tests, option_map, get-with_value_same, get-with_value_other)
-
-pub put-queue_insert : (p new : Slots HeldQueue) (q : ℕ) (x : HeldQueue) → Inserts p new q x → PutQueue p q (Some x) new
-put-queue_insert p new q x i = record { here = get-insert_same p new q x i; others = λ k d. get-insert_other p new q k x i d }
-
-pub put-queue_without : (p : Slots HeldQueue) (q : ℕ) (x : HeldQueue) → slot_value p q ≡ Some x → PutQueue p q None (without p q)
-put-queue_without p q x g = record { here = get-without_same p q x g; others = λ k d. get-without_other p q k x g d }
+use Rattle.task_board.proofs.Names.{nat_tests, ◌≡◌, ℕ, Option, Some, None, set, slice_get, ap, arith, option_map, cases_eq, Slot, Slots, slot_of, generation_of, free_slot, used_slot, slot_after, slot_value, Inserts, without, put, changed, slice_get-set_same, slice_get-set_other, used_at_live, HeldQueue, HasHad, WasGiven, same_Some}
 
 -- a queue that isn't live doesn't change
 pub dead-queue : (p : Slots HeldQueue) (q : ℕ) (f : HeldQueue → HeldQueue) → slot_value p q ≡ None → changed p q f ≡ p

@@ -1,5 +1,5 @@
 -- What a list of handles in the order of a number keeps as what is kept of one handle changes.
-use Rattle.task_board.proofs.Names.{◌≡◌, ◌≢◌, ℕ, ◌<◌, Bool, true, false, cond, List, [], ◌∷◌, ◌++◌, Option, Some, None, refl, sym, ◌∙◌, ap, subst, inl, inr, arith, ◌==◌, ◌||◌, nat_tests, cases_eq, has_handle, without_handle, Rises, ListsBy, AreKeyed}
+use Rattle.task_board.proofs.Names.{◌≡◌, ◌≢◌, ℕ, ◌<◌, true, false, List, [], ◌∷◌, ◌++◌, Option, Some, None, refl, sym, ◌∙◌, ap, subst, inl, inr, arith, ◌||◌, nat_tests, cases_eq, has_handle, without_handle, Rises, ListsBy, AreKeyed, cases_Bool}
 
 -- the value of one handle has become this, and all else is as it was
 pub record Put {A : Type 0} (at : ℕ → A) (h : ℕ) (x : A) (after : ℕ → A) : Type 0 where
@@ -69,11 +69,9 @@ module _ {A : Type 0} (number : A → ℕ) where
 
   pub rises-without : (at : ℕ → Option A) (h : ℕ) (hs : List ℕ) → Rises number at hs → Rises number at (without_handle h hs)
   rises-without at h [] o = tt
-  rises-without at h (x ∷ xs) o = by_test (x == h) (rises-without at h xs o.1)
-    where
-      by_test : (b : Bool) → Rises number at (without_handle h xs) → Rises number at (cond b xs (x ∷ without_handle h xs))
-      by_test true rest = o.1
-      by_test false rest = (λ k s u e f g. o.0 k s u (has-sub k h xs e) f g, rest)
+  rises-without at h (x ∷ xs) o =
+      let front = λ (k : ℕ) (s u : A) (e : has_handle k (without_handle h xs) ≡ true). o.0 k s u (has-sub k h xs e) in
+      grind (arith, nat_tests, rises-without at h xs o.1)
 
   -- a handle of which something is kept stands once in a list that rises
   pub not-twice : (at : ℕ → Option A) (h : ℕ) (s : A) (hs : List ℕ) → at h ≡ Some s → Rises number at (h ∷ hs) → has_handle h hs ≡ true → ⊥
@@ -137,10 +135,7 @@ module _ {A : Type 0} (number : A → ℕ) where
         → ((k : ℕ) (u : A) → at k ≡ Some u → number u < number s) → ListsBy number Passes at hs → ListsBy number Passes after (hs ++ h ∷ [])
     lists-push at after h s hs move none is less old = record {
       ordered = rises-push at after h s hs (λ k e. move.others k (apart k e)) move.here less old.ordered;
-      listed = λ k u e n. elim (cases_eq k h) [
-        | inl here ↦ grind (arith, nat_tests, has-append k hs (h ∷ []))
-        | inr away ↦ grind (arith, has-append k hs (h ∷ []), old.listed k u (sym (move.others k away) ∙ e) n)
-      ];
+      listed = λ k u e n. grind (arith, nat_tests, has-append k hs (h ∷ []), old.listed k u, move.others k);
       is_seen = λ k e. elim (cases_eq k h) [
         | inl here ↦ (s, ap after here ∙ move.here, is)
         | inr away ↦ let was = old.is_seen k (grind (arith, nat_tests, has-append k hs (h ∷ []))) in (was.0, move.others k away ∙ was.1, was.2)
@@ -154,10 +149,7 @@ module _ {A : Type 0} (number : A → ℕ) where
         → ListsBy number Passes at hs → ListsBy number Passes after (without_handle h hs)
     lists-leave at after h x hs move left old = record {
       ordered = rises-same at after (without_handle h hs) (λ k e. move.others k (apart k e)) (rises-without at h hs old.ordered);
-      listed = λ k u e n. elim (cases_eq k h) [
-        | inl here ↦ absurd (left u (sym move.here ∙ ap after (sym here) ∙ e) n)
-        | inr away ↦ has-without h k hs away ∙ old.listed k u (sym (move.others k away) ∙ e) n
-      ];
+      listed = λ k u e n. grind (arith, nat_tests, left u, has-without h k hs, old.listed k u, move.others k);
       is_seen = λ k e.
           let away = apart k e in
           let was = old.is_seen k (sym (has-without h k hs away) ∙ e) in
@@ -177,11 +169,7 @@ module _ {A : Type 0} (number : A → ℕ) where
         subst (λ (l : List ℕ). ListsBy number Passes after l) (without-absent h hs off) (lists-leave at after h x hs move is old)
       where
         off : has_handle h hs ≡ false
-        off = by_test (has_handle h hs) refl
-          where
-            by_test : (b : Bool) → has_handle h hs ≡ b → b ≡ false
-            by_test false e = refl
-            by_test true e = let s = old.is_seen h e in absurd (was s.0 s.1 s.2)
+        off = elim (cases_Bool (has_handle h hs)) [ inl e ↦ let s = old.is_seen h e in absurd (was s.0 s.1 s.2) | inr e ↦ e ]
 
     -- the one in the middle leaves
     pub lists-middle : (at after : ℕ → Option A) (h : ℕ) (xs ys : List ℕ) → Put at h None after → ListsBy number Passes at (xs ++ h ∷ ys)

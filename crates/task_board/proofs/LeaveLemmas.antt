@@ -1,12 +1,12 @@
 -- What an end is of a scheduler.
-use Rattle.task_board.proofs.Names.{nat_tests, ◌≡◌, ◌≢◌, ◌+◌, ℕ, ◌<◌, true, List, length, length-set, Option, Some, None, set, slice_get, refl, sym, ◌∙◌, ap, subst, arith, is_none, false≢true, Kind, TaskEnd, Slots, slot_of, slot_value, max_of, changed, slot_of-live, list_at, has_handle, without_handle, has-first, ReadyMarks, Task, TaskState, Scheduled, Running, Ended, end_of, is_unended, shown_state, TaskTable, ended_in, IsLiveAnd, HeldQueue, QueueTable, without_task, Seen, seen_as, seen, seen_in, GroupTable, members_in, AreMembers, ended_member, begins_in, AreQueued, left_queue, head_of, SchedulerTable, IsScheduler, Marked, AreWaiting, AreRanked, IsFreshAt, WaitingTable, without_waiting, none-some}
+use Rattle.task_board.proofs.Names.{nat_tests, ◌≡◌, ◌≢◌, ◌+◌, ℕ, ◌<◌, true, List, length, length-set, Option, Some, None, set, slice_get, refl, sym, ◌∙◌, ap, subst, arith, is_none, false≢true, Kind, TaskEnd, Slots, slot_of, slot_value, max_of, changed, slot_of-live, list_at, has_handle, without_handle, has-first, ReadyMarks, Task, TaskState, Scheduled, Running, Ended, end_of, is_unended, shown_state, TaskTable, ended_in, IsLiveAnd, HeldQueue, QueueTable, without_task, Seen, seen_as, seen, seen_in, GroupTable, members_in, AreMembers, ended_member, begins_in, AreQueued, left_queue, head_of, SchedulerTable, IsScheduler, Marked, AreWaiting, AreRanked, IsFreshAt, WaitingTable, without_waiting, none-some, TaskHandle, AreByJob, AreRunning}
 use Rattle.task_core.specs.declared.states.TaskState.TheVariants as shown
 use Rattle.task_board.proofs.SeenLemmas.{some_same}
 use Rattle.task_board.proofs.ByJobLemmas.{by-job-same}
 use Rattle.task_board.proofs.KeyedLemmas.{Put, has-sub}
-use Rattle.task_board.proofs.MoveLemmas.{ranked-put, Alone, Steady, alone, alone-old, put-ended, max-ended, marked-steady, marked-again, waiting-leave, waiting-same, running-end, running-same}
+use Rattle.task_board.proofs.MoveLemmas.{ranked-put, Alone, Steady, alone, alone-old, put-ended, max-ended, marked-steady, marked-again, waiting-leave, waiting-same, running-end, running-same, slot-changed}
 use Rattle.task_board.proofs.RemarkLemmas.{seen-slot}
-use Rattle.task_board.proofs.GivenLemmas.{dead-queue, put-queue_changed}
+use Rattle.task_board.proofs.GivenLemmas.{dead-queue}
 use Rattle.task_board.proofs.QueuedLemmas.{queued-out, queued-leave, begins-leave}
 use Rattle.task_board.proofs.SchedulerLemmas.{left-jobs, SameSizes, sizes-set, put-scheduler, put-marked, steady-same, unmarked-none, one-list, one-length, seat-below, over-tasks}
 use Rattle.task_board.proofs.TaskMemberLemmas.{members-over}
@@ -26,8 +26,7 @@ pub record Leaves (b : SchedulerTable) (q : TaskTable) (queues : QueueTable) (cl
 pub leaves : (b : SchedulerTable) (q : TaskTable) (queues : QueueTable) (cleared ready : ReadyMarks) (h : ℕ) (o named : Option ℕ) → o ≡ named
     → queues ≡ record b.queues { pool = left_queue b.queues.pool o h } → cleared ≡ record b.ready { marks = set b.ready.marks (slot_of h) None }
     → IsFreshAt b.actions (begins_in queues.pool) (seen_in q.pool) (head_of queues.pool o) cleared ready → Leaves b q queues cleared ready h named
-leaves b q queues cleared ready h o named is left cleared_is fresh =
-    subst (λ (z : Option ℕ). Leaves b q queues cleared ready h z) is (record { left = left; cleared_is = cleared_is; fresh = fresh })
+leaves b q queues cleared ready h o named is left cleared_is fresh = grind (arith, nat_tests)
 
 -- The state of the task
 
@@ -47,9 +46,7 @@ unended-seen t (Ended y n) e = absurd (false≢true e)
 pub member-of : (b : SchedulerTable) (h : ℕ) (t : Task) (o : Option ℕ) → IsScheduler b → slot_value b.tasks.pool h ≡ Some t
     → IsLiveAnd is_unended (slot_value b.tasks.pool h) → o ≡ t.queue → (q : ℕ) (x : HeldQueue) → o ≡ Some q → slot_value b.queues.pool q ≡ Some x
     → has_handle h x.tasks ≡ true
-member-of b h t o k g unended same q x names live =
-    let s = unended-seen t t.state (subst (λ (z : Option Task). IsLiveAnd is_unended z) g unended) in
-    k.queued.listed h q s.0 x (ap seen g ∙ s.1) (s.2 ∙ sym same ∙ names) live
+member-of b h t o k g unended same q x names live = grind (arith, nat_tests, unended-seen t t.state, k.queued.listed h q)
 
 -- the slot of the first task of the queue, once the task has left it
 pub first-slot_of : (b : SchedulerTable) (h : ℕ) (o : Option ℕ) → IsScheduler b → (j : ℕ) → head_of (left_queue b.queues.pool o h) o ≡ Some j
@@ -62,7 +59,7 @@ first-slot_of b h (Some q) k j e = by_live (slot_value b.queues.pool q) refl
         (sym (no-first (changed b.queues.pool q (without_task h)) q
         (ap (λ (z : Slots HeldQueue). slot_value z q) (dead-queue b.queues.pool q (without_task h) dead) ∙ dead)) ∙ e))
     by_live (Some x) live =
-        let now = (put-queue_changed b.queues.pool q (without_task h) x live).here in
+        let now = (slot-changed b.queues.pool q (without_task h) x live).here in
         let has = has-first j (without_handle h x.tasks) (sym (first-of (changed b.queues.pool q (without_task h)) q (without_task h x) now) ∙ e) in
         let s = k.queued.names j q x live (has-sub j h x.tasks has) in
         seen-slot b.tasks.pool j s.0 s.1
@@ -97,7 +94,7 @@ module _ (b : SchedulerTable) (q : TaskTable) (queues : QueueTable) (cleared rea
     pool-is = ap (λ (z : QueueTable). z.pool) l.left ∙ ap (λ (o : Option ℕ). left_queue b.queues.pool o h) names
 
     queue-is : slot_value queues.pool p ≡ Some (without_task h v)
-    queue-is = ap (λ (z : Slots HeldQueue). slot_value z p) pool-is ∙ (put-queue_changed b.queues.pool p (without_task h) v live).here
+    queue-is = ap (λ (z : Slots HeldQueue). slot_value z p) pool-is ∙ (slot-changed b.queues.pool p (without_task h) v live).here
 
     queued-live : AreQueued (seen_in q.pool) queues.pool b.settings.priorities
     queued-live =
@@ -188,71 +185,49 @@ module _ (b : SchedulerTable) (q : TaskTable) (queues : QueueTable) (cleared rea
           let none = ap (head_of queues.pool) apart in
           (queued-was out same none, marked-was out same none)
 
-pub end-waiting : (b : SchedulerTable) (q : TaskTable) (queues : QueueTable) (cleared ready : ReadyMarks) (waiting : WaitingTable) (groups : GroupTable) (h : ℕ)
-    (e : TaskEnd) (t : Task) → IsScheduler b → slot_value b.tasks.pool h ≡ Some t → t.state ≡ Scheduled
-    → q.pool ≡ ended_in b.tasks.pool h e b.tasks.ends (Some t) → q.starts ≡ b.tasks.starts → waiting ≡ without_waiting b.waiting t.job h
-    → Leaves b q queues cleared ready h t.queue → q.ends ≡ b.tasks.ends + 1 → groups ≡ ended_member b.groups t.notes.group h
-    → IsScheduler (record b { tasks = q; queues = queues; ready = ready; waiting = waiting; groups = groups })
-end-waiting b q queues cleared ready waiting groups h e t k g x pool count is l ends notes =
-    put-scheduler b q queues ready waiting b.running groups h None k move (ap max_of pool ∙ max-ended b.tasks.pool h e b.tasks.ends (Some t))
-    (sizes-left b q queues cleared ready h seen_as_was t k move (ap max_of pool ∙ max-ended b.tasks.pool h e b.tasks.ends (Some t)) g was l) both.1 both.0
-    (ap (λ (z : QueueTable). z.tasks) l.left)
-    (ap (λ (z : WaitingTable). z.places) is) (ap (λ (z : WaitingTable). length z.lists) is ∙ one-length b.waiting _ k.lists) k.seats
-    (subst (λ (hs : List ℕ). AreWaiting (seen_in q.pool) hs) (sym list)
-    (waiting-leave (seen_in b.tasks.pool) (seen_in q.pool) h _ (list_at b.waiting.lists 0) move (λ s f o. absurd (none-some _ f)) k.waiting_are))
-    (left-jobs b waiting (seen_in q.pool) h t.job seen_as_was None move was refl (λ s f o. absurd (none-some _ f)) is k)
-    (running-same (seen_in b.tasks.pool) (seen_in q.pool) h _ b.running move
-    (λ s w f on. absurd (none-some _ (ap (λ (z : Seen). z.on) (some_same (sym was ∙ f)) ∙ on))) (λ s w f on. absurd (none-some _ f)) k.running_are)
-    (λ s f. absurd (none-some _ f)) (λ s f. absurd (none-some _ f)) (omega (arith, count))
-    (ap (λ (z : GroupTable). z.tasks) notes ∙ over-tasks b.groups t.notes.group h)
-    (subst (λ (z : GroupTable). AreMembers (members_in q.pool) (slot_value z.pool) q.starts q.ends) (sym notes)
-    (members-over b.tasks.pool q.pool h e t b.groups b.tasks.starts b.tasks.ends q.starts q.ends k.members g
-    (ap (λ (y : TaskState). is_none (end_of y)) x) pool count ends))
-  where
-    move : Put (seen_in b.tasks.pool) h None (seen_in q.pool)
-    move = subst (λ (p : Slots Task). Put (seen_in b.tasks.pool) h None (seen_in p)) (sym pool) (put-ended b.tasks.pool h e b.tasks.ends t g)
+module _ (b : SchedulerTable) (q : TaskTable) (queues : QueueTable) (cleared ready : ReadyMarks) (groups : GroupTable) (h : ℕ) (e : TaskEnd) (t : Task)
+    (k : IsScheduler b) (g : slot_value b.tasks.pool h ≡ Some t) (pool : q.pool ≡ ended_in b.tasks.pool h e b.tasks.ends (Some t))
+    (count : q.starts ≡ b.tasks.starts) (l : Leaves b q queues cleared ready h t.queue) (ends : q.ends ≡ b.tasks.ends + 1)
+    (notes : groups ≡ ended_member b.groups t.notes.group h) where
+  move : Put (seen_in b.tasks.pool) h None (seen_in q.pool)
+  move = subst (λ (p : Slots Task). Put (seen_in b.tasks.pool) h None (seen_in p)) (sym pool) (put-ended b.tasks.pool h e b.tasks.ends t g)
 
-    seen_as_was : Seen
-    seen_as_was = record { job = t.job; priority = t.priority; cores = t.cores; queue = t.queue; start = t.start; on = None }
+  -- with what waits and what runs now, where the task is seen so
+  end-seen : (s : Seen) (waiting : WaitingTable) (running : List (Option TaskHandle)) → seen_in b.tasks.pool h ≡ Some s → s.queue ≡ t.queue
+      → is_unended t ≡ true → waiting.places ≡ b.waiting.places → length waiting.lists ≡ 1 → length running ≡ 25
+      → AreWaiting (seen_in q.pool) (list_at waiting.lists 0) → AreByJob b.settings.actions (seen_in q.pool) waiting.by_job
+      → AreRunning (seen_in q.pool) running
+      → IsScheduler (record b { tasks = q; queues = queues; ready = ready; waiting = waiting; running = running; groups = groups })
+  end-seen s waiting running was named un places one_waits seats are_waiting are_by_job are_running =
+      let max = ap max_of pool ∙ max-ended b.tasks.pool h e b.tasks.ends (Some t) in
+      let leaves_it = subst (λ (o : Option ℕ). Leaves b q queues cleared ready h o) (sym named) l in
+      let both = left-both b q queues cleared ready h s t k move max g was leaves_it in
+      put-scheduler b q queues ready waiting running groups h None k move max (sizes-left b q queues cleared ready h s t k move max g was leaves_it)
+      both.1 both.0 (ap (λ (z : QueueTable). z.tasks) l.left) places one_waits seats are_waiting are_by_job are_running
+      (λ s f. absurd (none-some _ f)) (λ s f. absurd (none-some _ f)) (omega (arith, count))
+      (ap (λ (z : GroupTable). z.tasks) notes ∙ over-tasks b.groups t.notes.group h)
+      (subst (λ (z : GroupTable). AreMembers (members_in q.pool) (slot_value z.pool) q.starts q.ends) (sym notes)
+      (members-over b.tasks.pool q.pool h e t b.groups b.tasks.starts b.tasks.ends q.starts q.ends k.members g un pool count ends))
 
-    was : seen_in b.tasks.pool h ≡ Some seen_as_was
-    was = ap seen g ∙ ap (seen_as t) x
+  pub end-waiting : (waiting : WaitingTable) → t.state ≡ Scheduled → waiting ≡ without_waiting b.waiting t.job h
+      → IsScheduler (record b { tasks = q; queues = queues; ready = ready; waiting = waiting; groups = groups })
+  end-waiting waiting x is =
+      let was = ap seen g ∙ ap (seen_as t) x in
+      end-seen _ waiting b.running was refl (ap (λ (y : TaskState). is_none (end_of y)) x)
+      (ap (λ (z : WaitingTable). z.places) is) (ap (λ (z : WaitingTable). length z.lists) is ∙ one-length b.waiting _ k.lists) k.seats
+      (subst (λ (hs : List ℕ). AreWaiting (seen_in q.pool) hs) (sym (ap (λ (z : WaitingTable). list_at z.lists 0) is ∙ one-list b.waiting _ k.lists))
+      (waiting-leave (seen_in b.tasks.pool) (seen_in q.pool) h _ (list_at b.waiting.lists 0) move (λ s f o. absurd (none-some _ f)) k.waiting_are))
+      (left-jobs b waiting (seen_in q.pool) h t.job _ None move was refl (λ s f o. absurd (none-some _ f)) is k)
+      (running-same (seen_in b.tasks.pool) (seen_in q.pool) h _ b.running move
+      (λ s w f on. absurd (none-some _ (ap (λ (z : Seen). z.on) (some_same (sym was ∙ f)) ∙ on))) (λ s w f on. absurd (none-some _ f)) k.running_are)
 
-    list : list_at waiting.lists 0 ≡ without_handle h (list_at b.waiting.lists 0)
-    list = ap (λ (z : WaitingTable). list_at z.lists 0) is ∙ one-list b.waiting _ k.lists
-
-    both : AreQueued (seen_in q.pool) queues.pool b.settings.priorities × Marked b.actions (begins_in queues.pool) (seen_in q.pool) ready.marks
-    both = left-both b q queues cleared ready h seen_as_was t k move (ap max_of pool ∙ max-ended b.tasks.pool h e b.tasks.ends (Some t)) g was l
-
-pub end-running : (b : SchedulerTable) (q : TaskTable) (queues : QueueTable) (cleared ready : ReadyMarks) (groups : GroupTable) (h w : ℕ) (kind : Kind)
-    (e : TaskEnd) (t : Task) → IsScheduler b → slot_value b.tasks.pool h ≡ Some t → t.state ≡ Running w kind
-    → q.pool ≡ ended_in b.tasks.pool h e b.tasks.ends (Some t) → q.starts ≡ b.tasks.starts → Leaves b q queues cleared ready h t.queue
-    → q.ends ≡ b.tasks.ends + 1 → groups ≡ ended_member b.groups t.notes.group h
-    → IsScheduler (record b { tasks = q; queues = queues; ready = ready; running = set b.running w None; groups = groups })
-end-running b q queues cleared ready groups h w kind e t k g x pool count l ends notes =
-    put-scheduler b q queues ready b.waiting (set b.running w None) groups h None k move (ap max_of pool ∙ max-ended b.tasks.pool h e b.tasks.ends (Some t))
-    (sizes-left b q queues cleared ready h seen_as_was t k move (ap max_of pool ∙ max-ended b.tasks.pool h e b.tasks.ends (Some t)) g was l) both.1 both.0
-    (ap (λ (z : QueueTable). z.tasks) l.left)
-    refl k.lists (length-set b.running w None ∙ k.seats)
-    (waiting-same (seen_in b.tasks.pool) (seen_in q.pool) h _ (list_at b.waiting.lists 0) move
-    (λ s f o. absurd (none-some _ (sym o ∙ ap (λ (z : Seen). z.on) (some_same (sym f ∙ was))))) (λ s f o. absurd (none-some _ f)) k.waiting_are)
-    (by-job-same (seen_in b.tasks.pool) (seen_in q.pool) h _ b.waiting.by_job move
-    (λ s f o. absurd (none-some _ (sym o ∙ ap (λ (z : Seen). z.on) (some_same (sym f ∙ was))))) (λ s f o. absurd (none-some _ f)) k.by_job)
-    (running-end (seen_in b.tasks.pool) (seen_in q.pool) h w _ b.running move was refl (omega (arith, seat-below b h w kind t k g x, k.seats)) k.running_are)
-    (λ s f. absurd (none-some _ f)) (λ s f. absurd (none-some _ f)) (omega (arith, count))
-    (ap (λ (z : GroupTable). z.tasks) notes ∙ over-tasks b.groups t.notes.group h)
-    (subst (λ (z : GroupTable). AreMembers (members_in q.pool) (slot_value z.pool) q.starts q.ends) (sym notes)
-    (members-over b.tasks.pool q.pool h e t b.groups b.tasks.starts b.tasks.ends q.starts q.ends k.members g
-    (ap (λ (y : TaskState). is_none (end_of y)) x) pool count ends))
-  where
-    move : Put (seen_in b.tasks.pool) h None (seen_in q.pool)
-    move = subst (λ (p : Slots Task). Put (seen_in b.tasks.pool) h None (seen_in p)) (sym pool) (put-ended b.tasks.pool h e b.tasks.ends t g)
-
-    seen_as_was : Seen
-    seen_as_was = record { job = t.job; priority = t.priority; cores = t.cores; queue = t.queue; start = t.start; on = Some w }
-
-    was : seen_in b.tasks.pool h ≡ Some seen_as_was
-    was = ap seen g ∙ ap (seen_as t) x
-
-    both : AreQueued (seen_in q.pool) queues.pool b.settings.priorities × Marked b.actions (begins_in queues.pool) (seen_in q.pool) ready.marks
-    both = left-both b q queues cleared ready h seen_as_was t k move (ap max_of pool ∙ max-ended b.tasks.pool h e b.tasks.ends (Some t)) g was l
+  pub end-running : (w : ℕ) (kind : Kind) → t.state ≡ Running w kind
+      → IsScheduler (record b { tasks = q; queues = queues; ready = ready; running = set b.running w None; groups = groups })
+  end-running w kind x =
+      let was = ap seen g ∙ ap (seen_as t) x in
+      let waits = λ (s : Seen) (f : seen_in b.tasks.pool h ≡ Some s) (o : s.on ≡ None).
+      none-some _ (sym o ∙ ap (λ (z : Seen). z.on) (some_same (sym f ∙ was))) in
+      end-seen _ b.waiting (set b.running w None) was refl (ap (λ (y : TaskState). is_none (end_of y)) x) refl k.lists (length-set b.running w None ∙ k.seats)
+      (waiting-same (seen_in b.tasks.pool) (seen_in q.pool) h _ (list_at b.waiting.lists 0) move waits (λ s f o. absurd (none-some _ f)) k.waiting_are)
+      (by-job-same (seen_in b.tasks.pool) (seen_in q.pool) h _ b.waiting.by_job move waits (λ s f o. absurd (none-some _ f)) k.by_job)
+      (running-end (seen_in b.tasks.pool) (seen_in q.pool) h w _ b.running move was refl (omega (arith, seat-below b h w kind t k g x, k.seats)) k.running_are)

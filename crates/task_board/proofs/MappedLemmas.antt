@@ -36,8 +36,7 @@ module _ {A B : Type 0} (f : A → B) where
   fold-mapped : (t : Slot B → Bool) (u : Slot A → Bool) → ((s : Slot A) → t (mapped_slot f s) ≡ u s) → (slots : List (Slot A)) (n : ℕ)
       → fold (λ a x. a + cond (t x) 1 0) n (map (mapped_slot f) slots) ≡ fold (λ a x. a + cond (u x) 1 0) n slots
   fold-mapped t u same [] n = refl
-  fold-mapped t u same (s ∷ ss) n = ap (λ (b : Bool). fold (λ a x. a + cond (t x) 1 0) (n + cond b 1 0) (map (mapped_slot f) ss)) (same s)
-      ∙ fold-mapped t u same ss (n + cond (u s) 1 0)
+  fold-mapped t u same (s ∷ ss) n = grind (arith, nat_tests, fold-mapped t u same ss (n + cond (u s) 1 0))
 
   is_live-mapped : (s : Slot A) → is_live (mapped_slot f s) ≡ is_live s
   is_live-mapped s = grind (arith, nat_tests)

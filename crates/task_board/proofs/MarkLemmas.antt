@@ -1,8 +1,8 @@
 -- Marks that are right, and what they tell.
-use Rattle.task_board.proofs.Names.{◌≡◌, ℕ, zero, suc, ◌<◌, Bool, true, bit_and, List, [], ◌∷◌, Option, Some, set, slice_get, refl, sym, ◌∙◌, ap, subst, inl, inr, arith, ◌==◌, false≢true, cases_Bool, nat_tests, bit_at_and, bit_at-lt, holds, in_mask, Slots, slot_of, slot_value, used_at, SomeLive, Mark, is_for, is_for_at, HasNoneFor, IsFirst, Action, Passes, runs_job_on, Covers, Chooses, Cores, Task, is_unstarted, HeldQueue, Takeable, NoneTakeable, NoneBetter, IsBest, seen, seen_in, begins_in, IsMarkOf, Marked, and_from, and_parts}
+use Rattle.task_board.proofs.Names.{◌≡◌, ℕ, zero, suc, Bool, true, bit_and, List, [], ◌∷◌, Option, Some, set, slice_get, refl, sym, ◌∙◌, ap, inl, inr, arith, ◌==◌, cases_Bool, nat_tests, bit_at_and, bit_at-lt, holds, in_mask, Slots, slot_value, used_at, SomeLive, Mark, is_for, is_for_at, HasNoneFor, IsFirst, Action, Passes, runs_job_on, Covers, Chooses, Cores, Task, is_unstarted, HeldQueue, Takeable, NoneTakeable, NoneBetter, IsBest, seen, seen_in, begins_in, IsMarkOf, Marked, and_from, and_parts}
 use Rattle.mtapi_values.specs.declared.masks.Mask.{Mask}
 use Rattle.task_board.specs.declared.scheduler.Choice.{Choice}
-use Rattle.task_board.proofs.SeenLemmas.{some_same, seen-as, unstarted-seen, takes-to}
+use Rattle.task_board.proofs.SeenLemmas.{seen-as, unstarted-seen, takes-to}
 
 in_mask-both : (w a b : ℕ) → in_mask w a ≡ true → in_mask w b ≡ true → in_mask w (bit_and a b) ≡ true
 in_mask-both w a b x y = grind (arith, nat_tests, bit_at_and a b w, bit_at-lt a w, bit_at-lt b w)
@@ -65,14 +65,10 @@ for-some w p o e1 = grind (arith, nat_tests)
 module _ (actions : Slots Action) (p : Slots Task) (queues : Slots HeldQueue) (marks : List (Option Mark))
     (m : Marked actions (begins_in queues) (seen_in p) marks) (w : ℕ) where
   pub best-none : HasNoneFor w marks → NoneTakeable actions p queues w
-  best-none none h t g k =
-      let s = takes-to actions (begins_in queues h) w t k in
-      false≢true (sym (none (slot_of h)) ∙ for-some w s.s.priority _ (m.whole w h s.s (ap seen g ∙ s.is) s.takes))
+  best-none none h t g k = grind (arith, nat_tests, takes-to actions (begins_in queues h) w t k, for-some w, m.whole w h)
 
   none-better : (priority place : ℕ) → IsFirst w priority place marks → NoneBetter actions p queues w priority
-  none-better priority place f h t g k less =
-      let s = takes-to actions (begins_in queues h) w t k in
-      false≢true (sym (f.least s.s.priority (slot_of h) (subst (λ (q : ℕ). q < priority) (sym s.priority) less)) ∙ m.whole w h s.s (ap seen g ∙ s.is) s.takes)
+  none-better priority place f h t g k less = grind (arith, nat_tests, takes-to actions (begins_in queues h) w t k, m.whole w h)
 
   -- the task at the place of the first mark
   pub record At (priority place : ℕ) : Type 0 where
@@ -89,25 +85,7 @@ module _ (actions : Slots Action) (p : Slots Task) (queues : Slots HeldQueue) (m
   -- the choice of this task, by an action that the table of actions chose
   pub found-best : (priority place h : ℕ) (t : Task) (c : Choice) → IsFirst w priority place marks → used_at place (slice_get p.slots place) ≡ Some (h, t)
       → c.task.0 ≡ h → c.priority ≡ t.priority → Chooses actions t.job w (Some (c.action, c.kind)) → IsBest actions p queues w (Some c)
-  found-best priority place h t c f used task prio a =
-      let x = first-at priority place f in
-      let pair : ◌≡◌ {A = ℕ × Task} (x.h, x.t) (h, t) = some_same (sym x.used ∙ used) in
-      let handle : x.h ≡ h = ap (λ (y : ℕ × Task). y.0) pair in
-      let value : x.t ≡ t = ap (λ (y : ℕ × Task). y.1) pair in
-      let lets = λ (k : ℕ). begins_in queues k in
-      let takes = subst (λ (k : ℕ). Takeable actions (lets k) w t) (handle ∙ sym task) (subst (λ (y : Task). Takeable actions (lets x.h) w y) value x.takes) in (
-        record {
-          t = t;
-          a = a.0;
-          task = ap (slot_value p) (task ∙ sym handle) ∙ x.live ∙ ap Some value;
-          action = a.1;
-          kind = a.2;
-          priority = sym prio;
-          runs = record { unstarted = takes.3.unstarted; queue = takes.3.queue; core = takes.3.core; action = a.3 };
-        },
-        subst (λ (q : ℕ). NoneBetter actions p queues w q) (sym (prio ∙ (ap (λ (y : Task). y.priority) (sym value) ∙ x.priority_is)))
-            (none-better priority place f),
-      )
+  found-best priority place h t c f used task prio a = grind (arith, nat_tests, first-at priority place f, none-better priority place f)
 
 -- Lists written at a place
 pub set-set : {X : Type 0} (xs : List X) (i : ℕ) (a b : X) → set (set xs i a) i b ≡ set xs i b

@@ -1,5 +1,5 @@
 -- What each move of the tasks and of the groups keeps of the members.
-use Rattle.task_board.proofs.Names.{◌≡◌, ◌≢◌, ℕ, ◌+◌, ◌<◌, ◌≤◌, false, cond, List, ◌∷◌, Option, Some, None, refl, sym, ◌∙◌, ap, subst, inl, inr, arith, false≢true, cases_eq, nat_tests, Members, no_members, with_member, with_ended, AreKeyed, Membership, unless_ended, start_in, end_in, AreMembers, none-some}
+use Rattle.task_board.proofs.Names.{◌≡◌, ◌≢◌, ℕ, ◌+◌, ◌<◌, ◌≤◌, false, cond, List, ◌∷◌, Option, Some, None, refl, sym, ◌∙◌, ap, subst, arith, false≢true, nat_tests, Members, no_members, with_member, with_ended, AreKeyed, Membership, unless_ended, start_in, end_in, AreMembers, none-some}
 use Rattle.task_board.proofs.MarkLemmas.{number-same}
 use Rattle.task_board.proofs.SeenLemmas.{some_same}
 use Rattle.task_board.proofs.KeyedLemmas.{Put, put-by, put-same, has-self, keyed-same, keyed-push, keyed-leave, keyed-first}
@@ -60,40 +60,15 @@ pub members-put : (at after : ℕ → Option Membership) (groups others : ℕ
     → AreKeyed (λ k. start_in g (after k)) n.unended → AreKeyed (λ k. end_in g (after k)) n.ended → starts ≤ more → ends ≤ later
     → AreMembers after others more later
 members-put at after groups others h g x n starts ends more later old move put was fits unended ended grows ages = record {
-  named = λ k e f. elim (cases_eq e.group g) [
-    | inl here ↦ (n, ap others here ∙ put.here)
-    | inr away ↦ let m = old.named k e (before k e away f) in (m.0, put.others e.group away ∙ m.1)
-  ];
-  attached = λ k e f. elim (cases_eq k h) [ inl here ↦ (fits e (moved k e here f)).attached | inr away ↦ old.attached k e (sym (move.others k away) ∙ f) ];
-  started = λ k e f. elim (cases_eq k h) [
-    | inl here ↦ (fits e (moved k e here f)).started
-    | inr away ↦ let less = old.started k e (sym (move.others k away) ∙ f) in omega (arith, less, grows)
-  ];
-  numbered = λ k a e f d. elim (cases_eq k h) [
-    | inl here ↦ (fits e (moved k e here f)).numbered a d
-    | inr away ↦ let less = old.numbered k a e (sym (move.others k away) ∙ f) d in omega (arith, less, ages)
-  ];
-  unended = λ k m f. elim (cases_eq k g) [
-    | inl here ↦ subst (λ (z : ℕ). AreKeyed (λ j. start_in z (after j)) m.unended) (sym here)
-        (subst (λ (z : Members). AreKeyed (λ j. start_in g (after j)) z.unended) (some_same (sym put.here ∙ ap others (sym here) ∙ f)) unended)
-    | inr away ↦ keyed-same (λ j. start_in k (at j)) (λ j. start_in k (after j)) m.unended
-        (put-same _ _ h _ (put-by (start_in k) at after h x move) (start-other g k x (λ e d. (fits e d).group) away ∙ sym (start-other g k (at h) was away)))
-        (old.unended k m (sym (put.others k away) ∙ f))
-  ];
-  ended = λ k m f. elim (cases_eq k g) [
-    | inl here ↦ subst (λ (z : ℕ). AreKeyed (λ j. end_in z (after j)) m.ended) (sym here)
-        (subst (λ (z : Members). AreKeyed (λ j. end_in g (after j)) z.ended) (some_same (sym put.here ∙ ap others (sym here) ∙ f)) ended)
-    | inr away ↦ keyed-same (λ j. end_in k (at j)) (λ j. end_in k (after j)) m.ended
-        (put-same _ _ h _ (put-by (end_in k) at after h x move) (end-other g k x (λ e d. (fits e d).group) away ∙ sym (end-other g k (at h) was away)))
-        (old.ended k m (sym (put.others k away) ∙ f))
-  ];
+  named = λ k e f. grind (arith, nat_tests, fits e, old.named k e, move.others k, put.others e.group);
+  attached = λ k e f. grind (arith, nat_tests, fits e, old.attached k e, move.others k);
+  started = λ k e f. grind (arith, nat_tests, old.started k e, move.others k);
+  numbered = λ k a e f d. grind (arith, nat_tests, old.numbered k a e, move.others k);
+  unended = λ k m f.
+      let other = put.others k in
+      grind (arith, nat_tests, keyed-same, put-same, put-by (start_in k), start-other g k x, start-other g k (at h) was, old.unended k m);
+  ended = λ k m f. grind (arith, nat_tests, keyed-same, put-same, put-by (end_in k), end-other g k x, end-other g k (at h) was, old.ended k m, put.others k);
 }
-  where
-    moved : (k : ℕ) (e : Membership) → k ≡ h → after k ≡ Some e → x ≡ Some e
-    moved k e here f = sym move.here ∙ ap after (sym here) ∙ f
-
-    before : (k : ℕ) (e : Membership) → e.group ≢ g → after k ≡ Some e → at k ≡ Some e
-    before k e d f = elim (cases_eq k h) [ inl here ↦ absurd (d (fits e (moved k e here f)).group) | inr away ↦ sym (move.others k away) ∙ f ]
 
 -- nothing is seen of the move
 pub members-same : (at after : ℕ → Option Membership) (groups : ℕ → Option Members) (starts ends more later : ℕ) → ((k : ℕ) → after k ≡ at k) → starts ≤ more
@@ -128,8 +103,7 @@ module _ (at after : ℕ → Option Membership) (groups others : ℕ
         group = group;
         attached = old.attached h e is;
         started = old.started h e is;
-        numbered = λ n d. let same : ends ≡ n = some_same d in
-            omega (arith, same);
+        numbered = λ n d. grind (arith, nat_tests);
       }))
       (keyed-leave (λ k. start_in g (at k)) (λ k. start_in g (after k)) h m.unended
       (record { here = ap (start_in g) move.here ∙ start-over g ends (record e { end = Some ends }) refl; others = λ k d. ap (start_in g) (move.others k d) })

@@ -1,5 +1,5 @@
 -- What is seen after each move of the tasks, and what the move keeps of a scheduler.
-use Rattle.task_board.proofs.Names.{ListsBy, ◌≡◌, ◌≢◌, ℕ, zero, suc, ◌<◌, Bool, true, false, cond, List, [], ◌∷◌, ◌++◌, length, length-set, Option, Some, None, set, slice_get, refl, sym, ◌∙◌, ap, subst, inl, inr, arith, ◌==◌, ◌||◌, is_some, option_map, cases_eq, nat_tests, get_or-set_same, get_or-set_other, TaskEnd, TaskHandle, first, Slots, slot_of, generation_of, used_slot, slot_after, slot_value, max_of, Inserts, with_value, without, put, changed, get-with_value_same, get-with_value_other, get-insert_same, get-insert_other, get-without_same, get-without_other, list_at, has_handle, without_handle, stands_at, index-has, Mark, mark_at, is_for_at, Action, Task, TaskState, Ended, is_unended, Notes, with_state, with_notes, with_waiter, task_look_refusals, after_asked, waiter_after, TaskTable, ended_in, looked_in, Seen, seen_as, seen, seen_in, InOrder, begins_in, AreQueued, AreByJob, SchedulerTable, IsScheduler, IsMarkOf, Marked, AreWaiting, AreRunning, AreRanked, AreStarted, running_on, GroupTable, members_in, AreMembers}
+use Rattle.task_board.proofs.Names.{ListsBy, ◌≡◌, ◌≢◌, ℕ, zero, suc, ◌<◌, Bool, true, false, cond, List, [], ◌∷◌, ◌++◌, length, length-set, Option, Some, None, set, slice_get, refl, sym, ◌∙◌, ap, subst, inl, inr, arith, ◌||◌, is_some, option_map, cases_eq, nat_tests, get_or-set_same, get_or-set_other, TaskEnd, TaskHandle, first, Slots, slot_of, generation_of, used_slot, slot_after, slot_value, max_of, Inserts, with_value, without, put, changed, get-with_value_same, get-with_value_other, get-insert_same, get-insert_other, get-without_same, get-without_other, list_at, has_handle, without_handle, stands_at, index-has, Mark, mark_at, is_for_at, Action, Task, TaskState, Ended, is_unended, Notes, with_state, with_notes, with_waiter, task_look_refusals, after_asked, waiter_after, TaskTable, ended_in, looked_in, Seen, seen_as, seen, seen_in, InOrder, begins_in, AreQueued, AreByJob, SchedulerTable, IsScheduler, IsMarkOf, Marked, AreWaiting, AreRunning, AreRanked, AreStarted, running_on, GroupTable, members_in, AreMembers, cases_Bool}
 use Rattle.task_board.proofs.SeenLemmas.{some_same, seen-live}
 pub use Rattle.task_board.proofs.KeyedLemmas.{Put, put-by, put-same, has-self}
 use Rattle.task_board.proofs.KeyedLemmas.{lists-push, lists-leave, lists-aside}
@@ -23,12 +23,7 @@ max-ended p h e n o = grind (arith, nat_tests, max_of, with_value, with_state, m
 
 pub max-looked : (p : Slots Task) (h who : ℕ) (last : Bool) (o : Option Task) → max_of (looked_in p h who last o) ≡ max_of p
 max-looked p h who last None = refl
-max-looked p h who last (Some t) = by_tests (is_some (first (task_look_refusals who t))) (is_unended t)
-  where
-    by_tests : (a b : Bool) → max_of (cond a p (cond b (with_value p h (with_notes (with_waiter (waiter_after who last)) t)) (without p h))) ≡ max_of p
-    by_tests true b = refl
-    by_tests false true = max-value p h (with_notes (with_waiter (waiter_after who last)) t)
-    by_tests false false = max-without p h
+max-looked p h who last (Some t) = grind (arith, nat_tests, max-value p h (with_notes (with_waiter (waiter_after who last)) t), max-without p h)
 
 -- The value of each handle
 
@@ -43,8 +38,7 @@ module _ {T : Type 0} where
   slot-insert p q h t i = record { here = get-insert_same p q h t i; others = λ k d. get-insert_other p q h k t i d }
 
   pub slot-changed : (p : Slots T) (h : ℕ) (f : T → T) (t : T) → slot_value p h ≡ Some t → Put (slot_value p) h (Some (f t)) (slot_value (changed p h f))
-  slot-changed p h f t g = subst (λ (o : Option T). Put (slot_value p) h (Some (f t)) (slot_value (put p h (option_map f o)))) (sym g)
-      (slot-value p h t (f t) g)
+  slot-changed p h f t g = grind (arith, nat_tests, put p h, slot-value p h t (f t) g)
 
 -- What is seen
 
@@ -59,11 +53,7 @@ put-insert p q h t i = put-by seen (slot_value p) (slot_value q) h (Some t) (slo
 
 pub put-ended : (p : Slots Task) (h : ℕ) (e : TaskEnd) (n : ℕ) (t : Task) → slot_value p h ≡ Some t
     → Put (seen_in p) h None (seen_in (ended_in p h e n (Some t)))
-put-ended p h e n t g = by_test t.notes.detached
-  where
-    by_test : (b : Bool) → Put (seen_in p) h None (seen_in (cond b (without p h) (with_value p h (with_state (Ended e n) t))))
-    by_test true = put-without p h t g
-    by_test false = put-value p h t (with_state (Ended e n) t) g
+put-ended p h e n t g = grind (arith, nat_tests, t.notes.detached, put-without p h t g, put-value p h t (with_state (Ended e n) t) g)
 
 pub put-changed : (p : Slots Task) (h : ℕ) (f : Task → Task) (t : Task) → slot_value p h ≡ Some t
     → Put (seen_in p) h (seen (Some (f t))) (seen_in (changed p h f))
@@ -158,10 +148,10 @@ alone-new q h t g k s e b = let v = seen-live q k s b in live-alone q h k t v.0 
 
 -- What a move keeps
 
-mark-here : (marks : List (Option Mark)) (place : ℕ) (m : Option Mark) → place < length marks → mark_at (set marks place m) place ≡ m
+pub mark-here : (marks : List (Option Mark)) (place : ℕ) (m : Option Mark) → place < length marks → mark_at (set marks place m) place ≡ m
 mark-here marks place m less = get_or-set_same marks place m None less
 
-mark-away : (marks : List (Option Mark)) (place other : ℕ) (m : Option Mark) → other ≢ place → mark_at (set marks place m) other ≡ mark_at marks other
+pub mark-away : (marks : List (Option Mark)) (place other : ℕ) (m : Option Mark) → other ≢ place → mark_at (set marks place m) other ≡ mark_at marks other
 mark-away marks place other m d = get_or-set_other marks place other m None d
 
 -- the move lets no other handle begin, and keeps none from it
@@ -183,8 +173,7 @@ marked-steady actions lets now at marks e1 e2 = grind (arith, nat_tests)
 pub marked-again : (actions : Slots Action) (lets now : ℕ → Option ℕ → Bool) (at : ℕ → Option Seen) (h : ℕ) (marks : List (Option Mark)) (m : Option Mark)
     → Steady lets now at h → Alone at h → slot_of h < length marks → IsMarkOf actions (now h) (at h) m → Marked actions lets at marks
     → Marked actions now at (set marks (slot_of h) m)
-marked-again actions lets now at h marks m steady one less right old =
-    marked-put actions lets now at at h (at h) marks m (record { here = refl; others = λ k d. refl }) steady one less right old
+marked-again actions lets now at h marks m steady one less right old = grind (arith, nat_tests, marked-put actions lets now)
 
 pub ranked-put : (at after : ℕ → Option Seen) (h : ℕ) (x : Option Seen) (n : ℕ) → Put at h x after → ((s : Seen) → x ≡ Some s → s.priority < n) → AreRanked at n
     → AreRanked after n
@@ -198,13 +187,15 @@ or-right a b e1 = grind (arith, nat_tests)
 -- a place that stands in a list is that of a handle in it
 pub stands-handle : (place : ℕ) (hs : List ℕ) → stands_at place hs ≡ true → (k : ℕ) × (has_handle k hs ≡ true) × (slot_of k ≡ place)
 stands-handle place [] e = absurd (cc)
-stands-handle place (x ∷ hs) e = by_test (slot_of x == place) refl e (stands-handle place hs)
-  where
-    by_test : (b : Bool) → (slot_of x == place) ≡ b → (b || stands_at place hs) ≡ true
-        → (stands_at place hs ≡ true → (k : ℕ) × (has_handle k hs ≡ true) × (slot_of k ≡ place))
-        → (k : ℕ) × (has_handle k (x ∷ hs) ≡ true) × (slot_of k ≡ place)
-    by_test true is f rest = (x, has-self x hs, grind (arith, nat_tests))
-    by_test false is f rest = let k = rest f in (k.0, or-right (x == k.0) _ k.1, k.2)
+stands-handle place (x ∷ hs) e = grind (arith, nat_tests, stands-handle place hs, has-self x hs, or-right)
+
+-- no list of live handles has one at a slot that was free
+pub none-stands : (p q : Slots Task) (h : ℕ) (t : Task) (hs : List ℕ) → Inserts p q h t → ((w : ℕ) → has_handle w hs ≡ true → slot_value p w ≡ None → ⊥)
+    → stands_at (slot_of h) hs ≡ false
+none-stands p q h t hs i live = elim (cases_Bool (stands_at (slot_of h) hs)) [
+  | inl on ↦ let w = stands-handle (slot_of h) hs on in absurd (live w.0 w.1 (rw (w.2, i.was_free) (grind (arith, nat_tests))))
+  | inr off ↦ off
+]
 
 -- the tasks that haven't begun, as a list of what passes
 waiting-list : (at : ℕ → Option Seen) (hs : List ℕ) → AreWaiting at hs → ListsBy (λ s. s.start) (λ s. s.on ≡ None) at hs
@@ -246,15 +237,7 @@ pub running-begin : (at after : ℕ → Option Seen) (h w : ℕ) (s : Seen) (r :
     → is_some (running_on r w) ≡ false → ((u : Seen) → at h ≡ Some u → u.on ≡ None) → w < length r → AreRunning at r
     → AreRunning after (set r w (Some (record { 0 = h })))
 running-begin at after h w s r move on free waited less old = record {
-  found = λ k v u e n. elim (cases_eq k h) [
-    | inl here ↦
-        let same : s ≡ u = some_same (sym move.here ∙ ap after (sym here) ∙ e) in
-        let seat : v ≡ w = some_same (sym n ∙ ap (λ (z : Seen). z.on) (sym same) ∙ on) in
-        ap (running_on (set r w (Some (record { 0 = h })))) seat ∙ seat-here r w _ less ∙ ap (λ (z : ℕ). Some (record { 0 = z })) (sym here)
-    | inr away ↦
-        let was = old.found k v u (sym (move.others k away) ∙ e) n in
-        seat-away r w v _ (λ is. none-some (running_on r w) _ free (ap (running_on r) (sym is) ∙ was)) ∙ was
-  ];
+  found = λ k v u e n. grind (arith, nat_tests, seat-here r w, old.found k v u, move.others k, seat-away r w v);
   runs = λ v t e. elim (cases_eq v w) [
     | inl here ↦
         let same : ◌≡◌ {A = TaskHandle} (record { 0 = h }) t = some_same (sym (seat-here r w _ less) ∙ ap (running_on (set r w _)) (sym here) ∙ e) in

@@ -38,6 +38,7 @@ pub use Rattle.queue_core.specs.Held.{AreRetiredEmpty, HeldQueue, NoTaskAt, Queu
 pub use Rattle.ready_index.specs.Marks.{HasNoneFor, IsFirst, ReadyMarks, is_for, is_for_at, mark_at}
 pub use Rattle.ready_index.specs.declared.marks.Mark.{Mark}
 pub use Rattle.task_board.specs.Scheduler.{AreRanked, AreRunning, AreStarted, AreWaiting, Becomes, SchedulerTable, IsScheduler, IsFresh, IsFreshAt, IsFreshFor, IsMarkOf, Marked, Remarked, RemarkedUnless, StandsBefore, group_slots, records_of, running_on}
+pub use Rattle.task_board.specs.contracts.scheduler.Scheduler.{the_view}
 pub use Rattle.task_board.specs.Ends.{EndsWaiting, ended_each, ended_if, ended_next, ends_by, is_unserved, passes, walk_of}
 pub use Rattle.task_board.specs.GroupMoves.{Each, Freed, FreesAll, Leaves, Left, LetsAllGo, LetsUnendedGo, end_at, ending_of, endings_of, frees, is_ended_member, lets_go}
 pub use Rattle.task_board.specs.Keyed.{AreKeyed, ListsBy, Rises}

@@ -1,5 +1,5 @@
 -- A new scheduler.
-use Rattle.task_board.proofs.Names.{nat_tests, arith, subst, ◌≡◌, ℕ, zero, suc, ◌≤◌, true, List, [], length, replicate, Option, Some, None, refl, sym, ◌∙◌, ap, slice_index_or, slice_get, false≢true, length-replicate, TaskHandle, Slot, Slots, slot_of, generation_of, free_slot, value_at, slot_value, get-fresh, list_at, has_handle, Mark, ReadyMarks, mark_at, is_for_at, Task, Members, seen, seen_in, HeldQueue, InOrder, AreIn, waits_at, SchedulerTable, IsScheduler, running_on, membership, members_in}
+use Rattle.task_board.proofs.Names.{nat_tests, arith, subst, ◌≡◌, ℕ, zero, suc, ◌≤◌, List, [], length, replicate, Option, Some, None, refl, sym, ◌∙◌, ap, slice_index_or, slice_get, false≢true, length-replicate, TaskHandle, Slot, Slots, slot_of, generation_of, free_slot, value_at, slot_value, get-fresh, list_at, has_handle, ReadyMarks, mark_at, Task, Members, seen, seen_in, HeldQueue, InOrder, AreIn, waits_at, SchedulerTable, IsScheduler, running_on, membership, members_in}
 
 abbrev nones : {X : Type 0} → ℕ → List (Option X)
 nones n = replicate n None
@@ -16,10 +16,6 @@ unseen p max h e = ap (λ (l : List (Slot Task)). seen (value_at (slice_get l (s
 no-some : {A : Type 0} (o : Option A) (x : A) → o ≡ None → o ≡ Some x → ⊥
 no-some o x e1 e2 = grind (arith, nat_tests)
 
-unmarked : (marks : List (Option Mark)) (max w p place : ℕ) → marks ≡ replicate max None → is_for_at w p (mark_at marks place) ≡ true → ⊥
-unmarked marks max w p place e f = false≢true (sym (ap (λ (l : List (Option Mark)). is_for_at w p (mark_at l place)) e ∙ ap (is_for_at w p) (none-at max place))
-    ∙ f)
-
 pub new-scheduler : (b : SchedulerTable) (max many : ℕ) → b.settings.workers ≤ 16
     → b.ready ≡ record { workers = b.settings.workers; priorities = b.settings.priorities; marks = replicate max None }
     → b.tasks.pool.slots ≡ replicate max (free_slot 1) → b.waiting.places ≡ max → b.waiting.lists ≡ replicate 1 [] → 1 ≤ b.settings.actions
@@ -27,14 +23,7 @@ pub new-scheduler : (b : SchedulerTable) (max many : ℕ) → b.settings.workers
     → b.queues.pool.slots ≡ replicate many (free_slot 1) → (count : ℕ) → b.groups.pool.slots ≡ replicate count (free_slot 1) → b.groups.tasks ≡ max
     → IsScheduler b
 new-scheduler b max many few ready slots places lists some by_job running room queues count groups sizes = record {
-  members = record {
-    named = λ h e f. absurd (no-some _ e (no_member h) f);
-    attached = λ h e f. absurd (no-some _ e (no_member h) f);
-    started = λ h e f. absurd (no-some _ e (no_member h) f);
-    numbered = λ h n e f d. absurd (no-some _ e (no_member h) f);
-    unended = λ g m f. absurd (no-some _ m (no_group g) f);
-    ended = λ g m f. absurd (no-some _ m (no_group g) f);
-  };
+  members = grind (arith, nat_tests, no_member, no_group);
   task_slots = sizes ∙ sym all;
   few = few;
   workers = ap (λ (r : ReadyMarks). r.workers) ready;
@@ -44,10 +33,7 @@ new-scheduler b max many few ready slots places lists some by_job running room q
   lists = ap length lists;
   seats = ap length running;
   room = room ∙ sym all;
-  marked = record {
-    sound = λ w p place f. absurd (unmarked b.ready.marks max w p place (ap (λ (r : ReadyMarks). r.marks) ready) f);
-    whole = λ w h s e k. absurd (no-some _ s (none h) e);
-  };
+  marked = grind (arith, nat_tests, no_mark, none);
   waiting_are = record {
     listed = λ h s e n. absurd (no-some _ s (none h) e);
     waits = λ h e. absurd (false≢true (sym (ap (λ (l : List (List ℕ)). has_handle h (list_at l 0)) lists) ∙ e));
@@ -63,20 +49,10 @@ new-scheduler b max many few ready slots places lists some by_job running room q
           ordered = tt;
         });
   };
-  running_are = record {
-    found = λ h w s e n. absurd (no-some _ s (none h) e);
-    runs = λ w t e. absurd (no-some _ t (ap (λ (l : List (Option TaskHandle)). running_on l w) running ∙ none-at 25 w) e);
-  };
+  running_are = grind (arith, nat_tests, no_running, none);
   ranked = record { known = λ h s e. absurd (no-some _ s (none h) e) };
   started = record { before = λ h s e. absurd (no-some _ s (none h) e) };
-  queued = record {
-    listed = λ h q s x e f g. absurd (no-some _ s (none h) e);
-    names = λ h q x g e. absurd (no-some _ x (no_queue q) g);
-    ordered = λ q x g. absurd (no-some _ x (no_queue q) g);
-    live = λ h q s e n f. absurd (no-some _ s (none h) e);
-    given = λ h q s e f. absurd (no-some _ s (none h) e);
-    ranked = λ q x g. absurd (no-some _ x (no_queue q) g);
-  };
+  queued = grind (arith, nat_tests, no_queue, none);
 }
   where
     all : length b.tasks.pool.slots ≡ max
@@ -94,6 +70,12 @@ new-scheduler b max many few ready slots places lists some by_job running room q
 
     no_group : (g : ℕ) → slot_value b.groups.pool g ≡ None
     no_group g = ap (λ (l : List (Slot Members)). value_at (slice_get l (slot_of g)) (generation_of g)) groups ∙ get-fresh count (slot_of g) (generation_of g)
+
+    no_mark : (place : ℕ) → mark_at b.ready.marks place ≡ None
+    no_mark place = ap (λ (r : ReadyMarks). mark_at r.marks place) ready ∙ none-at max place
+
+    no_running : (w : ℕ) → running_on b.running w ≡ None
+    no_running w = ap (λ (l : List (Option TaskHandle)). running_on l w) running ∙ none-at 25 w
 
     empty : (n r : ℕ) → list_at (replicate n []) r ≡ []
     empty zero r = refl

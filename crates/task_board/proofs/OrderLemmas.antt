@@ -1,5 +1,5 @@
 -- Lists in the order of starts: the waiting tasks make one such list alone.
-use Rattle.task_board.proofs.Names.{nat_tests, ◌≡◌, ℕ, suc, ◌+◌, List, [], ◌∷◌, ◌++◌, length, Option, Some, slice_get, refl, ◌∙◌, ap, arith, Seen, AreWaiting}
+use Rattle.task_board.proofs.Names.{nat_tests, ◌≡◌, ℕ, ◌+◌, List, [], ◌∷◌, ◌++◌, length, Option, Some, slice_get, refl, ap, arith, Seen, AreWaiting}
 use Rattle.task_board.proofs.KeyedLemmas.{same-order}
 
 -- the waiting tasks have one list in the order of their starts
@@ -14,8 +14,7 @@ at-middle h (x ∷ kept) rest = at-middle h kept rest
 
 pub past-middle : (h : ℕ) (kept rest : List ℕ) → slice_get (kept ++ h ∷ rest) (length kept + 1) ≡ slice_get rest 0
 past-middle h [] rest = refl
-past-middle h (x ∷ kept) rest = let same : suc (length kept) + 1 ≡ suc (length kept + 1) = omega arith in
-    ap (slice_get (x ∷ kept ++ h ∷ rest)) same ∙ past-middle h kept rest
+past-middle h (x ∷ kept) rest = grind (arith, nat_tests, past-middle h kept rest)
 
 pub append-middle : (h : ℕ) (kept rest : List ℕ) → kept ++ h ∷ rest ≡ (kept ++ h ∷ []) ++ rest
 append-middle h [] rest = refl

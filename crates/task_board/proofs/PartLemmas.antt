@@ -2,7 +2,7 @@
 use Rattle.task_board.proofs.Names.{nat_tests, arith, ◌≡◌, ℕ, Bool, true, false, not, cond, List, [], ◌∷◌, Option, Some, None, Result, Ok, Err, IsSome, slice_get, refl, sym, ◌∙◌, ap, subst, IfSome, is_none, TaskEnd, GroupHandle, MtapiStatus, ErrGroupLimit, get-insert_before, Slots, slot_value, with_value, without, max_of, changed, has_handle, Task, TaskState, Ended, end_of, is_unended, is_member, number_in, without_group, TaskTable, IsLiveAnd, detached_in, Members, GroupTable, LiveAreUsed, Creates, delete_reply, no_members, rest_of, first_ended, first_unended, without_first, without_first_unended, seen, seen_in, without_members, Membership, membership, members_in, AreMembers, SchedulerTable, IsScheduler, Leaves, none-some}
 use Rattle.std.specs.Prelude.{OnOk}
 use Rattle.task_core.specs.Records.{end_in as end_told}
-use Rattle.task_board.specs.GroupMoves.{Takes}
+use Rattle.task_board.specs.GroupMoves.{Parts, Takes}
 use Rattle.task_board.proofs.SeenLemmas.{some_same}
 use Rattle.task_board.proofs.MoveLemmas.{Put, put-by, put-same, put-value, put-without, slot-value, slot-without, slot-insert, slot-changed, max-value, max-without, over-unseen, seen-noted, has-self, regrouped}
 use Rattle.task_board.proofs.MemberLemmas.{start-tells, end-tells, members-take, members-leave, members-create, members-delete}
@@ -126,6 +126,25 @@ is-live p g h e x = subst (λ (o : Option Task). IsSome o) (sym x.live) refl
 end-told : (x : TaskState) (e y : TaskEnd) (n : ℕ) → x ≡ Ended y n → end_told (end_of x) ≡ Some e → x ≡ Ended e n
 end-told x e y n is told = is ∙ ap (λ (z : TaskEnd). Ended z n) (some_same (sym (ap (λ (z : TaskState). end_told (end_of z)) is) ∙ told))
 
+-- a group has these members now, and its task is gone or changed
+parts-made : (b : SchedulerTable) (q : TaskTable) (t : GroupTable) (g h : ℕ) (m now : Members) (f : Members → Members) (x : Task) (pool : Slots Task)
+    → slot_value b.groups.pool g ≡ Some m → f m ≡ now → slot_value b.tasks.pool h ≡ Some x → is_member g x ≡ true → LiveAreUsed b.groups.pool
+    → q ≡ record b.tasks { pool = pool } → t ≡ record b.groups { pool = changed b.groups.pool g f }
+    → Parts b (record b { tasks = q; groups = t }) g h m now x pool
+parts-made b q t g h m now f x pool live is task member used tasks groups = record {
+  group = live;
+  group_now = ap (λ (z : GroupTable). slot_value z.pool g) groups ∙ (slot-changed b.groups.pool g f m live).here ∙ ap Some is;
+  task = task;
+  member = member;
+  becomes = record {
+    settings = refl;
+    actions_are = refl;
+    tasks_are = tasks;
+    queues_are = refl;
+    groups_are = ap (λ (z : GroupTable). without_members z.pool) groups ∙ members-unseen b.groups.pool g f used;
+  };
+}
+
 pub takes-made : (b : SchedulerTable) (q : TaskTable) (t : GroupTable) (g h n : ℕ) (e : TaskEnd) (f : FirstIn (slot_value b.groups.pool g) (λ m. m.ended) h)
     (x : Member b.tasks.pool g h (Some n)) → LiveAreUsed b.groups.pool
     → IfSome (slot_value b.tasks.pool h) (λ (task : Task). end_told (end_of task.state) ≡ Some e) → q ≡ record b.tasks { pool = without b.tasks.pool h }
@@ -138,20 +157,7 @@ takes-made b q t g h n e f x used told pool groups = record {
   list = f.is;
   state = let y = ended-so x.t.state n x.end in
       end-told x.t.state e y.e n y.is (subst (λ (o : Option Task). IfSome o (λ (task : Task). end_told (end_of task.state) ≡ Some e)) x.live told);
-  parts = record {
-    group = f.live;
-    group_now = ap (λ (z : GroupTable). slot_value z.pool g) groups ∙ (slot-changed b.groups.pool g without_first f.m f.live).here
-        ∙ ap (λ (l : List ℕ). Some (record f.m { ended = rest_of l })) f.is;
-    task = x.live;
-    member = x.member;
-    becomes = record {
-      settings = refl;
-      actions_are = refl;
-      tasks_are = pool;
-      queues_are = refl;
-      groups_are = ap (λ (z : GroupTable). without_members z.pool) groups ∙ members-unseen b.groups.pool g without_first used;
-    };
-  };
+  parts = parts-made b q t g h f.m _ without_first x.t _ f.live (ap (λ (l : List ℕ). record f.m { ended = rest_of l }) f.is) x.live x.member used pool groups;
 }
 
 pub leaves-made : (b : SchedulerTable) (q : TaskTable) (t : GroupTable) (g h : ℕ) (f : FirstIn (slot_value b.groups.pool g) (λ m. m.unended) h)
@@ -162,20 +168,8 @@ leaves-made b q t g h f x used pool groups = record {
   rest = f.rest;
   t = x.t;
   list = f.is;
-  parts = record {
-    group = f.live;
-    group_now = ap (λ (z : GroupTable). slot_value z.pool g) groups ∙ (slot-changed b.groups.pool g without_first_unended f.m f.live).here
-        ∙ ap (λ (l : List ℕ). Some (record f.m { unended = rest_of l })) f.is;
-    task = x.live;
-    member = x.member;
-    becomes = record {
-      settings = refl;
-      actions_are = refl;
-      tasks_are = pool;
-      queues_are = refl;
-      groups_are = ap (λ (z : GroupTable). without_members z.pool) groups ∙ members-unseen b.groups.pool g without_first_unended used;
-    };
-  };
+  parts = parts-made b q t g h f.m _ without_first_unended x.t _ f.live (ap (λ (l : List ℕ). record f.m { unended = rest_of l }) f.is) x.live
+      x.member used pool groups;
 }
 
 -- Groups that come and go

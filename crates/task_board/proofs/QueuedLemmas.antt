@@ -1,9 +1,10 @@
 -- What each move of the tasks and of the queues keeps of the lists of the queues.
-use Rattle.task_board.proofs.Names.{nat_tests, ListsBy, ◌≡◌, ◌≢◌, ℕ, ◌<◌, Bool, true, false, List, [], ◌∷◌, ◌++◌, Option, Some, None, refl, sym, ◌∙◌, ap, subst, inl, inr, arith, slice_get, false≢true, cases_eq, cases_Bool, holds, Slots, slot_value, Inserts, without, changed, has_handle, without_handle, HeldQueue, held, with_task, without_task, with_opened, Queue, Seen, InOrder, begins_in, WasGiven, AreQueued, none-some}
+use Rattle.task_board.proofs.Names.{nat_tests, ListsBy, ◌≡◌, ◌≢◌, ℕ, ◌<◌, Bool, true, false, List, [], ◌∷◌, ◌++◌, Option, Some, None, refl, sym, ◌∙◌, ap, inl, inr, arith, slice_get, false≢true, cases_eq, holds, Slots, slot_value, Inserts, without, changed, has_handle, without_handle, HeldQueue, held, with_task, without_task, with_opened, Queue, Seen, begins_in, WasGiven, AreQueued, none-some}
 use Rattle.queue_ready.specs.Ready.{is_first, may_begin}
 use Rattle.task_board.proofs.SeenLemmas.{some_same}
 use Rattle.task_board.proofs.KeyedLemmas.{Put, rises-as, rises-same, lists-push, lists-leave}
-use Rattle.task_board.proofs.GivenLemmas.{PutQueue, put-queue_changed, put-queue_insert, put-queue_without, given-live, given-changed, given-insert, given-new, given-without}
+use Rattle.task_board.proofs.MoveLemmas.{slot-changed, slot-insert, slot-without}
+use Rattle.task_board.proofs.GivenLemmas.{given-live, given-changed, given-insert, given-new, given-without}
 
 -- One task moves, and no queue's list changes
 
@@ -18,31 +19,12 @@ pub queued-put : (at after : ℕ → Option Seen) (h : ℕ) (x : Option Seen) (q
     → ((q : ℕ) (s : Seen) → x ≡ Some s → s.on ≡ None → s.queue ≡ Some q → (y : HeldQueue) × (slot_value queues q ≡ Some y))
     → ((q : ℕ) (s : Seen) → x ≡ Some s → s.queue ≡ Some q → WasGiven queues q) → AreQueued at queues n → AreQueued after queues n
 queued-put at after h x queues n move same live given old = record {
-  listed = λ k q s y e f g. elim (cases_eq k h) [
-    | inl here ↦ ap (λ (z : ℕ). has_handle z y.tasks) here ∙ (same q y g).back s (sym move.here ∙ ap after (sym here) ∙ e) f
-    | inr away ↦ old.listed k q s y (sym (move.others k away) ∙ e) f g
-  ];
-  names = λ k q y g e. elim (cases_eq k h) [
-    | inl here ↦ let s = (same q y g).there (ap (λ (z : ℕ). has_handle z y.tasks) (sym here) ∙ e) in (s.0, ap after here ∙ move.here ∙ s.1, s.2, s.3)
-    | inr away ↦ let s = old.names k q y g e in (s.0, move.others k away ∙ s.1, s.2, s.3)
-  ];
+  listed = λ k q s y e f g. grind (arith, nat_tests, move.others k, (same q y g).back s, old.listed k q s y);
+  names = λ k q y g e. grind (arith, nat_tests, move.others k, (same q y g).there, old.names k q y g e);
   ordered = λ q y g. rises-as (λ s. s.start) at after y.tasks
-      (λ k u e is. elim (cases_eq k h) [
-        | inl here ↦
-            let s = (same q y g).there (ap (λ (z : ℕ). has_handle z y.tasks) (sym here) ∙ e) in
-            let was = old.names k q y g e in
-            let now : u ≡ s.0 = some_same (sym is ∙ ap after here ∙ move.here ∙ s.1) in
-            (was.0, was.1, s.4 was.0 (ap at (sym here) ∙ was.1) ∙ ap (λ (z : Seen). z.start) (sym now))
-        | inr away ↦ (u, sym (move.others k away) ∙ is, refl)
-      ]) (old.ordered q y g);
-  live = λ k q s e o f. elim (cases_eq k h) [
-    | inl here ↦ live q s (sym move.here ∙ ap after (sym here) ∙ e) o f
-    | inr away ↦ old.live k q s (sym (move.others k away) ∙ e) o f
-  ];
-  given = λ k q s e f. elim (cases_eq k h) [
-    | inl here ↦ given q s (sym move.here ∙ ap after (sym here) ∙ e) f
-    | inr away ↦ old.given k q s (sym (move.others k away) ∙ e) f
-  ];
+      (λ k u e is. grind (arith, nat_tests, move.others k, (same q y g).there, old.names k q y g e)) (old.ordered q y g);
+  live = λ k q s e o f. grind (arith, nat_tests, move.others k, live q s, old.live k q s);
+  given = λ k q s e f. grind (arith, nat_tests, move.others k, given q s, old.given k q s);
   ranked = old.ranked;
 }
 
@@ -64,16 +46,7 @@ pub queued-run : (at after : ℕ → Option Seen) (h w : ℕ) (was s : Seen) (qu
 queued-run at after h w was s queues n move seen queue job start on old =
     queued-put at after h (Some s) queues n move
     (λ q y g. record {
-      there = λ e.
-          let u = old.names h q y g e in
-          let same : was ≡ u.0 = some_same (sym seen ∙ u.1) in (
-            s,
-            refl,
-            sym queue ∙ ap (λ (z : Seen). z.queue) same ∙ u.2,
-            sym job ∙ ap (λ (z : Seen). z.job) same
-                ∙ u.3,
-            λ v e. ap (λ (z : Seen). z.start) (some_same (sym e ∙ seen)) ∙ start,
-          );
+      there = grind (arith, nat_tests, old.names h q y g);
       back = λ u e f. old.listed h q was y seen (queue ∙ ap (λ (z : Seen). z.queue) (some_same e) ∙ f) g;
     })
     (λ q u e o f. absurd (none-some _ (sym o ∙ ap (λ (z : Seen). z.on) (sym (some_same e)) ∙ on)))
@@ -96,13 +69,11 @@ list-in at q old n v e1 e2 = grind (arith, nat_tests)
 
 of-job-in : (at : ℕ → Option Seen) (q : ℕ) (s : Seen) (old : Slots HeldQueue) (n : ℕ) (v : HeldQueue) (j : ℕ) → AreQueued at old n → slot_value old q ≡ Some v
     → at j ≡ Some s → s.queue ≡ Some q → s.job ≡ v.queue.job
-of-job-in at q s old n v j k was e f =
-    let u = k.names j q v was (k.listed j q s v e f was) in
-    ap (λ (z : Seen). z.job) (some_same (sym e ∙ u.1)) ∙ u.3
+of-job-in at q s old n v j k was e f = grind (arith, nat_tests, k.names j q v was (k.listed j q s v e f was), k.listed j q s v e f was)
 
 -- the lists of all other queues, and what they say
 module _ (at after : ℕ → Option Seen) (h q : ℕ) (x : Option Seen) (old new : Slots HeldQueue) (n : ℕ) (v y : HeldQueue) (move : Put at h x after)
-    (turn : PutQueue old q (Some y) new) (was : slot_value old q ≡ Some v) (same : y.queue ≡ v.queue) (k : AreQueued at old n) where
+    (turn : Put (slot_value old) q (Some y) (slot_value new)) (was : slot_value old q ≡ Some v) (same : y.queue ≡ v.queue) (k : AreQueued at old n) where
   -- the queue of another handle
   pub record Lists : Type 0 where
     pub list : ListsBy (λ s. s.start) (λ s. s.queue ≡ Some q) after y.tasks
@@ -113,15 +84,7 @@ module _ (at after : ℕ → Option Seen) (h q : ℕ) (x : Option Seen) (old new
 
   pub queued-turn : Lists → AreQueued after new n
   queued-turn l = record {
-    listed = λ j p s z e f g. elim (cases_eq p q) [
-      | inl here ↦
-          let is : y ≡ z = some_same (sym turn.here ∙ ap (slot_value new) (sym here) ∙ g) in
-          ap (λ (u : HeldQueue). has_handle j u.tasks) (sym is) ∙ l.list.listed j s e (f ∙ ap Some here)
-      | inr away ↦ elim (cases_eq j h) [
-        | inl too ↦ absurd (away (l.only s p (sym move.here ∙ ap after (sym too) ∙ e) f))
-        | inr other ↦ k.listed j p s z (sym (move.others j other) ∙ e) f (sym (turn.others p away) ∙ g)
-      ]
-    ];
+    listed = λ j p s z e f g. grind (arith, nat_tests, l.list.listed j s e, l.only s p, k.listed j p s z, move.others j, turn.others p);
     names = λ j p z g e. elim (cases_eq p q) [
       | inl here ↦
           let is : y ≡ z = some_same (sym turn.here ∙ ap (slot_value new) (sym here) ∙ g) in
@@ -138,32 +101,10 @@ module _ (at after : ℕ → Option Seen) (h q : ℕ) (x : Option Seen) (old new
             | inr other ↦ let s = k.names j p z there e in (s.0, move.others j other ∙ s.1, s.2, s.3)
           ]
     ];
-    ordered = λ p z g. elim (cases_eq p q) [
-      | inl here ↦ subst (λ (u : HeldQueue). InOrder after u.tasks) (some_same (sym turn.here ∙ ap (slot_value new) (sym here) ∙ g)) l.list.ordered
-      | inr away ↦
-          let there = sym (turn.others p away) ∙ g in
-          rises-same (λ s. s.start) at after z.tasks
-          (λ j e. move.others j (λ too. false≢true (sym (l.apart p z away there) ∙ ap (λ (i : ℕ). has_handle i z.tasks) (sym too) ∙ e)))
-          (k.ordered p z there)
-    ];
-    live = λ j p s e o f. elim (cases_eq p q) [
-      | inl here ↦ (_, ap (slot_value new) here ∙ turn.here)
-      | inr away ↦ elim (cases_eq j h) [
-        | inl too ↦ absurd (away (l.only s p (sym move.here ∙ ap after (sym too) ∙ e) f))
-        | inr other ↦ subst (λ (u : Option HeldQueue). (z : HeldQueue)
-            × (u ≡ Some z)) (sym (turn.others p away)) (k.live j p s (sym (move.others j other) ∙ e) o f)
-      ]
-    ];
-    given = λ j p s e f. elim (cases_eq j h) [
-      | inl too ↦ subst (λ (i : ℕ). WasGiven new i) (sym (l.only s p (sym move.here ∙ ap after (sym too) ∙ e) f)) (given-live new q y turn.here)
-      | inr other ↦ l.given p (k.given j p s (sym (move.others j other) ∙ e) f)
-    ];
-    ranked = λ p z g. elim (cases_eq p q) [
-      | inl here ↦
-          let is : y ≡ z = some_same (sym turn.here ∙ ap (slot_value new) (sym here) ∙ g) in
-          subst (λ (u : HeldQueue). u.queue.priority < n) is (subst (λ (u : Queue). u.priority < n) (sym same) (k.ranked q v was))
-      | inr away ↦ k.ranked p z (sym (turn.others p away) ∙ g)
-    ];
+    ordered = λ p z g. grind (arith, nat_tests, l.list.ordered, turn.others p, rises-same, l.apart p z, k.ordered p z);
+    live = λ j p s e o f. grind (arith, nat_tests, l.only s p, turn.others p, k.live j p s, move.others j);
+    given = λ j p s e f. grind (arith, nat_tests, l.only s p, given-live new q y turn.here, l.given p, k.given j p s, move.others j);
+    ranked = λ p z g. grind (arith, nat_tests, k.ranked q v was, k.ranked p z, turn.others p);
   }
 
 -- a new task is put into a queue
@@ -171,14 +112,11 @@ pub queued-enqueue : (at after : ℕ → Option Seen) (h q : ℕ) (s : Seen) (ol
     → slot_value old q ≡ Some v → s.queue ≡ Some q → s.job ≡ v.queue.job → ((j : ℕ) (u : Seen) → at j ≡ Some u → u.start < s.start) → AreQueued at old n
     → AreQueued after (changed old q (with_task h)) n
 queued-enqueue at after h q s old n v move none was queue job last k =
-    queued-turn at after h q (Some s) old (changed old q (with_task h)) n v (with_task h v) move (put-queue_changed old q (with_task h) v was) was refl k
+    queued-turn at after h q (Some s) old (changed old q (with_task h)) n v (with_task h v) move (slot-changed old q (with_task h) v was) was refl k
     (record {
       list = lists-push (λ s. s.start) (λ s. s.queue ≡ Some q) at after h s v.tasks move none queue last (list-in at q old n v k was);
       job = λ u e. ap (λ (z : Seen). z.job) (sym (some_same e)) ∙ job;
-      apart = λ p z away there. elim (cases_Bool (has_handle h z.tasks)) [
-        | inl on ↦ absurd (apart p z there on)
-        | inr off ↦ off
-      ];
+      apart = λ p z away there. grind (arith, nat_tests);
       only = λ u p e f. some_same (sym f ∙ ap (λ (z : Seen). z.queue) (sym (some_same e)) ∙ queue);
       given = λ p g. given-changed old q p (with_task h) v was g;
     })
@@ -190,17 +128,11 @@ queued-enqueue at after h q s old n v move none was queue job last k =
 pub queued-leave : (at after : ℕ → Option Seen) (h q : ℕ) (s : Seen) (old : Slots HeldQueue) (n : ℕ) (v : HeldQueue) → Put at h None after → at h ≡ Some s
     → slot_value old q ≡ Some v → s.queue ≡ Some q → AreQueued at old n → AreQueued after (changed old q (without_task h)) n
 queued-leave at after h q s old n v move seen was queue k =
-    queued-turn at after h q None old (changed old q (without_task h)) n v (without_task h v) move (put-queue_changed old q (without_task h) v was) was refl k
+    queued-turn at after h q None old (changed old q (without_task h)) n v (without_task h v) move (slot-changed old q (without_task h) v was) was refl k
     (record {
       list = lists-leave (λ s. s.start) (λ s. s.queue ≡ Some q) at after h None v.tasks move (λ u e f. absurd (none-some _ e)) (list-in at q old n v k was);
       job = λ u e. absurd (none-some _ e);
-      apart = λ p z away there. elim (cases_Bool (has_handle h z.tasks)) [
-        | inl on ↦
-            let u = k.names h p z there on in
-            let same : s ≡ u.0 = some_same (sym seen ∙ u.1) in
-            absurd (away (some_same (sym u.2 ∙ ap (λ (i : Seen). i.queue) (sym same) ∙ queue)))
-        | inr off ↦ off
-      ];
+      apart = λ p z away there. grind (arith, nat_tests, k.names h p z there);
       only = λ u p e f. absurd (none-some _ e);
       given = λ p g. given-changed old q p (without_task h) v was g;
     })
@@ -210,92 +142,48 @@ queued-leave at after h q s old n v move seen was queue k =
 pub queued-with : (at : ℕ → Option Seen) (q : ℕ) (old : Slots HeldQueue) (n : ℕ) (v : HeldQueue) (on : Bool) → slot_value old q ≡ Some v → AreQueued at old n
     → AreQueued at (changed old q (with_opened on)) n
 queued-with at q old n v on was k = record {
-  listed = λ j p s z e f g. elim (cases_eq p q) [
-    | inl here ↦ ap (λ (u : HeldQueue). has_handle j u.tasks) (sym (is p z here g)) ∙ k.listed j q s v e (f ∙ ap Some here) was
-    | inr away ↦ k.listed j p s z e f (sym (turn.others p away) ∙ g)
-  ];
-  names = λ j p z g e. elim (cases_eq p q) [
-    | inl here ↦
-        let s = k.names j q v was (ap (λ (u : HeldQueue). has_handle j u.tasks) (is p z here g) ∙ e) in
-        (s.0, s.1, s.2 ∙ ap Some (sym here), s.3 ∙ ap (λ (u : HeldQueue). u.queue.job) (is p z here g))
-    | inr away ↦ k.names j p z (sym (turn.others p away) ∙ g) e
-  ];
-  ordered = λ p z g. elim (cases_eq p q) [
-    | inl here ↦ subst (λ (u : HeldQueue). InOrder at u.tasks) (is p z here g) (k.ordered q v was)
-    | inr away ↦ k.ordered p z (sym (turn.others p away) ∙ g)
-  ];
-  live = λ j p s e o f. elim (cases_eq p q) [
-    | inl here ↦ (_, ap (slot_value (changed old q (with_opened on))) here ∙ turn.here)
-    | inr away ↦ subst (λ (u : Option HeldQueue). (z : HeldQueue) × (u ≡ Some z)) (sym (turn.others p away)) (k.live j p s e o f)
-  ];
+  listed = λ j p s z e f g. grind (arith, nat_tests, turn.here, turn.others p, k.listed j q s v e, k.listed j p s z e f);
+  names = λ j p z g e. grind (arith, nat_tests, turn.here, turn.others p, k.names j q v was, k.names j p z);
+  ordered = λ p z g. grind (arith, nat_tests, turn.here, turn.others p, k.ordered q v was, k.ordered p z);
+  live = λ j p s e o f. grind (arith, nat_tests, turn.here, turn.others p, k.live j p s e o f);
   given = λ j p s e f. given-changed old q p (with_opened on) v was (k.given j p s e f);
-  ranked = λ p z g. elim (cases_eq p q) [
-    | inl here ↦ subst (λ (u : HeldQueue). u.queue.priority < n) (is p z here g) (k.ranked q v was)
-    | inr away ↦ k.ranked p z (sym (turn.others p away) ∙ g)
-  ];
+  ranked = λ p z g. grind (arith, nat_tests, turn.here, turn.others p, k.ranked q v was, k.ranked p z);
 }
   where
-    turn : PutQueue old q (Some (with_opened on v)) (changed old q (with_opened on))
-    turn = put-queue_changed old q (with_opened on) v was
-
-    is : (p : ℕ) (z : HeldQueue) → p ≡ q → slot_value (changed old q (with_opened on)) p ≡ Some z → with_opened on v ≡ z
-    is p z here g = some_same (sym turn.here ∙ ap (slot_value (changed old q (with_opened on))) (sym here) ∙ g)
+    turn : Put (slot_value old) q (Some (with_opened on v)) (slot_value (changed old q (with_opened on)))
+    turn = slot-changed old q (with_opened on) v was
 
 pub queued-new : (at : ℕ → Option Seen) (q : ℕ) (old new : Slots HeldQueue) (n : ℕ) (r : Queue) → Inserts old new q (held r []) → r.priority < n
     → AreQueued at old n → AreQueued at new n
 queued-new at q old new n r i rank k = record {
-  listed = λ j p s z e f g. elim (cases_eq p q) [
-    | inl here ↦ absurd (given-new old new q (held r []) i (subst (λ (u : ℕ). WasGiven old u) here (k.given j p s e f)))
-    | inr away ↦ k.listed j p s z e f (sym (turn.others p away) ∙ g)
-  ];
-  names = λ j p z g e. elim (cases_eq p q) [
-    | inl here ↦ absurd (false≢true (ap (λ (u : HeldQueue). has_handle j u.tasks) (is p z here g) ∙ e))
-    | inr away ↦ k.names j p z (sym (turn.others p away) ∙ g) e
-  ];
-  ordered = λ p z g. elim (cases_eq p q) [
-    | inl here ↦ subst (λ (u : HeldQueue). InOrder at u.tasks) (is p z here g) tt
-    | inr away ↦ k.ordered p z (sym (turn.others p away) ∙ g)
-  ];
-  live = λ j p s e o f. elim (cases_eq p q) [
-    | inl here ↦ (_, ap (slot_value new) here ∙ turn.here)
-    | inr away ↦ subst (λ (u : Option HeldQueue). (z : HeldQueue) × (u ≡ Some z)) (sym (turn.others p away)) (k.live j p s e o f)
-  ];
+  listed = λ j p s z e f g. grind (arith, nat_tests, given-new old new q (held r []) i, k.given j p s e f, k.listed j p s z e f, turn.others p);
+  names = λ j p z g e. grind (arith, nat_tests, turn.here, turn.others p, k.names j p z);
+  ordered = λ p z g. grind (arith, nat_tests, turn.here, turn.others p, k.ordered p z);
+  live = λ j p s e o f. grind (arith, nat_tests, turn.others p, k.live j p s e o f);
   given = λ j p s e f. given-insert old new q p (held r []) i (k.given j p s e f);
-  ranked = λ p z g. elim (cases_eq p q) [
-    | inl here ↦ subst (λ (u : HeldQueue). u.queue.priority < n) (is p z here g) rank
-    | inr away ↦ k.ranked p z (sym (turn.others p away) ∙ g)
-  ];
+  ranked = λ p z g. grind (arith, nat_tests, turn.here, turn.others p, k.ranked p z);
 }
   where
-    turn : PutQueue old q (Some (held r [])) new
-    turn = put-queue_insert old new q (held r []) i
-
-    is : (p : ℕ) (z : HeldQueue) → p ≡ q → slot_value new p ≡ Some z → held r [] ≡ z
-    is p z here g = some_same (sym turn.here ∙ ap (slot_value new) (sym here) ∙ g)
+    turn : Put (slot_value old) q (Some (held r [])) (slot_value new)
+    turn = slot-insert old new q (held r []) i
 
 -- a queue goes whose tasks that haven't ended all run
 pub queued-gone : (at : ℕ → Option Seen) (q : ℕ) (old : Slots HeldQueue) (n : ℕ) (v : HeldQueue) → slot_value old q ≡ Some v
     → ((h : ℕ) (s : Seen) → at h ≡ Some s → s.on ≡ None → s.queue ≡ Some q → ⊥) → AreQueued at old n → AreQueued at (without old q) n
 queued-gone at q old n v was none k = record {
-  listed = λ j p s z e f g. k.listed j p s z e f (there p z g);
+  listed = λ j p s z e f g. grind (arith, nat_tests, turn.here, turn.others p, k.listed j p s z e f);
   names = λ j p z g e. k.names j p z (there p z g) e;
   ordered = λ p z g. k.ordered p z (there p z g);
-  live = λ j p s e o f. elim (cases_eq p q) [
-    | inl here ↦ absurd (none j s e o (f ∙ ap Some here))
-    | inr away ↦ subst (λ (u : Option HeldQueue). (z : HeldQueue) × (u ≡ Some z)) (sym (turn.others p away)) (k.live j p s e o f)
-  ];
+  live = λ j p s e o f. grind (arith, nat_tests, turn.others p, k.live j p s e o f);
   given = λ j p s e f. given-without old q p v was (k.given j p s e f);
   ranked = λ p z g. k.ranked p z (there p z g);
 }
   where
-    turn : PutQueue old q None (without old q)
-    turn = put-queue_without old q v was
+    turn : Put (slot_value old) q None (slot_value (without old q))
+    turn = slot-without old q v was
 
     there : (p : ℕ) (z : HeldQueue) → slot_value (without old q) p ≡ Some z → slot_value old p ≡ Some z
-    there p z g = elim (cases_eq p q) [
-      | inl here ↦ absurd (none-some _ (sym turn.here ∙ ap (slot_value (without old q)) (sym here) ∙ g))
-      | inr away ↦ sym (turn.others p away) ∙ g
-    ]
+    there p z g = grind (arith, nat_tests, turn.here, turn.others p)
 
 -- What a queue lets begin
 
@@ -320,21 +208,15 @@ first-leave h k (a ∷ hs) d e = grind (arith, nat_tests)
 pub begins-enqueue : (old : Slots HeldQueue) (h q k p : ℕ) (v : HeldQueue) → slot_value old q ≡ Some v → k ≢ h
     → begins_in (changed old q (with_task h)) k (Some p) ≡ begins_in old k (Some p)
 begins-enqueue old h q k p v was d = elim (cases_eq p q) [
-  | inl here ↦
-      ap (λ (i : ℕ). begins_in (changed old q (with_task h)) k (Some i)) here
-      ∙ begins-list old (changed old q (with_task h)) k q v (with_task h v) was (put-queue_changed old q (with_task h) v was).here refl
-      (first-push h k v.tasks d)
-      ∙ ap (λ (i : ℕ). begins_in old k (Some i)) (sym here)
-  | inr away ↦ begins-same old (changed old q (with_task h)) k p ((put-queue_changed old q (with_task h) v was).others p away)
+  | inl here ↦ rw here (begins-list old (changed old q (with_task h)) k q v (with_task h v) was
+      (slot-changed old q (with_task h) v was).here refl (first-push h k v.tasks d))
+  | inr away ↦ begins-same old (changed old q (with_task h)) k p ((slot-changed old q (with_task h) v was).others p away)
 ]
 
 pub begins-leave : (old : Slots HeldQueue) (h q k p : ℕ) (v : HeldQueue) → slot_value old q ≡ Some v → k ≢ h
     → ((j : ℕ) → slice_get (without_handle h v.tasks) 0 ≡ Some j → k ≢ j) → begins_in (changed old q (without_task h)) k (Some p) ≡ begins_in old k (Some p)
 begins-leave old h q k p v was d e = elim (cases_eq p q) [
-  | inl here ↦
-      ap (λ (i : ℕ). begins_in (changed old q (without_task h)) k (Some i)) here
-      ∙ begins-list old (changed old q (without_task h)) k q v (without_task h v) was (put-queue_changed old q (without_task h) v was).here refl
-      (first-leave h k v.tasks d e)
-      ∙ ap (λ (i : ℕ). begins_in old k (Some i)) (sym here)
-  | inr away ↦ begins-same old (changed old q (without_task h)) k p ((put-queue_changed old q (without_task h) v was).others p away)
+  | inl here ↦ rw here (begins-list old (changed old q (without_task h)) k q v (without_task h v) was
+      (slot-changed old q (without_task h) v was).here refl (first-leave h k v.tasks d e))
+  | inr away ↦ begins-same old (changed old q (without_task h)) k p ((slot-changed old q (without_task h) v was).others p away)
 ]

@@ -1,9 +1,9 @@
 -- Marks made anew for the waiting tasks of one job.
-use Rattle.task_board.proofs.Names.{nat_tests, ◌≡◌, ◌≢◌, ◌⊎◌, ℕ, zero, suc, ◌<◌, ◌+◌, Bool, true, List, [], ◌∷◌, length, length-set, Option, Some, None, set, slice_get, sym, ◌∙◌, ap, subst, inl, inr, arith, ◌==◌, cases_eq, get_or-set_same, get_or-set_other, slice_get_within, Kind, Slots, slot_of, slot_value, max_of, Inserts, changed, put, with_value, without, slot_of-live, get-with_value_same, get-with_value_other, get-insert_same, get-insert_before, get-insert_other, get-without_same, get-without_other, option_map, has_handle, has-index, index-has, Mark, ReadyMarks, mark_at, is_for_at, Action, has_enabled_job, new_action, with_enabled, runs_job_on, IsUnion, Task, Seen, seen_in, AreSeen, IsMarkOf, Marked, IsFresh, IsFreshFor, StandsBefore, Remarked, and_parts}
+use Rattle.task_board.proofs.Names.{nat_tests, ◌≡◌, ◌⊎◌, ℕ, zero, suc, ◌<◌, ◌+◌, Bool, true, List, [], ◌∷◌, length, length-set, Option, Some, None, set, slice_get, sym, ◌∙◌, ap, subst, inl, inr, arith, ◌==◌, cases_eq, slice_get_within, Kind, Slots, slot_of, slot_value, max_of, Inserts, changed, put, without, slot_of-live, get-with_value_same, get-with_value_other, get-insert_same, get-insert_before, get-insert_other, get-without_same, get-without_other, option_map, has_handle, has-index, index-has, Mark, ReadyMarks, mark_at, is_for_at, Action, has_enabled_job, new_action, with_enabled, runs_job_on, IsUnion, Task, Seen, seen_in, AreSeen, IsMarkOf, Marked, IsFresh, IsFreshFor, StandsBefore, Remarked, and_parts}
 use Rattle.task_board.specs.Seen.{Takes}
 use Rattle.task_board.proofs.SeenLemmas.{some_same, seen-live}
 use Rattle.task_board.proofs.MarkLemmas.{same-number}
-use Rattle.task_board.proofs.MoveLemmas.{alone}
+use Rattle.task_board.proofs.MoveLemmas.{mark-here, mark-away, alone}
 
 -- the slot of what is seen
 pub seen-slot : (p : Slots Task) (h : ℕ) (s : Seen) → seen_in p h ≡ Some s → slot_of h < max_of p
@@ -11,12 +11,6 @@ seen-slot p h s e = let t = seen-live p h s e in slot_of-live p h t.0 t.1
 
 pub walked-slot : (p : Slots Task) (hs : List ℕ) (i h : ℕ) → AreSeen (seen_in p) hs → slice_get hs i ≡ Some h → slot_of h < max_of p
 walked-slot p hs i h w e = let s = w h (index-has h i hs e) in seen-slot p h s.0 s.1
-
-mark-here : (marks : List (Option Mark)) (place : ℕ) (m : Option Mark) → place < length marks → mark_at (set marks place m) place ≡ m
-mark-here marks place m less = get_or-set_same marks place m None less
-
-mark-away : (marks : List (Option Mark)) (place other : ℕ) (m : Option Mark) → other ≢ place → mark_at (set marks place m) other ≡ mark_at marks other
-mark-away marks place other m d = get_or-set_other marks place other m None d
 
 pub remarked-none : (actions : Slots Action) (lets : ℕ → Option ℕ → Bool) (at : ℕ → Option Seen) (job : ℕ) (hs : List ℕ) (r : ReadyMarks)
     → Remarked actions lets at job hs 0 r r
@@ -63,10 +57,7 @@ module _ (actions : Slots Action) (lets : ℕ → Option ℕ
   })
 
   pub remarked-next : IsFreshFor actions lets (seen_in p) job h now new → Remarked actions lets (seen_in p) job hs (index + 1) old new
-  remarked-next f = elim f [
-    | inl mine ↦ marked mine.0 mine.1
-    | inr other ↦ skipped other.0 other.1
-  ]
+  remarked-next f = grind (arith, nat_tests, marked, skipped)
 
 -- Other actions
 
@@ -82,15 +73,8 @@ pub same-changed : (p : Slots Action) (h job : ℕ) (on : Bool) (x : Action) →
     → SameBut job p (changed p h (with_enabled on))
 same-changed p h job on x g j =
     subst (λ (o : Option Action). SameBut job p (put p h (option_map (with_enabled on) o))) (sym g) (record {
-      there = λ k a d e. elim (cases_eq k h) [
-        | inl here ↦ absurd (d (ap (λ (y : Action). y.job) (some_same (sym e ∙ ap (slot_value p) here ∙ g)) ∙ j))
-        | inr away ↦ get-with_value_other p h k x (with_enabled on x) g away ∙ e
-      ];
-      back = λ k a d e. elim (cases_eq k h) [
-        | inl here ↦ absurd (d (ap (λ (y : Action). y.job)
-            (some_same (sym e ∙ ap (slot_value (with_value p h (with_enabled on x))) here ∙ get-with_value_same p h x (with_enabled on x) g)) ∙ j))
-        | inr away ↦ sym (get-with_value_other p h k x (with_enabled on x) g away) ∙ e
-      ];
+      there = λ k a d e. grind (arith, nat_tests, get-with_value_other p h k x (with_enabled on x) g);
+      back = λ k a d e. grind (arith, nat_tests, get-with_value_same p h x (with_enabled on x) g, get-with_value_other p h k x (with_enabled on x) g);
     })
 
 pub same-without : (p : Slots Action) (h job : ℕ) (x : Action) → slot_value p h ≡ Some x → x.job ≡ job → SameBut job p (without p h)

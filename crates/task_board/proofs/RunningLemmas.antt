@@ -20,10 +20,8 @@ some-runs b w t e1 e2 = grind (arith, nat_tests)
 pub none-runs : (b : SchedulerTable) (w : ℕ) → IsScheduler b → running_on b.running w ≡ None → NoneLive (slot_value b.tasks.pool) (Passes (runs_on w))
 none-runs b w k e h t g r =
     let s = runs-seen t w t.state refl r in
-    no (sym e ∙ k.running_are.found h w s.0 (ap seen g ∙ s.1) s.2)
-  where
-    no : {t : TaskHandle} → None ≡ Some t → ⊥
-    no d = cc
+    let found = k.running_are.found h w s.0 (ap seen g ∙ s.1) s.2 in
+    grind (arith, nat_tests)
 
 pub not-running : (b : SchedulerTable) (w : ℕ) → IsScheduler b → NoneLive (slot_value b.tasks.pool) (Passes (runs_on w))
     → is_some (running_on b.running w) ≡ false

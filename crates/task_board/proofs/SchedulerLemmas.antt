@@ -1,13 +1,12 @@
 -- What each call keeps of a scheduler.
-use Rattle.task_board.proofs.Names.{nat_tests, ◌≡◌, ◌≢◌, ◌⊎◌, ◌≤◌, ◌+◌, ℕ, zero, suc, ◌<◌, Bool, true, false, List, [], ◌∷◌, length, length-set, Option, Some, None, Result, Ok, Err, set, slice_get, refl, sym, ◌∙◌, ap, subst, inl, inr, arith, ◌%◌, is_some, is_none, option_map, false≢true, cases_eq, cases_Bool, Kind, TaskHandle, MtapiStatus, without, Slots, slot_of, generation_of, free_slot, value_at, slot_value, max_of, Inserts, changed, put, value_at-none, get-insert_same, get-insert_before, slot_of-live, list_at, has_handle, without_handle, stands_at, NowhereAt, list_at-set_same, Mark, ReadyMarks, Action, Queue, job_of, IsUnion, Task, NewTask, new_task, Running, is_unstarted, with_state, TaskState, scheduled, end_of, TaskTable, GroupTable, members_in, AreMembers, MayJoin, joined, ended_member, Seen, seen_as, seen, seen_in, HeldQueue, QueueTable, NoTaskAt, live_reply, held, facts_of, tasks_of, with_opened, with_task, QueueHandle, ErrQueueExists, ErrQueueLimit, begins_in, AreQueued, NoneWaitsIn, WaitingTable, job_list, with_waiting, without_waiting, AreSeen, AreByJob, SchedulerTable, IsScheduler, IsMarkOf, Marked, AreWaiting, AreRunning, AreRanked, running_on, IsFresh, Remarked, RemarkedUnless, none-some}
+use Rattle.task_board.proofs.Names.{nat_tests, ◌≡◌, ◌≢◌, ◌⊎◌, ◌≤◌, ◌+◌, ℕ, zero, suc, ◌<◌, Bool, true, false, List, [], ◌∷◌, length, length-set, Option, Some, None, Result, Ok, Err, set, refl, sym, ◌∙◌, ap, subst, inl, inr, arith, ◌%◌, is_some, is_none, option_map, false≢true, cases_eq, Kind, TaskHandle, MtapiStatus, without, Slots, slot_of, generation_of, free_slot, value_at, slot_value, max_of, Inserts, changed, put, value_at-none, get-insert_same, get-insert_before, slot_of-live, list_at, has_handle, without_handle, stands_at, NowhereAt, list_at-set_same, Mark, ReadyMarks, Action, Queue, job_of, IsUnion, Task, NewTask, new_task, Running, is_unstarted, with_state, TaskState, scheduled, end_of, TaskTable, GroupTable, members_in, AreMembers, MayJoin, joined, ended_member, Seen, seen_as, seen, seen_in, HeldQueue, QueueTable, NoTaskAt, live_reply, held, facts_of, tasks_of, with_opened, with_task, QueueHandle, ErrQueueExists, ErrQueueLimit, begins_in, AreQueued, NoneWaitsIn, WaitingTable, job_list, with_waiting, without_waiting, AreSeen, AreByJob, SchedulerTable, IsScheduler, IsMarkOf, Marked, AreWaiting, AreRunning, AreRanked, running_on, IsFresh, Remarked, RemarkedUnless, none-some}
 use Rattle.std.specs.Result.{OnOk, OnErr}
 use Rattle.queue_core.specs.Held.{Creates as CreatesQueue}
 use Rattle.queue_core.specs.declared.facts.QueueFacts.{QueueFacts}
 use Rattle.task_board.proofs.ByJobLemmas.{by-job-push, by-job-leave, by-job-has}
 use Rattle.task_board.proofs.SeenLemmas.{some_same, SeenAs, seen-as, seen-live, unstarted-seen}
-use Rattle.task_board.proofs.MoveLemmas.{Put, Alone, Steady, alone-old, alone-new, put-insert, put-changed, max-insert, max-changed, marked-put, marked-steady, ranked-put, waiting-push, waiting-leave, running-begin, running-same, stands-handle}
+use Rattle.task_board.proofs.MoveLemmas.{none-stands, Put, Alone, Steady, alone-old, alone-new, put-insert, put-changed, max-insert, max-changed, marked-put, marked-steady, ranked-put, waiting-push, waiting-leave, running-begin, running-same, stands-handle, slot-changed, slot-insert, slot-without}
 use Rattle.task_board.proofs.RemarkLemmas.{SameBut, TakenBy, taken-other, taken-steady, marked-anew, marked-over}
-use Rattle.task_board.proofs.GivenLemmas.{put-queue_changed, put-queue_insert, put-queue_without}
 use Rattle.task_board.proofs.QueuedLemmas.{queued-apart, queued-enqueue, queued-run, queued-with, queued-new, queued-gone, begins-same, begins-enqueue}
 use Rattle.task_board.proofs.MemberLemmas.{members-same}
 use Rattle.task_board.proofs.TaskMemberLemmas.{members-add, member-runs}
@@ -66,41 +65,20 @@ one-length ls list e = length-set ls.lists 0 list ∙ e
 
 -- nothing stands at a slot that was free
 pub nowhere : (b : SchedulerTable) (q : Slots Task) (h : ℕ) (t : Task) → IsScheduler b → Inserts b.tasks.pool q h t → NowhereAt (slot_of h) b.waiting.lists
-nowhere b q h t k i number = elim (cases_Bool (stands_at (slot_of h) (list_at b.waiting.lists number))) [
-  | inl on ↦ absurd (at_number number on)
-  | inr off ↦ off
-]
+nowhere b q h t k i zero = none-stands b.tasks.pool q h t (list_at b.waiting.lists 0) i (λ w e none.
+    let s = k.waiting_are.waits w e in absurd (none-some _ (sym (ap seen none) ∙ s.1)))
+nowhere b q h t k i (suc n) = ap (stands_at (slot_of h)) (at_none b.waiting.lists k.lists)
   where
-    at_none : (l : List (List ℕ)) (n : ℕ) → length l ≡ 1 → list_at l (suc n) ≡ []
-    at_none [] n e = refl
-    at_none (x ∷ []) n e = refl
-    at_none (x ∷ (y ∷ ys)) n e = absurd (omega (arith, e))
-
-    at_number : (n : ℕ) → stands_at (slot_of h) (list_at b.waiting.lists n) ≡ true → ⊥
-    at_number zero on =
-        let w = stands-handle (slot_of h) (list_at b.waiting.lists 0) on in
-        let s = k.waiting_are.waits w.0 w.1 in
-        let t = seen-live b.tasks.pool w.0 s.0 s.1 in
-        let free : slot_value b.tasks.pool w.0 ≡ None =
-        ap (λ (place : ℕ). value_at (slice_get b.tasks.pool.slots place) (generation_of w.0)) w.2
-        ∙ (ap (λ (o : Option _). value_at o (generation_of w.0)) i.was_free ∙ value_at-none (free_slot (generation_of h)) (generation_of w.0) refl) in
-        absurd (none-some _ (sym free ∙ t.1))
-    at_number (suc n) on = false≢true (sym (ap (stands_at (slot_of h)) (at_none b.waiting.lists n k.lists)) ∙ on)
+    at_none : (l : List (List ℕ)) → length l ≡ 1 → list_at l (suc n) ≡ []
+    at_none [] e = refl
+    at_none (x ∷ []) e = refl
+    at_none (x ∷ (y ∷ ys)) e = absurd (omega (arith, e))
 
 -- nor in the lists by jobs
 pub nowhere-by-job : (b : SchedulerTable) (q : Slots Task) (h : ℕ) (t : Task) → IsScheduler b → Inserts b.tasks.pool q h t
     → NowhereAt (slot_of h) b.waiting.by_job
-nowhere-by-job b q h t k i number = elim (cases_Bool (stands_at (slot_of h) (list_at b.waiting.by_job number))) [
-  | inl on ↦
-      let w = stands-handle (slot_of h) (list_at b.waiting.by_job number) on in
-      let s = (k.by_job.each number (has-number b.waiting.by_job number w.0 w.1)).is_seen w.0 w.1 in
-      let t = seen-live b.tasks.pool w.0 s.0 s.1 in
-      let free : slot_value b.tasks.pool w.0 ≡ None =
-      ap (λ (place : ℕ). value_at (slice_get b.tasks.pool.slots place) (generation_of w.0)) w.2
-      ∙ (ap (λ (o : Option _). value_at o (generation_of w.0)) i.was_free ∙ value_at-none (free_slot (generation_of h)) (generation_of w.0) refl) in
-      absurd (none-some _ (sym free ∙ t.1))
-  | inr off ↦ off
-]
+nowhere-by-job b q h t k i number = none-stands b.tasks.pool q h t (list_at b.waiting.by_job number) i (λ w e none.
+    let s = (k.by_job.each number (has-number b.waiting.by_job number w e)).is_seen w e in absurd (none-some _ (sym (ap seen none) ∙ s.1)))
   where
     has-number : (ls : List (List ℕ)) (n w : ℕ) → has_handle w (list_at ls n) ≡ true → n < length ls
     has-number [] n w e = absurd (false≢true e)
@@ -313,7 +291,7 @@ changed-scheduler b new ready job mask e1 e2 e3 e4 = grind (arith, nat_tests, re
 -- a queue keeps its tasks where it is enabled or disabled
 pub opened-tasks : (b : SchedulerTable) (queues : QueueTable) (q : ℕ) (on : Bool) → queues ≡ record b.queues { pool = changed b.queues.pool q (with_opened on) }
     → tasks_of (slot_value queues.pool q) ≡ tasks_of (slot_value b.queues.pool q)
-opened-tasks b queues q on e1 = grind (arith, nat_tests, tasks_of, slot_value, with_opened, option_map, put-queue_changed)
+opened-tasks b queues q on e1 = grind (arith, nat_tests, tasks_of, slot_value, with_opened, option_map, slot-changed)
 
 -- the tasks of a queue are seen
 pub queue-seen : (b : SchedulerTable) (q : ℕ) → IsScheduler b → AreSeen (seen_in b.tasks.pool) (tasks_of (slot_value b.queues.pool q))
@@ -351,7 +329,7 @@ opened-scheduler b queues ready q v on k live is r =
           let u = k.queued.names h q v live has in
           inl (has, ap (λ (z : Seen). z.job) (some_same (sym f ∙ u.1)) ∙ u.3)
       | inr away ↦ inr (begins-same b.queues.pool (changed b.queues.pool q (with_opened on)) h p
-          ((put-queue_changed b.queues.pool q (with_opened on) v live).others p away))
+          ((slot-changed b.queues.pool q (with_opened on) v live).others p away))
     ]
 
     others : (h : ℕ) (s : Seen) → seen_in b.tasks.pool h ≡ Some s → s.on ≡ None
@@ -374,7 +352,7 @@ created-scheduler b queues q x k i room rank =
     by_queue : (h : ℕ) (s : Seen) (o : Option ℕ) → s.queue ≡ o → seen_in b.tasks.pool h ≡ Some s → s.on ≡ None
         → begins_in queues.pool h o ≡ begins_in b.queues.pool h o
     by_queue h s None e f n = refl
-    by_queue h s (Some p) e f n = begins-same b.queues.pool queues.pool h p ((put-queue_insert b.queues.pool queues.pool q (held x []) i).others p (λ here.
+    by_queue h s (Some p) e f n = begins-same b.queues.pool queues.pool h p ((slot-insert b.queues.pool queues.pool q (held x []) i).others p (λ here.
         let old = k.queued.live h p s f n e in
         absurd (none-some _ (sym (get-insert_before b.queues.pool queues.pool q (held x []) i) ∙ ap (slot_value b.queues.pool) (sym here) ∙ old.1))))
 
@@ -392,7 +370,7 @@ deleted-scheduler b queues q v k none live is =
         → begins_in (without b.queues.pool q) h o ≡ begins_in b.queues.pool h o
     by_queue h s None e f n = refl
     by_queue h s (Some p) e f n = begins-same b.queues.pool (without b.queues.pool q) h p
-        ((put-queue_without b.queues.pool q v live).others p (λ here. none h s f n (e ∙ ap Some here)))
+        ((slot-without b.queues.pool q v live).others p (λ here. none h s f n (e ∙ ap Some here)))
 
 -- a delete that may have been refused
 pub delete-scheduler : (b : SchedulerTable) (queues : QueueTable) (q : ℕ) (r : Result Unit MtapiStatus) → IsScheduler b → NoneWaitsIn q (seen_in b.tasks.pool)

@@ -1,5 +1,5 @@
 -- What is seen of a task, and which tasks a worker may take.
-use Rattle.task_board.proofs.Names.{arith, nat_tests, ◌≡◌, ℕ, Bool, true, Option, Some, None, refl, sym, ◌∙◌, ap, subst, false≢true, in_mask, holds, ◌==◌, ◌<◌, IfSome, Mark, AreRanked, Slots, slot_value, Action, runs_job_on, Task, TaskState, Scheduled, Running, Ended, scheduled, runner, is_unstarted, Takeable, Seen, seen_as, seen, seen_in}
+use Rattle.task_board.proofs.Names.{arith, nat_tests, ◌≡◌, ℕ, Bool, true, Option, Some, None, refl, sym, ◌∙◌, ap, subst, false≢true, holds, ◌==◌, ◌<◌, IfSome, Mark, AreRanked, Slots, slot_value, Action, Task, TaskState, Scheduled, Running, Ended, scheduled, runner, is_unstarted, Takeable, Seen, seen_as, seen, seen_in}
 use Rattle.task_board.specs.Seen.{Takes}
 
 pub some_same : {A : Type 0} {a b : A} → Some a ≡ Some b → a ≡ b
@@ -46,12 +46,7 @@ takes-to actions lets w t k =
     record {
       s = s.0;
       is = s.1;
-      takes = record {
-        waits = s.2;
-        queue = ap lets a.queue ∙ k.3.queue;
-        core = ap (in_mask w) a.cores ∙ k.3.core;
-        action = (k.0, k.1, k.2, ap (λ (j : ℕ). runs_job_on j w k.1) a.job ∙ k.3.action);
-      };
+      takes = grind (arith, nat_tests, k.3.core, k.3.action);
       priority = a.priority;
     }
 

@@ -1,7 +1,7 @@
 -- What each move of the tasks is for the members.
-use Rattle.task_board.proofs.Names.{nat_tests, ◌≡◌, ℕ, ◌+◌, Bool, true, false, cond, List, Option, Some, None, IsSome, slice_get, refl, sym, ◌∙◌, ap, subst, inl, inr, arith, IfSome, is_some, is_none, option_map, false≢true, cases_Bool, TaskEnd, Kind, first, GroupHandle, Slots, slot_of, generation_of, free_slot, slot_value, value_at, Inserts, with_value, without, put, changed, value_at-none, has_handle, stands_at, Task, TaskState, Running, Ended, NewTask, new_task, Notes, is_unended, end_of, with_state, with_notes, with_tally, with_waiter, cancel_requested, asked_once, asked_refusals, task_look_refusals, group_number, number_in, notes_of, tallied, after_asked, waiter_after, ended_in, looked_in, Members, GroupTable, with_member, with_ended, NoMemberAt, IsUnendedMember, Membership, start_in, member_as, membership, members_in, AreMembers, MayJoin, joined, ended_member, none-some}
+use Rattle.task_board.proofs.Names.{nat_tests, ◌≡◌, ℕ, ◌+◌, Bool, true, false, cond, Option, Some, None, IsSome, refl, sym, ◌∙◌, ap, subst, arith, IfSome, is_some, is_none, option_map, false≢true, TaskEnd, Kind, first, GroupHandle, Slots, slot_of, generation_of, free_slot, slot_value, value_at, Inserts, with_value, without, put, changed, value_at-none, Task, TaskState, Running, Ended, NewTask, new_task, Notes, is_unended, end_of, with_state, with_notes, with_tally, with_waiter, cancel_requested, asked_once, asked_refusals, task_look_refusals, group_number, number_in, notes_of, tallied, after_asked, waiter_after, ended_in, looked_in, Members, GroupTable, with_member, with_ended, NoMemberAt, IsUnendedMember, Membership, start_in, member_as, membership, members_in, AreMembers, MayJoin, joined, ended_member, none-some, SchedulerTable, IsScheduler, TaskTable, seen_in, max_of}
 use Rattle.task_core.specs.declared.tallies.TallyState.{TallyState}
-use Rattle.task_board.proofs.MoveLemmas.{Put, put-by, put-same, slot-value, slot-without, slot-insert, slot-changed, stands-handle}
+use Rattle.task_board.proofs.MoveLemmas.{none-stands, quiet, Put, put-by, put-same, slot-value, slot-without, slot-insert, slot-changed}
 use Rattle.task_board.proofs.MemberLemmas.{start-here, start-tells, end-tells, members-same, members-enter, members-end}
 
 -- Moves that groups don't see
@@ -51,22 +51,15 @@ member-looked p h who last (Some t) g k = by_tests (first (task_look_refusals wh
 pub no-member : (p q : Slots Task) (h : ℕ) (t : Task) (groups : Slots Members) (starts ends : ℕ) → AreMembers (members_in p) (slot_value groups) starts ends
     → Inserts p q h t → NoMemberAt (slot_of h) groups
 no-member p q h t groups starts ends old i g m live = (
-  off m.unended (λ k e. let a = (old.unended g m live).has_key k e in let x = start-tells g a.0 (members_in p k) a.1 in (x.e, x.is)),
-  off m.ended (λ k e. let a = (old.ended g m live).has_key k e in let x = end-tells g a.0 (members_in p k) a.1 in (x.e, x.is)),
+  none-stands p q h t m.unended i (λ w e none.
+      let a = (old.unended g m live).has_key w e in
+      let x = start-tells g a.0 (members_in p w) a.1 in
+      absurd (none-some _ (sym (ap membership none) ∙ x.is))),
+  none-stands p q h t m.ended i (λ w e none.
+      let a = (old.ended g m live).has_key w e in
+      let x = end-tells g a.0 (members_in p w) a.1 in
+      absurd (none-some _ (sym (ap membership none) ∙ x.is))),
 )
-  where
-    none : (k : ℕ) → slot_of k ≡ slot_of h → slot_value p k ≡ None
-    none k same = ap (λ (place : ℕ). value_at (slice_get p.slots place) (generation_of k)) same
-        ∙ (ap (λ (o : Option _). value_at o (generation_of k)) i.was_free ∙ value_at-none (free_slot (generation_of h)) (generation_of k) refl)
-
-    off : (hs : List ℕ) → ((k : ℕ) → has_handle k hs ≡ true → (e : Membership) × (members_in p k ≡ Some e)) → stands_at (slot_of h) hs ≡ false
-    off hs are = elim (cases_Bool (stands_at (slot_of h) hs)) [
-      | inl on ↦
-          let k = stands-handle (slot_of h) hs on in
-          let e = are k.0 k.1 in
-          absurd (none-some _ (sym (ap membership (none k.0 k.2)) ∙ e.1))
-      | inr is ↦ is
-    ]
 
 pub may-join : (groups : Slots Members) (detached : Bool) (g : Option GroupHandle) → MayJoin groups detached (group_number g)
     → IfSome g (λ k. IsSome (slot_value groups k.0))
@@ -129,8 +122,7 @@ members-over p q h e x t starts ends more later old g un is same next =
 
     no_group : x.notes.group ≡ None → (b : Bool) → (k : ℕ) → members_in (cond b (without p h) (with_value p h (with_state (Ended e ends) x))) k ≡ members_in p k
     no_group d true = put-same (members_in p) _ h None (put-by membership (slot_value p) _ h None (slot-without p h x g)) (sym (here ∙ ap (member_as x) d))
-    no_group d false = put-same (members_in p) _ h _ (put-by membership (slot_value p) _ h (Some (with_state (Ended e ends) x)) (slot-value p h x _ g))
-        (ap (member_as (with_state (Ended e ends) x)) d ∙ sym (here ∙ ap (member_as x) d))
+    no_group d false = grind (arith, nat_tests, put-same (members_in p), put-by membership (slot_value p), slot-value p h x)
 
     in_group : (z : ℕ) → x.notes.group ≡ Some z
         → Put (members_in p) h (Some (record { group = z; detached = x.notes.detached; start = x.start; end = Some ends }))
@@ -174,3 +166,11 @@ pub members-quiet : (p q : Slots Task) (groups : Slots Members) (starts ends mor
     → later ≡ ends → AreMembers (members_in p) (slot_value groups) starts ends → AreMembers (members_in q) (slot_value groups) more later
 members-quiet p q groups starts ends more later same grows ages old =
     members-same (members_in p) (members_in q) (slot_value groups) starts ends more later same (omega (arith, grows)) (omega (arith, ages)) old
+
+-- the tasks are others, of which neither the scheduler nor the groups see anything
+pub quiet-pool : (b : SchedulerTable) (q : TaskTable) (pool : Slots Task) → q ≡ record b.tasks { pool = pool }
+    → ((k : ℕ) → seen_in pool k ≡ seen_in b.tasks.pool k) → max_of pool ≡ max_of b.tasks.pool → ((k : ℕ) → members_in pool k ≡ members_in b.tasks.pool k)
+    → IsScheduler b → IsScheduler (record b { tasks = q })
+quiet-pool b q pool is same max members k =
+    rw is (quiet b (record b.tasks { pool = pool }) same max refl
+    (members-quiet b.tasks.pool pool b.groups.pool b.tasks.starts b.tasks.ends _ _ members refl refl k.members) k)

@@ -1,5 +1,5 @@
 -- What the lists of walks have, and that tasks end alike along two lists which have the same of those that pass.
-use Rattle.task_board.proofs.Names.{nat_tests, ◌≡◌, ◌≢◌, ℕ, Bool, true, false, cond, List, [], ◌∷◌, length, Option, Some, None, refl, sym, ◌∙◌, ap, subst, arith, ◌==◌, ◌&&◌, ◌%◌, is_none, is_some, if◌then◌else◌, option_map, false≢true, TaskEnd, holds, Slots, slot_value, with_value, without, has_handle, Task, Ended, with_state, HeldQueue, tasks_of, TaskTable, ended_in, Walk, Waiting, OfJob, Queued, Seen, seen_in, InOrder, walked, AreIn, waits_at, is_walked, SchedulerTable, IsScheduler, records_of, ended_next, ended_each, and_parts}
+use Rattle.task_board.proofs.Names.{nat_tests, ◌≡◌, ◌≢◌, ℕ, Bool, true, false, cond, List, [], ◌∷◌, length, Option, Some, None, refl, sym, ◌∙◌, ap, subst, arith, ◌==◌, ◌&&◌, ◌%◌, is_some, if◌then◌else◌, false≢true, TaskEnd, holds, Slots, slot_value, with_value, without, has_handle, Task, Ended, with_state, HeldQueue, tasks_of, TaskTable, ended_in, Walk, Waiting, OfJob, Queued, Seen, seen_in, InOrder, walked, AreIn, is_walked, SchedulerTable, IsScheduler, records_of, ended_next, ended_each, and_parts}
 use Rattle.task_board.proofs.MarkLemmas.{same-number, number-same, named-is}
 use Rattle.task_board.proofs.MappedLemmas.{value-mapped}
 use Rattle.task_board.proofs.KeyedLemmas.{has-self, has-later, not-twice, same-order}
@@ -12,30 +12,20 @@ list_of walk b = walked walk b.waiting b.queues.pool
 -- it has the tasks that it is to have
 pub walk-are : (b : SchedulerTable) (walk : Walk) → IsScheduler b
     → AreIn (is_walked b.settings.actions walk (records_of b.queues.pool)) (seen_in b.tasks.pool) (list_of walk b)
-walk-are b Waiting k = record {
-  listed = λ h s e m. k.waiting_are.listed h s e (no-some s.on m);
-  is_seen = λ h e. let s = k.waiting_are.waits h e in (s.0, s.1, ap is_none s.2);
-  ordered = k.waiting_are.ordered;
-}
-  where
-    no-some : (o : Option ℕ) → is_none o ≡ true → o ≡ None
-    no-some None e = refl
-    no-some (Some w) e = absurd (false≢true e)
-walk-are b (OfJob job) k = subst (λ (n : ℕ). AreIn (waits_at n (job % n)) (seen_in b.tasks.pool) (list_of (OfJob job) b)) k.by_job.count
-    (k.by_job.each (job % length b.waiting.by_job) (omega (arith, k.by_job.some)))
+walk-are b Waiting k = grind (arith, nat_tests, k.waiting_are.listed, k.waiting_are.waits, k.waiting_are.ordered)
+walk-are b (OfJob job) k = grind (arith, nat_tests, k.by_job.count, k.by_job.each (job % length b.waiting.by_job), b.waiting.by_job, k.by_job.some)
 walk-are b (Queued q) k = by_found (slot_value b.queues.pool q.0) refl
   where
     live : Bool
     live = is_some (slot_value (records_of b.queues.pool) q.0)
 
-    is_live : (o : Option HeldQueue) → slot_value b.queues.pool q.0 ≡ o → live ≡ is_some o
-    is_live None e = ap is_some (value-mapped (λ (x : HeldQueue). x.queue) b.queues.pool q.0 ∙ ap (option_map (λ (x : HeldQueue). x.queue)) e)
-    is_live (Some x) e = ap is_some (value-mapped (λ (x : HeldQueue). x.queue) b.queues.pool q.0 ∙ ap (option_map (λ (x : HeldQueue). x.queue)) e)
+    is_live : live ≡ is_some (slot_value b.queues.pool q.0)
+    is_live = grind (arith, nat_tests, value-mapped (λ (x : HeldQueue). x.queue) b.queues.pool q.0)
 
     by_found : (o : Option HeldQueue) → slot_value b.queues.pool q.0 ≡ o
         → AreIn (λ s. live && holds (λ j. j == q.0) s.queue) (seen_in b.tasks.pool) (tasks_of (slot_value b.queues.pool q.0))
     by_found None e = subst (λ (z : Option HeldQueue). AreIn (λ s. live && holds (λ j. j == q.0) s.queue) (seen_in b.tasks.pool) (tasks_of z)) (sym e) (record {
-      listed = λ h s f m. absurd (false≢true (sym (is_live None e) ∙ (and_parts live _ m).0));
+      listed = λ h s f m. absurd (false≢true (sym (is_live ∙ ap is_some e) ∙ (and_parts live _ m).0));
       is_seen = λ h f. absurd (false≢true f);
       ordered = tt;
     })
@@ -44,7 +34,7 @@ walk-are b (Queued q) k = by_found (slot_value b.queues.pool q.0) refl
           listed = λ h s f m. k.queued.listed h q.0 s x f (named-is q.0 s.queue (and_parts live _ m).1) e;
           is_seen = λ h f.
               let s = k.queued.names h q.0 x e f in
-              (s.0, s.1, (λ i. is_live (Some x) e i && holds (λ j. j == q.0) (s.2 i)) ∙ number-same q.0 q.0 refl);
+              (s.0, s.1, (λ i. (is_live ∙ ap is_some e) i && holds (λ j. j == q.0) (s.2 i)) ∙ number-same q.0 q.0 refl);
           ordered = k.queued.ordered q.0 x e;
         })
 
@@ -56,16 +46,7 @@ chosen f (h ∷ hs) = if f h then h ∷ chosen f hs else chosen f hs
 
 chosen-from : (f : ℕ → Bool) (k : ℕ) (hs : List ℕ) → has_handle k (chosen f hs) ≡ true → (has_handle k hs ≡ true) × (f k ≡ true)
 chosen-from f k [] e = absurd (false≢true e)
-chosen-from f k (h ∷ hs) e = by_test (f h) refl e (chosen-from f k hs)
-  where
-    by_test : (b : Bool) → f h ≡ b → has_handle k (if b then h ∷ chosen f hs else chosen f hs) ≡ true
-        → (has_handle k (chosen f hs) ≡ true → (has_handle k hs ≡ true) × (f k ≡ true)) → (has_handle k (h ∷ hs) ≡ true) × (f k ≡ true)
-    by_test true p g rest =
-        let here : (h == k) ≡ true → f k ≡ true = λ is. ap f (sym (same-number h k is)) ∙ p in
-        let on : has_handle k (chosen f hs) ≡ true → has_handle k hs ≡ true = λ i. (rest i).0 in
-        let passes : has_handle k (chosen f hs) ≡ true → f k ≡ true = λ i. (rest i).1 in
-        (grind (arith, on), grind (arith, here, passes))
-    by_test false p g rest = let r = rest g in (has-later k h hs r.0, r.1)
+chosen-from f k (h ∷ hs) e = grind (arith, nat_tests, chosen-from f k hs, same-number h k, has-later k h hs)
 
 chosen-has : (f : ℕ → Bool) (k : ℕ) (hs : List ℕ) → has_handle k hs ≡ true → f k ≡ true → has_handle k (chosen f hs) ≡ true
 chosen-has f k [] e p = e
@@ -73,11 +54,9 @@ chosen-has f k (h ∷ hs) e p = grind (arith, nat_tests, chosen-has f k hs)
 
 order-chosen : (at : ℕ → Option Seen) (f : ℕ → Bool) (hs : List ℕ) → InOrder at hs → InOrder at (chosen f hs)
 order-chosen at f [] o = tt
-order-chosen at f (h ∷ hs) o = by_test (f h) (order-chosen at f hs o.1)
-  where
-    by_test : (b : Bool) → InOrder at (chosen f hs) → InOrder at (if b then h ∷ chosen f hs else chosen f hs)
-    by_test true rest = (λ k s u e g j. o.0 k s u (chosen-from f k hs e).0 g j, rest)
-    by_test false rest = rest
+order-chosen at f (h ∷ hs) o =
+    let front = λ (k : ℕ) (s u : Seen) (e : has_handle k (chosen f hs) ≡ true). o.0 k s u (chosen-from f k hs e).0 in
+    grind (arith, nat_tests, order-chosen at f hs o.1)
 
 -- Ends along a list
 

@@ -411,21 +411,17 @@ impl Scheduler {
         ensures new { Becomes self.old self.new self.new.actions self.old.tasks }
     {
         let before = covered_cores(self.actions.cover(job));
-        match self.actions.create(job, kind, cores) {
-            Ok(action) => {
-                remark_where_changed(
-                    &mut self.ready,
-                    &self.waiting,
-                    &self.tasks,
-                    &self.queues,
-                    &self.actions,
-                    job,
-                    before,
-                );
-                Ok(action)
-            }
-            Err(status) => Err(status),
-        }
+        let action = self.actions.create(job, kind, cores)?;
+        remark_where_changed(
+            &mut self.ready,
+            &self.waiting,
+            &self.tasks,
+            &self.queues,
+            &self.actions,
+            job,
+            before,
+        );
+        Ok(action)
     }
 
     /// Enables an action, as `Actions::enable` says it.
@@ -434,21 +430,17 @@ impl Scheduler {
         ensures new { Becomes self.old self.new (changed self.old.actions a.0 (with_enabled true)) self.old.tasks }
     {
         let before = cores_beside(&self.actions, a);
-        match self.actions.enable(a) {
-            Ok(job) => {
-                remark_where_changed(
-                    &mut self.ready,
-                    &self.waiting,
-                    &self.tasks,
-                    &self.queues,
-                    &self.actions,
-                    job,
-                    before,
-                );
-                Ok(job)
-            }
-            Err(status) => Err(status),
-        }
+        let job = self.actions.enable(a)?;
+        remark_where_changed(
+            &mut self.ready,
+            &self.waiting,
+            &self.tasks,
+            &self.queues,
+            &self.actions,
+            job,
+            before,
+        );
+        Ok(job)
     }
 
     /// Disables an action, as `Actions::disable` says it.

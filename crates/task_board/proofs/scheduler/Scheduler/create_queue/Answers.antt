@@ -4,15 +4,5 @@ use Rattle.task_board.proofs.scheduler.Scheduler.create_queue.Goals as goal
 
 pub invariant_of-self : goal.invariant_of-self
 invariant_of-self c =
-    let b : SchedulerTable = record {
-      settings = c.self.inside.settings;
-      actions = c.self.inside.actions;
-      tasks = c.self.inside.tasks;
-      queues = c.self.inside.queues;
-      ready = c.self.inside.ready;
-      waiting = c.self.inside.waiting;
-      running = c.self.inside.running;
-      groups = c.self.inside.groups;
-    } in
-    create-scheduler b c.create.new.self (new_queue c.args.id c.args.job c.args.attr) c.create.result c.self.invariant
+    create-scheduler _ c.create.new.self (new_queue c.args.id c.args.job c.args.attr) c.create.result c.self.invariant
     (subst (λ (b : SchedulerTable). c.args.attr.priority < b.settings.priorities) (sym c.self.view_is) c.requires) c.create.ensures

@@ -4,16 +4,6 @@ use Rattle.task_board.proofs.scheduler.Scheduler.delete_group.Goals as goal
 
 pub invariant_of-self : goal.invariant_of-self
 invariant_of-self c =
-    let b : SchedulerTable = record {
-      settings = c.self.inside.settings;
-      actions = c.self.inside.actions;
-      tasks = c.self.inside.tasks;
-      queues = c.self.inside.queues;
-      ready = c.self.inside.ready;
-      waiting = c.self.inside.waiting;
-      running = c.self.inside.running;
-      groups = c.self.inside.groups;
-    } in
     let live = subst (λ (b : SchedulerTable). slot_value b.groups.pool c.args.g.0 ≡ Some no_members) (sym c.self.view_is) c.requires.empty in
-    delete-scheduler b c.delete.new.self c.args.g.0 c.self.invariant live
+    delete-scheduler _ c.delete.new.self c.args.g.0 c.self.invariant live
     (deleted-told (slot_value c.self.inside.groups.pool c.args.g.0) no_members c.delete.result live c.delete.ensures.reply c.delete.ensures.ok)

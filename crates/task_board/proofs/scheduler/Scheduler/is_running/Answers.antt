@@ -4,30 +4,10 @@ use Rattle.task_board.proofs.scheduler.Scheduler.is_running.Goals as goal
 
 pub returns-clause-some : goal.returns-clause-some
 returns-clause-some c =
-    let b : SchedulerTable = record {
-      settings = c.self.inside.settings;
-      actions = c.self.inside.actions;
-      tasks = c.self.inside.tasks;
-      queues = c.self.inside.queues;
-      ready = c.self.inside.ready;
-      waiting = c.self.inside.waiting;
-      running = c.self.inside.running;
-      groups = c.self.inside.groups;
-    } in
     subst (λ (k : SchedulerTable). OnTrue c.is_some.result (SomeLive (slot_value k.tasks.pool) (Passes (runs_on c.args.worker)))) c.self.view_is
-    (on-true c.is_some.result (λ e. running-tells b c.args.worker (running_on b.running c.args.worker) c.self.invariant refl (sym c.is_some.ensures ∙ e)))
+    (on-true c.is_some.result (λ e. running-tells _ c.args.worker _ c.self.invariant refl (sym c.is_some.ensures ∙ e)))
 
 pub returns-clause-none : goal.returns-clause-none
 returns-clause-none c =
-    let b : SchedulerTable = record {
-      settings = c.self.inside.settings;
-      actions = c.self.inside.actions;
-      tasks = c.self.inside.tasks;
-      queues = c.self.inside.queues;
-      ready = c.self.inside.ready;
-      waiting = c.self.inside.waiting;
-      running = c.self.inside.running;
-      groups = c.self.inside.groups;
-    } in
     subst (λ (k : SchedulerTable). OnFalse c.is_some.result (NoneLive (slot_value k.tasks.pool) (Passes (runs_on c.args.worker)))) c.self.view_is
-    (on-false c.is_some.result (λ e. running-denies b c.args.worker (running_on b.running c.args.worker) c.self.invariant refl (sym c.is_some.ensures ∙ e)))
+    (on-false c.is_some.result (λ e. running-denies _ c.args.worker _ c.self.invariant refl (sym c.is_some.ensures ∙ e)))

@@ -1,33 +1,14 @@
-use Rattle.task_board.proofs.Names.{ℕ, List, length, sym, subst, ap, ◌∙◌, slot_value, tasks_of, seen_in, begins_in, SchedulerTable, Remarked}
+use Rattle.task_board.proofs.Names.{ℕ, List, length, sym, subst, ap, ◌∙◌, slot_value, tasks_of, seen_in, begins_in, Remarked, the_view}
 use Rattle.task_board.proofs.SchedulerLemmas.{opened-scheduler, opened-tasks, opened-seen, queue-found}
 use Rattle.task_board.proofs.scheduler.Scheduler.open_queue.Goals as goal
 
 pub remark-requires-clause-live : goal.remark-requires-clause-live
 remark-requires-clause-live c =
-    let b : SchedulerTable = record {
-      settings = c.self.inside.settings;
-      actions = c.self.inside.actions;
-      tasks = c.self.inside.tasks;
-      queues = c.self.inside.queues;
-      ready = c.self.inside.ready;
-      waiting = c.self.inside.waiting;
-      running = c.self.inside.running;
-      groups = c.self.inside.groups;
-    } in
-    opened-seen b c.set_enabled-result.new.self c.args.q.0 c.args.enabled c.self.invariant c.set_enabled-result.ensures.new
+    opened-seen _ c.set_enabled-result.new.self c.args.q.0 c.args.enabled c.self.invariant c.set_enabled-result.ensures.new
 
 pub invariant_of-self : goal.invariant_of-self
 invariant_of-self c =
-    let b : SchedulerTable = record {
-      settings = c.self.inside.settings;
-      actions = c.self.inside.actions;
-      tasks = c.self.inside.tasks;
-      queues = c.self.inside.queues;
-      ready = c.self.inside.ready;
-      waiting = c.self.inside.waiting;
-      running = c.self.inside.running;
-      groups = c.self.inside.groups;
-    } in
+    let b = the_view c.self.inside in
     let new = c.set_enabled-result.new.self in
     let x = queue-found (slot_value b.queues.pool c.args.q.0) c.in-Some.facts (sym c.in-Some.is ∙ c.facts.ensures) in
     opened-scheduler b new c.remark.new.ready c.args.q.0 x.0 c.args.enabled c.self.invariant x.1 c.set_enabled-result.ensures.new

@@ -1,4 +1,4 @@
-use Rattle.task_board.proofs.Names.{◌≡◌, ◌<◌, ℕ, sym, ◌∙◌, ap, subst, slice_set, None, TaskTable, IsChoice, SchedulerTable, slot_value, NoneLive, Passes, Task, runs_on, without_waiting}
+use Rattle.task_board.proofs.Names.{◌≡◌, ◌<◌, ℕ, sym, ◌∙◌, ap, subst, slice_set, None, TaskTable, IsChoice, SchedulerTable, slot_value, NoneLive, Passes, Task, runs_on, without_waiting, the_view}
 use Rattle.task_board.proofs.SchedulerLemmas.{waits-in, waits-in-job, take-scheduler}
 use Rattle.task_board.proofs.RunningLemmas.{not-running}
 use Rattle.task_board.proofs.SeenLemmas.{some_same}
@@ -6,47 +6,18 @@ use Rattle.task_board.proofs.scheduler.Scheduler.take.Goals as goal
 
 pub remove-requires-clause-job : goal.remove-requires-clause-job
 remove-requires-clause-job c =
-    let b : SchedulerTable = record {
-      settings = c.self.inside.settings;
-      actions = c.self.inside.actions;
-      tasks = c.self.inside.tasks;
-      queues = c.self.inside.queues;
-      ready = c.self.inside.ready;
-      waiting = c.self.inside.waiting;
-      running = c.self.inside.running;
-      groups = c.self.inside.groups;
-    } in
     let x = subst (λ (b : SchedulerTable). IsChoice b.actions b.tasks.pool b.queues.pool c.args.worker c.args.choice) (sym c.self.view_is) c.requires.choice in
-    waits-in-job b c.args.choice.task.0 _ x.t c.self.invariant x.task x.runs.unstarted
+    waits-in-job _ c.args.choice.task.0 _ x.t c.self.invariant x.task x.runs.unstarted
     (ap (λ (t : Task). t.job) (some_same (sym x.task ∙ sym c.in-Some.ensures)) ∙ sym c.job.ensures)
 
 pub remove-requires-clause-has : goal.remove-requires-clause-has
 remove-requires-clause-has c =
-    let b : SchedulerTable = record {
-      settings = c.self.inside.settings;
-      actions = c.self.inside.actions;
-      tasks = c.self.inside.tasks;
-      queues = c.self.inside.queues;
-      ready = c.self.inside.ready;
-      waiting = c.self.inside.waiting;
-      running = c.self.inside.running;
-      groups = c.self.inside.groups;
-    } in
     let x = subst (λ (b : SchedulerTable). IsChoice b.actions b.tasks.pool b.queues.pool c.args.worker c.args.choice) (sym c.self.view_is) c.requires.choice in
-    waits-in b c.args.choice.task.0 x.t c.self.invariant x.task x.runs.unstarted
+    waits-in _ c.args.choice.task.0 x.t c.self.invariant x.task x.runs.unstarted
 
 pub invariant_of-self : goal.invariant_of-self
 invariant_of-self c =
-    let b : SchedulerTable = record {
-      settings = c.self.inside.settings;
-      actions = c.self.inside.actions;
-      tasks = c.self.inside.tasks;
-      queues = c.self.inside.queues;
-      ready = c.self.inside.ready;
-      waiting = c.self.inside.waiting;
-      running = c.self.inside.running;
-      groups = c.self.inside.groups;
-    } in
+    let b = the_view c.self.inside in
     let x = subst (λ (b : SchedulerTable). IsChoice b.actions b.tasks.pool b.queues.pool c.args.worker c.args.choice) (sym c.self.view_is) c.requires.choice in
     let less = subst (λ (b : SchedulerTable). c.args.worker < b.settings.workers) (sym c.self.view_is) c.requires.worker in
     let free = not-running b c.args.worker c.self.invariant
