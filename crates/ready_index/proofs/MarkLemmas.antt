@@ -1,6 +1,7 @@
 -- How the sets of each worker follow the marks.
-use Rattle.std.proofs.Common.{◌≡◌, ◌≢◌, ◌↔◌, ℕ, ◌+◌, ◌*◌, ◌<◌, ◌≤◌, Bool, true, false, ◌&&◌, nat_eq, List, length, get_or, set, Option, Some, None, IsNone, IfSome, IfNone, refl, sym, ap, subst, take, drop, ◌++◌, is_some, nat_lt, ◌∙◌, rules, arith, if◌then◌else◌}
-use Rattle.std.proofs.lemmas.Bool.{eqb-true, eqb-false, eq-eqb, ltb-true, ltb-false, and_parts}
+use Rattle.std.proofs.Common.{◌≡◌, ◌≢◌, ◌↔◌, ℕ, ◌+◌, ◌*◌, ◌<◌, ◌≤◌, Bool, true, false, ◌&&◌, nat_eq, List, length, get_or, set, Option, Some, None, IsNone, IfSome, IfNone, refl, sym, ap, subst, take, drop, ◌++◌, is_some, ◌∙◌, rules, arith, if◌then◌else◌}
+use Rattle.std.proofs.lemmas.Bool.{eqb-true, eqb-false, and_parts}
+use Rattle.std.proofs.lemmas.Bool.Decides.{nat_tests}
 use Rattle.std.proofs.lemmas.List.{get_or_past}
 use Rattle.std.proofs.lemmas.Grind.{common_steps}
 use Rattle.mtapi_values.specs.Masks.{in_mask}
@@ -60,27 +61,12 @@ IsDone-step mark slot on old now k d sets lt h puts room =
     IsDone-next mark slot on old now k sets lt h (subst (λ l. PutsSlot mark k slot on l sets) (default_same now k d lt) puts)
     (subst (λ l. SameRoom l sets) (default_same now k d lt) room)
 
--- a choice that asks for one slot more, at that slot and at another
-pick_true : (a b on x : Bool) → (if a && (b && true) then on else x) ≡ (if a && b then on else x)
-pick_true true true on x = refl
-pick_true true false on x = refl
-pick_true false b on x = refl
-
-pick_false : (a b on x : Bool) → (if a && (b && false) then on else x) ≡ x
-pick_false true true on x = refl
-pick_false true false on x = refl
-pick_false false b on x = refl
-
 -- where a mark takes the place of another: what the sets have to say of its slot
 pub record Replaces (mark : Mark) (on : Bool) (before after : Option Mark) : Type 0 where
   pub says : (w p : ℕ) → (if in_mask w mark.mask.0 && nat_eq p mark.priority then on else is_for_at w p before) ≡ is_for_at w p after
 
-gone_false : (x : Bool) → (if x then false else x) ≡ false
-gone_false true = refl
-gone_false false = refl
-
 pub Replaces-some : (mark : Mark) → Replaces mark false (Some mark) None
-Replaces-some mark = record { says = λ w p. gone_false (in_mask w mark.mask.0 && nat_eq p mark.priority) }
+Replaces-some mark = record { says = λ w p. grind (arith, nat_tests) }
 
 mark_same : (marks : List (Option Mark)) (i s : ℕ) (m : Option Mark) → i < length marks → s ≡ i → mark_at (set marks i m) s ≡ m
 mark_same marks i s m lt e = grind (arith, common_steps)
@@ -93,18 +79,8 @@ pub slots_after : (marks : List (Option Mark)) (old new : List (List ℕ)) (mark
     → ((p s : ℕ) → has_slot old p s ≡ is_for_at w p (mark_at marks s)) → Replaces mark on (mark_at marks slot) m → PutsSlot mark w slot on old new
     → (p s : ℕ) → has_slot new p s ≡ is_for_at w p (mark_at (set marks slot m) s)
 slots_after marks old new mark slot on m w lt h r puts p s =
-    puts p s ∙ elim (nat_eq s slot) as (λ t. nat_eq s slot ≡ t
-    → (if in_mask w mark.mask.0 && (nat_eq p mark.priority && t) then on else has_slot old p s) ≡ is_for_at w p (mark_at (set marks slot m) s)) [
-      | true ↦ λ e.
-          pick_true (in_mask w mark.mask.0) (nat_eq p mark.priority) on (has_slot old p s)
-          ∙ ap (λ x. if in_mask w mark.mask.0 && nat_eq p mark.priority then on else x) (h p s ∙ ap (λ i. is_for_at w p (mark_at marks i)) (eqb-true s slot e))
-          ∙ r.says w p
-          ∙ sym (ap (is_for_at w p) (mark_same marks slot s m lt (eqb-true s slot e)))
-      | false ↦ λ e.
-          pick_false (in_mask w mark.mask.0) (nat_eq p mark.priority) on (has_slot old p s)
-          ∙ h p s
-          ∙ sym (ap (is_for_at w p) (mark_other marks slot s m (eqb-false s slot e)))
-    ] refl
+    let same = mark_same marks slot s m lt in
+    grind (arith, nat_tests, puts p s, h p s, r.says w p, mark_other marks slot s m)
 
 length_set : (marks : List (Option Mark)) (i : ℕ) (m : Option Mark) → length (set marks i m) ≡ length marks
 length_set marks i m = grind (arith, common_steps)
@@ -113,10 +89,7 @@ known_after : (marks : List (Option Mark)) (slot : ℕ) (m : Option Mark) (prior
     → ((s : ℕ) (x : Mark) → mark_at marks s ≡ Some x → x.priority < priorities) → slot < length marks
     → ((x : Mark) → m ≡ Some x → x.priority < priorities) → (s : ℕ) (x : Mark) → mark_at (set marks slot m) s ≡ Some x → x.priority < priorities
 known_after marks slot m priorities known lt fits s x e =
-    elim (nat_eq s slot) as (λ t. nat_eq s slot ≡ t → x.priority < priorities) [
-      | true ↦ λ i. fits x (sym (mark_same marks slot s m lt (eqb-true s slot i)) ∙ e)
-      | false ↦ λ i. known s x (sym (mark_other marks slot s m (eqb-false s slot i)) ∙ e)
-    ] refl
+    grind (arith, nat_tests, fits x, known s x, mark_same marks slot s m lt, mark_other marks slot s m)
 
 pub AreMarks-put : (marks : List (Option Mark)) (old new : List (List (List ℕ))) (priorities : ℕ) (mark : Mark) (slot : ℕ) (on : Bool) (m : Option Mark)
     → AreMarks marks old priorities → slot < length marks → Replaces mark on (mark_at marks slot) m → ((x : Mark) → m ≡ Some x → x.priority < priorities)
@@ -136,14 +109,10 @@ AreMarks-put marks old new priorities mark slot on m h lt r fits puts same len =
       slots_after marks (sets_of old w) (sets_of new w) mark slot on m w lt (λ q t. h.slots w q t within) r (puts w within) p s;
 }
 
-first_false : (a b : Bool) → b ≡ true → (a && b) ≡ false → a ≡ false
-first_false true b e f = sym e ∙ f
-first_false false b e f = refl
-
 -- a mark for this worker is one with its own priority
 own_priority : (w : ℕ) (o : Option Mark) → ((p : ℕ) → is_for_at w p o ≡ false) → is_for w o ≡ false
 own_priority w None h = refl
-own_priority w (Some m) h = first_false (in_mask w m.mask.0) (nat_eq m.priority m.priority) (eq-eqb m.priority m.priority refl) (h m.priority)
+own_priority w (Some m) h = grind (arith, nat_tests, h m.priority)
 
 is_for-from_at : (w p : ℕ) (o : Option Mark) → is_for_at w p o ≡ true → is_for w o ≡ true
 is_for-from_at w p None h = cc
@@ -171,12 +140,7 @@ none_found_in marks workers priorities w sets r h lt e found none =
 
 -- a slot with a mark is one of the slots
 pub marked_below : (marks : List (Option Mark)) (slot : ℕ) → is_some (mark_at marks slot) ≡ true → slot < length marks
-marked_below marks slot h =
-    elim (nat_lt slot (length marks)) as (λ t. nat_lt slot (length marks) ≡ t → slot < length marks) [
-      | true ↦ λ e. ltb-true slot (length marks) e
-      | false ↦ λ e. absurd (let none : mark_at marks slot ≡ None = get_or_past marks slot None (ltb-false slot (length marks) e) in let f : false ≡ true =
-          sym (ap is_some none) ∙ h in cc)
-    ] refl
+marked_below marks slot h = grind (arith, nat_tests, get_or_past marks slot None)
 
 pub mark_value : (marks : List (Option Mark)) (slot : ℕ) (v : Option Mark) → slot < length marks → v ≡ get_or marks slot v → mark_at marks slot ≡ v
 mark_value marks slot v lt e = let same : get_or marks slot v ≡ mark_at marks slot = grind (arith, common_steps) in sym (e ∙ same)
