@@ -136,10 +136,7 @@ module _ {A : Type 0} (number : A → ℕ) where
     lists-push at after h s hs move none is less old = record {
       ordered = rises-push at after h s hs (λ k e. move.others k (apart k e)) move.here less old.ordered;
       listed = λ k u e n. grind (arith, nat_tests, has-append k hs (h ∷ []), old.listed k u, move.others k);
-      is_seen = λ k e. elim (cases_eq k h) [
-        | inl here ↦ (s, ap after here ∙ move.here, is)
-        | inr away ↦ let was = old.is_seen k (grind (arith, nat_tests, has-append k hs (h ∷ []))) in (was.0, move.others k away ∙ was.1, was.2)
-      ];
+      is_seen = λ k e. grind (arith, nat_tests, has-append k hs (h ∷ []), old.is_seen k, move.others k);
     }
       where
         apart : (k : ℕ) → has_handle k hs ≡ true → k ≢ h
@@ -150,10 +147,7 @@ module _ {A : Type 0} (number : A → ℕ) where
     lists-leave at after h x hs move left old = record {
       ordered = rises-same at after (without_handle h hs) (λ k e. move.others k (apart k e)) (rises-without at h hs old.ordered);
       listed = λ k u e n. grind (arith, nat_tests, left u, has-without h k hs, old.listed k u, move.others k);
-      is_seen = λ k e.
-          let away = apart k e in
-          let was = old.is_seen k (sym (has-without h k hs away) ∙ e) in
-          (was.0, move.others k away ∙ was.1, was.2);
+      is_seen = λ k e. grind (arith, nat_tests, has-without h k hs, apart k e, old.is_seen k, move.others k);
     }
       where
         apart : (k : ℕ) → has_handle k (without_handle h hs) ≡ true → k ≢ h

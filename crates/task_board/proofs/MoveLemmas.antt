@@ -238,22 +238,8 @@ pub running-begin : (at after : ℕ → Option Seen) (h w : ℕ) (s : Seen) (r :
     → AreRunning after (set r w (Some (record { 0 = h })))
 running-begin at after h w s r move on free waited less old = record {
   found = λ k v u e n. grind (arith, nat_tests, seat-here r w, old.found k v u, move.others k, seat-away r w v);
-  runs = λ v t e. elim (cases_eq v w) [
-    | inl here ↦
-        let same : ◌≡◌ {A = TaskHandle} (record { 0 = h }) t = some_same (sym (seat-here r w _ less) ∙ ap (running_on (set r w _)) (sym here) ∙ e) in
-        (s, ap (λ (z : TaskHandle). after z.0) (sym same) ∙ move.here, on ∙ ap Some (sym here))
-    | inr away ↦
-        let was = old.runs v t (sym (seat-away r w v _ away) ∙ e) in
-        elim (cases_eq t.0 h) [
-          | inl is ↦ absurd (none-is-some _ (waited was.0 (ap at (sym is) ∙ was.1)) was.2)
-          | inr other ↦ (was.0, move.others t.0 other ∙ was.1, was.2)
-        ]
-  ];
+  runs = λ v t e. grind (arith, nat_tests, cases_eq, seat-away, some_same, running_on, seat-here, waited, old.runs v t, move.others t.0);
 }
-  where
-    none-is-some : {A : Type 0} {x : A} (o : Option A) → o ≡ None → o ≡ Some x → ⊥
-    none-is-some None e f = cc
-    none-is-some (Some y) e f = cc
 
 -- the task that runs on a worker ends
 pub running-end : (at after : ℕ → Option Seen) (h w : ℕ) (s : Seen) (r : List (Option TaskHandle)) → Put at h None after → at h ≡ Some s → s.on ≡ Some w

@@ -1,5 +1,5 @@
 -- What the lists of walks have, and that tasks end alike along two lists which have the same of those that pass.
-use Rattle.task_board.proofs.Names.{nat_tests, ◌≡◌, ◌≢◌, ℕ, Bool, true, false, cond, List, [], ◌∷◌, length, Option, Some, None, refl, sym, ◌∙◌, ap, subst, arith, ◌==◌, ◌&&◌, ◌%◌, is_some, if◌then◌else◌, false≢true, TaskEnd, holds, Slots, slot_value, with_value, without, has_handle, Task, Ended, with_state, HeldQueue, tasks_of, TaskTable, ended_in, Walk, Waiting, OfJob, Queued, Seen, seen_in, InOrder, walked, AreIn, is_walked, SchedulerTable, IsScheduler, records_of, ended_next, ended_each, and_parts}
+use Rattle.task_board.proofs.Names.{nat_tests, ◌≡◌, ◌≢◌, ℕ, Bool, true, false, List, [], ◌∷◌, length, Option, Some, None, refl, sym, ◌∙◌, ap, subst, arith, ◌==◌, ◌&&◌, ◌%◌, is_some, if◌then◌else◌, false≢true, TaskEnd, holds, Slots, slot_value, has_handle, Task, Ended, with_state, HeldQueue, tasks_of, TaskTable, ended_in, Walk, Waiting, OfJob, Queued, Seen, seen_in, InOrder, walked, AreIn, is_walked, SchedulerTable, IsScheduler, records_of, ended_next, ended_each, and_parts}
 use Rattle.task_board.proofs.MarkLemmas.{same-number, number-same, named-is}
 use Rattle.task_board.proofs.MappedLemmas.{value-mapped}
 use Rattle.task_board.proofs.KeyedLemmas.{has-self, has-later, not-twice, same-order}
@@ -69,13 +69,12 @@ ended_all e (h ∷ hs) q = ended_all e hs (ended_next e h q)
 ended-others : (p : Slots Task) (h k n : ℕ) (e : TaskEnd) → k ≢ h → slot_value (ended_in p h e n (slot_value p h)) k ≡ slot_value p k
 ended-others p h k n e d = by_found (slot_value p h) refl
   where
-    by_test : (b : Bool) (t : Task) → slot_value p h ≡ Some t → slot_value (cond b (without p h) (with_value p h (with_state (Ended e n) t))) k ≡ slot_value p k
-    by_test true t g = (slot-without p h t g).others k d
-    by_test false t g = (slot-value p h t (with_state (Ended e n) t) g).others k d
-
     by_found : (o : Option Task) → slot_value p h ≡ o → slot_value (ended_in p h e n o) k ≡ slot_value p k
     by_found None g = refl
-    by_found (Some t) g = by_test t.notes.detached t g
+    by_found (Some t) g =
+        let gone = (slot-without p h t g).others k d in
+        let over = (slot-value p h t (with_state (Ended e n) t) g).others k d in
+        grind (arith, nat_tests)
 
 -- each handle stands in the list once
 abbrev AreOnce : List ℕ → Type 0

@@ -1,4 +1,4 @@
-use Rattle.task_board.proofs.Names.{refl, sym, subst, ◌∙◌, OnTrue, OnFalse, slot_value, SomeLive, NoneLive, Passes, runs_on, SchedulerTable, running_on}
+use Rattle.task_board.proofs.Names.{refl, sym, subst, ◌∙◌, OnTrue, OnFalse, slot_value, SomeLive, NoneLive, Passes, runs_on, SchedulerTable}
 use Rattle.task_board.proofs.RunningLemmas.{running-tells, running-denies, on-true, on-false}
 use Rattle.task_board.proofs.scheduler.Scheduler.is_running.Goals as goal
 
