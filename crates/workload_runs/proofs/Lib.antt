@@ -5,4 +5,3 @@ pub mod TurnLists
 pub mod Left
 pub mod Forms
 pub mod Joins
-pub mod Computed
