@@ -9,6 +9,7 @@ use Rattle.mtapi_machine.specs.declared.ops.Op.TheVariants as op
 use Rattle.mtapi_machine.specs.declared.replies.Reply.TheVariants as reply
 use Rattle.mtapi_machine.specs.Legal.{after_from}
 use Rattle.mtapi_machine.specs.Kept.{kept, skipped}
+use Rattle.mtapi_machine.proofs.Made.{fst_true, snd_true, both_true}
 use Rattle.workload_runs.specs.Lines.{lines_of}
 use Rattle.workload_runs.specs.Parts.{CallersRan}
 use Rattle.workload_runs.specs.RunOf.{all_work}
@@ -171,26 +172,15 @@ module _ (terms : Terms) (L : List NodeEntry) where
 
 -- workers
 
-both_left : (x y : Bool) → (x && y) ≡ true → x ≡ true
-both_left true y e = refl
-both_left false y e = e
-
-both_right : (x y : Bool) → (x && y) ≡ true → y ≡ true
-both_right true y e = e
-both_right false y e = absurd (cc)
-
-both_true : (x y : Bool) → x ≡ true → y ≡ true → (x && y) ≡ true
-both_true x y a b = (λ i. a i && b i)
-
 abbrev stop_turn : List Turn
 stop_turn = stayed op.Pick reply.Stop ∷ []
 
 worker_left : (work : List Turn) (n : ℕ) → all_worked work ≡ true → WorkerRan (lines_left n (work ++ stop_turn))
 unfolding all_worked all_work lines_left
 worker_left [] n e = record { work = []; beside = n; is = refl; works = refl }
-worker_left (t ∷ ts) n e = at t.stays (worker_left ts 0 (both_right (cond t.stays (is_work t.op t.reply) true) _ e))
-    (worker_left ts (cond (is_pending t.reply) (n + 1) n) (both_right (cond t.stays (is_work t.op t.reply) true) _ e))
-    (both_left (cond t.stays (is_work t.op t.reply) true) _ e)
+worker_left (t ∷ ts) n e = at t.stays (worker_left ts 0 (snd_true (cond t.stays (is_work t.op t.reply) true) _ e))
+    (worker_left ts (cond (is_pending t.reply) (n + 1) n) (snd_true (cond t.stays (is_work t.op t.reply) true) _ e))
+    (fst_true (cond t.stays (is_work t.op t.reply) true) _ e)
   where
     at : (b : Bool) → WorkerRan (lines_left 0 (ts ++ stop_turn)) → WorkerRan (lines_left (cond (is_pending t.reply) (n + 1) n) (ts ++ stop_turn))
         → cond b (is_work t.op t.reply) true ≡ true

@@ -1,37 +1,23 @@
 -- What a journal shows of one seat's turns.
 use Rattle.workload_runs.proofs.Names.{◌≡◌, ℕ, zero, suc, ◌+◌, ◌<◌, Bool, true, false, not, cond, List, [], ◌∷◌, length, get_or, set, refl, sym, ◌∙◌, ap, subst, arith, ◌==◌, replicate, Terms, State, opening, NodeEntry, next, is_dropped, is_pending, counted, counts_next, no_counts, line, Turn}
+use Rattle.std.proofs.Common.{◌≢◌}
+use Rattle.std.proofs.Math.ListN.{length-set}
 use Rattle.std.proofs.lemmas.Bool.Decides.{nat_tests}
+use Rattle.std.proofs.lemmas.List.{get_or-set_same, get_or-set_other}
 use Rattle.mtapi_machine.specs.Kept.{kept, skipped}
 use Rattle.workload_runs.specs.Lines.{lines_of}
 use Rattle.workload_runs.specs.Turns.{turns_of, lines_left}
 
-set_here : (xs : List ℕ) (w v : ℕ) → w < length xs → get_or (set xs w v) w 0 ≡ v
-set_here [] w v h = absurd (omega (arith, h))
-set_here (x ∷ xs) zero v h = refl
-set_here (x ∷ xs) (suc w) v h = set_here xs w v (omega (arith, h))
-
-set_else : (xs : List ℕ) (w i v : ℕ) → (w ≡ i → ⊥) → get_or (set xs w v) i 0 ≡ get_or xs i 0
-set_else [] w i v h = refl
-set_else (x ∷ xs) zero zero v h = absurd (h refl)
-set_else (x ∷ xs) zero (suc i) v h = refl
-set_else (x ∷ xs) (suc w) zero v h = refl
-set_else (x ∷ xs) (suc w) (suc i) v h = set_else xs w i v (λ e. h (ap suc e))
-
-set_length : (xs : List ℕ) (w v : ℕ) → length (set xs w v) ≡ length xs
-set_length [] w v = refl
-set_length (x ∷ xs) zero v = refl
-set_length (x ∷ xs) (suc w) v = ap suc (set_length xs w v)
-
 same_seat : (a b : ℕ) → (a == b) ≡ true → a ≡ b
 same_seat a b e = grind (arith, nat_tests)
 
-other_seat : (a b : ℕ) → (a == b) ≡ false → a ≡ b → ⊥
+other_seat : (a b : ℕ) → (a == b) ≡ false → b ≢ a
 other_seat a b e f = grind (arith, nat_tests)
 
 counted_length : (d p : Bool) (counts : List ℕ) (who : ℕ) → length (counted d p counts who) ≡ length counts
-counted_length true true counts who = set_length counts who _
+counted_length true true counts who = length-set counts who _
 counted_length true false counts who = refl
-counted_length false p counts who = set_length counts who 0
+counted_length false p counts who = length-set counts who 0
 
 -- one entry more in front, dropped or not (d), answered Pending or not (p), by this seat or not (b)
 one_more : (who : ℕ) (e : NodeEntry) (counts : List ℕ) (d p b : Bool) (T : List Turn) (K : List NodeEntry) (S : List ℕ) → who < length counts
@@ -42,19 +28,19 @@ one_more : (who : ℕ) (e : NodeEntry) (counts : List ℕ) (d p b : Bool) (T : L
 unfolding lines_of lines_left
 one_more who e counts true true true T K S room is pend more =
     let here = same_seat e.who who is in
-    more ∙ ap (λ n. lines_left n T) (ap (λ x. get_or (set counts x (get_or counts x 0 + 1)) who 0) here ∙ set_here counts who _ room)
+    more ∙ ap (λ n. lines_left n T) (ap (λ x. get_or (set counts x (get_or counts x 0 + 1)) who 0) here ∙ get_or-set_same counts who _ 0 room)
     ∙ (λ i. lines_left (cond (sym pend i) (get_or counts who 0 + 1) (get_or counts who 0)) T)
-one_more who e counts true true false T K S room is pend more = more ∙ ap (λ n. lines_left n T) (set_else counts e.who who _ (other_seat e.who who is))
+one_more who e counts true true false T K S room is pend more = more ∙ ap (λ n. lines_left n T) (get_or-set_other counts e.who who _ 0 (other_seat e.who who is))
 one_more who e counts true false true T K S room is pend more = more ∙ (λ i. lines_left (cond (sym pend i) (get_or counts who 0 + 1) (get_or counts who 0)) T)
 one_more who e counts true false false T K S room is pend more = more
 one_more who e counts false p true T K S room is pend more =
     let here = same_seat e.who who is in
-    let rest = more ∙ ap (λ n. lines_left n T) (ap (λ x. get_or (set counts x 0) who 0) here ∙ set_here counts who 0 room) in
+    let rest = more ∙ ap (λ n. lines_left n T) (ap (λ x. get_or (set counts x 0) who 0) here ∙ get_or-set_same counts who 0 0 room) in
     (λ i. cond (is i) (line e.op e.reply (get_or counts e.who 0) ∷ lines_of who K S) (lines_of who K S))
     ∙ (λ i. line e.op e.reply (get_or counts (here i) 0) ∷ rest i)
 one_more who e counts false p false T K S room is pend more =
     (λ i. cond (is i) (line e.op e.reply (get_or counts e.who 0) ∷ lines_of who K S) (lines_of who K S)) ∙ more
-    ∙ ap (λ n. lines_left n T) (set_else counts e.who who 0 (other_seat e.who who is))
+    ∙ ap (λ n. lines_left n T) (get_or-set_other counts e.who who 0 0 (other_seat e.who who is))
 
 -- the lines of a seat, from any state and any numbers on
 pub lines_are_left : (who : ℕ) (s : State) (counts : List ℕ) (L : List NodeEntry) → who < length counts
