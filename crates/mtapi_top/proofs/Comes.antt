@@ -12,7 +12,7 @@ use Rattle.mtapi_top.specs.declared.words.Asked.TheVariants as asks
 use Rattle.mtapi_top.specs.declared.ends.End.TheVariants as end
 use Rattle.mtapi_top.specs.Command.{HasNone, journal_of}
 use Rattle.mtapi_top.specs.PartEnds.{ComesTo, WritesOutput, without_load, without_run}
-use Rattle.mtapi_top.proofs.Ended.{judges_one, not_both}
+use Rattle.mtapi_top.proofs.Ended.{judges_one, not_both, not_six, starts_early}
 
 -- Words that ask for nothing.
 pub usage_comes : (words : Option Asked) (s : Option (List ℕ)) (a : Outside) → words ≡ None → ComesTo words s s a a end.Usage
@@ -197,15 +197,9 @@ module _ (P : Type 0) (asked : Asked) (j : judges (Some asked) ≡ false) where
   started_without_run why (inr q) = absurd (other why q)
     where
       other : (x : NoRun) → StartsNothing (status_of (without_run x)) → ⊥
-      other reason.Refused (inl q) = cc
-      other reason.Refused (inr (inl q)) = cc
-      other reason.Refused (inr (inr q)) = cc
-      other (reason.Spent s) (inl q) = cc
-      other (reason.Spent s) (inr (inl q)) = cc
-      other (reason.Spent s) (inr (inr q)) = cc
-      other reason.Memory (inl q) = cc
-      other reason.Memory (inr (inl q)) = cc
-      other reason.Memory (inr (inr q)) = cc
+      other reason.Refused q = let l = starts_early 7 q in omega arith
+      other (reason.Spent s) q = let l = starts_early 8 q in omega arith
+      other reason.Memory q = not_six q
 
   pub started_written : (w w' : ℕ) (held held' : Option (List ℕ)) (text : List ℕ) (journal : Journal) (e : End) → WritesOutput w w' held held' text journal e
       → (judges (Some asked) ≡ true) ⊎ StartsNothing (status_of e) → P
@@ -216,9 +210,7 @@ module _ (P : Type 0) (asked : Asked) (j : judges (Some asked) ≡ false) where
       other (end.Done y) h (inl q) = cc
       other (end.Done y) h (inr (inl q)) = cc
       other (end.Done y) h (inr (inr q)) = cc
-      other (end.WriteFault y) h (inl q) = cc
-      other (end.WriteFault y) h (inr (inl q)) = cc
-      other (end.WriteFault y) h (inr (inr q)) = cc
+      other (end.WriteFault y) h q = let l = starts_early 5 q in omega arith
       other _ h q = absurd h
 
 -- What was asked for is what the words ask for.

@@ -1,20 +1,15 @@
 -- Which words exclude one another, and what the ends of a run have in common.
-use Rattle.mtapi_top.proofs.Names.{◌≡◌, ℕ, true, false, List, Option, Some, None, refl, sym, ◌∙◌, inl, inr, IfSome, is_some, journal_text, Asked, End, reads, judges, IsTextTwo, Outside, Ends, status_of, has_line, Channels, Checks, StartsNothing}
+use Rattle.mtapi_top.proofs.Names.{◌≡◌, ◌≤◌, ℕ, arith, true, false, List, Option, Some, None, refl, sym, ◌∙◌, inl, inr, is_some, Asked, End, reads, judges, Outside, Ends, status_of, has_line, Channels, Checks, StartsNothing}
 use Rattle.mtapi_top.specs.declared.words.Asked.TheVariants as asks
 use Rattle.mtapi_top.specs.declared.ends.End.TheVariants as end
-use Rattle.mtapi_top.specs.Command.{journal_of}
-use Rattle.mtapi_top.proofs.Carried.{text_two}
 
-is_asked : (words : Option Asked) → reads words ≡ true → is_some words ≡ true
+pub is_asked : (words : Option Asked) → reads words ≡ true → is_some words ≡ true
 is_asked None r = absurd (cc)
 is_asked (Some asked) r = refl
 
 pub not_both : (words : Option Asked) → reads words ≡ true → judges words ≡ true → ⊥
-not_both None r j = cc
-not_both (Some asks.Report) r j = cc
-not_both (Some asks.Journal) r j = cc
-not_both (Some (asks.Generated n w)) r j = cc
 not_both (Some asks.Check) r j = cc
+not_both _ r j = cc
 
 pub judges_one : (words : Option Asked) → judges words ≡ false → judges words ≡ true → ⊥
 judges_one words f t = let both = sym f ∙ t in cc
@@ -39,17 +34,12 @@ named_is_three (end.Refused line cause) l = refl
 named_is_three (end.JournalLine line) l = refl
 named_is_three _ l = absurd (cc)
 
--- Want of memory is no status with which nothing was started
+-- Where nothing was started, the status is at most 4, so it isn't that of want of memory
+
+pub starts_early : (n : ℕ) → StartsNothing n → n ≤ 4
+starts_early n (inl q) = omega arith
+starts_early n (inr (inl q)) = omega arith
+starts_early n (inr (inr q)) = omega arith
 
 pub not_six : StartsNothing 6 → ⊥
-not_six (inl q) = cc
-not_six (inr (inl q)) = cc
-not_six (inr (inr q)) = cc
-
--- The journal that came back is written as text 2
-
-pub run_text_two : (words : Option Asked) (bytes : Option (List ℕ)) (a b : Outside) (e : End) → Ends words bytes a b e
-    → IfSome (journal_of e) (λ j. IsTextTwo (journal_text j))
-run_text_two words bytes a b (end.Done j) h = text_two j h.is_run.layout
-run_text_two words bytes a b (end.WriteFault j) h = text_two j h.1.is_run.layout
-run_text_two words bytes a b _ h = tt
+not_six q = let l = starts_early 6 q in omega arith

@@ -4,7 +4,6 @@ mod Carried
 mod GeneratedSettled
 mod SettledOutput
 mod Judged
-mod CheckTold
 mod Ended
 mod Kept
 mod Comes

@@ -1,5 +1,5 @@
--- A status of 3 is a refusal, and what is refused has it.
-use Rattle.mtapi_top.proofs.Names.{◌≡◌, ◌⊎◌, ℕ, true, List, Option, Some, None, refl, sym, ap, subst, ◌∙◌, inl, inr, arith, IfSome, IfOk, Result, Ok, Err, Rose, Workload, Loads, Journal, Asked, End, Outcome, reads, Ran, IsRead, IsLoadOf, Outside, Ends, HasRead, IsWorkload, IsRefused, status_of, has_line, IsTold}
+-- What was told of an end; and what was run, or is a workload, is no refused text.
+use Rattle.mtapi_top.proofs.Names.{◌≡◌, ◌⊎◌, ℕ, true, List, Option, Some, None, sym, ap, subst, ◌∙◌, inl, inr, arith, IfSome, IfOk, Result, Ok, Err, Workload, Loads, Journal, Asked, End, Outcome, reads, Ran, IsRead, IsLoadOf, HasRead, IsWorkload, IsRefused, status_of, has_line, IsTold}
 use Rattle.workload_file.specs.declared.faults.LoadError.{LoadError}
 use Rattle.mtapi_top.specs.declared.words.Asked.TheVariants as asks
 use Rattle.mtapi_top.specs.declared.ends.End.TheVariants as end
@@ -13,19 +13,6 @@ pub told_status : (Q : ℕ → Type 0) (e : End) (f f' : ℕ) (p p' : Option (Li
     → Q outcome.status
 told_status Q e f f' p p' outcome q six (inl t) = subst Q (sym t.status) q
 told_status Q e f f' p p' outcome q six (inr t) = subst Q (sym t.1.status) six
-
-pub refused_end : (words : Option Asked) (bytes : Option (List ℕ)) (a b : Outside) (e : End) → Ends words bytes a b e → status_of e ≡ 3 → IfSome bytes IsRefused
-refused_end words None a b e h q = tt
-refused_end words (Some t) a b (end.Refused line cause) h q = inr (h.1.0, record { line = line; cause = cause }, h.1.1)
-refused_end words (Some t) a b end.TooLong h q = inl h.1
-refused_end words (Some t) a b (end.Done j) h q = absurd (cc)
-refused_end words (Some t) a b end.Usage h q = absurd (cc)
-refused_end words (Some t) a b end.ReadFault h q = absurd (cc)
-refused_end words (Some t) a b (end.WriteFault j) h q = absurd (cc)
-refused_end words (Some t) a b end.Memory h q = absurd (cc)
-refused_end words (Some t) a b end.NoThread h q = absurd (cc)
-refused_end words (Some t) a b (end.Spent s) h q = absurd (cc)
-refused_end words (Some t) a b _ h q = absurd h
 
 -- what was run was no refused text
 not_refused : (words : Option Asked) (t : List ℕ) (j : Journal) (P : List ℕ → Type 0) → Ran words (Some t) j P → reads words ≡ true → IsRefused t → ⊥
@@ -49,23 +36,11 @@ not_workload t x (inr none) = let both = sym none.2 ∙ x.2 in cc
 pub nothing_asked : (words : Option Asked) → words ≡ None → reads words ≡ true → ⊥
 nothing_asked words e q = let none = ap reads (sym e) ∙ q in cc
 
-refused_status : (words : Option Asked) (t : List ℕ) (a b : Outside) (e : End) → Ends words (Some t) a b e → reads words ≡ true → (Rose a.reads b.reads → ⊥)
-    → IsRefused t → (status_of e ≡ 3) ⊎ (status_of e ≡ 6)
-refused_status words t a b (end.Done j) h r n i = absurd (not_refused words t j _ h r i)
-refused_status words t a b end.Usage h r n i = absurd (nothing_asked words h.0 r)
-refused_status words t a b (end.Refused line cause) h r n i = inl refl
-refused_status words t a b end.TooLong h r n i = inl refl
-refused_status words t a b end.ReadFault h r n i = absurd (n h.1)
-refused_status words t a b (end.WriteFault j) h r n i = absurd (not_refused words t j _ h.1 r i)
-refused_status words t a b end.Memory h r n i = inr refl
-refused_status words t a b end.NoThread h r n i = absurd (not_workload t (h.2 r) i)
-refused_status words t a b (end.Spent s) h r n i = absurd (not_workload t (h.2 r) i)
-refused_status words t a b _ h r n i = absurd h
-
-pub refused_has : (words : Option Asked) (bytes : Option (List ℕ)) (a b : Outside) (e : End) → Ends words bytes a b e → reads words ≡ true
-    → (Rose a.reads b.reads → ⊥) → IfSome bytes (λ t. IsRefused t → (status_of e ≡ 3) ⊎ (status_of e ≡ 6))
-refused_has words None a b e h r n = tt
-refused_has words (Some x) a b e h r n = λ i. refused_status words x a b e h r n i
+-- where a run came back, what was read isn't refused
+pub no_refusal : (Q : Type 0) (words : Option Asked) (bytes : Option (List ℕ)) (j : Journal) (P : List ℕ → Type 0) → Ran words bytes j P → reads words ≡ true
+    → IfSome bytes (λ t. IsRefused t → Q)
+no_refusal Q words None j P r e = tt
+no_refusal Q words (Some t) j P r e = λ i. absurd (not_refused words t j P r e i)
 
 -- and what was read as a workload is one
 pub read_is_workload : (words : Option Asked) (bytes left : Option (List ℕ)) (result : Result Workload LoadError) → IfSome bytes (λ t. Loads t left result)

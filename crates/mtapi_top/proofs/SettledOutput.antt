@@ -1,5 +1,5 @@
 -- What the command writes of a settled workload is told by the workload's statements alone.
-use Rattle.mtapi_top.proofs.Names.{◌≡◌, ℕ, true, List, length, ◌++◌, Option, Some, None, refl, sym, ◌∙◌, ap, subst, IfSome, Result, Ok, Appends, AppendsFront, Layout, Workload, workload_of, WellFormed, Legal, Journal, journal_text, terms_with, IsLegal, plain_report, is_settled, Asked, End, InRange, generated, IsRun, Ran, IsLoadOf, output, generated_summary, IsPlainOutput, Outside, Ends, status_of}
+use Rattle.mtapi_top.proofs.Names.{◌≡◌, ℕ, true, List, length, ◌++◌, Option, Some, None, refl, sym, ◌∙◌, ap, subst, IfSome, Result, Ok, Layout, Workload, workload_of, WellFormed, Legal, Journal, journal_text, terms_with, IsLegal, plain_report, is_settled, Asked, InRange, generated, IsRun, Ran, IsLoadOf, output, generated_summary, IsPlainOutput}
 use Rattle.workload_file.specs.declared.faults.Fault.{Fault}
 use Rattle.mtapi_machine.specs.declared.terms.Terms.{Terms}
 use Rattle.run_report.specs.Report.{report}
@@ -9,8 +9,6 @@ use Rattle.settled_runs.specs.RunGranted.{SettledRun}
 use Rattle.settled_runs.proofs.RunReport.{settled_reports_are_plain}
 use Rattle.settled_runs.proofs.PlainSummary.{settled_summaries_are_plain}
 use Rattle.mtapi_top.specs.declared.words.Asked.TheVariants as asks
-use Rattle.mtapi_top.specs.declared.ends.End.TheVariants as end
-use Rattle.mtapi_top.specs.Command.{journal_of}
 use Rattle.mtapi_top.proofs.GeneratedSettled.{generated_settled}
 
 settled_run : (load : Workload) (j : Journal) → WellFormed load → IsRun load j → is_settled load ≡ true
@@ -65,22 +63,7 @@ module _ (j : Journal) (P : List ℕ → Type 0) where
       ∙ one_summary n w) p
   by_asked asks.Check bytes load i f r g p = tt
 
-  plain_output : (words : Option Asked) (bytes : Option (List ℕ)) → Ran words bytes j P → IfSome words InRange → IsPlainOutput words bytes j P
+  pub plain_output : (words : Option Asked) (bytes : Option (List ℕ)) → Ran words bytes j P → IfSome words InRange → IsPlainOutput words bytes j P
   plain_output words bytes r g =
       subst (λ (x : Option Asked). IsPlainOutput x bytes j P) (sym r.asks)
       (by_asked r.asked bytes r.load r.is r.formed r.is_run (subst (λ (x : Option Asked). IfSome x InRange) r.asks g) r.written)
-
--- An end with the status 0, or 5
-
-module _ (words : Option Asked) (bytes : Option (List ℕ)) (a b : Outside) where
-  pub done_plainly : (e : End) → Ends words bytes a b e → IfSome words InRange → status_of e ≡ 0
-      → IfSome (journal_of e) (λ j. IsPlainOutput words bytes j (Appends a.held b.held))
-  done_plainly (end.Done j) h g q = plain_output j (Appends a.held b.held) words bytes h g
-  done_plainly (end.WriteFault j) h g q = absurd (cc)
-  done_plainly _ h g q = tt
-
-  pub cut_plainly : (e : End) → Ends words bytes a b e → IfSome words InRange → status_of e ≡ 5
-      → IfSome (journal_of e) (λ j. IsPlainOutput words bytes j (AppendsFront a.held b.held))
-  cut_plainly (end.WriteFault j) h g q = plain_output j (AppendsFront a.held b.held) words bytes h.1 g
-  cut_plainly (end.Done j) h g q = absurd (cc)
-  cut_plainly _ h g q = tt

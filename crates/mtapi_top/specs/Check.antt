@@ -97,11 +97,7 @@ Checks bytes a b (end.JournalLine line) = HasNoVerdict bytes (end.JournalLine li
 Checks bytes a b end.JournalCut = HasNoVerdict bytes end.JournalCut × (b.held ≡ a.held)
 Checks bytes a b end.ReadFault = Rose a.reads b.reads × (b.held ≡ a.held)
 Checks bytes a b end.Memory = b.held ≡ a.held
-Checks bytes a b end.Usage = ⊥
-Checks bytes a b end.NoThread = ⊥
-Checks bytes a b (end.Done j) = ⊥
-Checks bytes a b (end.WriteFault j) = ⊥
-Checks bytes a b (end.Spent s) = ⊥
+Checks bytes a b _ = ⊥
 
 -- what is known at each end of writing a verdict
 abbrev pub WritesVerdict : ℕ → ℕ → Option (List ℕ) → Option (List ℕ) → Verdict → End → Type 0

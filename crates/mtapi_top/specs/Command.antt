@@ -58,11 +58,7 @@ Ends words bytes a b (end.WriteFault journal) = Rose a.writes b.writes × Ran wo
 Ends words bytes a b end.Memory = (is_some words ≡ true) × (b.held ≡ a.held)
 Ends words bytes a b end.NoThread = (is_some words ≡ true) × Rose a.threads b.threads × HasRead words bytes × (b.held ≡ a.held)
 Ends words bytes a b (end.Spent s) = (is_some words ≡ true) × (2 ^ 62 ≤ s) × HasRead words bytes × (b.held ≡ a.held)
-Ends words bytes a b (end.Judged v) = ⊥
-Ends words bytes a b (end.VerdictFault v) = ⊥
-Ends words bytes a b end.InputTooLong = ⊥
-Ends words bytes a b (end.JournalLine line) = ⊥
-Ends words bytes a b end.JournalCut = ⊥
+Ends words bytes a b _ = ⊥
 
 -- the status for a verdict
 abbrev pub verdict_status : Verdict → ℕ
@@ -91,18 +87,7 @@ status_of end.JournalCut = 3
 abbrev pub journal_of : End → Option Journal
 journal_of (end.Done journal) = Some journal
 journal_of (end.WriteFault journal) = Some journal
-journal_of end.Usage = None
-journal_of (end.Refused line cause) = None
-journal_of end.TooLong = None
-journal_of end.ReadFault = None
-journal_of end.Memory = None
-journal_of end.NoThread = None
-journal_of (end.Spent s) = None
-journal_of (end.Judged v) = None
-journal_of (end.VerdictFault v) = None
-journal_of end.InputTooLong = None
-journal_of (end.JournalLine line) = None
-journal_of end.JournalCut = None
+journal_of _ = None
 
 -- what shows that the turns are used up, where they did
 abbrev pub spent_of : End → Option ℕ
@@ -129,19 +114,8 @@ message end.JournalCut = codes "mtapi: journal cut short" ++ 10 ∷ []
 -- the message names a line
 abbrev pub has_line : End → Bool
 has_line (end.Refused line cause) = true
-has_line (end.Done journal) = false
-has_line end.Usage = false
-has_line end.TooLong = false
-has_line end.ReadFault = false
-has_line (end.WriteFault journal) = false
-has_line end.Memory = false
-has_line end.NoThread = false
-has_line (end.Spent s) = false
-has_line (end.Judged v) = false
-has_line (end.VerdictFault v) = false
-has_line end.InputTooLong = false
 has_line (end.JournalLine line) = true
-has_line end.JournalCut = false
+has_line _ = false
 
 -- The outcome is told by an end: its status, its journal, what shows that the turns are used up, and its message on the error output.
 pub record IsTold (end : End) (e e' : ℕ) (o o' : Option (List ℕ)) (outcome : Outcome) : Type 0 where

@@ -43,23 +43,16 @@ asked_of (word ∷ options) =
 
 -- the words ask for the run of a workload that is read
 abbrev pub reads : Option Asked → Bool
-reads None = false
 reads (Some asks.Report) = true
 reads (Some asks.Journal) = true
-reads (Some (asks.Generated n w)) = false
-reads (Some asks.Check) = false
+reads _ = false
 
 -- the words ask for a journal to be judged, and for no run
 abbrev pub judges : Option Asked → Bool
-judges None = false
-judges (Some asks.Report) = false
-judges (Some asks.Journal) = false
-judges (Some (asks.Generated n w)) = false
 judges (Some asks.Check) = true
+judges _ = false
 
 -- the numbers of what was asked for are in their ranges
 abbrev pub InRange : Asked → Type 0
-InRange asks.Report = Unit {0}
-InRange asks.Journal = Unit {0}
-InRange asks.Check = Unit {0}
 InRange (asks.Generated n w) = (1 ≤ n) × (n ≤ 19000) × (1 ≤ w) × (w ≤ 16)
+InRange _ = Unit {0}

@@ -21,14 +21,8 @@ fn verdict_on(alloc: Global, bytes: &[u8]) -> Result<Verdict, End>
     ensures none { IfErr result (IsUnjudged bytes.now) }
 {
     let (front, rest) = parts_of(bytes);
-    let load = match workload_in(alloc, front) {
-        Ok(load) => load,
-        Err(end) => return Err(end),
-    };
-    let journal = match journal_in(alloc, rest) {
-        Ok(journal) => journal,
-        Err(end) => return Err(end),
-    };
+    let load = workload_in(alloc, front)?;
+    let journal = journal_in(alloc, rest)?;
     match check_run(alloc, &load, &journal) {
         Ok(verdict) => Ok(verdict),
         Err(_) => Err(End::Memory),

@@ -93,10 +93,7 @@ pub(crate) fn run_and_output<R: Threads + Wait + Sync, A: ActionSource, B: Besid
     ensures counts { IfOk result (λ r. B.refusals beside.new ≡ B.refusals beside.old) }
     ensures causes { IfErr result (HasReason (B.refusals beside.old) (B.refusals beside.new)) }
 {
-    let run = match run_of(rt, alloc, load, acts, beside) {
-        Ok(run) => run,
-        Err(error) => return Err(error),
-    };
+    let run = run_of(rt, alloc, load, acts, beside)?;
     match output_of(alloc, asked, load, run.journal()) {
         Ok(text) => Ok((run, text)),
         Err(_) => Err(NoRun::Memory),
