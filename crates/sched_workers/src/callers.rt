@@ -149,6 +149,20 @@ impl<'a> Caller<'a> {
         resource_handle(self.once(rt, op))
     }
 
+    // Looks for something of MRAPI that is taken then.
+    fn mrapi_wait<R: Wait>(
+        &mut self,
+        rt: &R,
+        wanted: Wanted,
+        timeout: Timeout,
+    ) -> Result<(), MrapiStatus>
+        requires timed { IsTimed wanted }
+        requires found { (r : Reply) → found wanted r ≡ says mrapi done r }
+        ensures { Waited mrapi done wanted (looks_of timeout) self.old self.new result }
+    {
+        resource_done(self.within(rt, wanted, timeout))
+    }
+
     // Looks until main has released.
     fn to_enter<R: Wait>(&mut self, rt: &R) -> Result<Reply, Spent>
         ensures looked { IfOk result (λ r. Looked Entrance None self.old self.new r) }

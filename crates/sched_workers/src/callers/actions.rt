@@ -22,10 +22,7 @@ impl<'a> Caller<'a> {
     pub fn job_get<R: Wait>(&mut self, rt: &R, job: u32) -> Result<JobHandle, MtapiStatus>
         ensures { Called mtapi (the_job job) (op.JobGet job) self.old self.new (with_number (λ j. j.0) result) }
     {
-        match self.mtapi_job(rt, job) {
-            Ok(number) => Ok(JobHandle(number)),
-            Err(status) => Err(status),
-        }
+        Ok(JobHandle(self.mtapi_job(rt, job)?))
     }
 
     /// Makes an enabled action of this job, 1 to 65,535, with the affinity of `attr`.
@@ -46,17 +43,12 @@ impl<'a> Caller<'a> {
     ) -> Result<ActionHandle, MtapiStatus>
         ensures { Called mtapi handle (op.ActionCreate job kind (record { 0 = attr.affinity })) self.old self.new (with_number (λ h. h.0) result) }
     {
-        match self.mtapi_handle(
-            rt,
-            Op::ActionCreate {
-                job,
-                kind,
-                cores: attr.affinity(),
-            },
-        ) {
-            Ok(number) => Ok(ActionHandle(number)),
-            Err(status) => Err(status),
-        }
+        let op = Op::ActionCreate {
+            job,
+            kind,
+            cores: attr.affinity(),
+        };
+        Ok(ActionHandle(self.mtapi_handle(rt, op)?))
     }
 
     /// Gives an action up. Tasks that haven't begun and that no worker can take any more fail with

@@ -25,10 +25,7 @@ impl<'a> Caller<'a> {
     pub fn group_create<R: Wait>(&mut self, rt: &R) -> Result<GroupHandle, MtapiStatus>
         ensures { Called mtapi handle op.GroupCreate self.old self.new (with_number (λ h. h.0) result) }
     {
-        match self.mtapi_handle(rt, Op::GroupCreate) {
-            Ok(number) => Ok(GroupHandle(number)),
-            Err(status) => Err(status),
-        }
+        Ok(GroupHandle(self.mtapi_handle(rt, Op::GroupCreate)?))
     }
 
     /// Gives a group up. Its members that haven't ended become detached, and the others stop being

@@ -32,16 +32,11 @@ impl<'a> Caller<'a> {
     ) -> Result<MutexHandle, MrapiStatus>
         ensures { Called mrapi handle (op.MutexCreate id attr.recursive) self.old self.new (with_number (λ h. h.0) result) }
     {
-        match self.mrapi_handle(
-            rt,
-            Op::MutexCreate {
-                id,
-                recursive: attr.recursive(),
-            },
-        ) {
-            Ok(number) => Ok(MutexHandle(number)),
-            Err(status) => Err(status),
-        }
+        let op = Op::MutexCreate {
+            id,
+            recursive: attr.recursive(),
+        };
+        Ok(MutexHandle(self.mrapi_handle(rt, op)?))
     }
 
     /// Gives the live mutex of this id.
@@ -55,10 +50,7 @@ impl<'a> Caller<'a> {
     pub fn mutex_get<R: Wait>(&mut self, rt: &R, id: u32) -> Result<MutexHandle, MrapiStatus>
         ensures { Called mrapi handle (op.MutexGet id) self.old self.new (with_number (λ h. h.0) result) }
     {
-        match self.mrapi_handle(rt, Op::MutexGet { id }) {
-            Ok(number) => Ok(MutexHandle(number)),
-            Err(status) => Err(status),
-        }
+        Ok(MutexHandle(self.mrapi_handle(rt, Op::MutexGet { id })?))
     }
 
     /// Gives a mutex up that nobody owns.

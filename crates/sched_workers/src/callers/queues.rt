@@ -30,20 +30,15 @@ impl<'a> Caller<'a> {
     ) -> Result<QueueHandle, MtapiStatus>
         ensures { Called mtapi handle (queue_of id job attr) self.old self.new (with_number (λ h. h.0) result) }
     {
-        match self.mtapi_handle(
-            rt,
-            Op::QueueCreate {
-                id,
-                job,
-                priority: attr.priority(),
-                limit: attr.limit(),
-                ordered: attr.ordered(),
-                retain: attr.retain(),
-            },
-        ) {
-            Ok(number) => Ok(QueueHandle(number)),
-            Err(status) => Err(status),
-        }
+        let op = Op::QueueCreate {
+            id,
+            job,
+            priority: attr.priority(),
+            limit: attr.limit(),
+            ordered: attr.ordered(),
+            retain: attr.retain(),
+        };
+        Ok(QueueHandle(self.mtapi_handle(rt, op)?))
     }
 
     /// Gives the live queue of this id.
@@ -57,10 +52,7 @@ impl<'a> Caller<'a> {
     pub fn queue_get<R: Wait>(&mut self, rt: &R, id: u32) -> Result<QueueHandle, MtapiStatus>
         ensures { Called mtapi handle (op.QueueGet id) self.old self.new (with_number (λ h. h.0) result) }
     {
-        match self.mtapi_handle(rt, Op::QueueGet { id }) {
-            Ok(number) => Ok(QueueHandle(number)),
-            Err(status) => Err(status),
-        }
+        Ok(QueueHandle(self.mtapi_handle(rt, Op::QueueGet { id })?))
     }
 
     /// Lets the tasks of a queue begin again. An enabled queue stays as it is.

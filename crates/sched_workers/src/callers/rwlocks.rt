@@ -8,7 +8,6 @@ ghost use Rattle.workload_runners.specs.Replies.{done, handle, mrapi};
 ghost use Rattle.sched_workers.specs.Answers.{Called, Waited, with_number};
 
 use crate::callers::Caller;
-use crate::callers::answers::resource_done;
 use mtapi_values::{MrapiStatus, RwlHandle, Timeout};
 use node_core::Op;
 use std::sync::Wait;
@@ -34,10 +33,7 @@ impl<'a> Caller<'a> {
     ) -> Result<RwlHandle, MrapiStatus>
         ensures { Called mrapi handle (op.RwlCreate id limit) self.old self.new (with_number (λ h. h.0) result) }
     {
-        match self.mrapi_handle(rt, Op::RwlCreate { id, limit }) {
-            Ok(number) => Ok(RwlHandle(number)),
-            Err(status) => Err(status),
-        }
+        Ok(RwlHandle(self.mrapi_handle(rt, Op::RwlCreate { id, limit })?))
     }
 
     /// Gives the live reader-writer lock of this id.
@@ -51,10 +47,7 @@ impl<'a> Caller<'a> {
     pub fn rwl_get<R: Wait>(&mut self, rt: &R, id: u32) -> Result<RwlHandle, MrapiStatus>
         ensures { Called mrapi handle (op.RwlGet id) self.old self.new (with_number (λ h. h.0) result) }
     {
-        match self.mrapi_handle(rt, Op::RwlGet { id }) {
-            Ok(number) => Ok(RwlHandle(number)),
-            Err(status) => Err(status),
-        }
+        Ok(RwlHandle(self.mrapi_handle(rt, Op::RwlGet { id })?))
     }
 
     /// Gives a reader-writer lock up that nobody holds.
@@ -91,7 +84,7 @@ impl<'a> Caller<'a> {
     ) -> Result<(), MrapiStatus>
         ensures { Waited mrapi done (Rwl rwl writer) (looks_of timeout) self.old self.new result }
     {
-        resource_done(self.within(rt, Wanted::Rwl { rwl, writer }, timeout))
+        self.mrapi_wait(rt, Wanted::Rwl { rwl, writer }, timeout)
     }
 
     /// Holds a reader-writer lock, as the writer or as a reader, where one look finds that it can.
@@ -105,7 +98,7 @@ impl<'a> Caller<'a> {
     ) -> Result<(), MrapiStatus>
         ensures { Waited mrapi done (Rwl rwl writer) (Some 1) self.old self.new result }
     {
-        resource_done(self.within(rt, Wanted::Rwl { rwl, writer }, Timeout::NoWait))
+        self.mrapi_wait(rt, Wanted::Rwl { rwl, writer }, Timeout::NoWait)
     }
 
     /// Gives back what it holds as the writer or as a reader.

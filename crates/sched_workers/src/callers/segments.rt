@@ -29,10 +29,7 @@ impl<'a> Caller<'a> {
     ) -> Result<ShmemHandle, MrapiStatus>
         ensures { Called mrapi handle (op.ShmemCreate id cells) self.old self.new (with_number (λ h. h.0) result) }
     {
-        match self.mrapi_handle(rt, Op::ShmemCreate { id, cells }) {
-            Ok(number) => Ok(ShmemHandle(number)),
-            Err(status) => Err(status),
-        }
+        Ok(ShmemHandle(self.mrapi_handle(rt, Op::ShmemCreate { id, cells })?))
     }
 
     /// Gives the live segment of this id.
@@ -46,10 +43,7 @@ impl<'a> Caller<'a> {
     pub fn shmem_get<R: Wait>(&mut self, rt: &R, id: u32) -> Result<ShmemHandle, MrapiStatus>
         ensures { Called mrapi handle (op.ShmemGet id) self.old self.new (with_number (λ h. h.0) result) }
     {
-        match self.mrapi_handle(rt, Op::ShmemGet { id }) {
-            Ok(number) => Ok(ShmemHandle(number)),
-            Err(status) => Err(status),
-        }
+        Ok(ShmemHandle(self.mrapi_handle(rt, Op::ShmemGet { id })?))
     }
 
     /// Gives a segment up to which nobody is attached.

@@ -8,7 +8,6 @@ ghost use Rattle.workload_runners.specs.Replies.{done, handle, mrapi};
 ghost use Rattle.sched_workers.specs.Answers.{Called, Waited, with_number};
 
 use crate::callers::Caller;
-use crate::callers::answers::resource_done;
 use mtapi_values::{MrapiStatus, SemHandle, Timeout};
 use node_core::Op;
 use std::sync::Wait;
@@ -33,10 +32,7 @@ impl<'a> Caller<'a> {
     ) -> Result<SemHandle, MrapiStatus>
         ensures { Called mrapi handle (op.SemCreate id limit) self.old self.new (with_number (λ h. h.0) result) }
     {
-        match self.mrapi_handle(rt, Op::SemCreate { id, limit }) {
-            Ok(number) => Ok(SemHandle(number)),
-            Err(status) => Err(status),
-        }
+        Ok(SemHandle(self.mrapi_handle(rt, Op::SemCreate { id, limit })?))
     }
 
     /// Gives the live semaphore of this id.
@@ -50,10 +46,7 @@ impl<'a> Caller<'a> {
     pub fn sem_get<R: Wait>(&mut self, rt: &R, id: u32) -> Result<SemHandle, MrapiStatus>
         ensures { Called mrapi handle (op.SemGet id) self.old self.new (with_number (λ h. h.0) result) }
     {
-        match self.mrapi_handle(rt, Op::SemGet { id }) {
-            Ok(number) => Ok(SemHandle(number)),
-            Err(status) => Err(status),
-        }
+        Ok(SemHandle(self.mrapi_handle(rt, Op::SemGet { id })?))
     }
 
     /// Gives a semaphore up that nobody holds.
@@ -88,7 +81,7 @@ impl<'a> Caller<'a> {
     ) -> Result<(), MrapiStatus>
         ensures { Waited mrapi done (Sem sem) (looks_of timeout) self.old self.new result }
     {
-        resource_done(self.within(rt, Wanted::Sem(sem), timeout))
+        self.mrapi_wait(rt, Wanted::Sem(sem), timeout)
     }
 
     /// Holds a semaphore once more where one look finds that it can.
@@ -97,7 +90,7 @@ impl<'a> Caller<'a> {
     pub fn sem_trylock<R: Wait>(&mut self, rt: &R, sem: SemHandle) -> Result<(), MrapiStatus>
         ensures { Waited mrapi done (Sem sem) (Some 1) self.old self.new result }
     {
-        resource_done(self.within(rt, Wanted::Sem(sem), Timeout::NoWait))
+        self.mrapi_wait(rt, Wanted::Sem(sem), Timeout::NoWait)
     }
 
     /// Holds a semaphore once less.

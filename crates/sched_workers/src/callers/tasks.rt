@@ -39,20 +39,15 @@ impl<'a> Caller<'a> {
     ) -> Result<TaskHandle, MtapiStatus>
         ensures { Called mtapi handle (start_of job args.now attr group) self.old self.new (with_number (λ h. h.0) result) }
     {
-        match self.mtapi_handle(
-            rt,
-            Op::TaskStart {
-                job,
-                args: args.again(),
-                priority: attr.priority(),
-                cores: attr.affinity(),
-                detached: attr.detached(),
-                group,
-            },
-        ) {
-            Ok(number) => Ok(TaskHandle(number)),
-            Err(status) => Err(status),
-        }
+        let op = Op::TaskStart {
+            job,
+            args: args.again(),
+            priority: attr.priority(),
+            cores: attr.affinity(),
+            detached: attr.detached(),
+            group,
+        };
+        Ok(TaskHandle(self.mtapi_handle(rt, op)?))
     }
 
     /// Starts a task of a queue, with the queue's job and priority, behind the queue's other tasks.
@@ -82,19 +77,14 @@ impl<'a> Caller<'a> {
     ) -> Result<TaskHandle, MtapiStatus>
         ensures { Called mtapi handle (enqueue_of queue args.now attr group) self.old self.new (with_number (λ h. h.0) result) }
     {
-        match self.mtapi_handle(
-            rt,
-            Op::TaskEnqueue {
-                queue,
-                args: args.again(),
-                cores: attr.affinity(),
-                detached: attr.detached(),
-                group,
-            },
-        ) {
-            Ok(number) => Ok(TaskHandle(number)),
-            Err(status) => Err(status),
-        }
+        let op = Op::TaskEnqueue {
+            queue,
+            args: args.again(),
+            cores: attr.affinity(),
+            detached: attr.detached(),
+            group,
+        };
+        Ok(TaskHandle(self.mtapi_handle(rt, op)?))
     }
 
     /// Waits until a task has ended, and gives its end. The handle is no longer live then.

@@ -1,9 +1,0 @@
-use Rattle.std.specs.Prelude.{Some}
-use Rattle.workload_runs.specs.declared.calls.Wanted.TheVariants.{Rwl}
-use Rattle.workload_runners.specs.Replies.{done, mrapi}
-use Rattle.sched_workers.proofs.CallAnswers.{waited}
-use Rattle.sched_workers.proofs.callers.Caller.rwl_trylock.Goals as goal
-
-pub returns : goal.returns
-returns g c = waited mrapi done (Rwl c.args.rwl c.args.writer)
-    (Some 1) _ _ c.within.result c.resource_done.result c.within.ensures.looked c.within.ensures.spent c.resource_done.ensures

@@ -1,9 +1,0 @@
-use Rattle.mtapi_values.specs.Timeouts.{looks_of}
-use Rattle.workload_runs.specs.declared.calls.Wanted.TheVariants.{Sem}
-use Rattle.workload_runners.specs.Replies.{done, mrapi}
-use Rattle.sched_workers.proofs.CallAnswers.{waited}
-use Rattle.sched_workers.proofs.callers.Caller.sem_lock.Goals as goal
-
-pub returns : goal.returns
-returns g c = waited mrapi done (Sem c.args.sem)
-    (looks_of c.args.timeout) _ _ c.within.result c.resource_done.result c.within.ensures.looked c.within.ensures.spent c.resource_done.ensures
