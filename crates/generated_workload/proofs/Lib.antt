@@ -1,5 +1,5 @@
 pub mod Names
-mod Formed
+pub mod Formed
 mod Lines
 mod Heads
 mod Starts

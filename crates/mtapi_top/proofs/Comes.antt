@@ -163,11 +163,11 @@ module _ (asked : Asked) (old new : Option (List ℕ)) (j : judges (Some asked) 
         threads_at (reason.Spent s) h n = h.1
         threads_at reason.Memory h n = h
 
-    pub written_comes : (journal : Journal) (text : List ℕ) (e : End) (t t' w w' : ℕ) (held held' : Option (List ℕ)) → IsLoadOf asked old load → WellFormed load
+    pub written_comes : (journal : Journal) (text : List ℕ) (e : End) (t t' w w' : ℕ) (held held' : Option (List ℕ)) → IsLoadOf asked old load
         → IsRun load journal → IsReadAgain asked journal → text ≡ output asked load journal → t' ≡ t → w ≤ w' → WritesOutput w w' held held' text journal e
         → ComesTo (Some asked) old new (record { reads = r; writes = w; threads = t; held = held })
         (record { reads = r'; writes = w'; threads = t'; held = held' }) e
-    written_comes journal text e t t' w w' held held' loads formed run again same threads more h = record {
+    written_comes journal text e t t' w w' held held' loads run again same threads more h = record {
       range = g;
       run = λ k. ends e h;
       check = λ k. absurd (judges_one (Some asked) j k);
@@ -177,7 +177,7 @@ module _ (asked : Asked) (old new : Option (List ℕ)) (j : judges (Some asked) 
     }
       where
         ran : (P : List ℕ → Type 0) → P text → Ran (Some asked) old journal P
-        ran P h = record { asked = asked; asks = refl; load = load; is = loads; formed = formed; is_run = run; again = again; written = subst P same h }
+        ran P h = record { asked = asked; asks = refl; load = load; is = loads; is_run = run; again = again; written = subst P same h }
 
         ends : (e : End) → WritesOutput w w' held held' text journal e
             → Ends (Some asked) old (record { reads = r; writes = w; threads = t; held = held })

@@ -4,6 +4,8 @@ use Rattle.workload_file.specs.declared.faults.Fault.{Fault}
 use Rattle.mtapi_machine.specs.declared.terms.Terms.{Terms}
 use Rattle.run_report.specs.Report.{report}
 use Rattle.journal_check.specs.Verdicts.{IsRun as IsRunOf}
+use Rattle.workload_file.proofs.Invariant.{workload_formed}
+use Rattle.generated_workload.proofs.Formed.{is_formed}
 use Rattle.settled_runs.specs.PlainSummary.{plain_summary}
 use Rattle.settled_runs.specs.RunGranted.{SettledRun}
 use Rattle.settled_runs.proofs.RunReport.{settled_reports_are_plain}
@@ -42,28 +44,29 @@ one_load : (r : Result Workload Fault) (x y : Workload) → r ≡ Ok x → r ≡
 one_load r x y i k = let both = sym i ∙ k in cc
 
 module _ (j : Journal) (P : List ℕ → Type 0) where
-  by_asked : (asked : Asked) (bytes : Option (List ℕ)) (load : Workload) → IsLoadOf asked bytes load → WellFormed load → IsRun load j → InRange asked
+  by_asked : (asked : Asked) (bytes : Option (List ℕ)) (load : Workload) → IsLoadOf asked bytes load → IsRun load j → InRange asked
       → P (output asked load j) → IsPlainOutput (Some asked) bytes j P
-  by_asked asks.Report None load i f r g p = tt
-  by_asked asks.Report (Some b) load i f r g p = λ mine e s.
+  by_asked asks.Report None load i r g p = tt
+  by_asked asks.Report (Some b) load i r g p = λ mine e s.
       let same : load ≡ mine = one_load (workload_of b) load mine i.1 e in
       subst (λ (x : Workload). P (plain_report x)) same
       (subst P (settled_reports_are_plain j.layout load j.entries.entries j.entries.skipped
-      (settled_run load j f r (subst (λ (x : Workload). is_settled x ≡ true) (sym same) s))) p)
-  by_asked asks.Journal None load i f r g p = tt
-  by_asked asks.Journal (Some b) load i f r g p = λ mine e s.
+      (settled_run load j (workload_formed b load i.1) r (subst (λ (x : Workload). is_settled x ≡ true) (sym same) s))) p)
+  by_asked asks.Journal None load i r g p = tt
+  by_asked asks.Journal (Some b) load i r g p = λ mine e s.
       let same : load ≡ mine = one_load (workload_of b) load mine i.1 e in
       subst (λ (x : Workload). P (plain_report x ++ journal_text j)) same
       (subst (λ (x : List ℕ). P (x ++ journal_text j))
       (settled_reports_are_plain j.layout load j.entries.entries j.entries.skipped
-      (settled_run load j f r (subst (λ (x : Workload). is_settled x ≡ true) (sym same) s))) p)
-  by_asked (asks.Generated n w) bytes load i f r g p =
+      (settled_run load j (workload_formed b load i.1) r (subst (λ (x : Workload). is_settled x ≡ true) (sym same) s))) p)
+  by_asked (asks.Generated n w) bytes load i r g p =
       let e : is_settled load ≡ true = subst (λ (x : Workload). is_settled x ≡ true) (sym i) (generated_settled n w g.0 g.1 g.2 g.3) in
+      let f : WellFormed load = subst WellFormed (sym i) (is_formed n w g.0 g.1 g.2 g.3) in
       subst P (settled_summaries_are_plain j.layout load j.entries.entries j.entries.skipped (settled_run load j f r e) ∙ ap plain_summary i
       ∙ one_summary n w) p
-  by_asked asks.Check bytes load i f r g p = tt
+  by_asked asks.Check bytes load i r g p = tt
 
   pub plain_output : (words : Option Asked) (bytes : Option (List ℕ)) → Ran words bytes j P → IfSome words InRange → IsPlainOutput words bytes j P
   plain_output words bytes r g =
       subst (λ (x : Option Asked). IsPlainOutput x bytes j P) (sym r.asks)
-      (by_asked r.asked bytes r.load r.is r.formed r.is_run (subst (λ (x : Option Asked). IfSome x InRange) r.asks g) r.written)
+      (by_asked r.asked bytes r.load r.is r.is_run (subst (λ (x : Option Asked). IfSome x InRange) r.asks g) r.written)

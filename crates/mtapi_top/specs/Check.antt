@@ -4,7 +4,6 @@ use Rattle.std.specs.Fmt.{decimal}
 use Rattle.std.specs.Io.KnownBytes.{Appends}
 use Rattle.byte_io.specs.Causes.{Rose, AppendsFront}
 use Rattle.workload_file.specs.declared.workload.Workload.{Workload}
-use Rattle.workload_file.specs.Formed.{WellFormed}
 use Rattle.workload_file.specs.Reading.{workload_of}
 use Rattle.node_journals.specs.declared.entries.Journal.{Journal}
 use Rattle.journal_text.specs.declared.faults.TextError.{TextError}
@@ -43,7 +42,6 @@ pub record IsJudged (bytes : Option (List ℕ)) (v : Verdict) : Type 0 where
   pub load : Workload
   pub journal : Journal
   pub input : IfSome bytes (λ t. IsInput t load journal)
-  pub formed : WellFormed load
   pub verdict : IsVerdict load journal v
 
 -- ---- the ends

@@ -2,7 +2,6 @@
 use Rattle.std.specs.Prelude.{◌≡◌, ℕ, List, [], ◌++◌, ◌≤◌, length, codes, Ok, Option, Some, IfSome}
 use Rattle.workload_file.specs.declared.workload.Workload.{Workload}
 use Rattle.workload_file.specs.Reading.{workload_of}
-use Rattle.workload_file.specs.Formed.{WellFormed}
 use Rattle.node_journals.specs.declared.entries.Journal.{Journal}
 use Rattle.workload_runners.specs.Runs.{IsRun}
 use Rattle.run_report.specs.Report.{report}
@@ -46,7 +45,6 @@ pub record Ran (words : Option Asked) (bytes : Option (List ℕ)) (j : Journal) 
   pub asks : words ≡ Some asked
   pub load : Workload
   pub is : IsLoadOf asked bytes load
-  pub formed : WellFormed load
   pub is_run : IsRun load j
   pub again : IsReadAgain asked j
   pub written : P (output asked load j)

@@ -29,7 +29,7 @@ returns-clause-comes g c =
     written_comes c.args.asked.now (g.S.Source.left c.args.src.now) (g.S.Source.left c.load_for.new.src) c.requires.asked c.requires.range c.in-Ok.load _ _
     c.in-Ok.ensures.workload c.in-Ok.ensures.clean c.in-Ok.ensures.whole c.in-Ok.ensures.unread c.in-Ok.ensures.taken
     (c.in-Ok.ensures.faultless (λ q. cc)) c.in-Ok.ensures.later
-    c.in-Ok-run_and_output.both.0 c.deref.result.now c.write_output.result _ _ _ _ _ _ c.in-Ok.ensures.load c.in-Ok.ensures.formed
+    c.in-Ok-run_and_output.both.0 c.deref.result.now c.write_output.result _ _ _ _ _ _ c.in-Ok.ensures.load
     c.in-Ok-run_and_output.ensures.is_run c.in-Ok-run_and_output.ensures.again (c.deref.ensures.value
     ∙ c.in-Ok-run_and_output.ensures.output) c.in-Ok-run_and_output.ensures.counts c.write_output.ensures.later c.write_output.ensures.writes
 
