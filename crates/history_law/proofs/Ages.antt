@@ -169,16 +169,12 @@ module _ {T : Type 0} where
 module _ {T : Type 0} (K : T → T → Type 0) where
   pub listed_ages : (h : ℕ) (l m : List (Listed T)) → AgesEach K l m → listed h m ≡ listed h l
   unfolding listed
-  listed_ages h [] [] a = refl
-  listed_ages h [] (q ∷ qs) a = absurd a
-  listed_ages h (r ∷ rs) [] a = absurd a
   listed_ages h (r ∷ rs) (q ∷ qs) a = grind (arith, nat_tests, listed_ages h rs qs a.1)
+  listed_ages h _ _ a = grind (arith, nat_tests)
 
   pub dead_ages : (h : ℕ) (l m : List (Listed T)) → AgesEach K l m → Dead h l → Dead h m
-  dead_ages h [] [] a d = tt
-  dead_ages h [] (q ∷ qs) a d = absurd a
-  dead_ages h (r ∷ rs) [] a d = absurd a
   dead_ages h (r ∷ rs) (q ∷ qs) a d = ((λ e. a.0.dead (d.0 (ap (λ (n : ℕ). n == h) (sym a.0.handle) ∙ e))), dead_ages h rs qs a.1 d.1)
+  dead_ages h _ _ a d = grind (arith, nat_tests)
 
 module _ {T : Type 0} where
   pub dead_issue : (h j : ℕ) (x : T) (l : List (Listed T)) → (j == h) ≡ false → Dead h l → Dead h (issue j x l)
@@ -199,8 +195,7 @@ module _ {T : Type 0} where
   pub live_listed : (h : ℕ) (l : List (Listed T)) → is_some (live_object l h) ≡ true → 1 ≤ listed h l
   unfolding live_of listed
   live_listed h [] e = absurd (cc)
-  live_listed h (r ∷ rs) e = at_head r h (λ a b. let k : cond {A = ℕ} (r.handle == h) 1 0 ≡ 1 = ap (λ (c : Bool). cond {A = ℕ} c 1 0) b in
-      omega arith) (λ n. let k = live_listed h rs (sym (ap is_some (at_past r rs h n)) ∙ e) in omega arith)
+  live_listed h (r ∷ rs) e = grind (arith, nat_tests, live_listed h rs)
 
 -- What holds of each object that was issued under a handle
 
@@ -217,22 +212,15 @@ module _ {T : Type 0} where
   pub under_none : (h : ℕ) (F : T → Type 0) (l : List (Listed T)) → listed h l ≡ 0 → Under h F l
   unfolding listed
   under_none h F [] e = tt
-  under_none h F (r ∷ rs) e = (
-    (λ j. let k : cond {A = ℕ} (r.handle == h) 1 0 ≡ 1 = ap (λ (c : Bool). cond {A = ℕ} c 1 0) j in
-        absurd (omega arith)),
-    under_none h F rs (omega arith),
-  )
+  under_none h F (r ∷ rs) e = (λ j. grind (arith, nat_tests), under_none h F rs (grind (arith, nat_tests)))
 
   pub under_at : (h : ℕ) (F : T → Type 0) (l : List (Listed T)) (x : T) → Under h F l → live_object l h ≡ Some x → F x
   unfolding live_of
   under_at h F [] x u e = absurd (cc)
-  under_at h F (r ∷ rs) x u e = at_head r h (λ a b. subst F (some_same (sym (at_here r rs h a b) ∙ e)) (u.0 b))
-      (λ n. under_at h F rs x u.1 (sym (at_past r rs h n) ∙ e))
+  under_at h F (r ∷ rs) x u e = grind (arith, nat_tests, under_at h F rs x u.1, u.0, some_same)
 
   pub under_ages : (K : T → T → Type 0) (h : ℕ) (F : T → Type 0) → ((x y : T) → K x y → F x → F y) → (l m : List (Listed T)) → AgesEach K l m → Under h F l
       → Under h F m
-  under_ages K h F g [] [] a u = tt
-  under_ages K h F g [] (q ∷ qs) a u = absurd a
-  under_ages K h F g (r ∷ rs) [] a u = absurd a
   under_ages K h F g (r ∷ rs) (q ∷ qs) a u =
       ((λ e. g r.fields q.fields a.0.fields (u.0 (ap (λ (n : ℕ). n == h) (sym a.0.handle) ∙ e))), under_ages K h F g rs qs a.1 u.1)
+  under_ages K h F g _ _ a u = grind (arith, nat_tests)

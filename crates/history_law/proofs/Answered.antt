@@ -28,28 +28,3 @@ pub none_first : (a b : Bool) → cond a true b ≡ false → (a ≡ false) × (
 none_first true b e = true_false refl e
 none_first false b e = (refl, e)
 
-pub gives_cond : (Q : Reply → List Move → Type 0) (b : Bool) (v w : Row) → (b ≡ true → AllGives Q v) → (b ≡ false → AllGives Q w) → AllGives Q (cond b v w)
-gives_cond Q true v w g h = g refl
-gives_cond Q false v w g h = h refl
-
-module _ (p : Reply → Bool) where
-  -- no refusal of the row passes
-  abbrev pub NoRefusal : Row → Type 0
-  NoRefusal (unless b x w) = (p x ≡ false) × NoRefusal w
-  NoRefusal (gives x ms) = Unit {0}
-  NoRefusal never = Unit {0}
-
-  pub answered_by : (P : Reply → List Move → Type 0) (w : Row) (r : Reply) → p r ≡ true → NoRefusal w → AllGives (λ x ms. p x ≡ true → P x ms) w → Allows w r
-      → P r (moves_of w)
-  answered_by P (unless true x w) r i n g a = true_false (ap p (sym a) ∙ i) n.0
-  answered_by P (unless false x w) r i n g a = answered_by P w r i n.1 (g refl) a
-  answered_by P (gives x ms) r i n g a = subst (λ (y : Reply). P y ms) (sym a) (g (ap p (sym a) ∙ i))
-  answered_by P never r i n g a = absurd a
-
-  pub answered : (P : List Move → Type 0) (w : Row) (r : Reply) → p r ≡ true → NoRefusal w → AllGives (λ x ms. p x ≡ true → P ms) w → Allows w r
-      → P (moves_of w)
-  answered P w r i n g a = answered_by (λ x ms. P ms) w r i n g a
-
-  -- a reply that doesn't pass comes with no move
-  abbrev pub Quiet : Reply → List Move → Type 0
-  Quiet r ms = p r ≡ false → ms ≡ []

@@ -6,31 +6,19 @@ use Rattle.history_law.proofs.Held.{HasEnded, AllEnded}
 end_stays : (x y : TaskState) (e : TaskEnd) → ((e : TaskEnd) (n : ℕ) → end_of x ≡ Some (e, n) → end_of y ≡ Some (e, n)) → end_in x ≡ Some e → end_in y ≡ Some e
 end_stays Scheduled y e k i = absurd (cc)
 end_stays (Running w j) y e k i = absurd (cc)
-end_stays (Ended z n) y e k i = by_end y (k z n refl)
-  where
-    by_end : (y : TaskState) → end_of y ≡ Some (z, n) → end_in y ≡ Some e
-    by_end Scheduled o = absurd (cc)
-    by_end (Running w j) o = absurd (cc)
-    by_end (Ended u m) o = let q : u ≡ z = ap (λ (p : Option (TaskEnd × ℕ)). cond (is_none p) z (first_or p)) o in ap (λ (v : TaskEnd). Some v) q ∙ i
-      where
-        first_or : Option (TaskEnd × ℕ) → TaskEnd
-        first_or None = z
-        first_or (Some p) = p.0
+end_stays (Ended z n) y e k i = grind (arith, nat_tests, k z n refl)
 
 -- in a list that has grown, the end of this handle's task is as it was
 pub grows_end : (h : ℕ) (e : TaskEnd) (l m : List (Listed Task)) → Grows l m → end_at l h ≡ Some e → end_at m h ≡ Some e
 unfolding end_at
-grows_end h e [] m g i = absurd (cc)
-grows_end h e (r ∷ rs) [] g i = absurd g
 grows_end h e (r ∷ rs) (q ∷ qs) g i = grind (arith, nat_tests, grows_end h e rs qs g.1, end_at, end_in, end_stays)
+grows_end h e _ _ g i = grind (arith, nat_tests)
 
 -- and it is listed at least as often
 pub grows_listed : (h : ℕ) (l m : List (Listed Task)) → Grows l m → listed h l ≤ listed h m
 unfolding listed
-grows_listed h [] m g = omega arith
-grows_listed h (r ∷ rs) [] g = absurd g
-grows_listed h (r ∷ rs) (q ∷ qs) g = let k = grows_listed h rs qs g.1 in let e : cond {A = ℕ} (q.handle == h) 1 0 ≡ cond {A = ℕ} (r.handle == h) 1 0 =
-    ap (λ (x : ℕ). cond {A = ℕ} (x == h) 1 0) g.0.handle in omega arith
+grows_listed h (r ∷ rs) (q ∷ qs) g = grind (arith, nat_tests, grows_listed h rs qs g.1, g.0.handle)
+grows_listed h _ _ g = grind (arith, nat_tests)
 
 ended_end : (t : Task) → HasEnded t → (e : TaskEnd) × (end_in t.state ≡ Some e)
 ended_end t h = by_state t.state h

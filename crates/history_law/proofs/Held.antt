@@ -56,13 +56,7 @@ open_late p e1 e2 = grind (arith, nat_tests)
 all_ended : (l : List (Listed Task)) → any_listed is_unended l ≡ false → DeadEnded l → AllEnded l
 unfolding live_of
 all_ended [] e d = tt
-all_ended (r ∷ rs) e d = by_live r.live e d.0 (λ q. all_ended rs q d.1)
-  where
-    by_live : (b : Bool) → any_live is_unended (cond b ((r.handle, r.fields) ∷ live_of rs) (live_of rs)) ≡ false → (b ≡ false → HasEnded r.fields)
-        → (any_listed is_unended rs ≡ false → AllEnded rs) → HasEnded r.fields × AllEnded rs
-    by_live true q k rest = let both : (is_unended r.fields ≡ false) × (any_listed is_unended rs ≡ false) =
-        none_first (is_unended r.fields) (any_listed is_unended rs) q in (both.0, rest both.1)
-    by_live false q k rest = (k refl, rest q)
+all_ended (r ∷ rs) e d = grind (arith, nat_tests, all_ended rs, d.0, d.1)
 
 pub held_stop : (p : Phase) (m : List Bool) (w : ℕ) (l : List (Listed Task)) → is_past_open p ≡ true → any_listed is_unended l ≡ false → Held p m l
     → Held p (slice_set m w true) l

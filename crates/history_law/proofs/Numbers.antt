@@ -46,17 +46,7 @@ ends_low n p e k (r ∷ rs) i = grind (arith, nat_tests, ends_low n p e k rs i, 
 ends_high : (n : ℕ) (p : Task → Bool) (e : TaskEnd) (k : ℕ) (l : List (Listed Task)) → has_number n l ≡ 0 → has_number n (end_each p e k l) ≤ 1
 unfolding end_each
 ends_high n p e k [] z = omega arith
-ends_high n p e k (r ∷ rs) z =
-    let x : has_number n (end_each p e k rs) ≤ 1 = ends_high n p e k rs (omega arith) in
-    cond_both (r.live && p r.fields) (ended e k r ∷ end_each p e (k + 1) rs) (r ∷ end_each p e k rs) (λ q. has_number n q
-    ≤ 1) (λ c. by_same (k == n) refl (ends_high n p e (k + 1) rs (omega arith))) (λ c. omega arith)
-  where
-    by_same : (b : Bool) → (k == n) ≡ b → has_number n (end_each p e (k + 1) rs) ≤ 1 → bit b + has_number n (end_each p e (k + 1) rs) ≤ 1
-    by_same true i y =
-        let same : k ≡ n = eqb-true k n i in
-        let u : has_number n (end_each p e (k + 1) rs) ≤ has_number n rs = ends_low n p e (k + 1) rs (omega arith) in
-        omega arith
-    by_same false i y = omega arith
+ends_high n p e k (r ∷ rs) z = grind (arith, nat_tests, ends_high n p e k rs, ends_high n p e (k + 1) rs, ends_low n p e (k + 1) rs)
 
 -- and none from the last one on
 ends_above : (n : ℕ) (p : Task → Bool) (e : TaskEnd) (k : ℕ) (l : List (Listed Task)) → k + count_listed p l ≤ n → has_number n l ≡ 0
@@ -79,30 +69,12 @@ many_numbers : (s : State) (l : List (Listed Task)) (p : Task → Bool) (e : Tas
 many_numbers s l p e e1 = grind (arith, nat_tests, nat_lt, ends_above, end_each, ends_low, ends_high)
 
 one_number : (s : State) (h : ℕ) (e : TaskEnd) → Numbered s → Numbered (record s { tasks = change h (ended e s.ends) s.tasks; ends = s.ends + 1 })
-one_number s h e v = record {
-  once = λ n. by_same n (s.ends == n) refl;
-  above = λ n i.
-      let a : has_number n (change h (ended e s.ends) s.tasks) ≤ has_number n s.tasks + bit (s.ends == n) = changed n in
-      let z : bit (s.ends == n) ≡ 0 = ap bit (other_number s.ends n (omega arith)) in
-      let b : has_number n s.tasks ≡ 0 = v.above n (omega arith) in
-      omega arith;
-}
-  where
-    changed : (n : ℕ) → has_number n (change h (ended e s.ends) s.tasks) ≤ has_number n s.tasks + bit (s.ends == n)
-    changed n = change_number n (bit (s.ends == n)) h (ended e s.ends) s.tasks (λ r. omega arith)
-
-    by_same : (n : ℕ) (b : Bool) → (s.ends == n) ≡ b → has_number n (change h (ended e s.ends) s.tasks) ≤ 1
-    by_same n true i =
-        let a : has_number n (change h (ended e s.ends) s.tasks) ≤ has_number n s.tasks + bit (s.ends == n) = changed n in
-        let same : s.ends ≡ n = eqb-true s.ends n i in
-        let z : has_number n s.tasks ≡ 0 = v.above n (omega arith) in
-        let y : bit (s.ends == n) ≤ 1 = at_most_one (s.ends == n) in
-        omega arith
-    by_same n false i =
-        let a : has_number n (change h (ended e s.ends) s.tasks) ≤ has_number n s.tasks + bit (s.ends == n) = changed n in
-        let z : bit (s.ends == n) ≡ 0 = ap bit i in
-        let y : has_number n s.tasks ≤ 1 = v.once n in
-        omega arith
+one_number s h e v =
+    let changed : (n : ℕ) → has_number n (change h (ended e s.ends) s.tasks) ≤ has_number n s.tasks + bit (s.ends == n) =
+    λ n. change_number n (bit (s.ends == n)) h (ended e s.ends) s.tasks (λ r. omega arith) in record {
+      once = λ n. grind (arith, nat_tests, changed n, v.once n, v.above n);
+      above = λ n i. grind (arith, nat_tests, changed n, v.above n);
+    }
 
 none_more : (a b : ℕ) → a ≤ b + 0 → a ≤ b
 none_more a b e = omega arith

@@ -136,19 +136,7 @@ left_along g n s L l v = kept_along (Left g n) (λ t e i. by_moves (Left g n) t 
 from_endings : (g n : ℕ) (l : List (Listed Task)) → AllOf (FromNumber n) (endings g (live_of l)) → AllFrom g n l
 unfolding endings live_of
 from_endings g n [] a = tt
-from_endings g n (r ∷ rs) a = on_test (λ b. AllOf (FromNumber n) (endings g (cond b ((r.handle, r.fields) ∷ live_of rs) (live_of rs)))
-    → AllFrom g n (r ∷ rs)) r.live
-    (λ e a. on_test (λ b. AllOf (FromNumber n) (cond b (insert_ended r.handle (end_of r.fields.state) (endings g (live_of rs))) (endings g (live_of rs)))
-    → AllFrom g n (r ∷ rs)) (is_member g r.fields) (λ e a. here (end_of r.fields.state) refl a (from_endings g n rs))
-    (λ e a. ((λ i j p q. true_false j e), (from_endings g n rs) a)) a)
-    (λ e a. ((λ i j p q. true_false i e), (from_endings g n rs) a)) a
-  where
-    here : (x : Option (TaskEnd × ℕ)) → end_of r.fields.state ≡ x → AllOf (FromNumber n) (insert_ended r.handle x (endings g (live_of rs)))
-        → (AllOf (FromNumber n) (endings g (live_of rs)) → AllFrom g n rs) → AllFrom g n (r ∷ rs)
-    here None e a k = ((λ i j p q. none_some (sym e ∙ q)), k a)
-    here (Some y) e a k =
-        let b = all_inserted (FromNumber n) (record { task = r.handle; end = y.0; number = y.1 }) (endings g (live_of rs)) a in
-        ((λ i j p q. subst (λ (z : TaskEnd × ℕ). n ≤ z.1) (some_same (sym e ∙ q)) b.0), k b.1)
+from_endings g n (r ∷ rs) a = grind (arith, nat_tests, from_endings g n rs, all_inserted (FromNumber n))
 
 from_at : (g n : ℕ) (l : List (Listed Task)) (h : ℕ) (t : Task) → AllFrom g n l → live_object l h ≡ Some t → is_member g t ≡ true → (p : TaskEnd × ℕ)
     → end_of t.state ≡ Some p → n ≤ p.1
@@ -167,18 +155,12 @@ number_stays : (x y : TaskState) (n : ℕ) → ((e : TaskEnd) (k : ℕ) → end_
 unfolding number_told
 number_stays Scheduled y n k i = absurd (cc)
 number_stays (Running w j) y n k i = absurd (cc)
-number_stays (Ended z a) y n k i = by_end y (k z a refl)
-  where
-    by_end : (y : TaskState) → end_of y ≡ Some (z, a) → number_in y ≡ Some n
-    by_end Scheduled o = absurd (cc)
-    by_end (Running w j) o = absurd (cc)
-    by_end (Ended u b) o = let q : b ≡ a = ap (number_told b) o in ap Some q ∙ i
+number_stays (Ended z a) y n k i = grind (arith, nat_tests, k z a refl)
 
 grows_number : (h n : ℕ) (l k : List (Listed Task)) → Grows l k → number_at l h ≡ Some n → number_at k h ≡ Some n
 unfolding number_at
-grows_number h n [] k g i = absurd (cc)
-grows_number h n (r ∷ rs) [] g i = absurd g
 grows_number h n (r ∷ rs) (q ∷ qs) g i = grind (arith, nat_tests, grows_number h n rs qs g.1, number_at, number_in, number_stays)
+grows_number h n _ _ g i = grind (arith, nat_tests)
 
 own_bit : (n : ℕ) (x : TaskState) → number_in x ≡ Some n → bit (is_number n x) ≡ 1
 own_bit n x e1 = grind (arith, nat_tests)
@@ -192,19 +174,7 @@ number_counts (r ∷ rs) h n e = grind (arith, nat_tests, number_counts rs h n)
 same_task : (l : List (Listed Task)) (a b n : ℕ) → has_number n l ≤ 1 → number_at l a ≡ Some n → number_at l b ≡ Some n → a ≡ b
 unfolding number_at
 same_task [] a b n o i j = absurd (cc)
-same_task (r ∷ rs) a b n o i j = by_hand (r.handle == a) refl (r.handle == b) refl i j (λ x y. same_task rs a b n (omega arith) x y)
-  where
-    twice : number_in r.fields.state ≡ Some n → (h : ℕ) → number_at rs h ≡ Some n → ⊥
-    twice i h j = let z : bit (is_number n r.fields.state) ≡ 1 = own_bit n r.fields.state i in let y : 1 ≤ has_number n rs = number_counts rs h n j in
-        omega arith
-
-    by_hand : (x : Bool) → (r.handle == a) ≡ x → (y : Bool) → (r.handle == b) ≡ y → cond x (number_in r.fields.state) (number_at rs a) ≡ Some n
-        → cond y (number_in r.fields.state) (number_at rs b) ≡ Some n
-        → (number_at rs a ≡ Some n → number_at rs b ≡ Some n → a ≡ b) → a ≡ b
-    by_hand true p true q i j k = sym (eqb-true r.handle a p) ∙ eqb-true r.handle b q
-    by_hand true p false q i j k = absurd (twice i b j)
-    by_hand false p true q i j k = absurd (twice j a i)
-    by_hand false p false q i j k = k i j
+same_task (r ∷ rs) a b n o i j = grind (arith, nat_tests, same_task rs a b n, number_counts rs a n, number_counts rs b n, own_bit n r.fields.state, eqb-true)
 
 -- The law
 
@@ -228,15 +198,7 @@ gave_number s g h ms L o v = grows_number h v.number s.tasks (after_from s L).ta
     ∙ ap number_in v.over)
 
 gave_below : (s : State) (g h : ℕ) (ms : List Move) → OnceIn s.tasks → Numbered s → (v : Gave s g h ms) → v.number ≤ s.ends
-gave_below s g h ms o u v = by_test (nat_lt s.ends v.number) refl
-  where
-    by_test : (b : Bool) → nat_lt s.ends v.number ≡ b → v.number ≤ s.ends
-    by_test false i = grind (arith, nat_tests)
-    by_test true i =
-        let less : s.ends < v.number = grind (arith, nat_tests) in
-        let none : has_number v.number s.tasks ≡ 0 = u.above v.number (omega arith) in
-        let some : 1 ≤ has_number v.number s.tasks = number_counts s.tasks h v.number (number_found s.tasks h v.task o v.found ∙ ap number_in v.over) in
-        absurd (omega arith)
+gave_below s g h ms o u v = grind (arith, nat_tests, u.above v.number, number_counts s.tasks h v.number (number_found s.tasks h v.task o v.found ∙ ap number_in v.over))
 
 -- a task that is given later ended later
 later : (s u : State) (g a b : ℕ) (ms ns : List Move) → (v : Gave s g a ms) → (w : Gave u g b ns) → Left g v.number u → v.number ≤ w.number

@@ -42,11 +42,7 @@ ready_let s t q e h = grind (arith, nat_tests, snd_true, is_unstarted, live_of, 
 ordered_head : (q : ℕ) (t : Task) (l : List (ℕ × Task)) (o : Option Queue) → ((x : Queue) → o ≡ Some x → x.ordered ≡ true) → holds (lets q t l) o ≡ true
     → is_head q t l ≡ true
 ordered_head q t l None f h = absurd (cc)
-ordered_head q t l (Some x) f h = by_ordered x.ordered (f x refl) (snd_true x.enabled _ h)
-  where
-    by_ordered : (b : Bool) → b ≡ true → (not b || is_head q t l) ≡ true → is_head q t l ≡ true
-    by_ordered true e k = k
-    by_ordered false e k = absurd (cc)
+ordered_head q t l (Some x) f h = grind (arith, nat_tests, f x refl)
 
 -- A task that stands before another in its queue, and isn't waited for, has ended
 

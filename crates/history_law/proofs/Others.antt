@@ -208,16 +208,7 @@ time_after s L l v = kept_along (λ t. Every InTime t.tasks)
 ended_late : (h : ℕ) (e : TaskEnd) (l : List (Listed Task)) → Every InTime l → end_at l h ≡ Some e → is_late_end e ≡ false
 unfolding end_at
 ended_late h e [] v i = absurd (cc)
-ended_late h e (r ∷ rs) v i = by_hand (r.handle == h) (λ j. ended_late h e rs v.1 j) i
-  where
-    by_state : (x : TaskState) → in_time x ≡ true → end_in x ≡ Some e → is_late_end e ≡ false
-    by_state Scheduled k j = absurd (cc)
-    by_state (Running w z) k j = absurd (cc)
-    by_state (Ended y n) k j = ap is_late_end (sym (some_same j)) ∙ not_true _ k
-
-    by_hand : (b : Bool) → (end_at rs h ≡ Some e → is_late_end e ≡ false) → cond b (end_in r.fields.state) (end_at rs h) ≡ Some e → is_late_end e ≡ false
-    by_hand true m j = by_state r.fields.state v.0.state j
-    by_hand false m j = m j
+ended_late h e (r ∷ rs) v i = grind (arith, nat_tests, ended_late h e rs v.1, v.0.state, not_true)
 
 pub no_late_end : (terms : Terms) (L : List NodeEntry) (h : ℕ) (e : TaskEnd) → Legal terms L → end_at (after terms L).tasks h ≡ Some e → is_late_end e ≡ false
 no_late_end terms L h e l i = ended_late h e (after terms L).tasks (time_after (opening terms) L l.from tt) i

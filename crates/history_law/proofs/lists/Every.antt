@@ -27,8 +27,7 @@ module _ {T : Type 0} where
   pub every_at : (P : T → Type 0) (l : List (Listed T)) (h : ℕ) (t : T) → Every P l → live_object l h ≡ Some t → P t
   unfolding live_of
   every_at P [] h t a i = absurd (cc)
-  every_at P (r ∷ rs) h t a i = at_head r h (λ b c. subst P (some_same (sym (at_here r rs h b c) ∙ i)) a.0)
-      (λ n. every_at P rs h t a.1 (sym (at_past r rs h n) ∙ i))
+  every_at P (r ∷ rs) h t a i = grind (arith, nat_tests, every_at P rs h t a.1, a.0, some_same)
 
 pub always : {T : Type 0} (l : List (Listed T)) → Every (λ (t : T). Unit {0}) l
 always [] = tt

@@ -15,8 +15,7 @@ module _ {T : Type 0} where
 
   -- an issued handle is listed
   pub some_issued : (h : ℕ) (x : T) (l : List (Listed T)) → 1 ≤ listed h (issue h x l)
-  some_issued h x l = let e = listed-issue h h x l in let k : cond {A = ℕ} (h == h) 1 0 ≡ 1 = ap (λ (b : Bool). cond {A = ℕ} b 1 0) (eq-eqb h h refl) in
-      omega arith
+  some_issued h x l = grind (arith, nat_tests, listed-issue h h x l)
 
   -- each handle is listed at most once
   abbrev pub OnceIn : List (Listed T) → Type 0

@@ -34,13 +34,7 @@ module _ (top h : ℕ) (s : State) (who : ℕ) (k : who < 25) (o : OnceIn s.rwls
 
 rwl_misses : (h : ℕ) (m : Bool) (s : State) (who : ℕ) (o : Op) (r : Reply) (ms : List Move) → live_object s.rwls h ≡ None → Answers s who o r ms
     → ((looks_at_rwl h m o && says_ok r) ≡ false) × ((unlocks_rwl h m o && says_ok r) ≡ false)
-rwl_misses h m s who _ _ _ n (is.refuses o x e) = (and-false _, and-false _)
-rwl_misses h m s who _ _ _ n (is.refuses_caller o x e) = (and-false _, and-false _)
-rwl_misses h m s who _ _ _ n (is.rwl_early x writer v c b) = (and-false _, refl)
-rwl_misses h m s who _ _ _ n (is.rwl_late x writer) = (and-false _, refl)
-rwl_misses h m s who _ _ _ n (is.takes_rwl x writer last v c b) = (ap (λ (b : Bool). (b && in_mode m writer) && true) (missed s.rwls h x.0 v n c.found), refl)
-rwl_misses h m s who _ _ _ n (is.gives_rwl x writer v c) = (refl, ap (λ (b : Bool). (b && in_mode m writer) && true) (missed s.rwls h x.0 v n c.found))
-rwl_misses h m s who _ _ _ n _ = (refl, refl)
+rwl_misses h m s who o r ms n a = grind (arith, nat_tests, missed, and-false)
 
 make_rwl : (top h : ℕ) (s : State) (who : ℕ) (o : Op) (ms : List Move) → makes_object kind.Rwl o ≡ true → Answers s who o (Handle h) ms → limit_of o ≡ Some top
     → New (rwl_lock top) h (after_moves ms s).rwls

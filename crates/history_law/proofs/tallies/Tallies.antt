@@ -48,12 +48,11 @@ every_alone P Q w j f (r ∷ rs) x e k c d g h a = cond_both (r.live && (r.handl
 
 -- a task that has begun and hasn't ended runs
 pub some_worker : (t : Task) → is_unended t ≡ true → is_unstarted t ≡ false → (w : ℕ) × (runs_on w t ≡ true)
-some_worker t = by_state t.state
+some_worker t a b = runs_of t.state a b
   where
-    by_state : (x : TaskState) → is_none (end_of x) ≡ true → scheduled x ≡ false → (w : ℕ) × (holds (λ r. r.0 == w) (runner x) ≡ true)
-    by_state Scheduled a b = true_false refl b
-    by_state (Running w k) a b = (w, eq-eqb w w refl)
-    by_state (Ended e n) a b = true_false a refl
+    runs_of : (x : TaskState) → is_none (end_of x) ≡ true → scheduled x ≡ false → (w : ℕ) × (holds (λ r. r.0 == w) (runner x) ≡ true)
+    runs_of (Running w k) a b = (w, eq-eqb w w refl)
+    runs_of _ a b = grind (arith, nat_tests)
 
 pub runs_unended : (w : ℕ) (t : Task) → runs_on w t ≡ true → is_unended t ≡ true
 runs_unended w t r = true_from_ne_false (is_unended t) (λ e. true_false r (runs_over w t e))

@@ -36,9 +36,6 @@ module _ (S C : ℕ) where
   pub weigh_early : (x : TallyNotes) (args : List ℤ) (k : ℕ) → (x.stage == k) ≡ true → (not (k == 1) && not (k == 2)) ≡ false → weigh x args ≡ pos 0
   weigh_early x args k e1 e2 = grind (arith, nat_tests)
 
-  adds_none : (x : TallyNotes) (args : List ℤ) → has_both x ≡ false → adds x args ≡ false
-  adds_none x args e = ap (λ (b : Bool). b && ((x.segment == S) && (cell_in (tally_args args) == C))) e
-
   does_weigh : (o : Op) (x y : TallyNotes) (args : List ℤ) → is_tally_write o ≡ false → Does o x y → weigh y args ≡ weigh x args
   does_weigh o x y args e1 e2 = grind (arith, nat_tests)
 

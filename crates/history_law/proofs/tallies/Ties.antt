@@ -68,20 +68,7 @@ one_move w who o s x k v = subst (λ (n : ℕ). n ≤ 1) (sym (other_count w who
 -- where one task runs on a worker, after its end none of those that were listed does
 pub none_runs : (w : ℕ) (l : List (Listed Task)) → DeadEnded l → count_listed (runs_on w) l ≡ 0 → Every (λ t. runs_on w t ≡ false) l
 none_runs w [] d c = tt
-none_runs w (r ∷ rs) d c = (by_live r.live d.0 c, none_runs w rs d.1 (rest (r.live && runs_on w r.fields) c))
-  where
-    rest : (b : Bool) → cond {A = ℕ} b 1 0 + count_listed (runs_on w) rs ≡ 0 → count_listed (runs_on w) rs ≡ 0
-    rest true e = absurd (omega arith)
-    rest false e = omega arith
-
-    by_runs : (b : Bool) → cond {A = ℕ} b 1 0 + count_listed (runs_on w) rs ≡ 0 → b ≡ false
-    by_runs true e = absurd (omega arith)
-    by_runs false e = refl
-
-    by_live : (a : Bool) → (a ≡ false → is_unended r.fields ≡ false) → cond {A = ℕ} (a && runs_on w r.fields) 1 0 + count_listed (runs_on w) rs ≡ 0
-        → runs_on w r.fields ≡ false
-    by_live true k e = by_runs (runs_on w r.fields) e
-    by_live false k e = runs_over w r.fields (k refl)
+none_runs w (r ∷ rs) d c = (grind (arith, nat_tests, d.0, runs_over w r.fields), none_runs w rs d.1 (grind (arith, nat_tests)))
 
 -- A tally that has its mutex, until its `tally_end`
 
