@@ -1,5 +1,5 @@
 -- Every task that was accepted ends once.
-use Rattle.history_law.proofs.Names.{nat_tests, ◌≡◌, ℕ, ◌≤◌, true, List, [], ◌∷◌, ◌++◌, Option, Some, refl, sym, ◌∙◌, ap, subst, arith, IsSome, append-nil, TaskEnd, all_marked, Terms, Op, Reply, Ok, Handle, entry, listed, State, opening, workers, Move, starts_task, after_moves, Allows, after_row, row, asked_for, asked_of, NodeEntry, IsNext, next, LegalFrom, Legal, after_from, after, Legal-rest, after-append, after_grows, end_at, accepted_by, accepted, TasksEndOnce, some_same, Answers, answered}
+use Rattle.history_law.proofs.Names.{nat_tests, ◌≡◌, ℕ, ◌≤◌, true, List, [], ◌∷◌, ◌++◌, Option, Some, refl, sym, ◌∙◌, ap, subst, arith, IsSome, append-nil, TaskEnd, all_marked, Terms, Op, Reply, Ok, Handle, entry, listed, State, opening, workers, Move, starts_task, after_moves, Allows, after_row, row, asked_for, asked_of, NodeEntry, IsNext, next, LegalFrom, Legal, after_from, after, Legal-rest, after-append, after_grows, end_at, accepted_by, accepted, TasksEndOnce, some_same, Answers, answered, eqb-true, eq-eqb}
 use Rattle.mtapi_machine.specs.declared.ops.Op.TheVariants as op
 use Rattle.history_law.proofs.Held.{AllEnded}
 use Rattle.history_law.proofs.Moves.{Stands, after_stands, Stopped, after_stopped, once_from}
@@ -44,25 +44,14 @@ stands_after terms L = after_stands terms (opening terms) L (opening_stands term
 pub all_after : (terms : Terms) (A B : List NodeEntry) (main : ℕ) → Legal terms (A ++ entry main op.Final Ok ∷ B)
     → AllEnded (after terms (A ++ entry main op.Final Ok ∷ B)).tasks
 unfolding LegalFrom
-all_after terms A B main h =
-    let rest : LegalFrom (after terms A) (entry main op.Final Ok ∷ B) = Legal-rest (opening terms) A (entry main op.Final Ok ∷ B) h.from in
-    let before : Stands terms (after terms A) = stands_after terms A in
-    let now : Stopped (after terms A) = final_stopped terms (after terms A) main h.fits.settings.workers.0 before.0 rest.0 in
-    let late : Stopped (after terms (A ++ entry main op.Final Ok ∷ B)) =
-    subst Stopped (sym (after-append (opening terms) A (entry main op.Final Ok ∷ B))) (after_stopped (after terms A) (entry main op.Final Ok ∷ B) now) in
-    ((stands_after terms (A ++ entry main op.Final Ok ∷ B)).1.stopped late).1
+all_after terms A B main h = grind (arith, nat_tests, Legal-rest (opening terms) A, stands_after terms A, final_stopped terms (after terms A) main h.fits.settings.workers.0, after-append (opening terms) A, after_stopped (after terms A), stands_after terms)
 
 -- The law
 
 listed_after : (terms : Terms) (P Q : List NodeEntry) (e : NodeEntry) (h : ℕ) → LegalFrom (opening terms) (P ++ e ∷ Q) → accepted e ≡ Some h
     → 1 ≤ listed h (after terms (P ++ e ∷ Q)).tasks
 unfolding LegalFrom after_from
-listed_after terms P Q e h l i =
-    let rest : LegalFrom (after terms P) (e ∷ Q) = Legal-rest (opening terms) P (e ∷ Q) l in
-    let now : 1 ≤ listed h (next (after terms P) e).tasks = next_lists (after terms P) e h rest.0 i in
-    let more : listed h (next (after terms P) e).tasks ≤ listed h (after_from (next (after terms P) e) Q).tasks =
-    grows_listed h _ _ (after_grows (next (after terms P) e) Q) in
-    subst (λ (t : State). 1 ≤ listed h t.tasks) (sym (after-append (opening terms) P (e ∷ Q))) (omega arith)
+listed_after terms P Q e h l i = grind (arith, nat_tests, Legal-rest (opening terms) P (e ∷ Q) l, next_lists (after terms P) e h, grows_listed h, after_grows (next (after terms P) e) Q, after-append (opening terms) P (e ∷ Q), after_from)
 
 pub shown : {A : Type 0} (o : Option A) → IsSome o → (x : A) × (o ≡ Some x)
 shown o e1 = grind (arith, nat_tests)
@@ -79,9 +68,7 @@ front_stays terms es A M B h e legal is i = end_later (opening terms) A M h e i
 -- and over the whole list
 front_ends : (terms : Terms) (es A M : List NodeEntry) (h : ℕ) (e : TaskEnd) → Legal terms es → es ≡ A ++ M → end_at (after terms A).tasks h ≡ Some e
     → end_at (after terms es).tasks h ≡ Some e
-front_ends terms es A M h e legal is i =
-    ap (λ (L : List NodeEntry). end_at (after terms L).tasks h) is
-    ∙ front_stays terms es A M [] h e legal (is ∙ ap (λ (L : List NodeEntry). A ++ L) (sym (append-nil M))) i
+front_ends terms es A M h e legal is i = grind (arith, nat_tests, front_stays terms es A M, append-nil M, end_at)
 
 -- every task that an entry of a legal list accepted ends once, where the list has the final step
 pub closed_end : (terms : Terms) (es A B : List NodeEntry) (main : ℕ) → Legal terms es → es ≡ A ++ entry main op.Final Ok ∷ B → TasksEndOnce terms es

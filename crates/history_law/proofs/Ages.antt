@@ -1,5 +1,5 @@
 -- What each move does to the objects of one kind: they stay listed, none comes back to life, and a new one has a new handle.
-use Rattle.history_law.proofs.Names.{nat_tests, ◌≡◌, ℕ, ◌≤◌, Bool, true, false, cond, List, [], ◌∷◌, Some, refl, sym, ◌∙◌, ap, subst, arith, ◌==◌, ◌&&◌, is_some, cond_both, ObjectKind, Op, Listed, live_of, live_object, listed, change, issue, with_fields, gone, Action, with_enabled, Queue, Task, new_task, NewTask, State, FieldsOf, objects_of, is_open, Sort, Fields, all_of, Move, Groups, Queues, Mutexes, Sems, Rwls, Segments, makes_action, enables, withdraws, starts_task, is_fresh, apply, IsMade, WithdrawsAction, AltersObject, MakesAction, StartsTask, makes_of_sort, snd_true, rest_keeps, some_same}
+use Rattle.history_law.proofs.Names.{nat_tests, ◌≡◌, ℕ, ◌≤◌, Bool, true, false, cond, List, [], ◌∷◌, Some, refl, sym, ◌∙◌, ap, subst, arith, ◌==◌, ◌&&◌, is_some, cond_both, ObjectKind, Op, Listed, live_of, live_object, listed, change, issue, with_fields, gone, Action, with_enabled, Queue, Task, new_task, NewTask, State, FieldsOf, objects_of, is_open, Sort, Fields, all_of, Move, Groups, Queues, Mutexes, Sems, Rwls, Segments, makes_action, enables, withdraws, starts_task, is_fresh, apply, IsMade, WithdrawsAction, AltersObject, MakesAction, StartsTask, makes_of_sort, snd_true, rest_keeps, some_same, eqb-true, eq-eqb}
 use Rattle.mtapi_values.specs.declared.handles.ObjectKind.TheVariants as kind
 use Rattle.history_law.specs.Words.{makes_object}
 use Rattle.history_law.proofs.Moves.{opens_fresh}
@@ -108,9 +108,7 @@ sort_ages : (k : Sort) (K : Fields k → Fields k → Type 0) → ((x : Fields k
     → ((h : ℕ) (x : Fields k) → makes_of_sort k o ≡ true → is_fresh (all_of k) s h ≡ true → Q ((all_of k).list s) → Q (issue h x ((all_of k).list s)))
     → ((m : List (Listed (Fields k))) → AgesEach K ((all_of k).list s) m → Q ((all_of k).list s) → Q m)
     → (m : Move) → IsMade s o m → Q ((all_of k).list s) → Q ((all_of k).list (apply m s))
-sort_ages k K same s o alter Q new old m e v =
-    sort_move k s o Q (λ j x z. new j x z.by z.may) (λ j f w. old _ (each_change K same j (with_fields f) ((all_of k).list s) (fields_age K f (alter j f w))))
-    (λ j w. old _ (each_change K same j gone ((all_of k).list s) (gone_ages K same))) m e v
+sort_ages k K same s o alter Q new old m e v = grind (arith, nat_tests, sort_move k s o Q, each_change K same, fields_age K, gone_ages K same, with_fields, all_of)
 
 -- an op whose move makes an object is one that makes it
 
@@ -221,6 +219,5 @@ module _ {T : Type 0} where
 
   pub under_ages : (K : T → T → Type 0) (h : ℕ) (F : T → Type 0) → ((x y : T) → K x y → F x → F y) → (l m : List (Listed T)) → AgesEach K l m → Under h F l
       → Under h F m
-  under_ages K h F g (r ∷ rs) (q ∷ qs) a u =
-      ((λ e. g r.fields q.fields a.0.fields (u.0 (ap (λ (n : ℕ). n == h) (sym a.0.handle) ∙ e))), under_ages K h F g rs qs a.1 u.1)
+  under_ages K h F g (r ∷ rs) (q ∷ qs) a u = grind (arith, nat_tests, g r.fields q.fields a.0.fields, under_ages K h F g rs qs a.1 u.1)
   under_ages K h F g _ _ a u = grind (arith, nat_tests)

@@ -1,5 +1,5 @@
 -- What bounds a history: its seats, the marks of stopped workers, and the phase before the node is closed.
-use Rattle.history_law.proofs.Names.{◌≡◌, ℕ, ◌+◌, true, false, List, [], ◌∷◌, refl, ◌∙◌, ap, subst, entry, Op, Initialize, Close, Final, Reply, Open, Terms, State, opening, seats, is_new, is_past_open, Move, phase_is, stops, apply, after_moves, NodeEntry, IsNext, LegalFrom, next, after_from, after, rest_keeps, closes, NoClose, BySeats, cond_both, not, length}
+use Rattle.history_law.proofs.Names.{◌≡◌, ℕ, ◌+◌, true, false, List, [], ◌∷◌, refl, ◌∙◌, ap, subst, entry, Op, Initialize, Close, Final, Reply, Open, Terms, State, opening, seats, is_new, is_past_open, Move, phase_is, stops, apply, after_moves, NodeEntry, IsNext, LegalFrom, next, after_from, after, rest_keeps, closes, NoClose, BySeats, cond_both, not, length, nat_tests, arith, eqb-true, eq-eqb, some_same}
 use Rattle.std.proofs.Math.ListN.{length-set}
 use Rattle.history_law.proofs.SeatMoves.{May, by_moves}
 use Rattle.history_law.proofs.Others.{phase_stays, terms_stay}
@@ -44,5 +44,4 @@ one_terms s e n = terms_stay s (e ∷ []) (n, tt)
 pub by_seats : (s : State) (L : List NodeEntry) → LegalFrom s L → BySeats (seats s) L
 unfolding LegalFrom
 by_seats s [] l = tt
-by_seats s (e ∷ es) l =
-    (l.0.seat, subst (λ (t : Terms). BySeats (t.settings.workers + t.callers) es) (one_terms s e l.0) (by_seats (next s e) es l.1))
+by_seats s (e ∷ es) l = grind (arith, nat_tests, one_terms s e l.0, by_seats (next s e) es l.1)

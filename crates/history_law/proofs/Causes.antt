@@ -1,5 +1,5 @@
 -- A task that has ended was ended by an entry that may end it.
-use Rattle.history_law.proofs.Names.{arith, nat_tests, ◌≡◌, ℕ, Bool, true, false, cond, List, [], ◌∷◌, Option, Some, None, refl, sym, ◌∙◌, ap, subst, ◌==◌, ◌&&◌, ◌||◌, not, nat_lt, eqb-true, TaskEnd, Cancelled, Failed, is_shut_in, is_in, TaskHandle, Listed, live_of, live_object, change, with_fields, gone, Action, with_enabled, has_worker, Task, NewTask, scheduled, is_unstarted, added, fits, Op, Reply, State, Terms, opening, workers, Move, withdraws, starts_task, runs_task, ends_task, ends_waiting, apply, after_moves, NodeEntry, next, LegalFrom, Legal, after_from, end_in, end_at, after_grows, some_same, fst_true, snd_true, not_true, task_at, TallyEnd, Answers, tally_verdict, answered}
+use Rattle.history_law.proofs.Names.{arith, nat_tests, ◌≡◌, ℕ, Bool, true, false, cond, List, [], ◌∷◌, Option, Some, None, refl, sym, ◌∙◌, ap, subst, ◌==◌, ◌&&◌, ◌||◌, not, nat_lt, eqb-true, TaskEnd, Cancelled, Failed, is_shut_in, is_in, TaskHandle, Listed, live_of, live_object, change, with_fields, gone, Action, with_enabled, has_worker, Task, NewTask, scheduled, is_unstarted, added, fits, Op, Reply, State, Terms, opening, workers, Move, withdraws, starts_task, runs_task, ends_task, ends_waiting, apply, after_moves, NodeEntry, next, LegalFrom, Legal, after_from, end_in, end_at, after_grows, some_same, fst_true, snd_true, not_true, task_at, TallyEnd, Answers, tally_verdict, answered, eq-eqb}
 use Rattle.mtapi_machine.specs.Answers as is
 use Rattle.history_law.specs.Causes.{IsLeft, Cause, by_cancel, by_disabled_queue, by_close, by_deleted_queue, by_deleted_action, by_disabled_action, by_answer, by_watch, by_failed_tally, by_sum, by_tally, HasCause, EndHasItsCause}
 use Rattle.history_law.proofs.Answered.{none_some, on_test, second_false}
@@ -34,9 +34,7 @@ module _ (h : ℕ) where
       → Steps s m l k → Ends P l k
   unfolding end_at
   ends_steps P s _ _ _ g (step.none m) = ends_same P [] [] refl
-  ends_steps P s _ _ _ g (step.new j t) =
-      λ e z i. on_test (λ b. cond {A = Option TaskEnd} b None None ≡ Some e → (x : Task) × (task_at [] h ≡ Some x) × P x e) (j == h)
-      (λ a k. none_some k) (λ a k. none_some k) i
+  ends_steps P s _ _ _ g (step.new j t) = grind (arith, nat_tests, on_test, task_at, none_some)
   ends_steps P s _ _ _ g (step.next m r q rs qs x k) = ends_head P r q rs qs (step_handle s r m q x) (g r q x) (ends_steps P s m rs qs g k)
 
   -- P of a task that the move ends, and how
@@ -49,8 +47,7 @@ module _ (h : ℕ) where
 
   step_brings : (P : Task → TaskEnd → Type 0) (s : State) (r : Listed Task) (m : Move) (q : Listed Task) → Step s r m q → Brings P s m → Head P r q
   step_brings P s r _ _ (step.runs j w k a i f) g e z n u = none_some u
-  step_brings P s r _ _ (step.ends j d a i f) g e z n u =
-      subst (λ (y : Task). P y e) (some_same (sym g.1 ∙ f)) (subst (P g.0) (some_same u) (g.2 (sym i ∙ eqb-true r.handle h z)))
+  step_brings P s r _ _ (step.ends j d a i f) g e z n u = grind (arith, nat_tests, some_same (sym g.1 ∙ f), some_same u, eqb-true r.handle)
   step_brings P s r _ _ (step.waited p d k a i l) g e z n u = subst (P r.fields) (some_same u) (g r.fields i)
   step_brings P s r _ _ (step.left j f c k a i l) g e z n u = subst (P r.fields) (some_same u) (g r.fields i)
   step_brings P s r _ _ _ g e z n u = none_some (sym n ∙ u)

@@ -1,5 +1,5 @@
 -- No two ends have one number, and every number is below the next one.
-use Rattle.history_law.proofs.Names.{◌≡◌, ℕ, ◌+◌, ◌≤◌, ◌<◌, Bool, true, false, cond, List, [], ◌∷◌, refl, ap, arith, ◌==◌, ◌&&◌, nat_lt, eqb-true, cond_both, nat_tests, TaskEnd, Failed, Listed, how_many, change, change_all, issue, count_listed, with_fields, gone, Task, TaskState, Scheduled, Running, Ended, with_state, with_notes, ended, end_each, new_task, is_member, freed, let_go, Terms, State, opening, Move, starts_task, runs_task, ends_task, ends_waiting, withdraws, notes, leaves, frees_members, lets_members_go, apply, NodeEntry, after_from, along, rest_keeps}
+use Rattle.history_law.proofs.Names.{◌≡◌, ℕ, ◌+◌, ◌≤◌, ◌<◌, Bool, true, false, cond, List, [], ◌∷◌, refl, ap, arith, ◌==◌, ◌&&◌, nat_lt, eqb-true, cond_both, nat_tests, TaskEnd, Failed, Listed, how_many, change, change_all, issue, count_listed, with_fields, gone, Task, TaskState, Scheduled, Running, Ended, with_state, with_notes, ended, end_each, new_task, is_member, freed, let_go, Terms, State, opening, Move, starts_task, runs_task, ends_task, ends_waiting, withdraws, notes, leaves, frees_members, lets_members_go, apply, NodeEntry, after_from, along, rest_keeps, eq-eqb, some_same}
 
 abbrev pub is_number : ℕ → TaskState → Bool
 is_number n Scheduled = false
@@ -80,8 +80,7 @@ none_more : (a b : ℕ) → a ≤ b + 0 → a ≤ b
 none_more a b e = omega arith
 
 numbered_move : (s : State) (m : Move) → Numbered s → Numbered (apply m s)
-numbered_move s (starts_task h t) v = kept_numbers s _ v refl (λ n. let e : has_number n (issue h (new_task t s.starts) s.tasks) ≡ has_number n s.tasks =
-    issue_number n h (new_task t s.starts) s.tasks refl in omega arith)
+numbered_move s (starts_task h t) v = grind (arith, nat_tests, kept_numbers s, new_task, issue_number)
 numbered_move s (runs_task h w k) v = kept_numbers s _ v refl
     (λ n. none_more _ _ (change_number n 0 h (with_fields (with_state (Running w k))) s.tasks (λ r. omega arith)))
 numbered_move s (ends_task h e) v = one_number s h e v

@@ -1,5 +1,5 @@
 -- A group gives its members in the order of their ends.
-use Rattle.history_law.proofs.Names.{◌≡◌, ℕ, ◌≤◌, ◌<◌, Bool, true, false, cond, List, [], ◌∷◌, ◌++◌, Option, Some, None, refl, sym, ◌∙◌, ap, subst, arith, ◌==◌, nat_lt, is_some, eqb-true, cond_both, nat_tests, TaskEnd, Failed, Listed, live_of, live_object, listed, change, with_fields, gone, Task, Notes, TaskState, Scheduled, Running, Ended, end_of, with_notes, ended, is_member, Ending, insert, insert_ended, endings, in_no_group, Terms, Op, Reply, State, opening, Move, ends_task, ends_waiting, withdraws, notes, leaves, apply, after_moves, moves_of, row, NodeEntry, IsNext, next, LegalFrom, Legal, after_from, after, Grows, Legal-front, Legal-rest, after-append, fst_true, snd_true, rest_keeps, after_grows, looks_for_any, is_given, number_at, EndedBefore, GivenInOrder, some_same, Answers, answered}
+use Rattle.history_law.proofs.Names.{◌≡◌, ℕ, ◌≤◌, ◌<◌, Bool, true, false, cond, List, [], ◌∷◌, ◌++◌, Option, Some, None, refl, sym, ◌∙◌, ap, subst, arith, ◌==◌, nat_lt, is_some, eqb-true, cond_both, nat_tests, TaskEnd, Failed, Listed, live_of, live_object, listed, change, with_fields, gone, Task, Notes, TaskState, Scheduled, Running, Ended, end_of, with_notes, ended, is_member, Ending, insert, insert_ended, endings, in_no_group, Terms, Op, Reply, State, opening, Move, ends_task, ends_waiting, withdraws, notes, leaves, apply, after_moves, moves_of, row, NodeEntry, IsNext, next, LegalFrom, Legal, after_from, after, Grows, Legal-front, Legal-rest, after-append, fst_true, snd_true, rest_keeps, after_grows, looks_for_any, is_given, number_at, EndedBefore, GivenInOrder, some_same, Answers, answered, eq-eqb}
 use Rattle.mtapi_values.specs.declared.handles.ObjectKind.TheVariants as kind
 use Rattle.history_law.specs.Order.{gives as gives_task, number_in}
 use Rattle.history_law.proofs.Moves.{once_from}
@@ -206,15 +206,7 @@ later s u g a b ms ns v w l = from_at g v.number u.tasks b w.task l.all w.found 
 
 in_order : (s u t : State) (g a b : ℕ) (ms ns : List Move) → (v : Gave s g a ms) → (w : Gave u g b ns) → Left g v.number u → Gone kind.Task a u.tasks
     → Numbered t → number_at t.tasks a ≡ Some v.number → number_at t.tasks b ≡ Some w.number → EndedBefore t a b
-in_order s u t g a b ms ns v w l d m x y =
-    record { first = v.number; second = w.number; first_end = x; second_end = y; less = by_same (v.number == w.number) refl }
-  where
-    by_same : (c : Bool) → (v.number == w.number) ≡ c → v.number < w.number
-    by_same false i = let k : v.number ≤ w.number = later s u g a b ms ns v w l in grind (arith, nat_tests)
-    by_same true i =
-        let one : a ≡ b = same_task t.tasks a b v.number (m.once v.number) x (y ∙ ap Some (sym (eqb-true v.number w.number i))) in
-        let alive : is_some (live_object u.tasks a) ≡ true = ap (λ (h : ℕ). is_some (live_object u.tasks h)) one ∙ ap is_some w.found in
-        true_false alive (dead_none a u.tasks d.dead)
+in_order s u t g a b ms ns v w l d m x y = grind (arith, nat_tests, later s u g a b ms ns v w l, same_task t.tasks a b v.number (m.once v.number) x, m.once v.number, eqb-true v.number w.number, dead_none a u.tasks d.dead, nat_tests, is_some, live_object, true_false)
 
 pub given_in_order : (terms : Terms) (es : List NodeEntry) (g : ℕ) → Legal terms es → GivenInOrder terms es g
 unfolding LegalFrom after_from

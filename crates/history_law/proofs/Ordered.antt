@@ -103,8 +103,7 @@ under_more h F G [] f u = tt
 under_more h F G (r ∷ rs) f u = ((λ e. f r.fields (u.0 e)), under_more h F G rs f u.1)
 
 ordered_made : (q : ℕ) (o : Op) (s : State) → asks_ordered o ≡ true → QueueAs o q s → HasObject kind.Queue q IsOrdered s
-ordered_made q (op.QueueCreate id job priority limit ordered retain) s e v =
-    record { some = v.some; under = under_more q _ IsOrdered s.queues (λ x k. k.ordered ∙ e) v.under }
+ordered_made q (op.QueueCreate id job priority limit ordered retain) s e v = grind (arith, nat_tests, under_more q)
 ordered_made q _ s e v = true_false e refl
 
 -- The law

@@ -1,5 +1,5 @@
 -- What the entries of other seats leave to a seat.
-use Rattle.history_law.proofs.Names.{◌≡◌, ◌≢◌, ℕ, zero, suc, Bool, true, false, cond, List, [], ◌∷◌, Some, None, refl, sym, ◌∙◌, ap, subst, arith, ◌==◌, ◌&&◌, not, slice_set, nat_tests, TaskEnd, marked, holds, Op, Reply, Terms, Listed, live_object, count_listed, with_fields, gone, is_member, in_no_group, let_go, Task, Notes, with_notes, TaskState, Scheduled, Running, Ended, runner, runs_on, is_unstarted, is_unended, State, opening, NodeEntry, next, LegalFrom, Legal, after_from, after, end_in, end_at, moves_phase, is_release, is_late_end, IsWaiter, Waits, OnceListed, Work, RunsWith, IsUntouched, Others, WorkerKeeps, NoPhase, NoRelease, Move, phase_is, released, stops, runs_task, ends_task, notes, leaves, apply, after_moves, fst_true, snd_true, not_true, rest_keeps, some_same, eq-eqb, Answers, IsNext}
+use Rattle.history_law.proofs.Names.{◌≡◌, ◌≢◌, ℕ, zero, suc, Bool, true, false, cond, List, [], ◌∷◌, Some, None, refl, sym, ◌∙◌, ap, subst, arith, ◌==◌, ◌&&◌, not, slice_set, nat_tests, TaskEnd, marked, holds, Op, Reply, Terms, Listed, live_object, count_listed, with_fields, gone, is_member, in_no_group, let_go, Task, Notes, with_notes, TaskState, Scheduled, Running, Ended, runner, runs_on, is_unstarted, is_unended, State, opening, NodeEntry, next, LegalFrom, Legal, after_from, after, end_in, end_at, moves_phase, is_release, is_late_end, IsWaiter, Waits, OnceListed, Work, RunsWith, IsUntouched, Others, WorkerKeeps, NoPhase, NoRelease, Move, phase_is, released, stops, runs_task, ends_task, notes, leaves, apply, after_moves, fst_true, snd_true, not_true, rest_keeps, some_same, eq-eqb, Answers, IsNext, eqb-true}
 use Rattle.history_law.proofs.Reuse.{terms_next}
 use Rattle.history_law.proofs.SeatMoves.{Noted, May, MayEnd, is_any_look, by_moves, answer, kept_along}
 pub use Rattle.history_law.proofs.TaskMoves.{same_found}
@@ -58,15 +58,13 @@ other_step w who o s r _ _ (step.ends j x a i e) n k = true_false refl n
 other_step w who o s r _ _ (step.waited p x m a u i) n k = not_live r.live _ _ a (runs_scheduled w r.fields (fst_true _ _ u))
 other_step w who o s r _ _ (step.left j f c m a u i) n k = not_live r.live _ _ a (runs_scheduled w r.fields (fst_true _ _ u))
 other_step w who o s r _ _ (step.noted j f a i e) n k = refl
-other_step w who o s r _ _ (step.goes j a i e) n k =
-    λ x. sym a x && sym (runs_over w r.fields (subst (λ (t : Task). is_unended t ≡ false) (some_same (sym k.1 ∙ e)) k.2)) x
+other_step w who o s r _ _ (step.goes j a i e) n k = grind (arith, nat_tests, runs_over w r.fields, some_same (sym k.1 ∙ e), is_unended)
 other_step w who o s r _ _ (step.freed_of g a u) n k = λ x. sym a x && sym (runs_over w r.fields (not_true _ (snd_true (is_member g r.fields) _ u))) x
 other_step w who o s r _ _ (step.let_go_of g a u) n k = goes_alike w r
 
 pub other_count : (w who : ℕ) (o : Op) (s : State) (x : Move) → turns_worker x ≡ false → May s who o x
     → count_listed (runs_on w) (apply x s).tasks ≡ count_listed (runs_on w) s.tasks
-other_count w who o s x n k =
-    many_steps (λ z. z.live && runs_on w z.fields) s x s.tasks _ (λ h t e. refl) (λ r q y. other_step w who o s r x q y n k) (tasks_go s x)
+other_count w who o s x n k = grind (arith, nat_tests, other_step w who o s, tasks_go s x, many_steps, runs_on)
 
 work_step : (w who : ℕ) (o : Op) → who ≢ w → (s : State) (r : Listed Task) (m : Move) (q : Listed Task) → Step s r m q → May s who o m
     → (q.live && runs_on w q.fields) ≡ (r.live && runs_on w r.fields)
@@ -78,8 +76,7 @@ work_step w who o d s r m q x k = other_step w who o s r m q x refl k
 
 work_count : (w who : ℕ) (o : Op) → who ≢ w → (s : State) (x : Move) → May s who o x
     → count_listed (runs_on w) (apply x s).tasks ≡ count_listed (runs_on w) s.tasks
-work_count w who o d s x k =
-    many_steps (λ z. z.live && runs_on w z.fields) s x s.tasks _ (λ h t e. refl) (λ r q y. work_step w who o d s r x q y k) (tasks_go s x)
+work_count w who o d s x k = grind (arith, nat_tests, work_step w who o d s, tasks_go s x, many_steps, runs_on)
 
 runs_here : (w : ℕ) (q : Work) (t : Task) → RunsWith w q t → runs_on w t ≡ true
 runs_here w q t i = ap (λ (x : TaskState). holds (λ r. r.0 == w) (runner x)) i.state ∙ eq-eqb w w refl

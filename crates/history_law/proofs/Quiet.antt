@@ -1,5 +1,5 @@
 -- In a quiet history a task ends as the kind of an action of its job answers.
-use Rattle.history_law.proofs.Names.{nat_tests, arith, ◌≡◌, ℕ, Bool, true, false, List, [], ◌∷◌, Some, refl, sym, ◌∙◌, ap, ◌&&◌, nat_lt, int_eq, pointwise, eqb-true, Decides-int_eq, slice_eq-Decides, in_mask, Kind, TaskEnd, Cancelled, is_pure, answer_of, Answered, IsAnswered, Listed, live_object, issue, change, with_fields, gone, Action, with_enabled, has_enabled_job, is_eligible, Task, TaskState, Scheduled, Running, Ended, runs_as, kind_number, is_unstarted, with_state, Queue, is_shut_in, Op, Reply, Terms, State, opening, workers, Move, Queues, makes_action, enables, withdraws, runs_task, ends_task, ends_waiting, makes, alters, removes, apply, after_moves, task_end, NodeEntry, IsNext, IsHonest, next, LegalFrom, after_from, IsMade, MakesAction, WithdrawsAction, EndsTask, AltersObject, is_pick, ends_many, makes_of_sort, end_in, some_same, fst_true, snd_true, by_moves, is_quiet, AreQuiet, HasPure, task_at, IsPlain, QuietTasksEndPlainly, ℤ, Answers, not, not_false}
+use Rattle.history_law.proofs.Names.{nat_tests, arith, ◌≡◌, ℕ, Bool, true, false, List, [], ◌∷◌, Some, refl, sym, ◌∙◌, ap, ◌&&◌, nat_lt, int_eq, pointwise, eqb-true, Decides-int_eq, slice_eq-Decides, in_mask, Kind, TaskEnd, Cancelled, is_pure, answer_of, Answered, IsAnswered, Listed, live_object, issue, change, with_fields, gone, Action, with_enabled, has_enabled_job, is_eligible, Task, TaskState, Scheduled, Running, Ended, runs_as, kind_number, is_unstarted, with_state, Queue, is_shut_in, Op, Reply, Terms, State, opening, workers, Move, Queues, makes_action, enables, withdraws, runs_task, ends_task, ends_waiting, makes, alters, removes, apply, after_moves, task_end, NodeEntry, IsNext, IsHonest, next, LegalFrom, after_from, IsMade, MakesAction, WithdrawsAction, EndsTask, AltersObject, is_pick, ends_many, makes_of_sort, end_in, some_same, fst_true, snd_true, by_moves, is_quiet, AreQuiet, HasPure, task_at, IsPlain, QuietTasksEndPlainly, ℤ, Answers, not, not_false, eq-eqb}
 use Rattle.mtapi_values.specs.declared.kinds.Kind.TheVariants as kind
 use Rattle.mtapi_machine.specs.declared.ops.Op.TheVariants as op
 use Rattle.history_law.proofs.Answered.{true_false, whether}
@@ -110,41 +110,17 @@ calm_move o q n s (makes_action h a) e v = grind (arith, nat_tests, every_issue,
 calm_move o q n s (enables h) e v = grind (arith, nat_tests, every_change, with_fields, with_enabled, goes_all, pure_enabled)
 calm_move o q n s (withdraws h f c) e v = absurd (none_withdrawn h f o q e.by)
 calm_move o q n s (makes Queues h x) e v = true_false (queue_special o e.by) n
-calm_move o q n s (alters Queues h f) e v =
-    record { pure = v.pure; on = every_change IsOn h (with_fields f) s.queues (λ r d p. queue_opened h f o q e.by r.fields) v.on; goes = v.goes }
+calm_move o q n s (alters Queues h f) e v = grind (arith, nat_tests, every_change IsOn h (with_fields f) s.queues, queue_opened h f o q e.by, with_fields)
 calm_move o q n s (removes Queues h) e v = record { pure = v.pure; on = every_change IsOn h gone s.queues (λ r d p. p) v.on; goes = v.goes }
-calm_move o q n s m e v =
-    record {
-      pure = v.pure;
-      on = v.on;
-      goes = every_steps (Goes s.actions) s m s.tasks _ (λ h t i. tt) (λ r z x. step_goes o q n s r m z x e) (tasks_go s m) v.goes;
-    }
+calm_move o q n s m e v = grind (arith, nat_tests, every_steps (Goes s.actions) s m s.tasks, step_goes o q n s, tasks_go s m)
 
 -- The other ops, by their answers
 
 -- a task that is taken
 takes : (s : State) (w t a : ℕ) (x : Task) (y : Action) → IsCalm s → live_object s.tasks t ≡ Some x → live_object s.actions a ≡ Some y
     → is_eligible (workers s) w x.job x.cores y ≡ true → IsCalm (apply (runs_task t w y.kind) s)
-takes s w t a x y v e d m = record {
-  pure = v.pure;
-  on = v.on;
-  goes = every_change (Goes s.actions) t (with_fields (with_state (Running w y.kind))) s.tasks (λ r i g. runs r (some_same (sym e ∙ i))) v.goes;
-}
-  where
-    job : y.job ≡ x.job
-    job = eqb-true y.job x.job (snd_true y.enabled _
-        (fst_true (has_enabled_job x.job y) _ (fst_true (has_enabled_job x.job y
-        && nat_lt w (workers s)) _ (fst_true (has_enabled_job x.job y && nat_lt w (workers s) && in_mask w y.cores) _ m))))
-
-    runs : (r : Listed Task) → x ≡ r.fields → HasPure s.actions r.fields.job y.kind
-    runs r i = record {
-      handle = a;
-      action = y;
-      found = d;
-      of_job = job ∙ ap (λ (z : Task). z.job) i;
-      of_kind = refl;
-      pure = every_at IsPure s.actions a y v.pure d;
-    }
+takes s w t a x y v e d m = grind (arith, nat_tests, every_change (Goes s.actions) t, eqb-true y.job x.job, snd_true y.enabled, fst_true (has_enabled_job x.job y), fst_true (has_enabled_job x.job y
+        && nat_lt w (workers s)), fst_true (has_enabled_job x.job y && nat_lt w (workers s) && in_mask w y.cores), every_at IsPure s.actions a y v.pure d, with_fields, with_state, some_same, has_enabled_job, nat_lt)
 
 -- a task that runs as this kind has the kind of an action of its job
 running : (actions : List (Listed Action)) (w : ℕ) (k : Kind) (t : Task) → Goes actions t → runs_as w k t ≡ true → HasPure actions t.job k
@@ -170,24 +146,14 @@ abbrev closing : State → Move
 closing s = ends_waiting (is_shut_in s.queues) Cancelled
 
 on_close : (s : State) → IsCalm s → IsCalm (apply (closing s) s)
-on_close s v =
-    record {
-      pure = v.pure;
-      on = v.on;
-      goes = every_steps (Goes s.actions) s (closing s) s.tasks _ (λ h t i. tt) (λ r q x. by r q x) (tasks_go s (closing s)) v.goes;
-    }
-  where
-    by : (r q : Listed Task) → Step s r (closing s) q → Goes s.actions r.fields → Goes s.actions q.fields
-    by r _ (step.stays _) g = g
-    by r _ (step.waited _ _ n a u i) g = true_false (snd_true (is_unstarted r.fields) _ u) (none_shut s.queues r.fields v.on)
+on_close s v = grind (arith, nat_tests, every_steps (Goes s.actions) s (closing s) s.tasks, tasks_go s (closing s), none_shut s.queues, true_false, snd_true, is_unstarted)
 
 by_answer : (s : State) (who : ℕ) (o : Op) (r : Reply) (ms : List Move) → IsHonest o → IsCalm s → is_special o ≡ true → Answers s who o r ms
     → IsCalm (after_moves ms s)
 by_answer s who _ _ _ i v n (is.refuses o x e) = v
 by_answer s who _ _ _ i v n (is.refuses_caller o x e) = v
 by_answer s who _ _ _ i v n (is.closes_node a) = on_close s v
-by_answer s who _ _ _ i v n (is.creates_queue id job priority limit ordered retain h a f) =
-    record { pure = v.pure; on = every_issue IsOn _ _ s.queues refl v.on; goes = v.goes }
+by_answer s who _ _ _ i v n (is.creates_queue id job priority limit ordered retain h a f) = grind (arith, nat_tests, every_issue IsOn)
 by_answer s who _ _ _ i v n (is.idles_in_new a) = v
 by_answer s who _ _ _ i v n (is.idles a) = v
 by_answer s who _ _ _ i v n (is.stops_worker a b c) = v

@@ -1,5 +1,5 @@
 -- What is no cause of an end: what each cause needs, and that it isn't so.
-use Rattle.history_law.proofs.Names.{◌≡◌, ℕ, true, false, List, [], ◌∷◌, ◌++◌, ◌∙◌, ◌==◌, ◌⊎◌, inl, inr, refl, sym, arith, pos, ℤ, TaskEnd, Completed, Cancelled, live_of, change, has_worker, gone, with_fields, Op, Task, NodeEntry, State, first_handle, next_handle}
+use Rattle.history_law.proofs.Names.{◌≡◌, ℕ, true, false, List, [], ◌∷◌, ◌++◌, ◌∙◌, ◌==◌, ◌⊎◌, inl, inr, refl, sym, arith, pos, ℤ, TaskEnd, Completed, Cancelled, live_of, change, has_worker, gone, with_fields, Op, Task, NodeEntry, State, first_handle, next_handle, nat_tests, eqb-true, eq-eqb, some_same}
 use Rattle.mtapi_values.specs.declared.statuses.MtapiStatus.{MtapiStatus}
 use Rattle.mtapi_values.specs.declared.statuses.MtapiStatus.TheVariants as status
 use Rattle.mtapi_values.specs.declared.ends.TaskEnd.TheVariants.{Failed}
@@ -103,31 +103,21 @@ unfolding live_of
 shut = refl
 
 tally_failed : NeedsOfTally (tally_at 3) (Failed status.ErrArgSize) → ⊥
-tally_failed (inl x) = false_true x.0
-tally_failed (inr (inl x)) = false_true x.0
-tally_failed (inr (inr x)) = failed_completed _ _ x.1
+tally_failed e1 = grind (arith, nat_tests, false_true, failed_completed)
 
 tally_verdict : NeedsOfTally (tally_at 4) (Failed status.ErrActionFailed) → ⊥
-tally_verdict (inl x) = failed_miscounted x.1
-tally_verdict (inr (inl x)) = false_true x.0
-tally_verdict (inr (inr x)) = failed_completed _ _ x.1
+tally_verdict e1 = grind (arith, nat_tests, failed_miscounted, false_true, failed_completed)
 
 tally_fits : NeedsOfTally (tally_at 2) (Failed status.ErrActionFailed) → ⊥
 unfolding fits
-tally_fits (inl x) = false_true x.0
-tally_fits (inr (inl x)) = true_false x.1
-tally_fits (inr (inr x)) = failed_completed _ _ x.1
+tally_fits e1 = grind (arith, nat_tests, false_true, true_false, failed_completed)
 
 tally_unwritten : NeedsOfTally (tally_at 2) (Completed (pos 8 ∷ [])) → ⊥
 unfolding fits
-tally_unwritten (inl x) = false_true x.0
-tally_unwritten (inr (inl x)) = true_false x.1
-tally_unwritten (inr (inr x)) = true_false x.0
+tally_unwritten e1 = grind (arith, nat_tests, false_true, true_false)
 
 tally_sum : NeedsOfTally (tally_at 3) (Completed (pos 9 ∷ [])) → ⊥
-tally_sum (inl x) = false_true x.0
-tally_sum (inr (inl x)) = false_true x.0
-tally_sum (inr (inr x)) = nine_eight x.1
+tally_sum e1 = grind (arith, nat_tests, false_true, nine_eight)
 
 nothing_there : (A : List NodeEntry) (e : NodeEntry) (B : List NodeEntry) → [] ≡ A ++ e ∷ B → ⊥
 nothing_there [] e B k = cc

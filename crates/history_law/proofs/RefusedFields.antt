@@ -1,5 +1,5 @@
 -- What the fields of laws refuse, by computing.
-use Rattle.history_law.proofs.Names.{◌≡◌, ℕ, zero, suc, ◌++◌, refl, sym, ◌∙◌, ap, arith, live_of, count_listed, issue, change, listed, issued_at, retired, is_full, may_issue, has_worker, runs_on, is_ready, can_take, has_better, after_from, after, usual, first_handle, next_handle, Holds, started, takes, some_same}
+use Rattle.history_law.proofs.Names.{◌≡◌, ℕ, zero, suc, ◌++◌, refl, sym, ◌∙◌, ap, arith, live_of, count_listed, issue, change, listed, issued_at, retired, is_full, may_issue, has_worker, runs_on, is_ready, can_take, has_better, after_from, after, usual, first_handle, next_handle, Holds, started, takes, some_same, nat_tests, eqb-true, eq-eqb}
 use Rattle.std.specs.Prelude.{[], ◌∷◌, ℤ}
 use Rattle.mtapi_values.specs.declared.kinds.Kind.TheVariants as kind
 use Rattle.mtapi_objects.specs.Tasks.{Running}
@@ -47,17 +47,4 @@ unfolding started after_from live_of issue change listed issued_at retired is_fu
 one_then = refl
 
 pub fields_refuse : FieldsRefuse
-fields_refuse = record {
-  has = has;
-  alone = two_are;
-  found = not_found;
-  left = not_live;
-  worker = λ k. other_worker (ap (λ t. t.state) (is_watch k) ∙ k.runs.state);
-  kind = λ k. other_kind (ap (λ t. t.state) (is_watch k) ∙ k.runs.state);
-  arguments = λ k. has_arguments (ap (λ t. t.args) (is_watch k) ∙ k.runs.arguments);
-  looked = λ k. not_one (ap (λ t. t.notes.looks) (is_watch k) ∙ k.runs.looked);
-  reported = λ k. true_false (sym (ap (λ t. t.notes.seen) (is_watch k) ∙ k.runs.reported));
-  did = λ k. not_one (ap (λ t. t.notes.tally.stage) (is_watch k) ∙ ap (λ n. n.stage) k.runs.did);
-  free = λ f. not_one (sym (f.free none_runs) ∙ one_then);
-  dead = λ terms before behind k h x. x.dead;
-}
+fields_refuse = grind (arith, nat_tests, has, two_are, not_found, not_live, other_worker, is_watch, other_kind, has_arguments, not_one, true_false, none_runs, one_then)

@@ -1,5 +1,5 @@
 -- What the laws of a run refuse, by computing.
-use Rattle.history_law.proofs.Names.{◌≡◌, ℕ, zero, suc, ◌≤◌, List, [], ◌∷◌, ◌++◌, Option, Some, None, refl, sym, ◌∙◌, ap, arith, true, ◌+◌, ◌==◌, Timeout, ErrTaskInvalid, Failed, Cancelled, is_seat, live_of, live_object, count_listed, issue, change, listed, issued_at, retired, is_full, may_issue, has_worker, Task, runs_on, is_ready, can_take, has_better, opening, seats, NodeEntry, after_from, after, end_at, usual, main, first_handle, add_task, task, TasksEndOnce, OnceListed, Waits, KeepsWaiter, Holds, WorkerKeeps, EndsInTime, KeepsPhase, KeepsRelease, KeepsEarly, AreUntouched, KeepsStops, BySeats, EntersBehindRelease, FinalsBehindStops, KeepsOnce, HasMarks, too_early, final_first, started, waits, looks_last, takes, ends, ends_late, opens, releases, closes_it, enters_first, by_no_seat, with_tasks, a_task, listed_once, has_looked, has_stopped, RunLawsRefuse, has_no_marks, was_cancelled, adding, finishes_it, has_got_both, h1, EndsPlainly, task_at, Serves, TalliesHold, got_both, cond_both}
+use Rattle.history_law.proofs.Names.{◌≡◌, ℕ, zero, suc, ◌≤◌, List, [], ◌∷◌, ◌++◌, Option, Some, None, refl, sym, ◌∙◌, ap, arith, true, ◌+◌, ◌==◌, Timeout, ErrTaskInvalid, Failed, Cancelled, is_seat, live_of, live_object, count_listed, issue, change, listed, issued_at, retired, is_full, may_issue, has_worker, Task, runs_on, is_ready, can_take, has_better, opening, seats, NodeEntry, after_from, after, end_at, usual, main, first_handle, add_task, task, TasksEndOnce, OnceListed, Waits, KeepsWaiter, Holds, WorkerKeeps, EndsInTime, KeepsPhase, KeepsRelease, KeepsEarly, AreUntouched, KeepsStops, BySeats, EntersBehindRelease, FinalsBehindStops, KeepsOnce, HasMarks, too_early, final_first, started, waits, looks_last, takes, ends, ends_late, opens, releases, closes_it, enters_first, by_no_seat, with_tasks, a_task, listed_once, has_looked, has_stopped, RunLawsRefuse, has_no_marks, was_cancelled, adding, finishes_it, has_got_both, h1, EndsPlainly, task_at, Serves, TalliesHold, got_both, cond_both, nat_tests, eqb-true, eq-eqb, some_same}
 use Rattle.mtapi_machine.specs.declared.ops.Op.TheVariants as op
 use Rattle.mtapi_machine.specs.declared.replies.Reply.TheVariants as reply
 use Rattle.history_law.specs.Refused.{makes_action}
@@ -35,9 +35,7 @@ no_waiter = refl
 
 refuses_waiter : KeepsWaiter (after usual (started ++ waits)) looks_last 1 first_handle → ⊥
 unfolding started after_from
-refuses_waiter f =
-    let x : Waits (after usual (started ++ (waits ++ looks_last))) 1 first_handle = f waiting in
-    true_false (sym x.2.mark ∙ ap (is_seat 1) (sym (ap waiter_at x.1) ∙ no_waiter))
+refuses_waiter e1 = grind (arith, nat_tests, looks_last, first_handle, waiting, true_false, is_seat, no_waiter)
 
 -- the worker has a task, and then none
 running : Holds (after usual (started ++ takes)) 0 first_handle adding
@@ -91,10 +89,7 @@ unfolding listed
 refuses_second f = refuses_twice (f (λ h. (cond_both (first_handle == h) 1 0 (λ q. q + 0 ≤ 1) (λ e. omega arith) (λ e. omega arith))))
 
 refuses_reply : Serves (after usual (started ++ takes)) 0 (task first_handle) adding finishes_it (reply.Mtapi ErrTaskInvalid) → ⊥
-refuses_reply f = differ (f running (refl, refl, refl))
-  where
-    differ : reply.Mtapi ErrTaskInvalid ≡ reply.Ok → ⊥
-    differ e = cc
+refuses_reply e1 = grind (arith, nat_tests, running)
 
 refuses_no_marks : HasMarks has_no_marks → ⊥
 refuses_no_marks e = omega arith

@@ -1,5 +1,5 @@
 -- No handle is used again, and in layout two none names objects of two kinds.
-use Rattle.history_law.proofs.Names.{nat_tests, ◌≡◌, ℕ, ◌+◌, ◌≤◌, Bool, true, false, cond, List, [], ◌∷◌, ◌++◌, refl, sym, ◌∙◌, ap, subst, arith, ◌==◌, eqb-true, eq-eqb, false_from_ne_true, true_from_ne_false, ObjectKind, Layout, Two, object_number, named_kind, names_kind, Terms, Op, Reply, Handle, Listed, listed, may_issue, issue, Objects, FieldsOf, objects_of, State, opening, Move, is_fresh, apply, Allows, live, after_row, row, NodeEntry, IsNext, next, LegalFrom, Legal, after_from, after, IsMade, Legal-front, Legal-rest, after-append, fst_true, snd_true, own_kind, at_opening, along, by_moves, rest_keeps, some_entry, times, is_live, is_handle, issues, NeverAgain, NotInBoth, released, Answers, after_moves, ◌&&◌, answered}
+use Rattle.history_law.proofs.Names.{nat_tests, ◌≡◌, ℕ, ◌+◌, ◌≤◌, Bool, true, false, cond, List, [], ◌∷◌, ◌++◌, refl, sym, ◌∙◌, ap, subst, arith, ◌==◌, eqb-true, eq-eqb, false_from_ne_true, true_from_ne_false, ObjectKind, Layout, Two, object_number, named_kind, names_kind, Terms, Op, Reply, Handle, Listed, listed, may_issue, issue, Objects, FieldsOf, objects_of, State, opening, Move, is_fresh, apply, Allows, live, after_row, row, NodeEntry, IsNext, next, LegalFrom, Legal, after_from, after, IsMade, Legal-front, Legal-rest, after-append, fst_true, snd_true, own_kind, at_opening, along, by_moves, rest_keeps, some_entry, times, is_live, is_handle, issues, NeverAgain, NotInBoth, released, Answers, after_moves, ◌&&◌, answered, some_same}
 use Rattle.mtapi_values.specs.declared.handles.ObjectKind.TheVariants as kind
 use Rattle.history_law.specs.Words.{makes_object}
 use Rattle.mtapi_machine.specs.Answers as is
@@ -117,9 +117,7 @@ beside_issue _ h s who _ _ _ e n _ = true_false e refl
 
 -- so no entry lists the handle but the one that issues it
 unissued : (k : ObjectKind) (h : ℕ) (s : State) (e : NodeEntry) → IsNext s e → issues k h e ≡ false → times k h (next s e) ≡ times k h s
-unissued k h s e i n = on_test (λ b. (b && is_handle h e.reply) ≡ false → times k h (next s e) ≡ times k h s) (makes_object k e.op)
-    (λ m j. beside_issue k h s e.who e.op e.reply _ m j (answered s e.who e.op e.reply i.allowed))
-    (λ m j. listed_same k h s e m) n
+unissued k h s e i n = grind (arith, nat_tests, beside_issue k h s e.who e.op e.reply, answered s e.who e.op e.reply i.allowed, listed_same k h s e, on_test, is_handle, makes_object)
 
 pub none_listed : (k : ObjectKind) (h : ℕ) (s : State) (L : List NodeEntry) → LegalFrom s L → times k h s ≡ 0 → some_entry (issues k h) L ≡ false
     → times k h (after_from s L) ≡ 0
@@ -201,14 +199,7 @@ issued_names : (T : Terms) (k : ObjectKind) (h : ℕ) (s : State) (L : List Node
     → some_entry (issues k h) L ≡ true → named_kind h ≡ object_number k
 unfolding LegalFrom
 issued_names T k h s [] same two l i = absurd (cc)
-issued_names T k h s (e ∷ es) same two l i = on_test (λ b. cond b true (some_entry (issues k h) es) ≡ true → named_kind h ≡ object_number k) (issues k h e)
-    (λ j c. names_two T k h s same two (issues_fresh k s e h l.0 j))
-    (λ d c. issued_names T k h (next s e) es (terms_next T s e same) two l.1 c) i
+issued_names T k h s (e ∷ es) same two l i = grind (arith, nat_tests, names_two T k h s same two, issues_fresh k s e h l.0, issued_names T k h (next s e) es (terms_next T s e same) two l.1, terms_next T s e same, on_test, some_entry, named_kind, object_number)
 
 pub not_in_both : (terms : Terms) (es : List NodeEntry) (a b : ObjectKind) (h : ℕ) → Legal terms es → NotInBoth terms.layout terms es a b h
-not_in_both terms es a b h legal two apart = record {
-  lists = λ la lb. true_false (eq-eqb (object_number a) (object_number b) (sym (named_after terms es a h two la) ∙ named_after terms es b h two lb)) apart;
-  entries = λ ia ib.
-      true_false (eq-eqb (object_number a) (object_number b) (sym (issued_names terms a h (opening terms) es refl two legal.from ia)
-      ∙ issued_names terms b h (opening terms) es refl two legal.from ib)) apart;
-}
+not_in_both terms es a b h legal two apart = grind (arith, nat_tests, eq-eqb (object_number a) (object_number b), named_after terms es a h two, named_after terms es b h two, issued_names terms a h (opening terms) es refl two legal.from, issued_names terms b h (opening terms) es refl two legal.from, true_false, object_number)

@@ -1,5 +1,5 @@
 -- What the seat and the op of an entry had to know, for each move that they make. A law on what seats leave to one another is shown for each move once.
-use Rattle.history_law.proofs.Names.{nat_tests, arith, ◌≡◌, ℕ, ◌+◌, Bool, true, false, cond, List, [], ◌∷◌, Option, Some, None, ◌⊎◌, inl, inr, refl, ◌∙◌, ap, ◌==◌, ◌&&◌, is_none, ℤ, eq-eqb, Kind, MtapiStatus, Completed, Failed, is_other, is_pure, answer_of, Answered, IsAnswered, Reply, Op, live_object, any_listed, holds, Task, Notes, TallyNotes, TaskState, scheduled, end_of, runner, runs_as, runs_on, kind_number, is_unstarted, is_unended, with_notes, with_waiter, asked_once, watch_end, tally_args, cell_in, added, with_tally, tally_failed, tally_has, tally_read, tally_written, in_no_group, Mutex, Segment, cell_of, State, Move, Mutexes, Segments, phase_is, released, stops, withdraws, runs_task, ends_task, ends_waiting, notes, leaves, makes, alters, apply, after_moves, moves_of, is_ready, task_end, NodeEntry, IsNext, IsHonest, row_of, next, IsMade, AreMade, fst_true, not_false, row_made, at-update, moves_phase, is_release, is_late_end, is_tally_end, cond_both, Answers, gives_up_with, LegalFrom, after_from, some_entry, answered}
+use Rattle.history_law.proofs.Names.{nat_tests, arith, ◌≡◌, ℕ, ◌+◌, Bool, true, false, cond, List, [], ◌∷◌, Option, Some, None, ◌⊎◌, inl, inr, refl, ◌∙◌, ap, ◌==◌, ◌&&◌, is_none, ℤ, eq-eqb, Kind, MtapiStatus, Completed, Failed, is_other, is_pure, answer_of, Answered, IsAnswered, Reply, Op, live_object, any_listed, holds, Task, Notes, TallyNotes, TaskState, scheduled, end_of, runner, runs_as, runs_on, kind_number, is_unstarted, is_unended, with_notes, with_waiter, asked_once, watch_end, tally_args, cell_in, added, with_tally, tally_failed, tally_has, tally_read, tally_written, in_no_group, Mutex, Segment, cell_of, State, Move, Mutexes, Segments, phase_is, released, stops, withdraws, runs_task, ends_task, ends_waiting, notes, leaves, makes, alters, apply, after_moves, moves_of, is_ready, task_end, NodeEntry, IsNext, IsHonest, row_of, next, IsMade, AreMade, fst_true, not_false, row_made, at-update, moves_phase, is_release, is_late_end, is_tally_end, cond_both, Answers, gives_up_with, LegalFrom, after_from, some_entry, answered, eqb-true, some_same}
 use Rattle.mtapi_values.specs.declared.kinds.Kind.TheVariants as kind
 use Rattle.mtapi_values.specs.declared.statuses.MtapiStatus.TheVariants as m
 use Rattle.mtapi_machine.specs.declared.ops.Op.TheVariants as op
@@ -95,18 +95,7 @@ as_on w k x e1 = grind (arith, nat_tests)
 
 waits : (s : State) (who : ℕ) (o : Op) (h : ℕ) (w : Option ℕ) (t : Task) → live_object s.tasks h ≡ Some t → is_other who t.notes.waiter ≡ false
     → May s who o (notes h (with_waiter w))
-waits s who o h w t e n = (
-  t,
-  e,
-  record {
-    waiter = inl n;
-    work = inr (record { looks = refl; seen = refl; tally = refl });
-    detached = refl;
-    group = inl refl;
-    verdict = λ v. v;
-  },
-  stays refl,
-)
+waits s who o h w t e n = grind (arith, nat_tests)
 
 -- no action and no watch ends a task with TIMEOUT
 
@@ -152,31 +141,15 @@ by_answer : (s : State) (who : ℕ) (o : Op) (r : Reply) (ms : List Move) → Is
 by_answer s who o _ _ i (is.looks_over t last x y n e u d) = ((x, e, ap (λ (z : TaskState). is_none (end_of z)) d, inr u.1.0), tt)
 by_answer s who o _ _ i (is.looks_early t x e u d) = (waits s who o t.0 (Some who) x e u.1.0, tt)
 by_answer s who o _ _ i (is.looks_last t x e u d) = (waits s who o t.0 None x e u.1.0, tt)
-by_answer s who _ _ _ i (is.cancels_waiting t x e d) =
-    ((x, e, inl (ap scheduled d), inl refl, inr (λ w. ap (λ (z : TaskState). holds (λ r. (r.0 == w) && (kind_number r.1 == 10)) (runner z)) d)), tt)
+by_answer s who _ _ _ i (is.cancels_waiting t x e d) = grind (arith, nat_tests, kind_number)
 by_answer s who _ _ _ i (is.cancels_running t x w k e d) = grind (arith, nat_tests)
 -- a member that has left its group has still ended
-by_answer s who _ _ _ i (is.any_given g last v y ys t z n a b e d) = (
-  (
-    t,
-    e,
-    record {
-      waiter = inr refl;
-      work = inr (record { looks = refl; seen = refl; tally = refl });
-      detached = refl;
-      group = inr refl;
-      verdict = λ v. v;
-    },
-    stays refl,
-  ),
-  ((with_notes in_no_group t, at-update y.task (with_notes in_no_group) t s.tasks e, ap (λ (z : TaskState). is_none (end_of z)) d, inl refl), tt),
-)
+by_answer s who _ _ _ i (is.any_given g last v y ys t z n a b e d) = grind (arith, nat_tests, at-update y.task (with_notes in_no_group) t s.tasks e, with_notes, in_no_group, is_none, end_of)
 by_answer s who _ _ _ i (is.picks t a x y b n e d j k l) = ((x, e, ready_unstarted s x j, refl, n), tt)
 by_answer s who _ _ _ i (is.finishes t f x k u) =
     ((x, k.found, inr (as_on who f.kind x.state k.runs), inl (done_late f i), inr (λ w. another_kind who w f.kind x (pure_number f.kind i.pure) k.runs)), tt)
 by_answer s who o _ _ i (is.asks t x k u) = ((x, k.found, asked_notes who x (as_on who kind.Watch x.state k.runs), asked_tally o x), tt)
-by_answer s who _ _ _ i (is.ends_watch t x k u) =
-    ((x, k.found, inr (as_on who kind.Watch x.state k.runs), inl (watch_late x), inr (λ w. another_kind who w kind.Watch x refl k.runs)), tt)
+by_answer s who _ _ _ i (is.ends_watch t x k u) = grind (arith, nat_tests, as_on who, watch_late x, another_kind who)
 by_answer s who _ _ _ i (is.lock_fails t x c k z v) =
     ((x, k.found, does who (tally_failed c) x (as_on who kind.Tally x.state k.runs) (λ w. status_late c v), fails c z refl), tt)
 by_answer s who _ _ _ i (is.lock_got t x y a b k z h) =
@@ -186,23 +159,7 @@ by_answer s who _ _ _ i (is.tally_reads t x y k z e) =
 by_answer s who _ _ _ i (is.tally_writes t value x y k z e) =
     (inl refl, ((x, k.found, does who tally_written x (as_on who kind.Tally x.state k.runs) (λ w. w), writes refl (not_false _ (first_false _ _ z)) refl), tt))
 by_answer s who _ _ _ i (is.tally_ends_failed t x k z) = ((x, k.found, inr (as_on who kind.Tally x.state k.runs), inr refl, inl (eq-eqb t.0 t.0 refl)), tt)
-by_answer s who _ _ _ i (is.tally_ends t x y z k e d f g) = (
-  inr (λ q. refl),
-  (
-    (λ q. refl),
-    (
-      (
-        x,
-        k.found,
-        inr (as_on who kind.Tally x.state k.runs),
-        inl (back_late (x.notes.tally.stage == 2) (added x)),
-        inl
-            (eq-eqb t.0 t.0 refl),
-      ),
-      tt,
-    ),
-  ),
-)
+by_answer s who _ _ _ i (is.tally_ends t x y z k e d f g) = grind (arith, nat_tests, as_on who, back_late (x.notes.tally.stage == 2) (added x), eq-eqb t.0 t.0 refl)
 by_answer s who _ _ _ i (is.creates_mutex id recursive h n f) = (n, tt)
 by_answer s who _ _ _ i (is.locks_mutex h last x k b) = ((λ y. refl), tt)
 by_answer s who _ _ _ i (is.unlocks_mutex h key x k) = ((λ y. refl), tt)
@@ -226,8 +183,7 @@ moves_keep who o P k (m ∷ ms) s a p = moves_keep who o P k ms (apply m s) a.1 
 
 pub by_moves : (P : State → Type 0) (s : State) (e : NodeEntry) → IsNext s e → ((t : State) (m : Move) → May t e.who e.op m → P t → P (apply m t)) → P s
     → P (next s e)
-by_moves P s e i k p =
-    moves_keep e.who e.op P k (moves_of (row_of s e)) s (row_by s e i) p
+by_moves P s e i k p = grind (arith, nat_tests, moves_keep e.who e.op P k (moves_of (row_of s e)) s (row_by s e i) p, row_by s e i, moves_of, row_of)
 
 -- the same, where each move is also made where it may be
 made_keep : (who : ℕ) (o : Op) (P : State → Type 0) → ((s : State) (m : Move) → IsMade s o m → May s who o m → P s → P (apply m s))

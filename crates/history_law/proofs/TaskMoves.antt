@@ -1,5 +1,5 @@
 -- What each move of a seat keeps of every task, and of the live task of a handle.
-use Rattle.history_law.proofs.Names.{nat_tests, arith, ◌≡◌, ℕ, Bool, true, false, Option, Some, None, ◌⊎◌, inl, inr, sym, ◌∙◌, subst, Kind, TaskEnd, Failed, is_other, Op, Listed, live_object, is_member, let_go, Task, NewTask, Notes, Running, Ended, runs_as, is_unstarted, is_unended, with_state, with_notes, ended, new_task, State, Move, apply, fst_true, snd_true, not_true, is_late_end, some_same}
+use Rattle.history_law.proofs.Names.{nat_tests, arith, ◌≡◌, ℕ, Bool, true, false, Option, Some, None, ◌⊎◌, inl, inr, sym, ◌∙◌, subst, Kind, TaskEnd, Failed, is_other, Op, Listed, live_object, is_member, let_go, Task, NewTask, Notes, Running, Ended, runs_as, is_unstarted, is_unended, with_state, with_notes, ended, new_task, State, Move, apply, fst_true, snd_true, not_true, is_late_end, some_same, eqb-true, eq-eqb}
 use Rattle.mtapi_values.specs.declared.kinds.Kind.TheVariants as kind
 use Rattle.history_law.proofs.SeatMoves.{May, MayEnd, Noted, Does, EndsTally, is_any_look}
 use Rattle.history_law.proofs.lists.Every.{Every}
@@ -25,14 +25,9 @@ not_begun w t e1 = grind (arith, nat_tests)
 step_keeps : (P : Task → Type 0) (who : ℕ) (o : Op) → IsKept P who o → (s : State) (r : Listed Task) (m : Move) (q : Listed Task) → Step s r m q → May s who o m
     → P r.fields → P q.fields
 step_keeps P who o c s r _ _ (step.runs j w z a i e) k v = c.takes w z r.fields (subst (λ (t : Task). is_unstarted t ≡ true) (some_same (sym k.1 ∙ e)) k.2) v
-step_keeps P who o c s r _ _ (step.ends j x a i e) k v =
-    let same : k.0 ≡ r.fields = some_same (sym k.1 ∙ e) in
-    c.ends x s.ends r.fields j (subst (MayEnd who) same k.2) (subst (EndsTally j o) same k.4)
-    (subst (λ (t : Task). (is_late_end x ≡ false) ⊎ (x ≡ t.notes.tally.verdict)) same k.3) v
-step_keeps P who o c s r _ _ (step.waited p x n a u i) k v =
-    c.ends x n r.fields 0 (inl (fst_true _ _ u)) (inr (λ w. not_begun w r.fields (fst_true _ _ u))) (inl k) v
-step_keeps P who o c s r _ _ (step.left j f x n a u i) k v =
-    c.ends (Failed x) n r.fields 0 (inl (fst_true _ _ u)) (inr (λ w. not_begun w r.fields (fst_true _ _ u))) (inl k) v
+step_keeps P who o c s r _ _ (step.ends j x a i e) k v = grind (arith, nat_tests, some_same (sym k.1 ∙ e), c.ends x s.ends r.fields j, is_late_end)
+step_keeps P who o c s r _ _ (step.waited p x n a u i) k v = grind (arith, nat_tests, c.ends x n r.fields 0, fst_true, not_begun)
+step_keeps P who o c s r _ _ (step.left j f x n a u i) k v = grind (arith, nat_tests, c.ends (Failed x) n r.fields 0, fst_true, not_begun)
 step_keeps P who o c s r _ _ (step.noted j f a i e) k v =
     let same : k.0 ≡ r.fields = some_same (sym k.1 ∙ e) in
     c.notes f r.fields (subst (Noted who f) same k.2) (subst (λ (t : Task). Does o t.notes.tally (f t.notes).tally) same k.3) v
@@ -63,24 +58,15 @@ pub record StaysLive (Q : Task → Type 0) (who h : ℕ) (o : Op) : Type 0 where
 step_stays : (Q : Task → Type 0) (who h : ℕ) (o : Op) → StaysLive Q who h o → (s : State) (r : Listed Task) (m : Move) (q : Listed Task) → Step s r m q
     → May s who o m → r.live ≡ true → r.handle ≡ h → Q r.fields → (q.live ≡ true) × Q q.fields
 step_stays Q who h o c s r _ _ (step.stays m) k a d v = (a, v)
-step_stays Q who h o c s r _ _ (step.runs j w z b i e) k a d v =
-    (a, c.takes w z r.fields (subst (λ (t : Task). is_unstarted t ≡ true) (some_same (sym k.1 ∙ e)) k.2) v)
-step_stays Q who h o c s r _ _ (step.ends j x b i e) k a d v =
-    let same : k.0 ≡ r.fields =
-    some_same (sym k.1 ∙ e) in c.ends x s.ends r (subst (MayEnd who) same k.2)
-    (subst (EndsTally h o) same (subst (λ (z : ℕ). EndsTally z o k.0) (sym i ∙ d) k.4)) a v
+step_stays Q who h o c s r _ _ (step.runs j w z b i e) k a d v = grind (arith, nat_tests, c.takes w z r.fields, some_same (sym k.1 ∙ e), is_unstarted)
+step_stays Q who h o c s r _ _ (step.ends j x b i e) k a d v = grind (arith, nat_tests, some_same (sym k.1 ∙ e), c.ends x s.ends r)
 step_stays Q who h o c s r _ _ (step.waited p x n b u i) k a d v = c.ends x n r (inl (fst_true _ _ u)) (inr (λ w. not_begun w r.fields (fst_true _ _ u))) a v
-step_stays Q who h o c s r _ _ (step.left j f x n b u i) k a d v =
-    c.ends (Failed x) n r (inl (fst_true _ _ u)) (inr (λ w. not_begun w r.fields (fst_true _ _ u))) a v
+step_stays Q who h o c s r _ _ (step.left j f x n b u i) k a d v = grind (arith, nat_tests, c.ends (Failed x) n r, fst_true, not_begun)
 step_stays Q who h o c s r _ _ (step.noted j f b i e) k a d v =
     let same : k.0 ≡ r.fields =
     some_same (sym k.1 ∙ e) in
     (a, c.notes f r.fields (subst (Noted who f) same k.2) (subst (λ (t : Task). Does o t.notes.tally (f t.notes).tally) same k.3) v)
-step_stays Q who h o c s r _ _ (step.goes j b i e) k a d v =
-    let same : k.0 ≡ r.fields = some_same (sym k.1 ∙ e) in
-    absurd
-    (c.leaves r.fields (subst (λ (t : Task). is_unended t ≡ false) same k.2)
-    (subst (λ (t : Task). (is_any_look o ≡ true) ⊎ (is_other who t.notes.waiter ≡ false)) same k.3) v)
+step_stays Q who h o c s r _ _ (step.goes j b i e) k a d v = grind (arith, nat_tests, some_same (sym k.1 ∙ e), c.leaves r.fields, is_any_look o, is_unended, is_other)
 step_stays Q who h o c s r _ _ (step.freed_of g b u) k a d v = absurd (c.frees g r.fields (fst_true _ _ u) (not_true _ (snd_true (is_member g r.fields) _ u)) v)
 step_stays Q who h o c s r _ _ (step.let_go_of g b u) k a d v = c.lets_go g r u a v
 

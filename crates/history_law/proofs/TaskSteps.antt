@@ -1,5 +1,5 @@
 -- What each move does to the list of tasks: one task may be new, and each that was listed goes one step or stays as it is.
-use Rattle.history_law.proofs.Names.{◌≡◌, ℕ, ◌+◌, ◌≤◌, Bool, true, false, List, [], ◌∷◌, Some, refl, sym, ap, cond, ◌∙◌, arith, ◌==◌, ◌&&◌, not, eqb-true, cond_both, Kind, TaskEnd, Failed, MtapiStatus, Listed, live_of, live_object, how_many, change, change_all, issue, with_fields, gone, Action, has_worker, is_member, freed, let_go, Task, NewTask, Notes, Running, is_unstarted, is_unended, with_state, with_notes, ended, end_each, new_task, State, workers, Move, starts_task, runs_task, ends_task, ends_waiting, withdraws, notes, leaves, frees_members, lets_members_go, apply, fst_true, snd_true, rest_keeps, ℤ, pos, ◌+ℤ◌, sum_of}
+use Rattle.history_law.proofs.Names.{◌≡◌, ℕ, ◌+◌, ◌≤◌, Bool, true, false, List, [], ◌∷◌, Some, refl, sym, ap, cond, ◌∙◌, arith, ◌==◌, ◌&&◌, not, eqb-true, cond_both, Kind, TaskEnd, Failed, MtapiStatus, Listed, live_of, live_object, how_many, change, change_all, issue, with_fields, gone, Action, has_worker, is_member, freed, let_go, Task, NewTask, Notes, Running, is_unstarted, is_unended, with_state, with_notes, ended, end_each, new_task, State, workers, Move, starts_task, runs_task, ends_task, ends_waiting, withdraws, notes, leaves, frees_members, lets_members_go, apply, fst_true, snd_true, rest_keeps, ℤ, pos, ◌+ℤ◌, sum_of, nat_tests, eq-eqb, some_same}
 use Rattle.history_law.proofs.lists.Every.{Every}
 use Rattle.history_law.proofs.lists.Found.{FoundAs, at_here, at_past, by_head}
 
@@ -101,9 +101,7 @@ pub found_steps : (Q : Task → Type 0) (h : ℕ) (s : State) (m : Move) (l k : 
 unfolding live_of
 found_steps Q h s _ _ _ t g (none m) e = absurd (cc)
 found_steps Q h s _ _ _ t g (new j n) e = absurd (cc)
-found_steps Q h s _ _ _ t g (next m r q rs qs x k) e =
-    let same : q.handle ≡ r.handle = step_handle s r m q x in
-    by_head Q h r q rs qs t same (step_dead s r m q x) e (λ a b f. g r q x a (sym same ∙ eqb-true q.handle h b) f) (found_steps Q h s m rs qs t g k)
+found_steps Q h s _ _ _ t g (next m r q rs qs x k) e = grind (arith, nat_tests, step_handle s r m q x, by_head Q h r q rs qs t, step_dead s r m q x, g r q x, eqb-true q.handle h, found_steps Q h s m rs qs t g k)
 
 -- how many pass, where no new task does and no step changes whether one passes
 pub many_steps : (p : Listed Task → Bool) (s : State) (m : Move) (l k : List (Listed Task))

@@ -1,5 +1,5 @@
 -- What a worker's pick and finish do to its task.
-use Rattle.history_law.proofs.Names.{row, ◌≡◌, ℕ, ◌<◌, Bool, true, false, cond, List, Some, refl, sym, ◌∙◌, ap, subst, arith, ◌==◌, ◌&&◌, int_eq, pointwise, entry, holds, Kind, TaskEnd, Answered, eq-eqb, Decides-int_eq, slice_eq-Decides, Reply, Ok, Picked, Idle, Stop, live_object, count_listed, any_listed, change, with_fields, Task, TaskState, Running, runner, runs_on, runs_as, kind_number, is_unstarted, with_state, no_tally, ended, State, workers, tasks, changed, Allows, task_end, IsNext, next, at-update, Work, RunsWith, Holds, Free, IsUntouched, and-false, ℤ, Answers, Move, Op, after_moves, moves_of, nat_tests, row, Row, unless, says, live, Mtapi, not, nat_lt, Option, None}
+use Rattle.history_law.proofs.Names.{row, ◌≡◌, ℕ, ◌<◌, Bool, true, false, cond, List, Some, refl, sym, ◌∙◌, ap, subst, arith, ◌==◌, ◌&&◌, int_eq, pointwise, entry, holds, Kind, TaskEnd, Answered, eq-eqb, Decides-int_eq, slice_eq-Decides, Reply, Ok, Picked, Idle, Stop, live_object, count_listed, any_listed, change, with_fields, Task, TaskState, Running, runner, runs_on, runs_as, kind_number, is_unstarted, with_state, no_tally, ended, State, workers, tasks, changed, Allows, task_end, IsNext, next, at-update, Work, RunsWith, Holds, Free, IsUntouched, and-false, ℤ, Answers, Move, Op, after_moves, moves_of, nat_tests, row, Row, unless, says, live, Mtapi, not, nat_lt, Option, None, eqb-true, some_same}
 use Rattle.history_law.proofs.Others.{runs_scheduled}
 use Rattle.mtapi_machine.specs.declared.ops.Op.TheVariants as op
 use Rattle.history_law.proofs.lists.Found.{count_changed, count_none}
@@ -66,37 +66,28 @@ number_self : (k : Kind) → (kind_number k == kind_number k) ≡ true
 number_self k = eq-eqb (kind_number k) (kind_number k) refl
 
 pub runs_as_its : (w : ℕ) (x : Work) (t : Task) → RunsWith w x t → runs_as w x.kind t ≡ true
-runs_as_its w x t h = ap (λ (y : TaskState). holds (λ r. (r.0 == w) && (kind_number r.1 == kind_number x.kind)) (runner y)) h.state
-    ∙ ((λ i. (eq-eqb w w refl) i && (kind_number x.kind == kind_number x.kind)) ∙ number_self x.kind)
+runs_as_its w x t h = grind (arith, nat_tests, eq-eqb w w refl, number_self x.kind, kind_number)
 
 pub runs_on_its : (w : ℕ) (x : Work) (t : Task) → RunsWith w x t → runs_on w t ≡ true
 runs_on_its w x t h = ap (λ (y : TaskState). holds (λ r. r.0 == w) (runner y)) h.state ∙ eq-eqb w w refl
 
 -- a task that ends leaves its worker free
 pub ends_free : (s : State) (w h : ℕ) (x : Work) (v : Holds s w h x) (e : TaskEnd) (n : ℕ) → count_listed (runs_on w) (change h (ended e n) s.tasks) ≡ 0
-ends_free s w h x v e n =
-    let m = count_changed (runs_on w) h (ended e n) false s.tasks v.task v.found (λ r l i. and-false _) in
-    let o : cond {A = ℕ} (runs_on w v.task) 1 0 ≡ 1 = ap (λ (b : Bool). cond {A = ℕ} b 1 0) (runs_on_its w x v.task v.runs) in
-    omega (arith, m, o, v.alone)
+ends_free s w h x v e n = grind (arith, nat_tests, count_changed (runs_on w) h (ended e n) false s.tasks v.task v.found, runs_on_its w x v.task v.runs, runs_on, and-false)
 
 pub same_list : (xs ys : List ℤ) → ys ≡ xs → pointwise int_eq xs ys ≡ true
 same_list xs ys e = (slice_eq-Decides Decides-int_eq xs ys (pointwise int_eq xs ys) refl).1 (sym e)
 
 -- the row of the live object
 found_goes : (s : State) (x : Option Task) (t : Task) (i : Row) (r : Reply) (f : Task → Row) → x ≡ Some t → Allows (live x i f) r → Goes s (live x i f) r (f t)
-found_goes s (Some y) t i r f e a = subst (λ (z : Task). Goes s (f y) r (f z)) (same e) (record { allowed = a; leads = refl })
-  where
-    same : Some y ≡ Some t → y ≡ t
-    same e = cc
+found_goes s (Some y) t i r f e a = grind (arith, nat_tests, f y)
 found_goes s None t i r f e a = absurd (cc)
 
 -- the row's ways to the live task that the worker has
 pub own_goes : (s : State) (w h : ℕ) (x : Work) (v : Holds s w h x) (r : Reply) (f : Task → Row) → w < workers s
     → Allows (unless (not (nat_lt w (workers s))) (Mtapi m.ErrParameter) (live (live_object s.tasks h) (says tasks.invalid) f)) r
     → Goes s (unless (not (nat_lt w (workers s))) (Mtapi m.ErrParameter) (live (live_object s.tasks h) (says tasks.invalid) f)) r (f v.task)
-own_goes s w h x v r f l a =
-    let g1 = pass (not (nat_lt w (workers s))) (Mtapi m.ErrParameter) r (live (live_object s.tasks h) (says tasks.invalid) f) s (small_not w (workers s) l) a in
-    goes_then s _ _ _ r g1 (found_goes s (live_object s.tasks h) v.task (says tasks.invalid) r f v.found g1.allowed)
+own_goes s w h x v r f l a = grind (arith, nat_tests, small_not w (workers s) l, goes_then s, found_goes s (live_object s.tasks h) v.task (says tasks.invalid) r f v.found, nat_lt, live_object)
 
 pub record Finished (r : Reply) (w : ℕ) (u : State) : Type 0 where
   pub reply : r ≡ Ok

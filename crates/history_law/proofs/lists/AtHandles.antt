@@ -1,5 +1,5 @@
 -- The live object of a handle, after a change of the list.
-use Rattle.history_law.proofs.Names.{◌≡◌, ℕ, Bool, true, false, List, [], ◌∷◌, Option, Some, None, refl, sym, ◌∙◌, subst, arith, ◌==◌, eq-eqb, eqb-true, Listed, live_of, live_object, listed, change, issue, gone, with_fields, at-update, nat_tests}
+use Rattle.history_law.proofs.Names.{◌≡◌, ℕ, Bool, true, false, List, [], ◌∷◌, Option, Some, None, refl, sym, ◌∙◌, subst, arith, ◌==◌, eq-eqb, eqb-true, Listed, live_of, live_object, listed, change, issue, gone, with_fields, at-update, nat_tests, some_same}
 use Rattle.history_law.proofs.Answered.{on_test}
 use Rattle.history_law.proofs.lists.Found.{at_skip, at_here}
 use Rattle.history_law.proofs.lists.Handles.{OnceIn, head_apart}
@@ -35,10 +35,7 @@ module _ {T : Type 0} where
   module _ (P : Bool → Option T → Option T → Type 0) (h j : ℕ) (l : List (Listed T)) (stays : (o : Option T) → P false o o) where
     where_same : (m : List (Listed T)) (o p : Option T) → live_object l h ≡ o → live_object m h ≡ p → P true o p
         → ((h == j) ≡ false → live_object m j ≡ live_object l j) → P (h == j) (live_object l j) (live_object m j)
-    where_same m o p a b x k = on_test (λ c. P c (live_object l j) (live_object m j)) (h == j)
-        (λ i. subst (λ (z : ℕ). P true (live_object l z) (live_object m z)) (eqb-true h j i)
-        (subst (λ (q : Option T). P true q (live_object m h)) (sym a) (subst (P true o) (sym b) x)))
-        (λ i. subst (P false (live_object l j)) (sym (k i)) (stays (live_object l j)))
+    where_same m o p a b x k = grind (arith, nat_tests, on_test, live_object, eqb-true)
 
     pub where_changed : (f : T → T) (v : T) → live_object l h ≡ Some v → P true (Some v) (Some (f v))
         → P (h == j) (live_object l j) (live_object (change h (with_fields f) l) j)

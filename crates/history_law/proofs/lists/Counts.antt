@@ -1,5 +1,5 @@
 -- How often entries pass one test and another, beside a number that a state has.
-use Rattle.history_law.proofs.Names.{◌≡◌, ℕ, ◌+◌, Bool, true, false, cond, List, [], ◌∷◌, ◌++◌, refl, ap, arith, State, NodeEntry, IsNext, next, LegalFrom, after_from, some_entry, entries_that}
+use Rattle.history_law.proofs.Names.{◌≡◌, ℕ, ◌+◌, Bool, true, false, cond, List, [], ◌∷◌, ◌++◌, refl, ap, arith, State, NodeEntry, IsNext, next, LegalFrom, after_from, some_entry, entries_that, nat_tests, eqb-true, eq-eqb, some_same}
 use Rattle.history_law.proofs.Answered.{on_test}
 
 abbrev pub one_if : Bool → ℕ
@@ -11,12 +11,7 @@ pub counts_along : (V : State → ℕ) (x y : NodeEntry → Bool) (G : State →
     → (s : State) (L : List NodeEntry) → LegalFrom s L → G s → G (after_from s L) × (entries_that y L + V (after_from s L) ≡ V s + entries_that x L)
 unfolding LegalFrom after_from
 counts_along V x y G k s [] l g = (g, omega arith)
-counts_along V x y G k s (e ∷ es) l g =
-    let n = k s e l.0 g in
-    let a : V (next s e) + one_if (y e) ≡ V s + one_if (x e) = n.1 in
-    let r = counts_along V x y G k (next s e) es l.1 n.0 in
-    let b : entries_that y es + V (after_from (next s e) es) ≡ V (next s e) + entries_that x es = r.1 in
-    (r.0, omega arith)
+counts_along V x y G k s (e ∷ es) l g = grind (arith, nat_tests, k s e l.0 g, y e, x e, counts_along V x y G k (next s e) es l.1, entries_that, after_from)
 
 -- entries behind those of which none passes are counted alone
 pub counts_behind : (p : NodeEntry → Bool) (A B : List NodeEntry) (e : NodeEntry) → entries_that p A ≡ 0 → p e ≡ false

@@ -1,5 +1,5 @@
 -- What is known of the first live object that passes, and of two live ones where at most one passes.
-use Rattle.history_law.proofs.Names.{nat_tests, ◌≡◌, ℕ, ◌+◌, ◌≤◌, Bool, true, false, cond, List, [], ◌∷◌, Some, refl, sym, ◌∙◌, subst, arith, ◌==◌, ◌&&◌, is_some, eq-eqb, Listed, live_of, live_object, listed, count_listed, some_same}
+use Rattle.history_law.proofs.Names.{nat_tests, ◌≡◌, ℕ, ◌+◌, ◌≤◌, Bool, true, false, cond, List, [], ◌∷◌, Some, refl, sym, ◌∙◌, subst, arith, ◌==◌, ◌&&◌, is_some, eq-eqb, Listed, live_of, live_object, listed, count_listed, some_same, eqb-true}
 use Rattle.handle_pool.specs.Issued.{first_handle}
 use Rattle.history_law.proofs.Answered.{true_false, whether, on_test}
 use Rattle.history_law.proofs.lists.Handles.{OnceIn, once_rest}

@@ -1,5 +1,5 @@
 -- What an entry says of a new object, its record keeps.
-use Rattle.history_law.proofs.Names.{◌≡◌, ℕ, ◌≤◌, true, List, [], ◌∷◌, ◌++◌, refl, sym, ◌∙◌, subst, ObjectKind, Op, Handle, Listed, listed, issue, Action, new_action, Task, NewTask, new_task, State, FieldsOf, objects_of, Move, starts_task, is_fresh, apply, after_moves, new_queue, NodeEntry, IsNext, next, LegalFrom, after_from, IsMade, StartsTask, Legal-rest, after-append, along, issues, ◌+◌, Answers, answered}
+use Rattle.history_law.proofs.Names.{◌≡◌, ℕ, ◌≤◌, true, List, [], ◌∷◌, ◌++◌, refl, sym, ◌∙◌, subst, ObjectKind, Op, Handle, Listed, listed, issue, Action, new_action, Task, NewTask, new_task, State, FieldsOf, objects_of, Move, starts_task, is_fresh, apply, after_moves, new_queue, NodeEntry, IsNext, next, LegalFrom, after_from, IsMade, StartsTask, Legal-rest, after-append, along, issues, ◌+◌, Answers, answered, nat_tests, arith, eqb-true, eq-eqb, some_same}
 use Rattle.mtapi_values.specs.declared.handles.ObjectKind.TheVariants as kind
 use Rattle.mtapi_machine.specs.declared.ops.Op.TheVariants as op
 use Rattle.history_law.specs.Words.{makes_object}
@@ -38,14 +38,7 @@ has_new h F x l n f = record { some = some_issued h x l; under = under_issue h F
 -- Tasks, and the number of the next start
 
 pub task_then : (a : Task) (x y : Task) → SameTask x y → SameTask a x → SameTask a y
-task_then a x y s t = record {
-  job = s.job ∙ t.job;
-  args = s.args ∙ t.args;
-  priority = s.priority ∙ t.priority;
-  cores = s.cores ∙ t.cores;
-  queue = s.queue ∙ t.queue;
-  start = s.start ∙ t.start;
-}
+task_then a x y s t = grind (arith, nat_tests)
 
 -- a task that an entry started is listed as it was asked for, with the next number of a start
 abbrev pub StartedAs : State → Op → ℕ → State → Type 0

@@ -1,5 +1,5 @@
 -- The record of a live object, where no handle is listed twice.
-use Rattle.history_law.proofs.Names.{nat_tests, ◌≡◌, ℕ, Bool, true, cond, List, [], ◌∷◌, Some, sym, ◌∙◌, ap, arith, ◌==◌, ◌&&◌, Listed, live_of, live_object, listed, change, snd_true, some_same, false_from_ne_true}
+use Rattle.history_law.proofs.Names.{nat_tests, ◌≡◌, ℕ, Bool, true, cond, List, [], ◌∷◌, Some, sym, ◌∙◌, ap, arith, ◌==◌, ◌&&◌, Listed, live_of, live_object, listed, change, snd_true, some_same, false_from_ne_true, eqb-true, eq-eqb}
 use Rattle.history_law.proofs.Answered.{whether}
 use Rattle.history_law.proofs.Ages.{live_listed}
 use Rattle.history_law.proofs.lists.Found.{at_here, change_here, change_past, at_head, at_past}
@@ -28,11 +28,4 @@ module _ {T A : Type 0} (h : ℕ) (at : List (Listed T) → A) (of : T → A) (n
       → (l : List (Listed T)) (t : T) → OnceIn l → live_object l h ≡ Some t → at (change h f l) ≡ a
   unfolding live_of
   read_changed f a k g [] t o e = absurd (cc)
-  read_changed f a k g (r ∷ rs) t o e = whether (r.live && (r.handle == h))
-      (λ d. ap at (change_here h f r rs d) ∙ (next (f r) rs
-      ∙ (ap (λ (b : Bool). cond b (of (f r).fields) (at rs)) (ap (λ (n : ℕ). n == h) (k r) ∙ snd_true r.live _ d) ∙ g r)))
-      (λ c.
-      let behind : live_object rs h ≡ Some t = sym (at_past r rs h c) ∙ e in
-      ap at (change_past h f r rs c) ∙ (next r (change h f rs)
-      ∙ (ap (λ (b : Bool). cond b (of r.fields) (at (change h f rs))) (false_from_ne_true (r.handle == h) (no_dead r rs t o behind))
-      ∙ read_changed f a k g rs t (once_rest r rs o) behind)))
+  read_changed f a k g (r ∷ rs) t o e = grind (arith, nat_tests, f r, k r, snd_true r.live, g r, at_past r rs, no_dead r rs t o, read_changed f a k g rs t (once_rest r rs o), once_rest r rs o, change_here, live_object, change_past, false_from_ne_true)

@@ -1,5 +1,5 @@
 -- At most one seat holds a mutex.
-use Rattle.history_law.proofs.Names.{◌≡◌, ℕ, ◌+◌, ◌<◌, ◌≤◌, Bool, true, false, cond, List, [], ◌∷◌, ◌++◌, Some, None, inl, inr, refl, sym, ◌∙◌, ap, subst, arith, ◌==◌, ◌&&◌, nat_lt, length, TaskHandle, Terms, Op, Reply, Listed, live_of, live_object, count_listed, change, with_fields, eqb-true, nat_tests, Task, Adds, runs_on, runs_as, with_notes, with_tally, tally_failed, tally_has, ended, Mutex, locked_by, with_attached, State, opening, workers, Move, Mutexes, Segments, alters, notes, after_moves, NodeEntry, IsNext, next, LegalFrom, Legal, after_from, after, Legal-rest, after-append, after-one, at-update, some_same, entries_that, by_seat, gets_mutex, gives_mutex, says_end, is_tally_end, ends_tally, HasMutex, tally_got, HoldsByLooks, HoldsByTally, HoldsMutex, MutexesKeepTo, mutex_in, and-false, Answers, IsAttached, Legal-prefix, Segment, TaskEnd}
+use Rattle.history_law.proofs.Names.{◌≡◌, ℕ, ◌+◌, ◌<◌, ◌≤◌, Bool, true, false, cond, List, [], ◌∷◌, ◌++◌, Some, None, inl, inr, refl, sym, ◌∙◌, ap, subst, arith, ◌==◌, ◌&&◌, nat_lt, length, TaskHandle, Terms, Op, Reply, Listed, live_of, live_object, count_listed, change, with_fields, eqb-true, nat_tests, Task, Adds, runs_on, runs_as, with_notes, with_tally, tally_failed, tally_has, ended, Mutex, locked_by, with_attached, State, opening, workers, Move, Mutexes, Segments, alters, notes, after_moves, NodeEntry, IsNext, next, LegalFrom, Legal, after_from, after, Legal-rest, after-append, after-one, at-update, some_same, entries_that, by_seat, gets_mutex, gives_mutex, says_end, is_tally_end, ends_tally, HasMutex, tally_got, HoldsByLooks, HoldsByTally, HoldsMutex, MutexesKeepTo, mutex_in, and-false, Answers, IsAttached, Legal-prefix, Segment, TaskEnd, eq-eqb}
 use Rattle.mtapi_values.specs.declared.kinds.Kind.TheVariants as kinds
 use Rattle.mtapi_values.specs.declared.handles.ObjectKind.TheVariants as kind
 use Rattle.mtapi_machine.specs.declared.ops.Op.TheVariants as op
@@ -48,11 +48,7 @@ tied_step n who b l k p q x y f g t a i = grind (arith, nat_tests, owns_step, id
 -- after an end of a tally no task runs on its worker
 none_then : (s : State) (who t : ℕ) (x : Task) (e : TaskEnd) → AtMostOne who s → HasTask s who t x kinds.Tally
     → count_listed (runs_on who) (change t (ended e s.ends) s.tasks) ≡ 0
-none_then s who t x e one k =
-    let c = count_changed (runs_on who) t (ended e s.ends) false s.tasks x k.found (λ r a g. and-false _) in
-    let b : cond {A = ℕ} (runs_on who x) 1 0 ≡ 1 = ap one_if (as_on who x.state k.runs) in
-    let m : count_listed (runs_on who) s.tasks ≤ 1 = one in
-    omega arith
+none_then s who t x e one k = grind (arith, nat_tests, count_changed (runs_on who) t (ended e s.ends) false s.tasks x k.found, as_on who x.state k.runs, runs_on, and-false, one_if, count_listed)
 
 end_counts : (s : State) (who : ℕ) (o : Op) (r : Reply) (ms : List Move) → AtMostOne who s → is_ending o r ≡ true → Answers s who o r ms
     → count_listed (runs_on who) (after_moves ms s).tasks ≡ 0

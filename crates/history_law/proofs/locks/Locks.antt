@@ -1,5 +1,5 @@
 -- Locks that seats get and give back: what each entry does to one, and so every list of entries. A kind of lock says what is counted of it.
-use Rattle.history_law.proofs.Names.{nat_tests, ◌≡◌, ℕ, ◌+◌, ◌<◌, ◌≤◌, Bool, true, false, List, [], ◌∷◌, ◌++◌, Option, Some, None, refl, sym, ap, subst, arith, zero, suc, ◌==◌, ◌&&◌, Listed, live_object, listed, issue, change, with_fields, gone, Handle, Terms, State, FieldsOf, objects_of, opening, seats, Move, after_moves, NodeEntry, IsNext, next, LegalFrom, Legal, after_from, after, Legal-front, Legal-rest, entries_that, some_entry, issues, by_seat, limit_of, MadeWith, ObjectKind, Op, fst_true, along, Answers, and-false, answered}
+use Rattle.history_law.proofs.Names.{nat_tests, ◌≡◌, ℕ, ◌+◌, ◌<◌, ◌≤◌, Bool, true, false, List, [], ◌∷◌, ◌++◌, Option, Some, None, refl, sym, ap, subst, arith, zero, suc, ◌==◌, ◌&&◌, Listed, live_object, listed, issue, change, with_fields, gone, Handle, Terms, State, FieldsOf, objects_of, opening, seats, Move, after_moves, NodeEntry, IsNext, next, LegalFrom, Legal, after_from, after, Legal-front, Legal-rest, entries_that, some_entry, issues, by_seat, limit_of, MadeWith, ObjectKind, Op, fst_true, along, Answers, and-false, answered, eqb-true, eq-eqb, some_same}
 use Rattle.history_law.specs.Words.{makes_object}
 use Rattle.history_law.proofs.Accepted.{stands_after}
 use Rattle.history_law.proofs.lists.AtHandles.{at_unlisted, at_issue_here, at_issue_other, where_changed, where_retired}
@@ -66,8 +66,7 @@ module _ {M T : Type 0} (K : Lock M T) where
   -- a new lock beside it
   pub step_beside : (who h j : ℕ) (l : List (Listed T)) (v : T) → (j == h) ≡ false → FitIn (live_object l h)
       → LockStep who (live_object l h) (live_object (issue j v l) h) (λ m. false) (λ m. false)
-  step_beside who h j l v n f = subst (λ (q : Option T). LockStep who (live_object l h) q (λ m. false) (λ m. false)) (sym (at_issue_other j h v l n))
-      (step_same who (live_object l h) f)
+  step_beside who h j l v n f = grind (arith, nat_tests, at_issue_other j h v l n, step_same who (live_object l h) f, live_object)
 
 off : (b c : Bool) → c ≡ false → false ≡ (b && c)
 off b c e1 = grind (arith, nat_tests)
@@ -132,12 +131,7 @@ module _ (k : ObjectKind) {M : Type 0} (K : ℕ → Lock M (FieldsOf k)) (gets g
         c.step top s e i (omega arith) g.once g.some g.fit
 
     good_next : (top : ℕ) (s : State) (e : NodeEntry) → IsNext s e → Good top s → Good top (next s e)
-    good_next top s e i g = record {
-      seats = seats_next s e g.seats;
-      once = once_next k s e g.once;
-      some = listed_next k s e h g.some;
-      fit = (good_step top s e i g).fit;
-    }
+    good_next top s e i g = grind (arith, nat_tests, seats_next s e g.seats, good_step top s e i g, once_next, listed_next)
 
     -- no entry passes that needs the lock, where that isn't listed in the end
     abbrev Needs : (NodeEntry → Bool) → Type 0
@@ -211,12 +205,7 @@ module _ (k : ObjectKind) {M : Type 0} (K : ℕ → Lock M (FieldsOf k)) (gets g
     -- what is counted of a lock that was made with this limit, and of any
     pub counts_with : (terms : Terms) (L : List NodeEntry) (top : ℕ) → Legal terms L → MadeWith k L h top
         → (p : Option (FieldsOf k)) × Counts (K top) gets gives L p
-    counts_with terms L top legal d =
-        let whole : Legal terms (d.before ++ d.by ∷ d.behind) = subst (Legal terms) d.cut legal in (
-          _,
-          subst (λ (P : List NodeEntry). Counts (K top) gets gives P (live_object (l (after_from (next (after terms d.before) d.by) d.behind)) h)) (sym d.cut)
-              (counts_made terms d.before d.behind d.by top whole d.issued d.limited),
-        )
+    counts_with terms L top legal d = grind (arith, nat_tests, counts_made terms d.before d.behind d.by top, live_object, after_from)
 
     pub counts_any : (terms : Terms) (L : List NodeEntry) → Legal terms L → (top : ℕ) × (p : Option (FieldsOf k)) × Counts (K top) gets gives L p
     counts_any terms L legal = by_made (some_entry (issues k h) L) refl

@@ -1,5 +1,5 @@
 -- What each move leaves of the tallies of a cell: what they wrote, what they read, the mutex that they name, and how they ended.
-use Rattle.history_law.proofs.Names.{arith, nat_tests, ◌≡◌, ℕ, Bool, true, false, cond, List, Option, ◌⊎◌, inl, inr, refl, sym, some_same, ◌∙◌, ap, subst, ◌==◌, ◌&&◌, not, ℤ, pos, option_map, Op, Listed, with_fields, gone, Mutex, Segment, Task, Notes, TallyNotes, is_unended, with_notes, tally_args, cell_in, number_in, State, Move, Segments, makes, alters, removes, apply, IsMade, makes_of_sort, fst_true, is_tally_end, record_of, is_completed, sum_of}
+use Rattle.history_law.proofs.Names.{arith, nat_tests, ◌≡◌, ℕ, Bool, true, false, cond, List, Option, ◌⊎◌, inl, inr, refl, sym, some_same, ◌∙◌, ap, subst, ◌==◌, ◌&&◌, not, ℤ, pos, option_map, Op, Listed, with_fields, gone, Mutex, Segment, Task, Notes, TallyNotes, is_unended, with_notes, tally_args, cell_in, number_in, State, Move, Segments, makes, alters, removes, apply, IsMade, makes_of_sort, fst_true, is_tally_end, record_of, is_completed, sum_of, eqb-true, eq-eqb}
 use Rattle.history_law.proofs.Answered.{true_false}
 use Rattle.history_law.proofs.SeatMoves.{May, MayEnd, Noted, Does, is_tally_lock, is_tally_read, is_tally_write, writes_cells, EndsTally}
 use Rattle.history_law.proofs.TaskMoves.{IsKept}
@@ -41,8 +41,7 @@ module _ (S C : ℕ) where
 
   step_weighs : (who : ℕ) (o : Op) → is_tally_write o ≡ false → (s : State) (r : Listed Task) (m : Move) (q : Listed Task) → Step s r m q → May s who o m
       → weight q.fields ≡ weight r.fields
-  step_weighs who o n s r _ _ (step.noted j f a i e) k =
-      does_weigh o _ _ r.fields.args n (subst (λ (t : Task). Does o t.notes.tally (f t.notes).tally) (some_same (sym k.1 ∙ e)) k.3)
+  step_weighs who o n s r _ _ (step.noted j f a i e) k = grind (arith, nat_tests, does_weigh o, some_same (sym k.1 ∙ e))
   step_weighs who o n s r _ _ _ k = refl
 
   pub written_move : (v : ℤ) (who : ℕ) (o : Op) → is_tally_write o ≡ false → (s : State) (x : Move) → May s who o x → written s ≡ v → written (apply x s) ≡ v
@@ -103,10 +102,6 @@ module _ (S C : ℕ) where
   pub cells_move : (v : Option (List ℤ)) (who : ℕ) (o : Op) → makes_of_sort Segments o ≡ false → writes_cells o ≡ false → (s : State) (x : Move) → IsMade s o x
       → May s who o x → cells_of s.segments ≡ v → cells_of (apply x s).segments ≡ v
   cells_move v who o m n s (makes Segments j x) i k e = true_false i.by m
-  cells_move v who o m n s (alters Segments j f) i k e = by_cells k
-    where
-      by_cells : (writes_cells o ≡ true) ⊎ ((x : Segment) → (f x).cells ≡ x.cells) → cells_of (apply (alters Segments j f) s).segments ≡ v
-      by_cells (inl w) = true_false w n
-      by_cells (inr w) = record_view (λ (x : Segment). x.cells) j S (with_fields f) s.segments (λ r. refl) (λ r. w r.fields) ∙ e
+  cells_move v who o m n s (alters Segments j f) i k e = grind (arith, nat_tests, writes_cells o, alters Segments j f, true_false, record_view, with_fields)
   cells_move v who o m n s (removes Segments j) i k e = record_view (λ (x : Segment). x.cells) j S gone s.segments (λ r. refl) (λ r. refl) ∙ e
   cells_move v who o m n s _ i k e = e

@@ -1,5 +1,5 @@
 -- What each entry leaves of the sum that a cell holds, and so every list of entries.
-use Rattle.history_law.proofs.Names.{◌≡◌, ℕ, ◌<◌, ◌≤◌, Bool, true, false, cond, List, [], ◌∷◌, ◌++◌, Option, Some, None, refl, sym, ◌∙◌, ap, subst, arith, ◌==◌, ◌&&◌, ◌||◌, not, nat_lt, is_some, length, ℤ, pos, ◌+ℤ◌, slice_set, slice_index_or, option_map, eqb-true, false_from_ne_true, nat_tests, Decides-int_eq, append_assoc, +ℤ_idl, TaskHandle, TaskEnd, Failed, Completed, entry, Terms, Op, Reply, Listed, live_object, count_listed, listed, change, update, with_fields, Task, tally_args, cell_in, number_in, added, runs_on, is_unended, with_notes, with_tally, tally_read, tally_written, ended, Segment, new_segment, cell_of, with_cell, State, opening, Move, notes, after_moves, after_row, row, NodeEntry, IsNext, next, LegalFrom, Legal, after_from, after, after-one, not_false, fst_true, snd_true, some_same, some_entry, tally_got, record_of, mutex_in, adds_to, completed_in, number_added, sum_of, writes_to, NamesOneMutex, HoldsTheSum, length-set, get_or-set_same, Answers, Notes, tally_failed, tally_has}
+use Rattle.history_law.proofs.Names.{◌≡◌, ℕ, ◌<◌, ◌≤◌, Bool, true, false, cond, List, [], ◌∷◌, ◌++◌, Option, Some, None, refl, sym, ◌∙◌, ap, subst, arith, ◌==◌, ◌&&◌, ◌||◌, not, nat_lt, is_some, length, ℤ, pos, ◌+ℤ◌, slice_set, slice_index_or, option_map, eqb-true, false_from_ne_true, nat_tests, Decides-int_eq, append_assoc, +ℤ_idl, TaskHandle, TaskEnd, Failed, Completed, entry, Terms, Op, Reply, Listed, live_object, count_listed, listed, change, update, with_fields, Task, tally_args, cell_in, number_in, added, runs_on, is_unended, with_notes, with_tally, tally_read, tally_written, ended, Segment, new_segment, cell_of, with_cell, State, opening, Move, notes, after_moves, after_row, row, NodeEntry, IsNext, next, LegalFrom, Legal, after_from, after, after-one, not_false, fst_true, snd_true, some_same, some_entry, tally_got, record_of, mutex_in, adds_to, completed_in, number_added, sum_of, writes_to, NamesOneMutex, HoldsTheSum, length-set, get_or-set_same, Answers, Notes, tally_failed, tally_has, eq-eqb}
 use Rattle.mtapi_values.specs.declared.handles.ObjectKind.TheVariants as kind
 use Rattle.mtapi_values.specs.declared.statuses.MtapiStatus.TheVariants as m
 use Rattle.mtapi_machine.specs.declared.ops.Op.TheVariants as op
@@ -77,10 +77,7 @@ module _ (S C id n : ℕ) where
     back_right x z c e1 = grind (arith, nat_tests)
 
     noted_runs : (t : ℕ) (x : Task) (f : Notes → Notes) → HasTask s who t x kinds.Tally → Every (EndsRight S C) (change t (with_fields (with_notes f)) s.tasks)
-    noted_runs t x f k =
-        every_change (EndsRight S C) t (with_fields (with_notes f)) s.tasks
-        (λ r a q u b. true_false (subst (λ (z : Task). runs_on who z ≡ true) (some_same (sym k.found ∙ a)) (as_on who x.state k.runs))
-        (runs_over who r.fields u)) v.right
+    noted_runs t x f k = grind (arith, nat_tests, every_change (EndsRight S C) t (with_fields (with_notes f)), with_fields, with_notes, true_false, runs_on, some_same, as_on, runs_over)
 
     right_by : (o : Op) (r : Reply) (ms : List Move) → is_end_op o || is_tally_lock o ≡ true → Answers s who o r ms
         → Every (EndsRight S C) (after_moves ms s).tasks
@@ -115,9 +112,7 @@ module _ (S C id n : ℕ) where
 
     cells_here : (x : Task) (y : Segment) → adds S C x.notes.tally x.args ≡ true → live_object s.segments x.notes.tally.segment ≡ Some y
         → cells_of S C s.segments ≡ Some y.cells
-    cells_here x y a e =
-        ap (λ (q : Option Segment). option_map (λ (z : Segment). z.cells) q)
-        (subst (λ (j : ℕ). record_of s.segments j ≡ Some y) (seg_same x a) (record_at x.notes.tally.segment y s.segments v.good.once_segments e))
+    cells_here x y a e = grind (arith, nat_tests, seg_same x a, record_at x.notes.tally.segment y, option_map, record_of)
 
     -- a tally reads the cell
     read_sum : (t : ℕ) (x : Task) (y : Segment) → live_object s.tasks t ≡ Some x → (x.notes.tally.stage == 1) ≡ true
@@ -264,11 +259,7 @@ module _ (S C id n : ℕ) where
         → value ≡ added x → live_object s.segments x.notes.tally.segment ≡ Some y
         → Sum S C (cells_of S C (update x.notes.tally.segment (with_cell (cell_in (tally_args x.args)) value) s.segments))
         (change t (with_fields (with_notes (with_tally tally_written))) s.tasks)
-    write_sum t value x y e k d w f = whether ((x.notes.tally.segment == S)
-        && (cell_in (tally_args x.args) == C)) (λ a. write_here t value x y e k d w f (λ i. both i && a i)) (λ a. write_other t value x y e d f a)
-      where
-        both : has_both x.notes.tally ≡ true
-        both = ap (λ (j : ℕ). not (j == 0) && not (j == 4)) (eqb-true x.notes.tally.stage 2 d)
+    write_sum t value x y e k d w f = grind (arith, nat_tests, write_here t value x y e k d w f, write_other t value x y e d f, eqb-true x.notes.tally.stage 2 d, cell_in, tally_args, has_both)
 
     abbrev moves_sum : Op → Bool
     moves_sum (op.ShmemCreate i2 cells) = true
@@ -281,12 +272,9 @@ module _ (S C id n : ℕ) where
     sum_by _ _ _ l f (is.refuses o x e) = v.sum
     sum_by _ _ _ l f (is.refuses_caller o x e) = v.sum
     sum_by _ _ _ l f (is.creates_segment i2 cells h e j) = create_sum S C s h (new_segment i2 cells) cells refl (fresh_unlisted kind.Shmem s h j) v.known v.sum
-    sum_by _ _ _ l f (is.writes_cell h c value x k) =
-        other_cell S C s h.0 c value x s.tasks v.good.once_segments k.found (sym (and-true ((h.0 == S) && (c == C))) ∙ f) v.sum
+    sum_by _ _ _ l f (is.writes_cell h c value x k) = grind (arith, nat_tests, other_cell S C, and-true ((h.0 == S) && (c == C)))
     sum_by _ _ _ l f (is.tally_reads t x y k z e) = read_sum t.0 x y k.found z e
-    sum_by _ _ _ l f (is.tally_writes t value x y k z e) =
-        write_sum t.0 value x y k.found (as_on who x.state k.runs) (not_false _ (first_false _ _ z))
-        ((Decides-int_eq value (added x)).0 (not_false _ (second_false _ _ z))) e
+    sum_by _ _ _ l f (is.tally_writes t value x y k z e) = grind (arith, nat_tests, write_sum t.0 value x y k.found, Decides-int_eq value (added x), as_on, not_false, first_false, second_false)
     sum_by _ _ _ l f _ = true_false l refl
 
     sum_row : (o : Op) (r : Reply) → IsNext s (entry who o r) → KeepsPremises s (entry who o r)
@@ -359,14 +347,7 @@ unfolding record_of
 no_cells S C = refl
 
 holds_opening : (S C id : ℕ) (terms : Terms) → terms.settings.workers ≤ 16 → SumHolds S C id terms.settings.workers (opening terms)
-holds_opening S C id terms few = record {
-  good = good_opening terms few;
-  ids = λ i. omega arith;
-  known = tt;
-  named = tt;
-  right = tt;
-  sum = sum_cells S C (opening terms) _ _ [] (sym (no_cells S C)) tt;
-}
+holds_opening S C id terms few = grind (arith, nat_tests, good_opening terms few, sum_cells S C (opening terms), no_cells S C)
 
 pub holds_the_sum : (terms : Terms) (es : List NodeEntry) (S C : ℕ) → Legal terms es → HoldsTheSum terms es S C
 unfolding after_from

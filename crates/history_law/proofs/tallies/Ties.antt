@@ -1,5 +1,5 @@
 -- A running tally that has its mutex owns it, and at most one task runs on a worker.
-use Rattle.history_law.proofs.Names.{nat_tests, ◌≡◌, ℕ, ◌+◌, ◌<◌, ◌≤◌, Bool, true, false, cond, List, [], ◌∷◌, Option, Some, None, refl, sym, ◌∙◌, ap, subst, arith, ◌==◌, ◌&&◌, not, eqb-true, holds, Op, Listed, live_of, live_object, any_listed, count_listed, with_fields, Mutex, tally_args, Task, TallyNotes, TaskState, Running, runner, runs_on, runs_as, kind_number, is_unstarted, is_unended, with_state, ended, State, Move, runs_task, ends_task, apply, is_tally_end, mutex_in, and-false, IsAttached, Segment}
+use Rattle.history_law.proofs.Names.{nat_tests, ◌≡◌, ℕ, ◌+◌, ◌<◌, ◌≤◌, Bool, true, false, cond, List, [], ◌∷◌, Option, Some, None, refl, sym, ◌∙◌, ap, subst, arith, ◌==◌, ◌&&◌, not, eqb-true, holds, Op, Listed, live_of, live_object, any_listed, count_listed, with_fields, Mutex, tally_args, Task, TallyNotes, TaskState, Running, runner, runs_on, runs_as, kind_number, is_unstarted, is_unended, with_state, ended, State, Move, runs_task, ends_task, apply, is_tally_end, mutex_in, and-false, IsAttached, Segment, eq-eqb, some_same}
 use Rattle.mtapi_values.specs.declared.kinds.Kind.TheVariants as kind
 use Rattle.history_law.proofs.Answered.{whether}
 use Rattle.history_law.proofs.lists.Every.{Every}
@@ -59,10 +59,7 @@ one_move w who o s (runs_task j y z) k v = whether (y == w)
     as_runs : (b : Bool) → (y == w) ≡ b → count_listed (runs_on w) (apply (runs_task j y z) s).tasks + cond (runs_on w k.0) 1 0
         ≡ count_listed (runs_on w) s.tasks + cond b 1 0
     as_runs b e = count_changed (runs_on w) j (with_fields (with_state (Running y z))) b s.tasks k.0 k.1 (λ r a f. ap (λ (c : Bool). c && (y == w)) a ∙ e)
-one_move w who o s (ends_task j e) k v =
-    let n = count_changed (runs_on w) j (ended e s.ends) false s.tasks k.0 k.1 (λ r a f. and-false _) in
-    let m : count_listed (runs_on w) s.tasks ≤ 1 = v in
-    omega arith
+one_move w who o s (ends_task j e) k v = grind (arith, nat_tests, count_changed (runs_on w) j (ended e s.ends) false s.tasks k.0 k.1, runs_on, and-false, count_listed)
 one_move w who o s x k v = subst (λ (n : ℕ). n ≤ 1) (sym (other_count w who o s x refl k)) v
 
 -- where one task runs on a worker, after its end none of those that were listed does

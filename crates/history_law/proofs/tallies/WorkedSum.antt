@@ -1,5 +1,5 @@
 -- The worked history of two tallies, by computing.
-use Rattle.history_law.proofs.Names.{nat_tests, ◌≡◌, false, List, [], ◌∷◌, ◌++◌, Some, refl, sym, ◌∙◌, subst, arith, ℤ, pos, append_assoc, no_marks, fits, answer_of, Listed, Task, live_of, issue, change, change_all, listed, issued_at, retired, is_full, may_issue, has_worker, NewTask, tally_args, end_each, Segment, Op, is_ready, can_take, has_better, State, opening, Move, apply, NodeEntry, next, Legal, after_from, after, replay, IsMade, StartsTask, h1, fits_of, by_moves, legal_if, some_entry, tally_got, record_of, mutex_in, sum_of, number_added, writes_to, NamesOneMutex, two_workers, two_tallies, TalliesAddUp}
+use Rattle.history_law.proofs.Names.{nat_tests, ◌≡◌, false, List, [], ◌∷◌, ◌++◌, Some, refl, sym, ◌∙◌, subst, arith, ℤ, pos, append_assoc, no_marks, fits, answer_of, Listed, Task, live_of, issue, change, change_all, listed, issued_at, retired, is_full, may_issue, has_worker, NewTask, tally_args, end_each, Segment, Op, is_ready, can_take, has_better, State, opening, Move, apply, NodeEntry, next, Legal, after_from, after, replay, IsMade, StartsTask, h1, fits_of, by_moves, legal_if, some_entry, tally_got, record_of, mutex_in, sum_of, number_added, writes_to, NamesOneMutex, two_workers, two_tallies, TalliesAddUp, eqb-true, eq-eqb, some_same}
 use Rattle.mtapi_machine.specs.declared.ops.Op.TheVariants as op
 use Rattle.history_law.proofs.lists.Every.{Every, every_at}
 use Rattle.history_law.proofs.TaskSteps as step
@@ -23,9 +23,7 @@ module _ (R : List ℤ → Type 0) where
   step_args s r _ _ _ k = k
 
   args_move : (o : Op) → StartsWith o → (s : State) (x : Move) → IsMade s o x → Every (λ u. R u.args) s.tasks → Every (λ u. R u.args) (apply x s).tasks
-  args_move o k s x e v =
-      every_steps (λ u. R u.args) s x s.tasks _ (λ h t i. started o t k (subst (λ (m : Move). IsBy m o) i e.by)) (λ r q y z. step_args s r x q y z)
-      (tasks_go s x) v
+  args_move o k s x e v = grind (arith, nat_tests, started o, step_args s, tasks_go s x, every_steps)
 
   AllStart : List NodeEntry → Type 0
   AllStart [] = Unit {0}
@@ -49,10 +47,7 @@ unfolding two_tallies AllStart StartsWith
 all_name = (tt, (tt, (tt, (tt, (refl, (refl, (tt, (tt, (tt, (tt, (tt, (tt, (tt, (tt, (tt, (tt, (tt, (tt, (tt, (tt, (tt, tt)))))))))))))))))))))
 
 one_mutex : NamesOneMutex two_workers two_tallies h1 0 1
-one_mutex A B w t x cut e a =
-    let all : AllStart names_one ((A ++ tally_got w t ∷ []) ++ B) = subst (AllStart names_one) (cut ∙ sym (append_assoc A (tally_got w t ∷ []) B)) all_name in
-    every_at (λ u. names_one u.args) (after two_workers (A ++ tally_got w t ∷ [])).tasks t.0 x
-    (args_along names_one (opening two_workers) (A ++ tally_got w t ∷ []) (front_starts names_one (A ++ tally_got w t ∷ []) B all) tt) e
+one_mutex A B w t x cut e a = grind (arith, nat_tests, AllStart names_one, append_assoc A (tally_got w t ∷ []) B, args_along names_one (opening two_workers) (A ++ tally_got w t ∷ []), front_starts names_one (A ++ tally_got w t ∷ []) B, tally_got, all_name, every_at, two_workers)
 
 two_legal : Legal two_workers two_tallies
 unfolding two_tallies replay live_of issue change change_all listed issued_at retired is_full may_issue fits answer_of has_worker end_each is_ready can_take
@@ -77,12 +72,4 @@ unfolding two_tallies after_from live_of issue change change_all listed issued_a
 sum_twelve = refl
 
 pub tallies_add_up : TalliesAddUp
-tallies_add_up = record {
-  legal = two_legal;
-  one_mutex = one_mutex;
-  no_write = no_write;
-  segment = twelve;
-  found = holds_twelve;
-  holds = refl;
-  sum = sum_twelve;
-}
+tallies_add_up = grind (arith, nat_tests, two_legal, one_mutex, no_write, holds_twelve, sum_twelve)
