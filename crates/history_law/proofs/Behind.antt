@@ -1,5 +1,7 @@
 -- What an Ok `enter` and an Ok `final` stand behind.
 use Rattle.history_law.proofs.Names.{◌≡◌, ℕ, zero, suc, ◌<◌, Bool, true, false, List, [], ◌∷◌, ◌++◌, refl, ◌∙◌, ap, arith, ◌==◌, ◌&&◌, not, slice_set, replicate, MatchBool, eq-eqb, true_from_ne_false, nat_tests, marked, all_marked, entry, Terms, Op, Reply, Ok, Pending, Mtapi, State, opening, workers, is_past_open, Move, released, stops, apply, Allows, after_row, row, IsMade, is_pick, NodeEntry, IsNext, next, LegalFrom, Legal, after_from, after, Legal-front, fst_true, snd_true, rest_keeps, some_entry, is_release, says_ok, says_stop, is_released, is_stop_of, eqb-true, some_same}
+use Rattle.history_law.proofs.Others.{release_move}
+use Rattle.history_law.proofs.lists.Slots.{set_apart, read_replicate}
 use Rattle.mtapi_values.specs.declared.statuses.MtapiStatus.TheVariants as m
 use Rattle.mtapi_machine.specs.declared.ops.Op.TheVariants as op
 use Rattle.mtapi_machine.proofs.Moves.{by_moves as made_moves}
@@ -13,10 +15,6 @@ use Rattle.history_law.proofs.lists.Objects.{cut_from}
 enter_reads : (a b : Bool) (X : Type 0) → MatchBool a (Ok ≡ Mtapi m.ErrNodeNotinit) (MatchBool (not b) (Ok ≡ Pending) X) → b ≡ true
 enter_reads a b X e1 = grind (arith, nat_tests)
 
-other_release : (o : Op) (s : State) (who : ℕ) (v : Bool) (x : Move) → is_release o ≡ false → May s who o x → s.released ≡ v → (apply x s).released ≡ v
-other_release o s who v released n k e = true_false k n
-other_release o s who v x n k e = rest_keeps (λ t. t.released ≡ v) (λ t g q m c r y p. p) x s e
-
 row_release : (s : State) (who : ℕ) (o : Op) (r : Reply) → is_release o ≡ true → says_ok r ≡ false → Allows (row s who o r) r
     → (after_row s (row s who o r)).released ≡ s.released
 row_release s who o r e1 e2 e3 = grind (arith, nat_tests)
@@ -24,7 +22,7 @@ row_release s who o r e1 e2 e3 = grind (arith, nat_tests)
 next_released : (s : State) (e : NodeEntry) → IsNext s e → is_released e ≡ false → (next s e).released ≡ s.released
 next_released s e n i = on_test (λ b. (b && says_ok e.reply) ≡ false → (next s e).released ≡ s.released) (is_release e.op)
     (λ j k. row_release s e.who e.op e.reply j k n.allowed)
-    (λ j k. by_moves (λ t. t.released ≡ s.released) s e n (λ t x y z. other_release e.op t e.who s.released x j y z) refl) i
+    (λ j k. by_moves (λ t. t.released ≡ s.released) s e n (λ t x y z. release_move e.who e.op j s t x y z) refl) i
 
 unreleased : (s : State) (L : List NodeEntry) → LegalFrom s L → some_entry is_released L ≡ false → (after_from s L).released ≡ s.released
 unreleased s L l n = kept_without is_released (λ t. t.released ≡ s.released) (λ t e i m v. next_released t e i m ∙ v) s L l n refl
@@ -38,19 +36,9 @@ enter_behind terms A B who l = true_from_ne_false (some_entry is_released A) (λ
 
 -- Stops
 
-less_apart : (v w : ℕ) → (suc v == suc w) ≡ false → (v == w) ≡ false
-less_apart v w e = grind (arith, nat_tests)
-
-apart_marks : (l : List Bool) (w v : ℕ) → (v == w) ≡ false → marked w (slice_set l v true) ≡ marked w l
-apart_marks [] w v e = refl
-apart_marks (b ∷ bs) zero zero e = true_false (eq-eqb zero zero refl) e
-apart_marks (b ∷ bs) zero (suc v) e = refl
-apart_marks (b ∷ bs) (suc w) zero e = refl
-apart_marks (b ∷ bs) (suc w) (suc v) e = apart_marks bs w v (less_apart v w e)
-
 other_stops : (o : Op) (s : State) (who w : ℕ) (v : Bool) (x : Move) → (who == w) ≡ false → May s who o x → marked w s.stopped ≡ v
     → marked w (apply x s).stopped ≡ v
-other_stops o s who w v (stops y) n k e = apart_marks s.stopped w y (ap (λ (i : ℕ). i == w) k ∙ n) ∙ e
+other_stops o s who w v (stops y) n k e = set_apart s.stopped y w true false (ap (λ (i : ℕ). i == w) k ∙ n) ∙ e
 other_stops o s who w v x n k e = rest_keeps (λ t. marked w t.stopped ≡ v) (λ t g q m c r y p. p) x s e
 
 no_pick : (o : Op) (s : State) (w : ℕ) (v : Bool) (x : Move) → is_pick o ≡ false → IsMade s o x → marked w s.stopped ≡ v → marked w (apply x s).stopped ≡ v
@@ -77,11 +65,6 @@ each_marked (suc n) w [] e i = absurd (cc)
 each_marked (suc n) zero (b ∷ bs) e i = fst_true b _ e
 each_marked (suc n) (suc w) (b ∷ bs) e i = each_marked n w bs (snd_true b _ e) (omega arith)
 
-none_marked : (n w : ℕ) → marked w (replicate n false) ≡ false
-none_marked zero w = refl
-none_marked (suc n) zero = refl
-none_marked (suc n) (suc w) = none_marked n w
-
 pub final_behind : (terms : Terms) (A B : List NodeEntry) (who w : ℕ) → Legal terms (A ++ entry who op.Final Ok ∷ B) → w < terms.settings.workers
     → some_entry (is_stop_of w) A ≡ true
 final_behind terms A B who w l less = true_from_ne_false (some_entry (is_stop_of w) A) (λ i.
@@ -90,5 +73,5 @@ final_behind terms A B who w l less = true_from_ne_false (some_entry (is_stop_of
     let r : marked w (after terms A).stopped ≡ true =
     each_marked (workers (after terms A)) w (after terms A).stopped (final_marked (after terms A) who n) (omega arith) in
     let u : marked w (after terms A).stopped ≡ false =
-    unstopped (opening terms) A w (Legal-front (opening terms) A (entry who op.Final Ok ∷ B) l.from) i ∙ none_marked 25 w in
+    unstopped (opening terms) A w (Legal-front (opening terms) A (entry who op.Final Ok ∷ B) l.from) i ∙ read_replicate 25 w false in
     true_false r u)

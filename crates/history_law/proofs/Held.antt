@@ -1,20 +1,18 @@
 -- What holds after every legal list of the tasks, the phase and the marks of stopped workers, and the changes that keep it.
 use Rattle.history_law.proofs.Names.{nat_tests, ◌≡◌, ℕ, Bool, true, false, cond, List, [], ◌∷◌, refl, arith, slice_set, TaskEnd, Phase, Listed, live_of, any_listed, any_live, with_fields, gone, Task, is_unended, ended, is_open, is_past_open, eqb-true, eq-eqb, some_same}
+use Rattle.history_law.proofs.lists.Every.{Each, Every}
 use Rattle.history_law.proofs.Answered.{true_false, none_first}
 
 -- the task has ended
 abbrev pub HasEnded : Task → Type 0
 HasEnded t = is_unended t ≡ false
 
--- each task that isn't live has ended
+-- each task that isn't live has ended, and each task has
 abbrev pub DeadEnded : List (Listed Task) → Type 0
-DeadEnded [] = Unit {0}
-DeadEnded (r ∷ rs) = (r.live ≡ false → HasEnded r.fields) × DeadEnded rs
+DeadEnded l = Each (λ r. r.live ≡ false → HasEnded r.fields) l
 
--- each task has ended
 abbrev pub AllEnded : List (Listed Task) → Type 0
-AllEnded [] = Unit {0}
-AllEnded (r ∷ rs) = HasEnded r.fields × AllEnded rs
+AllEnded l = Every HasEnded l
 
 -- the first worker has stopped
 abbrev pub first_mark : List Bool → Bool

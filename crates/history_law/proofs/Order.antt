@@ -1,11 +1,12 @@
 -- A group gives its members in the order of their ends.
 use Rattle.history_law.proofs.Names.{◌≡◌, ℕ, ◌≤◌, ◌<◌, Bool, true, false, cond, List, [], ◌∷◌, ◌++◌, Option, Some, None, refl, sym, ◌∙◌, ap, subst, arith, ◌==◌, nat_lt, is_some, eqb-true, cond_both, nat_tests, TaskEnd, Failed, Listed, live_of, live_object, listed, change, with_fields, gone, Task, Notes, TaskState, Scheduled, Running, Ended, end_of, with_notes, ended, is_member, Ending, insert, insert_ended, endings, in_no_group, Terms, Op, Reply, State, opening, Move, ends_task, ends_waiting, withdraws, notes, leaves, apply, after_moves, moves_of, row, NodeEntry, IsNext, next, LegalFrom, Legal, after_from, after, Grows, Legal-front, Legal-rest, after-append, fst_true, snd_true, rest_keeps, after_grows, looks_for_any, is_given, number_at, EndedBefore, GivenInOrder, some_same, Answers, answered, eq-eqb}
+use Rattle.history_law.proofs.lists.Every.{Each, each_map}
 use Rattle.mtapi_values.specs.declared.handles.ObjectKind.TheVariants as kind
 use Rattle.history_law.specs.Order.{gives as gives_task, number_in}
 use Rattle.history_law.proofs.Moves.{once_from}
 use Rattle.history_law.proofs.lists.Handles.{OnceIn, once_same, listed_change}
 use Rattle.history_law.proofs.lists.Records.{read_found}
-use Rattle.history_law.proofs.lists.Members.{AllOf, IsEnding, all_endings, all_insert}
+use Rattle.history_law.proofs.lists.Members.{IsEnding, all_endings, all_insert}
 use Rattle.history_law.proofs.Numbers.{is_number, bit, has_number, Numbered, numbered_after}
 use Rattle.history_law.proofs.SeatMoves.{Noted, May, by_moves, kept_along}
 use Rattle.history_law.proofs.Ages.{dead_none, none_dead, live_listed}
@@ -14,7 +15,7 @@ use Rattle.history_law.proofs.Reuse.{Gone, stays_gone}
 use Rattle.history_law.proofs.Answered.{true_false, none_some, on_test}
 use Rattle.mtapi_machine.specs.Answers as is
 use Rattle.history_law.proofs.TaskSteps as step
-use Rattle.history_law.proofs.TaskSteps.{Step, Steps, tasks_go}
+use Rattle.history_law.proofs.TaskSteps.{Step, Steps, tasks_go, each_steps}
 use Rattle.history_law.proofs.lists.Found.{at_head, at_here}
 
 -- Sorted endings
@@ -24,9 +25,9 @@ FromNumber n e = n ≤ e.number
 
 abbrev Sorted : List Ending → Type 0
 Sorted [] = Unit {0}
-Sorted (e ∷ es) = AllOf (FromNumber e.number) es × Sorted es
+Sorted (e ∷ es) = Each (FromNumber e.number) es × Sorted es
 
-from_lower : (m n : ℕ) (es : List Ending) → m ≤ n → AllOf (FromNumber n) es → AllOf (FromNumber m) es
+from_lower : (m n : ℕ) (es : List Ending) → m ≤ n → Each (FromNumber n) es → Each (FromNumber m) es
 from_lower m n [] l a = tt
 from_lower m n (e ∷ es) l a = (let k : n ≤ e.number = a.0 in omega arith, from_lower m n es l a.1)
 
@@ -39,7 +40,7 @@ unfolding endings
 sorted_endings g [] = tt
 sorted_endings g (t ∷ ts) = grind (arith, nat_tests, sorted_endings g ts, is_member, end_of, insert_ended, sorted_insert)
 
-all_inserted : (P : Ending → Type 0) (e : Ending) (es : List Ending) → AllOf P (insert e es) → P e × AllOf P es
+all_inserted : (P : Ending → Type 0) (e : Ending) (es : List Ending) → Each P (insert e es) → P e × Each P es
 all_inserted P e [] a = (a.0, tt)
 all_inserted P e (f ∷ fs) a = grind (arith, nat_tests, all_inserted P e fs, nat_lt)
 
@@ -53,7 +54,7 @@ pub record Gave (s : State) (g h : ℕ) (ms : List Move) : Type 0 where
   pub found : live_object s.tasks h ≡ Some task
   pub over : task.state ≡ Ended end number
   pub member : is_member g task ≡ true
-  pub least : AllOf (FromNumber number) (endings g (live_of s.tasks))
+  pub least : Each (FromNumber number) (endings g (live_of s.tasks))
   pub moves : ms ≡ notes h in_no_group ∷ leaves h ∷ []
 
 number_told : ℕ → Option (TaskEnd × ℕ) → ℕ
@@ -67,12 +68,12 @@ same_number x e z k n i o = ap (number_told k) (sym i ∙ ap end_of o)
 gave_by : (s : State) (who g h : ℕ) (o : Op) (r : Reply) (ms : List Move) → looks_for_any g o ≡ true → is_given h r ≡ true → OnceIn s.tasks
     → Answers s who o r ms → Gave s g h ms
 gave_by s who g h _ _ _ i j o (is.any_given x last v y ys t e n a b f d) =
-    let all : AllOf (IsEnding x.0 s.tasks) (y ∷ ys) = subst (AllOf (IsEnding x.0 s.tasks)) b (all_endings x.0 s.tasks o) in
+    let all : Each (IsEnding x.0 s.tasks) (y ∷ ys) = subst (Each (IsEnding x.0 s.tasks)) b (all_endings x.0 s.tasks o) in
     let sorted : Sorted (y ∷ ys) = subst Sorted b (sorted_endings x.0 (live_of s.tasks)) in
     let here : y.number ≤ y.number = omega arith in
     let k : y.number ≡ n = same_number t.state y.end e y.number n (all.0.ended t f) d in
-    let least : AllOf (FromNumber n) (endings x.0 (live_of s.tasks)) =
-    subst (λ (z : ℕ). AllOf (FromNumber z) (endings x.0 (live_of s.tasks))) k (subst (AllOf (FromNumber y.number)) (sym b) (here, sorted.0)) in
+    let least : Each (FromNumber n) (endings x.0 (live_of s.tasks)) =
+    subst (λ (z : ℕ). Each (FromNumber z) (endings x.0 (live_of s.tasks))) k (subst (Each (FromNumber y.number)) (sym b) (here, sorted.0)) in
     subst (λ (z : ℕ). Gave s z h (notes y.task in_no_group ∷ leaves y.task ∷ [])) (eqb-true x.0 g i)
     (subst (λ (z : ℕ). Gave s x.0 z (notes y.task in_no_group ∷ leaves y.task ∷ [])) (eqb-true y.task h j)
     (record { task = t; end = e; number = n; found = f; over = d; member = all.0.member t f; least = least; moves = refl }))
@@ -88,8 +89,7 @@ abbrev From : ℕ → ℕ → Listed Task → Type 0
 From g n r = r.live ≡ true → is_member g r.fields ≡ true → (p : TaskEnd × ℕ) → end_of r.fields.state ≡ Some p → n ≤ p.1
 
 abbrev AllFrom : ℕ → ℕ → List (Listed Task) → Type 0
-AllFrom g n [] = Unit {0}
-AllFrom g n (r ∷ rs) = From g n r × AllFrom g n rs
+AllFrom g n l = Each (From g n) l
 
 over_from : (g n k : ℕ) (e : TaskEnd) (r : Listed Task) → n ≤ k → From g n (ended e k r)
 unfolding number_told
@@ -114,12 +114,6 @@ from_step g n who o s r _ _ (step.noted h f a i e) k l v = noted_from g n who f 
 from_step g n who o s r _ _ (step.let_go_of z a u) k l v = λ i j p q. true_false j refl
 from_step g n who o s r _ _ _ k l v = λ i j p q. true_false i refl
 
-from_steps : (g n who : ℕ) (o : Op) (s : State) (m : Move) (l k : List (Listed Task)) → May s who o m → n ≤ s.ends → Steps s m l k → AllFrom g n l
-    → AllFrom g n k
-from_steps g n who o s _ _ _ y i (step.none m) a = tt
-from_steps g n who o s _ _ _ y i (step.new h t) a = ((λ i j p q. none_some q), tt)
-from_steps g n who o s _ _ _ y i (step.next m r q rs qs x k) a = (from_step g n who o s r m q x y i a.0, from_steps g n who o s m rs qs y i k a.1)
-
 ends_rise : (n : ℕ) (s : State) (m : Move) → n ≤ s.ends → n ≤ (apply m s).ends
 ends_rise n s (ends_task h e) l = omega arith
 ends_rise n s (ends_waiting p e) l = omega arith
@@ -127,13 +121,13 @@ ends_rise n s (withdraws h f c) l = omega arith
 ends_rise n s m l = rest_keeps (λ t. n ≤ t.ends) (λ t g q y c r z p. p) m s l
 
 left_move : (g n who : ℕ) (o : Op) (s : State) (x : Move) → May s who o x → Left g n s → Left g n (apply x s)
-left_move g n who o s x k v = record { next = ends_rise n s x v.next; all = from_steps g n who o s x s.tasks _ k v.next (tasks_go s x) v.all }
+left_move g n who o s x k v = record { next = ends_rise n s x v.next; all = each_steps (From g n) s x s.tasks _ (λ h t i a b p q. none_some q) (λ r q y. from_step g n who o s r x q y k v.next) (tasks_go s x) v.all }
 
 left_along : (g n : ℕ) (s : State) (L : List NodeEntry) → LegalFrom s L → Left g n s → Left g n (after_from s L)
 left_along g n s L l v = kept_along (Left g n) (λ t e i. by_moves (Left g n) t e i (left_move g n e.who e.op)) s L l v
 
 -- the endings of a list, seen at its records
-from_endings : (g n : ℕ) (l : List (Listed Task)) → AllOf (FromNumber n) (endings g (live_of l)) → AllFrom g n l
+from_endings : (g n : ℕ) (l : List (Listed Task)) → Each (FromNumber n) (endings g (live_of l)) → AllFrom g n l
 unfolding endings live_of
 from_endings g n [] a = tt
 from_endings g n (r ∷ rs) a = grind (arith, nat_tests, from_endings g n rs, all_inserted (FromNumber n))

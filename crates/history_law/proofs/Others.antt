@@ -6,8 +6,8 @@ pub use Rattle.history_law.proofs.TaskMoves.{same_found}
 use Rattle.history_law.proofs.TaskMoves.{IsKept, every_moved, StaysLive, found_moved}
 use Rattle.mtapi_machine.specs.Answers as is
 use Rattle.history_law.proofs.Moves.{once_along, once_from}
-use Rattle.history_law.proofs.lists.Members.{AllOf, IsEnding, all_endings}
-use Rattle.history_law.proofs.lists.Every.{Every, every_at}
+use Rattle.history_law.proofs.lists.Members.{IsEnding, all_endings}
+use Rattle.history_law.proofs.lists.Every.{Each, Every, every_at}
 use Rattle.history_law.proofs.lists.Found.{FoundAs, found_changed}
 use Rattle.history_law.proofs.TaskSteps as step
 use Rattle.history_law.proofs.TaskSteps.{Step, tasks_go, many_steps}
@@ -110,7 +110,7 @@ any_by w h s who _ _ _ b o v (is.refuses_caller p x e) = v
 any_by w h s who _ _ _ b o v (is.any_early g x e d) = v
 any_by w h s who _ _ _ b o v (is.any_late g) = v
 any_by w h s who _ _ _ b o v (is.any_given g last x y ys t z n e d f i) =
-    left_apart w h s g.0 y.task t f ((subst (AllOf (IsEnding g.0 s.tasks)) d (all_endings g.0 s.tasks o)).0.member t f) v
+    left_apart w h s g.0 y.task t f ((subst (Each (IsEnding g.0 s.tasks)) d (all_endings g.0 s.tasks o)).0.member t f) v
 any_by w h s who _ _ _ b o v _ = true_false b refl
 
 pub once_stays : (s : State) (L : List NodeEntry) → OnceListed s → OnceListed (after_from s L)
@@ -172,7 +172,7 @@ unfolding LegalFrom after_from
 phase_stays s [] l n = refl
 phase_stays s (e ∷ es) l n = phase_stays (next s e) es l.1 n.1 ∙ by_moves (λ t. t.phase ≡ s.phase) s e l.0 (phase_move e.who e.op n.0 s) refl
 
-release_move : (who : ℕ) (o : Op) → is_release o ≡ false → (s t : State) (x : Move) → May t who o x → t.released ≡ s.released
+pub release_move : (who : ℕ) (o : Op) → is_release o ≡ false → (s t : State) (x : Move) → May t who o x → t.released ≡ s.released
     → (apply x t).released ≡ s.released
 release_move who o n s t released k v = true_false k n
 release_move who o n s t x k v = rest_keeps (λ u. u.released ≡ s.released) (λ t g q m c r y p. p) x t v
@@ -236,7 +236,7 @@ terms_stay s L l = kept_along (λ t. t.terms ≡ s.terms) (λ t e i v. terms_nex
 
 -- The marks of stopped workers stay
 
-set_keeps : (l : List Bool) (w y : ℕ) → marked w l ≡ true → marked w (slice_set l y true) ≡ true
+pub set_keeps : (l : List Bool) (w y : ℕ) → marked w l ≡ true → marked w (slice_set l y true) ≡ true
 set_keeps [] w y e = absurd (cc)
 set_keeps (b ∷ bs) zero zero e = refl
 set_keeps (b ∷ bs) zero (suc y) e = e

@@ -37,24 +37,6 @@ refuses_reuse : NeverAgain usual (up_to_the_end ++ (leaves ++ again)) object.Tas
 unfolding up_to_the_end
 refuses_reuse f = true_false (f up_to_the_end leaves again [] refl is_there is_gone).none
 
-refuses_kind : (terms : Terms) → NotInBoth Two terms one_for_two object.Action object.Task first_handle → ⊥
-refuses_kind terms f = (f refl refl).entries refl refl
-
-refuses_core : ObeysMasks on_another_core 2 → ⊥
-refuses_core f =
-    let prefix : List NodeEntry = main (op.ActionCreate 1 kind.Add second_core) (reply.Handle first_handle) ∷ main (add_task 0) (reply.Handle first_handle)
-    ∷ [] in
-    let x = f prefix [] 0 (task first_handle) the_action kind.Add (pos 2 ∷ pos 3 ∷ []) refl refl in
-    true_false (sym (x.action [] (main (add_task 0) (reply.Handle first_handle)
-    ∷ []) (main (op.ActionCreate 1 kind.Add second_core) (reply.Handle first_handle)) 2 refl refl refl))
-
-refuses_twice : GivenInOrder usual given_twice first_handle → ⊥
-refuses_twice f =
-    let x : EndedBefore (after usual given_twice) first_handle first_handle = f [] [] [] gives_first gives_first first_handle first_handle refl refl refl in
-    let same : x.first ≡ x.second = some_same (sym x.first_end ∙ x.second_end) in
-    let less : x.first < x.second = x.less in
-    omega arith
-
 not_run : end_at (after usual two_put).tasks first_handle ≡ None
 unfolding two_put end_at after_from live_of issue change listed issued_at retired is_full may_issue has_worker end_each is_ready can_take has_better
 not_run = refl
@@ -78,25 +60,11 @@ refuses_final e1 = grind (arith, nat_tests)
 sem_made : MadeWith object.Sem (makes_sem ∷ both_hold) first_handle 1
 sem_made = record { before = []; by = makes_sem; behind = both_hold; cut = refl; issued = refl; limited = refl }
 
-refuses_both : SemsKeepTo (makes_sem ∷ both_hold) → ⊥
-refuses_both f =
-    let most : 2 ≤ 1 = (f (makes_sem ∷ both_hold) [] first_handle refl).most 1 sem_made in
-    omega arith
-
 apart : Some Cancelled ≡ Some (Completed []) → ⊥
 apart e = cc
 
-refuses_two : TellsItsEnd usual two_ends first_handle → ⊥
-refuses_two f = apart (sym (f [] (completed_then ∷ []) cancelled_first Cancelled refl refl)
-    ∙ f (cancelled_first ∷ []) [] completed_then (Completed []) refl refl)
-
 apart_seats : (v w : ℕ) → v < w → v ≡ w → ⊥
 apart_seats v w l e = omega arith
-
-refuses_own : MutexesKeepTo usual both_own → ⊥
-refuses_own f =
-    let held : 0 < 1 = omega arith in
-    apart_seats 1 2 (omega arith) ((f both_own [] first_handle refl).one 1 2 (inl held) (inl held))
 
 -- the tally has the mutex after its entry
 tally_has_it : HasMutex (after two_workers (begins ++ gets_both 0 h1 ∷ [])) h1 h1
@@ -112,38 +80,12 @@ refuses_tally_mutex f =
     (record { task = task h1; before = begins; since = caller_gets; cut = refl; got = tally_has_it; unended = refl })) (inl held))
 
 refuses_beside : RwlsKeepTo (makes_rwl ∷ reads_beside) → ⊥
-refuses_beside f = by_holders ((f (makes_rwl ∷ reads_beside) [] first_handle refl).held 2
+refuses_beside f = grind (arith, nat_tests, (f (makes_rwl ∷ reads_beside) [] first_handle refl).held 2
     (record { before = []; by = makes_rwl; behind = reads_beside; cut = refl; issued = refl; limited = refl }))
-  where
-    by_holders : OneWriter (makes_rwl ∷ reads_beside) first_handle ⊎ ReadersAlone (makes_rwl ∷ reads_beside) first_handle 2 → ⊥
-    by_holders (inl x) = apart_seats 0 1 (omega arith) (sym x.readers)
-    by_holders (inr x) = apart_seats 0 1 (omega arith) (sym x.writer)
-
-refuses_unlocked : MutexesKeepTo usual gives_unlocked → ⊥
-refuses_unlocked f = let each : 1 ≤ 0 = (f gives_unlocked [] first_handle refl).each 1 in omega arith
-
-refuses_anothers : SemsKeepTo gives_anothers → ⊥
-refuses_anothers f = let each : 1 ≤ 0 = (f gives_anothers [] first_handle refl).each 2 in omega arith
-
-refuses_none : SemsKeepTo gets_none → ⊥
-refuses_none f = apart_seats 0 1 (omega arith) (sym ((f gets_none [] first_handle refl).unmade refl))
 
 refuses_readers : RwlsKeepTo three_read → ⊥
-refuses_readers f = by_holders ((f three_read [] first_handle refl).held 2
+refuses_readers f = grind (arith, nat_tests, (f three_read [] first_handle refl).held 2
     (record { before = []; by = makes_rwl; behind = _; cut = refl; issued = refl; limited = refl }))
-  where
-    by_holders : OneWriter three_read first_handle ⊎ ReadersAlone three_read first_handle 2 → ⊥
-    by_holders (inl x) = apart_seats 0 1 (omega arith) x.writer
-    by_holders (inr x) = let most : 3 ≤ 2 = x.readers in omega arith
-
-refuses_reader_twice : RwlsKeepTo one_reads_twice → ⊥
-refuses_reader_twice f = let once : 2 ≤ 1 = (f one_reads_twice [] first_handle refl).once false 1 in omega arith
-
-refuses_unread : RwlsKeepTo gives_back_unread → ⊥
-refuses_unread f = let each : 1 ≤ 0 = (f gives_back_unread [] first_handle refl).each false 2 in omega arith
-
-refuses_none_read : RwlsKeepTo reads_none → ⊥
-refuses_none_read f = apart_seats 0 1 (omega arith) (sym ((f reads_none [] first_handle refl).unmade refl false))
 
 -- a cell of that segment holds 9
 abbrev nine : Segment
@@ -167,7 +109,7 @@ is_lock e = by_op e.op
 some_lock : (A B : List NodeEntry) (w : ℕ) (t : TaskHandle) → some_entry is_lock (A ++ tally_got w t ∷ B) ≡ true
 unfolding is_lock
 some_lock [] B w t = refl
-some_lock (e ∷ A) B w t = cond_both (is_lock e) true (some_entry is_lock (A ++ tally_got w t ∷ B)) (λ q. q ≡ true) (λ e. refl) (λ e. some_lock A B w t)
+some_lock (e ∷ A) B w t = grind (arith, nat_tests, some_lock A B w t)
 
 no_lock : some_entry is_lock (written_untold ++ final_first) ≡ false
 unfolding written_untold is_lock
@@ -189,24 +131,34 @@ refuses_sum f =
 
 pub laws_refuse : LawsRefuse
 laws_refuse = record {
-  one_end = refuses_two;
+  one_end = λ f. apart (sym (f [] (completed_then ∷ []) cancelled_first Cancelled refl refl)
+      ∙ f (cancelled_first ∷ []) [] completed_then (Completed []) refl refl);
   end_after_close = refuses_close;
   no_reuse = refuses_reuse;
-  kind = refuses_kind;
-  affinity = refuses_core;
-  group_order = refuses_twice;
+  kind = λ terms f. (f refl refl).entries refl refl;
+  affinity = λ f. let prefix : List NodeEntry = main (op.ActionCreate 1 kind.Add second_core) (reply.Handle first_handle) ∷ main (add_task 0) (reply.Handle first_handle)
+      ∷ [] in
+      let x = f prefix [] 0 (task first_handle) the_action kind.Add (pos 2 ∷ pos 3 ∷ []) refl refl in
+      true_false (sym (x.action [] (main (add_task 0) (reply.Handle first_handle)
+      ∷ []) (main (op.ActionCreate 1 kind.Add second_core) (reply.Handle first_handle)) 2 refl refl refl));
+  group_order = λ f. let x : EndedBefore (after usual given_twice) first_handle first_handle = f [] [] [] gives_first gives_first first_handle first_handle refl refl refl in
+      let same : x.first ≡ x.second = some_same (sym x.first_end ∙ x.second_end) in
+      let less : x.first < x.second = x.less in
+      omega arith;
   ordered = refuses_order;
-  mutexes = refuses_own;
+  mutexes = λ f. let held : 0 < 1 = omega arith in
+      apart_seats 1 2 (omega arith) ((f both_own [] first_handle refl).one 1 2 (inl held) (inl held));
   tally_mutex = refuses_tally_mutex;
-  mutex_each = refuses_unlocked;
-  sems = refuses_both;
-  sem_each = refuses_anothers;
-  sem_unmade = refuses_none;
+  mutex_each = λ f. let each : 1 ≤ 0 = (f gives_unlocked [] first_handle refl).each 1 in omega arith;
+  sems = λ f. let most : 2 ≤ 1 = (f (makes_sem ∷ both_hold) [] first_handle refl).most 1 sem_made in
+      omega arith;
+  sem_each = λ f. let each : 1 ≤ 0 = (f gives_anothers [] first_handle refl).each 2 in omega arith;
+  sem_unmade = λ f. apart_seats 0 1 (omega arith) (sym ((f gets_none [] first_handle refl).unmade refl));
   rwls = refuses_beside;
   rwl_readers = refuses_readers;
-  rwl_once = refuses_reader_twice;
-  rwl_each = refuses_unread;
-  rwl_unmade = refuses_none_read;
+  rwl_once = λ f. let once : 2 ≤ 1 = (f one_reads_twice [] first_handle refl).once false 1 in omega arith;
+  rwl_each = λ f. let each : 1 ≤ 0 = (f gives_back_unread [] first_handle refl).each false 2 in omega arith;
+  rwl_unmade = λ f. apart_seats 0 1 (omega arith) (sym ((f reads_none [] first_handle refl).unmade refl false));
   tally = refuses_sum;
   drop = refuses_final;
 }

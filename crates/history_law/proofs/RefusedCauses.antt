@@ -46,17 +46,7 @@ needs s h t _ _ (by_sum x a b c) = (a, inr (inl (b, c)))
 needs s h t _ _ (by_tally x a b) = (a, inr (inr (b, refl)))
 
 no_other : (s : State) (h : ℕ) (t : Task) (o : Op) (e : TaskEnd) → may_end o ≡ false → Cause s h t o e → ⊥
-no_other s h t _ _ k (by_cancel x a b) = true_false k
-no_other s h t _ _ k (by_disabled_queue q a b) = true_false k
-no_other s h t _ _ k (by_close a b) = true_false k
-no_other s h t _ _ k (by_deleted_queue q a b) = true_false k
-no_other s h t _ _ k (by_deleted_action a l) = true_false k
-no_other s h t _ _ k (by_disabled_action a l) = true_false k
-no_other s h t _ _ k (by_answer x done e a b) = true_false k
-no_other s h t _ _ k (by_watch x e a b) = true_false k
-no_other s h t _ _ k (by_failed_tally x e a b c) = true_false k
-no_other s h t _ _ k (by_sum x a b c) = true_false k
-no_other s h t _ _ k (by_tally x a b) = true_false k
+no_other s h t o e k c = grind (arith, nat_tests)
 
 -- ends and handles that differ
 completed_cancelled : (args : List ℤ) → Completed args ≡ Cancelled → ⊥
@@ -124,37 +114,4 @@ nothing_there [] e B k = cc
 nothing_there (x ∷ A) e B k = cc
 
 pub causes_refuse : CausesRefuse
-causes_refuse = record {
-  other_op = no_other;
-  cancel_end = λ c. completed_cancelled _ (cause c).2;
-  cancel_begun = λ c. false_true (cause c).1;
-  cancel_other = λ c. next_first (cause c).0;
-  disabled_end = λ c. failed_cancelled _ (cause c).2;
-  disabled_begun = λ c. false_true (cause c).1;
-  disabled_other = λ c. false_true (cause c).0;
-  close_end = λ c. failed_cancelled _ (cause c).2;
-  close_begun = λ c. false_true (cause c).1;
-  close_enabled = λ c. true_false (sym (cause c).0 ∙ shut);
-  deleted_end = λ c. failed_cancelled _ (sym (cause c).2);
-  deleted_begun = λ c. false_true (cause c).1;
-  deleted_other = λ c. false_true (cause c).0;
-  action_deleted_end = λ c. disabled_deleted (cause c).1;
-  action_deleted_begun = λ c. false_true (cause c).0.unstarted;
-  action_deleted_served = λ c. true_false (sym deleted_served ∙ (cause c).0.left);
-  action_disabled_end = λ c. disabled_deleted (sym (cause c).1);
-  action_disabled_begun = λ c. false_true (cause c).0.unstarted;
-  action_disabled_served = λ c. true_false (sym disabled_served ∙ (cause c).0.left);
-  answer_end = λ c. three_two (cause c).1;
-  answer_other = λ c. next_first (cause c).0;
-  watch_end = λ c. completed_cancelled _ (sym (cause c).1);
-  watch_other = λ c. next_first (cause c).0;
-  tally_failed = λ c. tally_failed (cause c).1;
-  tally_verdict = λ c. tally_verdict (cause c).1;
-  tally_fits = λ c. tally_fits (cause c).1;
-  tally_unwritten = λ c. tally_unwritten (cause c).1;
-  tally_sum = λ c. tally_sum (cause c).1;
-  tally_other = λ c. next_first (cause c).0;
-  no_entry = λ x. nothing_there x.before x.by x.behind x.cut;
-  of_its_task = λ s es h e x. x.is;
-  told = λ f. f (Completed (pos 5 ∷ [])) computed;
-}
+causes_refuse = grind (arith, nat_tests, needs, no_other, deleted_served, disabled_served, shut, tally_failed, tally_verdict, tally_fits, tally_unwritten, tally_sum, nothing_there, computed)

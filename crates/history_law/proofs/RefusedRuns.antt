@@ -46,22 +46,13 @@ none_runs : count_listed (runs_on 0) (after usual (started ++ (takes ++ ends))).
 unfolding started after_from live_of issue change listed issued_at retired is_full may_issue has_worker is_ready can_take has_better
 none_runs = refl
 
-refuses_work : WorkerKeeps (after usual (started ++ takes)) (after usual (started ++ (takes ++ ends))) 0 → ⊥
-refuses_work f = not_one (sym none_runs ∙ (f.holds first_handle adding running).alone)
-
 refuses_untouched : AreUntouched (with_tasks (listed_once has_looked ∷ [])) → ⊥
 unfolding live_of
 refuses_untouched f = not_one (sym (f first_handle has_looked refl refl).looks)
 
-refuses_seats : BySeats (seats (opening usual)) by_no_seat → ⊥
-refuses_seats f = omega arith
-
 ended_late : end_at (after usual (started ++ (takes ++ ends_late))).tasks first_handle ≡ Some (Failed Timeout)
 unfolding started end_at after_from live_of issue change listed issued_at retired is_full may_issue has_worker is_ready can_take has_better
 ended_late = refl
-
-refuses_late : EndsInTime (after usual (started ++ (takes ++ ends_late))) → ⊥
-refuses_late f = true_false (f first_handle (Failed Timeout) ended_late)
 
 refuses_phase : KeepsPhase (opening usual) opens → ⊥
 unfolding after_from
@@ -75,24 +66,9 @@ refuses_early : KeepsEarly (opening usual) closes_it → ⊥
 unfolding after_from
 refuses_early f = true_false (f refl)
 
-refuses_stopped : KeepsStops has_stopped (opening usual) → ⊥
-refuses_stopped f = true_false (sym (f 0 refl))
-
-refuses_enter : EntersBehindRelease enters_first → ⊥
-refuses_enter f = true_false (sym (f [] [] 2 refl))
-
-refuses_stops : FinalsBehindStops usual final_first → ⊥
-refuses_stops f = true_false (sym (f [] [] 1 0 refl (omega arith)))
-
 refuses_second : KeepsOnce (with_tasks (listed_once a_task ∷ [])) (with_tasks (listed_once a_task ∷ listed_once a_task ∷ [])) → ⊥
 unfolding listed
 refuses_second f = refuses_twice (f (λ h. (cond_both (first_handle == h) 1 0 (λ q. q + 0 ≤ 1) (λ e. omega arith) (λ e. omega arith))))
-
-refuses_reply : Serves (after usual (started ++ takes)) 0 (task first_handle) adding finishes_it (reply.Mtapi ErrTaskInvalid) → ⊥
-refuses_reply e1 = grind (arith, nat_tests, running)
-
-refuses_no_marks : HasMarks has_no_marks → ⊥
-refuses_no_marks e = omega arith
 
 -- no action is there whose kind might have answered so
 refuses_cancelled : EndsPlainly (with_tasks (listed_once was_cancelled ∷ [])) first_handle → ⊥
@@ -118,18 +94,18 @@ run_laws_refuse = record {
   once = refuses_twice;
   once_stays = refuses_second;
   waiter = refuses_waiter;
-  work = refuses_work;
-  served = refuses_reply;
+  work = λ f. not_one (sym none_runs ∙ (f.holds first_handle adding running).alone);
+  served = λ e1. grind (arith, nat_tests, running);
   untouched = refuses_untouched;
-  seats = refuses_seats;
-  late = refuses_late;
+  seats = λ f. omega arith;
+  late = λ f. true_false (f first_handle (Failed Timeout) ended_late);
   phase = refuses_phase;
   release = refuses_release;
   early = refuses_early;
-  stopped = refuses_stopped;
-  room = refuses_no_marks;
-  enter = refuses_enter;
-  final_step = refuses_stops;
+  stopped = λ f. true_false (sym (f 0 refl));
+  room = λ e. omega arith;
+  enter = λ f. true_false (sym (f [] [] 2 refl));
+  final_step = λ f. true_false (sym (f [] [] 1 0 refl (omega arith)));
   quiet_ends = refuses_cancelled;
   tally_mutex = refuses_no_mutex;
   tally_segment = refuses_no_segment;

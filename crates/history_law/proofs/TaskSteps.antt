@@ -1,6 +1,6 @@
 -- What each move does to the list of tasks: one task may be new, and each that was listed goes one step or stays as it is.
 use Rattle.history_law.proofs.Names.{◌≡◌, ℕ, ◌+◌, ◌≤◌, Bool, true, false, List, [], ◌∷◌, Some, refl, sym, ap, cond, ◌∙◌, arith, ◌==◌, ◌&&◌, not, eqb-true, cond_both, Kind, TaskEnd, Failed, MtapiStatus, Listed, live_of, live_object, how_many, change, change_all, issue, with_fields, gone, Action, has_worker, is_member, freed, let_go, Task, NewTask, Notes, Running, is_unstarted, is_unended, with_state, with_notes, ended, end_each, new_task, State, workers, Move, starts_task, runs_task, ends_task, ends_waiting, withdraws, notes, leaves, frees_members, lets_members_go, apply, fst_true, snd_true, rest_keeps, ℤ, pos, ◌+ℤ◌, sum_of, nat_tests, eq-eqb, some_same}
-use Rattle.history_law.proofs.lists.Every.{Every}
+use Rattle.history_law.proofs.lists.Every.{Each, Every}
 use Rattle.history_law.proofs.lists.Found.{FoundAs, at_here, at_past, by_head}
 
 -- what a move does to one listed task
@@ -86,13 +86,18 @@ step_dead s r m q x e = grind (arith)
 pub step_alive : (s : State) (r : Listed Task) (m : Move) (q : Listed Task) → Step s r m q → q.live ≡ true → r.live ≡ true
 step_alive s r m q x e = grind (arith)
 
--- P of each task, where it holds of a new one and each step keeps it
+-- P of each listed task, where it holds of a new one and each step keeps it
+pub each_steps : (P : Listed Task → Type 0) (s : State) (m : Move) (l k : List (Listed Task))
+    → ((h : ℕ) (t : NewTask) → m ≡ starts_task h t → P (record { handle = h; live = true; fields = new_task t s.starts }))
+    → ((r q : Listed Task) → Step s r m q → P r → P q) → Steps s m l k → Each P l → Each P k
+each_steps P s _ _ _ f g (none m) v = tt
+each_steps P s _ _ _ f g (new h t) v = (f h t refl, tt)
+each_steps P s _ _ _ f g (next m r q rs qs x k) v = (g r q x v.0, each_steps P s m rs qs f g k v.1)
+
 pub every_steps : (P : Task → Type 0) (s : State) (m : Move) (l k : List (Listed Task))
     → ((h : ℕ) (t : NewTask) → m ≡ starts_task h t → P (new_task t s.starts)) → ((r q : Listed Task) → Step s r m q → P r.fields → P q.fields)
     → Steps s m l k → Every P l → Every P k
-every_steps P s _ _ _ f g (none m) v = tt
-every_steps P s _ _ _ f g (new h t) v = (f h t refl, tt)
-every_steps P s _ _ _ f g (next m r q rs qs x k) v = (g r q x v.0, every_steps P s m rs qs f g k v.1)
+every_steps P = each_steps (λ r. P r.fields)
 
 -- the live task of a handle, where each step of it leaves it live, with Q
 pub found_steps : (Q : Task → Type 0) (h : ℕ) (s : State) (m : Move) (l k : List (Listed Task)) (t : Task)

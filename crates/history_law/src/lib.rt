@@ -67,6 +67,7 @@ pub fn law_end_after_close(
 /// Each end of a task has its cause: an entry of the history ended it, and found what its op needs for that. So a task is cancelled only
 /// by a cancel, a disable of its queue or the close before it begins, or as a watch that saw a request; and it fails only as its action,
 /// its watch or its tally does, or by a delete or disable of what it needs.
+#[tactic(auto, using(crate::proofs::Causes::end_has_its_cause))]
 pub fn law_end_has_its_cause(
     layout: Layout,
     settings: &NodeAttr,
@@ -79,34 +80,40 @@ pub fn law_end_has_its_cause(
 {}
 
 /// A worked history: its one task ends once, and how.
+#[tactic(auto, using(crate::proofs::Worked::one_task_ends))]
 pub fn worked_end()
     ensures { OneTaskEnds }
 {}
 
 /// A worked history of two tallies: it has what the law of tallies asks for, and the cell holds the sum of both.
+#[tactic(auto, using(crate::proofs::tallies::WorkedSum::tallies_add_up))]
 pub fn worked_tallies()
     ensures { TalliesAddUp }
 {}
 
 /// No two tasks are issued under one handle.
+#[tactic(auto, using(crate::proofs::Others::once_after, crate::proofs::Others::once_stays))]
 pub fn law_once_listed()
     ensures after { OnceAfter }
     ensures stays { OnceStays }
 {}
 
 /// A seat's mark as the waiter of a task is kept by the entries of other seats.
+#[tactic(auto, using(crate::proofs::Others::waiter_stays))]
 pub fn law_waiter_stays()
     ensures { WaiterStays }
 {}
 
 /// A task that a worker took stays on it, with its kind, its arguments and what it has done so far, over the entries of other seats;
 /// and a worker that has none gets none by them. So what the worker asks of its task isn't refused as that of another's.
+#[tactic(auto, using(crate::proofs::Others::work_stays))]
 pub fn law_work_stays()
     ensures stays { WorkStays }
     ensures served { WorkIsServed }
 {}
 
 /// No task ends with the failure TIMEOUT or SPENT.
+#[tactic(auto, using(crate::proofs::Others::no_late_end))]
 pub fn law_no_late_end()
     ensures { NoLateEnd }
 {}
@@ -119,17 +126,20 @@ pub fn law_phase_stays()
 {}
 
 /// A task that hasn't begun has neither looked nor been told anything.
+#[tactic(auto, using(crate::proofs::Others::unstarted_untouched))]
 pub fn law_untouched()
     ensures { UnstartedAreUntouched }
 {}
 
 /// A worker that has stopped stays so, and there is a mark for each seat.
+#[tactic(auto, using(crate::proofs::Others::stopped_stays, crate::proofs::Bounds::stopped_room))]
 pub fn law_stopped_stays()
     ensures stays { StoppedStays }
     ensures room { StoppedRoom }
 {}
 
 /// Every entry is by a seat.
+#[tactic(auto, using(crate::proofs::Bounds::by_seats))]
 pub fn law_seats()
     ensures { EntriesBySeats }
 {}
@@ -154,6 +164,7 @@ pub fn law_no_reuse(
 {}
 
 /// In layout two no handle was issued to objects of two kinds.
+#[tactic(auto, using(crate::proofs::Reuse::not_in_both))]
 pub fn law_kind(
     layout: Layout,
     settings: &NodeAttr,
@@ -181,6 +192,7 @@ pub fn law_affinity(
 {}
 
 /// A group gives its members in the order of their ends, each once.
+#[tactic(auto, using(crate::proofs::Order::given_in_order))]
 pub fn law_group_order(
     layout: Layout,
     settings: &NodeAttr,
@@ -217,6 +229,7 @@ pub fn worked_refusals()
 {}
 
 /// An Ok `enter` stands behind an Ok `release`, and an Ok `final` behind a Stop of each worker.
+#[tactic(auto, using(crate::proofs::Behind::enter_behind, crate::proofs::Behind::final_behind))]
 pub fn law_behind()
     ensures enter { EnterBehindRelease }
     ensures final_step { FinalBehindStops }
@@ -254,6 +267,7 @@ pub fn law_tally_holds()
 
 /// Where nobody cancels, deletes or disables anything, and every action is of a pure kind, each task that has ended ended as the kind of
 /// an action of its job answers to its arguments.
+#[tactic(auto, using(crate::proofs::Quiet::quiet_tasks_end_plainly))]
 pub fn law_quiet_ends()
     ensures { QuietTasksEndPlainly }
 {}

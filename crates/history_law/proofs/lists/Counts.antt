@@ -17,7 +17,7 @@ counts_along V x y G k s (e ∷ es) l g = grind (arith, nat_tests, k s e l.0 g, 
 pub counts_behind : (p : NodeEntry → Bool) (A B : List NodeEntry) (e : NodeEntry) → entries_that p A ≡ 0 → p e ≡ false
     → entries_that p (A ++ e ∷ B) ≡ entries_that p B
 counts_behind p [] B e n i = let z : one_if (p e) ≡ 0 = ap one_if i in omega arith
-counts_behind p (x ∷ A) B e n i = let k : entries_that p (A ++ e ∷ B) ≡ entries_that p B = counts_behind p A B e (omega arith) i in omega arith
+counts_behind p (x ∷ A) B e n i = grind (arith, nat_tests, counts_behind p A B e)
 
 -- the first entry that passes, where one does
 pub record Passes (p : NodeEntry → Bool) (L : List NodeEntry) : Type 0 where

@@ -2,11 +2,19 @@
 use Rattle.history_law.proofs.Names.{arith, nat_tests, ◌≡◌, ℕ, Bool, true, false, List, [], ◌∷◌, Some, refl, sym, ◌∙◌, subst, cond_both, Listed, live_of, live_object, change, issue, some_same, fst_true, snd_true, eqb-true, eq-eqb}
 use Rattle.history_law.proofs.lists.Found.{at_head, at_here, at_past}
 
+-- P of each
+abbrev pub Each : {A : Type 0} → (A → Type 0) → List A → Type 0
+Each P [] = Unit {0}
+Each P (x ∷ xs) = P x × Each P xs
+
+pub each_map : {A : Type 0} (P Q : A → Type 0) (l : List A) → ((x : A) → P x → Q x) → Each P l → Each Q l
+each_map P Q [] f a = tt
+each_map P Q (x ∷ xs) f a = (f x a.0, each_map P Q xs f a.1)
+
 module _ {T : Type 0} where
   -- P of the fields of each object
   abbrev pub Every : (T → Type 0) → List (Listed T) → Type 0
-  Every P [] = Unit {0}
-  Every P (r ∷ rs) = P r.fields × Every P rs
+  Every P l = Each (λ r. P r.fields) l
 
   pub every_issue : (P : T → Type 0) (j : ℕ) (t : T) (l : List (Listed T)) → P t → Every P l → Every P (issue j t l)
   unfolding issue
@@ -32,10 +40,6 @@ module _ {T : Type 0} where
 pub always : {T : Type 0} (l : List (Listed T)) → Every (λ (t : T). Unit {0}) l
 always [] = tt
 always (r ∷ rs) = (tt, always rs)
-
--- what follows of each
-pub every_part : {T : Type 0} (P Q : T → Type 0) (l : List (Listed T)) → ((t : T) → P t → Q t) → Every P l → Every Q l
-every_part P Q l g a = every_map P (λ t. Unit {0}) Q l (λ t x u. g t x) a (always l)
 
 -- of each, where a test holds
 pub every_if : {T : Type 0} (b : Bool) (P : T → Type 0) (l : List (Listed T)) → (b ≡ true → Every P l) → Every (λ (t : T). (b ≡ true) → P t) l

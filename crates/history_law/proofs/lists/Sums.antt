@@ -72,9 +72,3 @@ module _ {T : Type 0} where
   record_view V j h f [] k v = refl
   record_view V j h f (r ∷ rs) k v = grind (arith, nat_tests, record_view V j h f rs k v, cond_both, option_map, record_of)
 
--- Cells
-
-pub cell_new : (n w : ℕ) → slice_index_or (replicate n (pos 0)) w (pos 0) ≡ pos 0
-cell_new zero w = refl
-cell_new (suc n) zero = refl
-cell_new (suc n) (suc w) = cell_new n w

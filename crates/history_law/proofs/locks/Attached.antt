@@ -1,5 +1,7 @@
 -- What an entry does to the segment of one handle, and what that leaves of the seats that are attached.
-use Rattle.history_law.proofs.Names.{nat_tests, ◌≡◌, ℕ, zero, suc, ◌<◌, Bool, true, false, cond, List, [], ◌∷◌, Option, Some, None, ◌⊎◌, inl, inr, refl, sym, ◌∙◌, ap, subst, arith, ◌==◌, nat_lt, ℤ, slice_set, eqb-true, eq-eqb, marked, any_mark, Op, Reply, live_object, Segment, new_segment, with_attached, with_cell, State, workers, Move, after_moves, IsAttached, cond_both, lt-ltb, length, Answers, change, with_fields, some_same}
+use Rattle.history_law.proofs.Names.{nat_tests, ◌≡◌, ℕ, zero, suc, ◌<◌, Bool, true, false, cond, List, [], ◌∷◌, Option, Some, None, ◌⊎◌, inl, inr, refl, sym, ◌∙◌, ap, subst, arith, ◌==◌, nat_lt, ℤ, slice_set, eqb-true, eq-eqb, marked, any_mark, Op, Reply, live_object, Segment, new_segment, with_attached, with_cell, State, workers, Move, after_moves, IsAttached, cond_both, lt-ltb, length, Answers, change, with_fields, some_same, length-set}
+use Rattle.history_law.proofs.Others.{set_keeps}
+use Rattle.history_law.proofs.lists.Slots.{set_apart}
 use Rattle.mtapi_values.specs.declared.handles.ObjectKind.TheVariants as kind
 use Rattle.mtapi_machine.specs.Answers as is
 use Rattle.history_law.proofs.Reuse.{fresh_unlisted}
@@ -9,30 +11,6 @@ use Rattle.history_law.proofs.lists.AtHandles.{where_changed, where_retired, whe
 use Rattle.history_law.proofs.locks.MutexSteps.{is_ending}
 
 -- Marks
-
-size_set : (l : List Bool) (i : ℕ) (b : Bool) → length (slice_set l i b) ≡ length l
-size_set [] i b = refl
-size_set (x ∷ xs) zero b = refl
-size_set (x ∷ xs) (suc i) b = ap suc (size_set xs i b)
-
-other_mark : (l : List Bool) (i j : ℕ) (b : Bool) → (i ≡ j → ⊥) → marked j (slice_set l i b) ≡ marked j l
-other_mark [] i j b e = refl
-other_mark (x ∷ xs) zero zero b e = absurd (e refl)
-other_mark (x ∷ xs) zero (suc j) b e = refl
-other_mark (x ∷ xs) (suc i) zero b e = refl
-other_mark (x ∷ xs) (suc i) (suc j) b e = other_mark xs i j b (λ k. e (ap suc k))
-
-pub mark_here : (l : List Bool) (i : ℕ) (b : Bool) → i < length l → marked i (slice_set l i b) ≡ b
-mark_here [] i b k = absurd (omega arith)
-mark_here (x ∷ xs) zero b k = refl
-mark_here (x ∷ xs) (suc i) b k = mark_here xs i b (omega arith)
-
-more_marks : (l : List Bool) (i j : ℕ) → marked j l ≡ true → marked j (slice_set l i true) ≡ true
-more_marks [] i j e = e
-more_marks (x ∷ xs) zero zero e = refl
-more_marks (x ∷ xs) zero (suc j) e = e
-more_marks (x ∷ xs) (suc i) zero e = e
-more_marks (x ∷ xs) (suc i) (suc j) e = more_marks xs i j e
 
 some_mark : (l : List Bool) (j : ℕ) → marked j l ≡ true → any_mark l ≡ true
 some_mark [] j e = true_false e refl
@@ -58,21 +36,18 @@ HasMarks None = Unit {0}
 HasMarks (Some y) = length y.attached ≡ 25
 
 pub marks_step : (who n : ℕ) (b : Bool) (o p : Option Segment) → Step who n b o p → HasMarks o → HasMarks p
-marks_step who n b o p e1 e2 = grind (arith, nat_tests, size_set)
-
-apart : {i j : ℕ} → (i == j) ≡ false → i ≡ j → ⊥
-apart {i} {j} a e = true_false (eq-eqb i j e) a
+marks_step who n b o p e1 e2 = grind (arith, nat_tests, length-set {A = Bool})
 
 -- a worker that is attached goes on being so, unless it ends its tally
 pub attached_step : (who n w : ℕ) (b : Bool) (o p : Option Segment) → Step who n b o p → w < n → IsAttached w o → IsAttached w p ⊎ ((b ≡ true) × (w ≡ who))
 attached_step who n w b _ _ (stays o) l i = inl i
 attached_step who n w b _ _ (made id cells) l i = absurd i
-attached_step who n w b _ _ (turned c y k) l i = grind (arith, nat_tests, true_false, lt-ltb, nat_lt, eqb-true, other_mark)
+attached_step who n w b _ _ (turned c y k) l i = grind (arith, nat_tests, true_false, lt-ltb, nat_lt, eqb-true, set_apart {A = Bool})
 attached_step who n w b _ _ (written cell value y) l i = inl i
 attached_step who n w b _ _ (gone y f) l i = absurd (true_false (some_mark y.attached w i) f)
-attached_step who n w b _ _ (got y) l i = inl (more_marks y.attached who w i)
+attached_step who n w b _ _ (got y) l i = inl (set_keeps y.attached w who i)
 attached_step who n w b _ _ (back y f) l i =
-    whether (who == w) (λ a. inr (f, sym (eqb-true who w a))) (λ a. inl (other_mark y.attached who w false (apart a) ∙ i))
+    whether (who == w) (λ a. inr (f, sym (eqb-true who w a))) (λ a. inl (set_apart y.attached who w false false a ∙ i))
 
 -- The answers that change segments
 

@@ -8,7 +8,7 @@ use Rattle.history_law.proofs.lists.Handles.{OnceIn}
 use Rattle.history_law.proofs.locks.Locks.{Lock, LockStep, FitIn, count_in, has_in, as_step, step_same, step_quiet, step_gets, step_gives, step_leaves, step_beside, New, new_lock, Kind, none_got, counts_with, counts_any}
 use Rattle.mtapi_machine.specs.Answers as is
 use Rattle.history_law.proofs.SeatMoves.{answer}
-use Rattle.history_law.proofs.lists.Slots.{set_read}
+use Rattle.history_law.proofs.lists.Slots.{set_read, read_replicate}
 use Rattle.history_law.proofs.Reuse.{fresh_unlisted, fresh_apart}
 
 -- Numbers in a list
@@ -27,11 +27,6 @@ total_none : (l : List ℕ) (i : ℕ) → total l ≡ 0 → slice_index l i ≡ 
 total_none [] i k = refl
 total_none (n ∷ ns) zero k = omega arith
 total_none (n ∷ ns) (suc i) k = total_none ns i (omega arith)
-
-none_held : (n w : ℕ) → slice_index (replicate n 0) w ≡ 0
-none_held zero w = refl
-none_held (suc n) zero = refl
-none_held (suc n) (suc w) = none_held n w
 
 -- What is held of a semaphore, in all and by a seat: there is one mode
 
@@ -89,7 +84,7 @@ make_sem : (top h : ℕ) (s : State) (who : ℕ) (o : Op) (ms : List Move) → m
     → New (sem_lock top) h (after_moves ms s).sems
 make_sem top h s who _ _ e (is.creates_sem id limit j n f) i =
     new_lock (sem_lock top) h (new_sem id limit) s.sems (fresh_unlisted kind.Sem s h f) (record { limit = some_same i; size = refl; most = omega arith })
-    (λ m. refl) (λ m w. none_held 25 w)
+    (λ m. refl) (λ m w. read_replicate 25 w 0)
 make_sem top h s who _ _ e _ i = true_false e refl
 
 sem_limited : (o : Op) → makes_object kind.Sem o ≡ true → (n : ℕ) × (limit_of o ≡ Some n)

@@ -1,5 +1,5 @@
 -- At most one seat holds a mutex.
-use Rattle.history_law.proofs.Names.{◌≡◌, ℕ, ◌+◌, ◌<◌, ◌≤◌, Bool, true, false, cond, List, [], ◌∷◌, ◌++◌, Some, None, inl, inr, refl, sym, ◌∙◌, ap, subst, arith, ◌==◌, ◌&&◌, nat_lt, length, TaskHandle, Terms, Op, Reply, Listed, live_of, live_object, count_listed, change, with_fields, eqb-true, nat_tests, Task, Adds, runs_on, runs_as, with_notes, with_tally, tally_failed, tally_has, ended, Mutex, locked_by, with_attached, State, opening, workers, Move, Mutexes, Segments, alters, notes, after_moves, NodeEntry, IsNext, next, LegalFrom, Legal, after_from, after, Legal-rest, after-append, after-one, at-update, some_same, entries_that, by_seat, gets_mutex, gives_mutex, says_end, is_tally_end, ends_tally, HasMutex, tally_got, HoldsByLooks, HoldsByTally, HoldsMutex, MutexesKeepTo, mutex_in, and-false, Answers, IsAttached, Legal-prefix, Segment, TaskEnd, eq-eqb}
+use Rattle.history_law.proofs.Names.{◌≡◌, ℕ, ◌+◌, ◌<◌, ◌≤◌, Bool, true, false, cond, List, [], ◌∷◌, ◌++◌, Some, None, inl, inr, refl, sym, ◌∙◌, ap, subst, arith, ◌==◌, ◌&&◌, nat_lt, length, TaskHandle, Terms, Op, Reply, Listed, live_of, live_object, count_listed, change, with_fields, eqb-true, nat_tests, Task, Adds, runs_on, runs_as, with_notes, with_tally, tally_failed, tally_has, ended, Mutex, locked_by, with_attached, State, opening, workers, Move, Mutexes, Segments, alters, notes, after_moves, NodeEntry, IsNext, next, LegalFrom, Legal, after_from, after, Legal-rest, after-append, after-one, at-update, some_same, entries_that, by_seat, gets_mutex, gives_mutex, says_end, is_tally_end, ends_tally, HasMutex, tally_got, HoldsByLooks, HoldsByTally, HoldsMutex, MutexesKeepTo, mutex_in, and-false, Answers, IsAttached, Legal-prefix, Segment, TaskEnd, eq-eqb, get_or-set_same}
 use Rattle.mtapi_values.specs.declared.kinds.Kind.TheVariants as kinds
 use Rattle.mtapi_values.specs.declared.handles.ObjectKind.TheVariants as kind
 use Rattle.mtapi_machine.specs.declared.ops.Op.TheVariants as op
@@ -21,7 +21,7 @@ use Rattle.history_law.proofs.TaskMoves.{every_moved, found_moved}
 use Rattle.history_law.proofs.tallies.Ties.{Owns, id_in, Tied, Ties, ties_kept, AtMostOne, one_move, none_runs, On, OnAt, on_stays, on_runs, as_on}
 use Rattle.history_law.proofs.locks.Mutexes.{Step, Free, free_step, owns_step, share, share_step, share_owner}
 use Rattle.history_law.proofs.locks.MutexSteps.{is_ending, mutex_by}
-use Rattle.history_law.proofs.locks.Attached.{Step as SegmentStep, HasMarks, marks_step, attached_step, mark_here, segment_by}
+use Rattle.history_law.proofs.locks.Attached.{Step as SegmentStep, HasMarks, marks_step, attached_step, segment_by}
 use Rattle.mtapi_machine.specs.Answers as is
 use Rattle.mtapi_machine.specs.Answers.{HasTask, HasBoth}
 
@@ -106,7 +106,7 @@ module _ (n : ℕ) (s : State) (who : ℕ) (g : Good n s) where
 
       attached : IsAttached who (live_object segments b)
       attached = subst (IsAttached who) (sym (at-update b (with_attached who true) h.segment s.segments h.found_segment))
-          (mark_here h.segment.attached who true (room (subst HasMarks h.found_segment (g.marks b))))
+          (get_or-set_same h.segment.attached who true false (room (subst HasMarks h.found_segment (g.marks b))))
 
       here : Tied n mutexes segments (with_notes (with_tally (tally_has a b)) x)
       here = record {

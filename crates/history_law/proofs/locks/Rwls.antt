@@ -3,7 +3,7 @@ use Rattle.history_law.proofs.Names.{◌≡◌, ℕ, zero, suc, ◌+◌, ◌<◌
 use Rattle.history_law.proofs.Answered.{true_false, first_false, second_false}
 use Rattle.history_law.proofs.lists.Counts.{one_if}
 use Rattle.history_law.proofs.locks.Locks.{Lock, LockStep}
-use Rattle.history_law.proofs.lists.Slots.{set_read}
+use Rattle.history_law.proofs.lists.Slots.{set_read, read_replicate}
 
 -- Marks of seats
 
@@ -90,15 +90,9 @@ give_step top who writer x e1 e2 = grind (arith, nat_tests, true_false, length-s
 pub leave_step : (top who : ℕ) (x : Rwl) → rwl_held x ≡ false → LockStep (rwl_lock top) who (Some x) None no_mode no_mode
 leave_step top who x e1 = grind (arith, nat_tests, unmarked, no_mark, second_false)
 
--- a new lock is held by nobody
-new_marks : (n w : ℕ) → slice_index_or (replicate n false) w false ≡ false
-new_marks zero w = refl
-new_marks (suc n) zero = refl
-new_marks (suc n) (suc w) = new_marks n w
-
 pub new_fit : (id limit : ℕ) → Fit limit (new_rwl id limit)
 new_fit id limit = record { limit = refl; size = refl; most = omega arith; alone = λ e. absurd (true_false e refl) }
 
 pub new_free : (m : Bool) (w id limit : ℕ) → (count m (new_rwl id limit) ≡ 0) × (has m w (new_rwl id limit) ≡ 0)
 new_free true w id limit = (refl, refl)
-new_free false w id limit = (refl, ap one_if (new_marks 25 w))
+new_free false w id limit = (refl, ap one_if (read_replicate 25 w false))

@@ -13,9 +13,9 @@ use Rattle.history_law.proofs.Others.{runs_over}
 use Rattle.history_law.proofs.Answered.{true_false, whether, on_test}
 use Rattle.history_law.proofs.lists.Firsts.{found_count, one_passes}
 use Rattle.history_law.proofs.tallies.Ties.{Owns, none_count, none_runs}
-use Rattle.history_law.proofs.lists.Sums.{sum_none, record_new, record_beside, record_other, record_at, record_updated, cell_new}
+use Rattle.history_law.proofs.lists.Sums.{sum_none, record_new, record_beside, record_other, record_at, record_updated}
 use Rattle.history_law.proofs.tallies.TallyMoves.{adds, weight, weigh_off, Each, HasRead, cells_of}
-use Rattle.history_law.proofs.lists.Slots.{set_apart}
+use Rattle.history_law.proofs.lists.Slots.{set_apart, read_replicate}
 
 -- A change of the one task that runs on a worker
 
@@ -137,7 +137,7 @@ module _ (S C : ℕ) where
           ≡ pos 0) s.tasks (λ t a u. weigh_off S C t.notes.tally t.args a) apart (always s.tasks)) in
           sum_cells s _ _ s.tasks (sym now)
           (λ j. (
-            cell_new k C ∙ sym zero,
+            read_replicate k C (pos 0) ∙ sym zero,
             every_map (λ t. adds S C t.notes.tally t.args
                 ≡ false) (λ t. Unit {0}) (HasRead S C (sum_of (weight S C) s.tasks)) s.tasks (λ t a u b c d. true_false b a) apart (always s.tasks),
           ))

@@ -7,7 +7,7 @@ use Rattle.history_law.proofs.Accepted.{all_after}
 use Rattle.history_law.proofs.Reuse.{fresh_unlisted}
 use Rattle.history_law.proofs.Ages.{live_listed}
 use Rattle.history_law.proofs.Held.{HasEnded, AllEnded}
-use Rattle.history_law.proofs.lists.Every.{Every, every_change, every_map, every_at, always, every_part}
+use Rattle.history_law.proofs.lists.Every.{Every, every_change, every_map, every_at, always, each_map}
 use Rattle.history_law.proofs.SeatMoves.{by_moves, by_made_moves, answer, is_tally_lock}
 use Rattle.mtapi_machine.specs.Answers as is
 use Rattle.mtapi_machine.specs.declared.replies.Reply.TheVariants as reply
@@ -93,7 +93,7 @@ module _ (S C id n : ℕ) where
     right_row : (o : Op) (r : Reply) → IsNext s (entry who o r) → Every (EndsRight S C) (after_row s (row s who o r)).tasks
     right_row (op.TallyEnd t) r i = right_by (op.TallyEnd t) r _ refl (answer s (entry who (op.TallyEnd t) r) i)
     right_row (op.TallyLock t) r i = right_by (op.TallyLock t) r _ refl (answer s (entry who (op.TallyLock t) r) i)
-    right_row o r i = every_part (RightTied S C n s.mutexes s.segments) (EndsRight S C) _ (λ t x. x.1)
+    right_row o r i = each_map (λ r. RightTied S C n s.mutexes s.segments r.fields) (λ r. EndsRight S C r.fields) _ (λ r x. x.1)
         (by_moves (λ t. Every (RightTied S C n s.mutexes s.segments) t.tasks) s (entry who o r) i
         (every_moved (RightTied S C n s.mutexes s.segments) who o (right_kept S C n s.mutexes s.segments who o (λ h. refl) refl))
         (every_map (Tied n s.mutexes s.segments) (EndsRight S C) (RightTied S C n s.mutexes s.segments) s.tasks (λ t a b. (a, b)) v.good.ties v.right))
@@ -335,9 +335,6 @@ module _ (S C id n : ℕ) where
             (premises_from terms es (P ++ e ∷ []) L (cut ∙ sym (append_assoc P (e ∷ []) L)) both.1 k),
       )
 
-  ended_each : (l : List (Listed Task)) → AllEnded l → Every HasEnded l
-  ended_each l e1 = grind (arith, nat_tests)
-
   -- after the end of a task, what it has written is what it adds where it has completed
   same_number : (t : Task) → HasEnded t → EndsRight S C t → weight S C t ≡ number_added S C t
   same_number t e1 e2 = grind (arith, nat_tests)
@@ -364,4 +361,4 @@ holds_the_sum terms es S C legal A B main id x cut found inside w k =
     ∙ sum_same (weight S C) (number_added S C) (after terms es).tasks
     (every_map HasEnded (EndsRight S C) (λ t. weight S C t
     ≡ number_added S C t) (after terms es).tasks (λ t a b. same_number S C id terms.settings.workers t a b)
-    (ended_each S C id terms.settings.workers (after terms es).tasks all) v.right)
+    all v.right)
