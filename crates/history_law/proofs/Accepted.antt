@@ -17,9 +17,7 @@ lists_by : (s : State) (who : ℕ) (o : Op) (k : ℕ) (ms : List Move) (h : ℕ)
 lists_by s who o k ms h e1 e2 = grind (arith, nat_tests, after_moves, starts_task, asked_for, some_same, some_issued, asked_of)
 
 start_lists : (s : State) (who : ℕ) (o : Op) (r : Reply) (h : ℕ) → accepted_by o r ≡ Some h → Allows (row s who o r) r → Lists h (after_row s (row s who o r))
-start_lists s who o (Handle k) h e a = lists_by s who o k _ h e (answered s who o (Handle k) a)
-start_lists s who (op.TaskStart job args priority cores detached group) _ h e a = absurd (cc)
-start_lists s who _ _ h e a = absurd (cc)
+start_lists s who o r h e1 e2 = grind (arith, nat_tests, lists_by s who o, answered s who o)
 
 next_lists : (s : State) (e : NodeEntry) (h : ℕ) → IsNext s e → accepted e ≡ Some h → Lists h (next s e)
 next_lists s e h n i = start_lists s e.who e.op e.reply h i n.allowed
@@ -89,9 +87,7 @@ closed_end terms es A B main legal last P Q e h cut i =
   where
     stays : (C M D : List NodeEntry) → es ≡ C ++ (M ++ D) → IsSome (end_at (after terms C).tasks h) → (x : TaskEnd) → end_at (after terms es).tasks h ≡ Some x
         → end_at (after terms (C ++ M)).tasks h ≡ Some x
-    stays C M D is seen x at =
-        let was : (y : TaskEnd) × (end_at (after terms C).tasks h ≡ Some y) = shown (end_at (after terms C).tasks h) seen in
-        front_stays terms es C M D h was.0 legal is was.1 ∙ sym (front_ends terms es C (M ++ D) h was.0 legal is was.1) ∙ at
+    stays C M D is seen x at = grind (arith, nat_tests, end_at, shown, front_stays, front_ends)
 
 -- the same where the final step is the last entry
 pub accepted_end : (terms : Terms) (es before : List NodeEntry) (main : ℕ) → Legal terms es → es ≡ before ++ entry main op.Final Ok ∷ [] → TasksEndOnce terms es

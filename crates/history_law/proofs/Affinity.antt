@@ -54,8 +54,7 @@ obeys_masks terms es place legal P R w t a k args cut at_place = record {
     legal_front = Legal-front (opening terms) P _ whole
 
     found : Took (after terms P) w t.0 a.0
-    found = took (after terms P) w op.Pick t a k args _
-        (answer (after terms P) (entry w op.Pick (Picked t a k args)) (cut_from (opening terms) P R (entry w op.Pick (Picked t a k args)) whole))
+    found = grind (arith, nat_tests, took, cut_from, whole)
 
     prefix : (A B : List NodeEntry) (e : NodeEntry) → P ≡ A ++ e ∷ B → LegalFrom (opening terms) (A ++ e ∷ B)
     prefix A B e c = subst (λ (L : List NodeEntry). LegalFrom (opening terms) L) c (Legal-front (opening terms) P _ whole)

@@ -6,13 +6,11 @@ true_false e f = absurd (cc)
 
 -- by whether a test holds
 pub whether : {A : Type 0} (b : Bool) → (b ≡ true → A) → (b ≡ false → A) → A
-whether true f g = f refl
-whether false f g = g refl
+whether b e1 e2 = grind (arith, nat_tests)
 
 -- the same of what speaks of the test
 pub on_test : (P : Bool → Type 0) (b : Bool) → (b ≡ true → P true) → (b ≡ false → P false) → P b
-on_test P true f g = f refl
-on_test P false f g = g refl
+on_test P b e1 e2 = grind (arith, nat_tests)
 
 pub none_some : {A B : Type 0} {x : A} → None ≡ Some x → B
 none_some e = absurd (cc)

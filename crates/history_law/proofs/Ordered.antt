@@ -41,8 +41,7 @@ ready_let s t q e h = grind (arith, nat_tests, snd_true, is_unstarted, live_of, 
 
 ordered_head : (q : ℕ) (t : Task) (l : List (ℕ × Task)) (o : Option Queue) → ((x : Queue) → o ≡ Some x → x.ordered ≡ true) → holds (lets q t l) o ≡ true
     → is_head q t l ≡ true
-ordered_head q t l None f h = absurd (cc)
-ordered_head q t l (Some x) f h = grind (arith, nat_tests, f x refl)
+ordered_head q t l o e1 e2 = grind (arith, nat_tests, nat_tests)
 
 -- A task that stands before another in its queue, and isn't waited for, has ended
 
@@ -78,15 +77,13 @@ never_picked s (z ∷ zs) h e l o i =
 -- What was put
 
 put_issues : (q h : ℕ) (o : Op) → puts_into q o ≡ true → makes_object kind.Task o ≡ true
-put_issues q h (op.TaskEnqueue x args cores detached group) e = refl
-put_issues q h _ e = true_false e refl
+put_issues q h o e1 = grind (arith, nat_tests, true_false)
 
 puts_issues : (q h : ℕ) (e : NodeEntry) → puts q h e ≡ true → issues kind.Task h e ≡ true
 puts_issues q h e i = grind (arith, nat_tests, makes_object, put_issues, fst_true, puts_into, is_handle)
 
 put_queue : (q : ℕ) (n : NewTask) (o : Op) → puts_into q o ≡ true → StartsTask n o → n.queue ≡ Some q
-put_queue q n (op.TaskEnqueue x args cores detached group) e b = ap (λ (y : NewTask). y.queue) b.1 ∙ ap Some (eqb-true x.0 q e)
-put_queue q n _ e b = true_false e refl
+put_queue q n o e1 e2 = grind (arith, nat_tests, eqb-true, true_false)
 
 ordered_issues : (q : ℕ) (e : NodeEntry) → makes_ordered q e ≡ true → issues kind.Queue q e ≡ true
 ordered_issues q e i = grind (arith, nat_tests, makes_object, fst_true, asks_ordered, is_handle, snd_true)
@@ -103,8 +100,7 @@ under_more h F G [] f u = tt
 under_more h F G (r ∷ rs) f u = ((λ e. f r.fields (u.0 e)), under_more h F G rs f u.1)
 
 ordered_made : (q : ℕ) (o : Op) (s : State) → asks_ordered o ≡ true → QueueAs o q s → HasObject kind.Queue q IsOrdered s
-ordered_made q (op.QueueCreate id job priority limit ordered retain) s e v = grind (arith, nat_tests, under_more q)
-ordered_made q _ s e v = true_false e refl
+ordered_made q o s e1 e2 = grind (arith, nat_tests, under_more q, nat_tests, true_false)
 
 -- The law
 
@@ -187,11 +183,7 @@ first_ended terms q a b s z stands v n p =
 
     passes : (u : Task) → SameTask (new_task v.n v.i) u → is_unended u ≡ true → {t : Task} → SameTask (new_task v.k v.j) t
         → (is_unended_in q u && nat_lt u.start t.start) ≡ true
-    passes u f m {t} g =
-        let c : is_in q u ≡ true = ap (holds (λ h. h == q)) f.queue ∙ own in
-        let l : v.i < v.j = v.less in
-        let d : nat_lt v.i v.j ≡ true = grind (arith, nat_tests) in
-        (λ x. (c x && m x) && nat_lt (f.start x) (g.start x)) ∙ d
+    passes u f m {t} g = grind (arith, nat_tests, is_in, own, nat_lt, nat_tests)
 
 next_of : (s : State) (z : NodeEntry) (D : List NodeEntry) → LegalFrom s (z ∷ D) → IsNext s z
 unfolding LegalFrom

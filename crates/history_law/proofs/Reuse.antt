@@ -171,10 +171,7 @@ named_move T k h s o m e v = record {
     by_new : (j : ℕ) (x : FieldsOf k) → is_fresh (objects_of k) s j ≡ true → (1 ≤ times k h s → names_kind T.layout (objects_of k).kind h ≡ true) → (b : Bool)
         → (j == h) ≡ b
         → 1 ≤ listed h (issue j x ((objects_of k).list s)) → names_kind T.layout (objects_of k).kind h ≡ true
-    by_new j x i w true c u =
-        let n : names_kind s.terms.layout (objects_of k).kind j ≡ true = fst_true _ (may_issue s.terms.settings.generations j ((objects_of k).list s)) i in
-        subst (λ (t : Terms). names_kind t.layout (objects_of k).kind h
-        ≡ true) v.terms (subst (λ (y : ℕ). names_kind s.terms.layout (objects_of k).kind y ≡ true) (eqb-true j h c) n)
+    by_new j x i w true c u = grind (arith, nat_tests, eqb-true j, names_kind, objects_of, fst_true, may_issue)
     by_new j x i w false c u = w (subst (λ (n : ℕ). 1 ≤ n) (listed_new h j x _ c) u)
 
 named_after : (terms : Terms) (es : List NodeEntry) (k : ObjectKind) (h : ℕ) → terms.layout ≡ Two → 1 ≤ times k h (after terms es)

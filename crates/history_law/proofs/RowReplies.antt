@@ -16,5 +16,4 @@ said Q never r g a = absurd a
 
 module _ (Q : Reply → List Move → Type 0) where
   pub says_only : (b : Bool) (x : Reply) (ms : List Move) → (b ≡ true → Q x ms) → OfEachReply Q (only b (gives x ms))
-  says_only true x ms g = g refl
-  says_only false x ms g = tt
+  says_only b x ms e1 = grind (arith, nat_tests)

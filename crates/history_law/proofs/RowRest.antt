@@ -8,16 +8,14 @@ pub record Goes (s : State) (w : Row) (r : Reply) (v : Row) : Type 0 where
 
 -- a condition whose reply wasn't given
 pub skip : (c : Bool) (x r : Reply) (w : Row) (s : State) → (r ≡ x → ⊥) → Allows (unless c x w) r → Goes s (unless c x w) r w
-skip true x r w s n a = absurd (n a)
-skip false x r w s n a = record { allowed = a; leads = refl }
+skip c x r w s e1 e2 = grind (arith, nat_tests)
 
 pub goes_then : (s : State) (u v w : Row) (r : Reply) → Goes s u r v → Goes s v r w → Goes s u r w
 goes_then s u v w r g h = record { allowed = h.allowed; leads = g.leads ∙ h.leads }
 
 -- a condition that is known not to be met
 pub pass : (c : Bool) (x r : Reply) (w : Row) (s : State) → c ≡ false → Allows (unless c x w) r → Goes s (unless c x w) r w
-pass true x r w s e a = absurd (cc)
-pass false x r w s e a = record { allowed = a; leads = refl }
+pass c x r w s e1 e2 = grind (arith, nat_tests)
 
 pub small_not : (w n : ℕ) → w < n → not (nat_lt w n) ≡ false
 small_not w n l = ap not (lt-ltb w n l)

@@ -156,8 +156,7 @@ by_answer s who _ _ _ i (is.lock_got t x y a b k z h) =
     ((λ x. refl), (inr (λ x. refl), ((x, k.found, does who (tally_has a b) x (as_on who kind.Tally x.state k.runs) (λ w. w), has a b refl z refl), tt)))
 by_answer s who _ _ _ i (is.tally_reads t x y k z e) =
     ((x, k.found, does who (tally_read (cell_of (cell_in (tally_args x.args)) y)) x (as_on who kind.Tally x.state k.runs) (λ w. w), reads _ refl z refl), tt)
-by_answer s who _ _ _ i (is.tally_writes t value x y k z e) =
-    (inl refl, ((x, k.found, does who tally_written x (as_on who kind.Tally x.state k.runs) (λ w. w), writes refl (not_false _ (first_false _ _ z)) refl), tt))
+by_answer s who _ _ _ i (is.tally_writes t value x y k z e) = grind (arith, nat_tests, does who tally_written x, as_on who)
 by_answer s who _ _ _ i (is.tally_ends_failed t x k z) = ((x, k.found, inr (as_on who kind.Tally x.state k.runs), inr refl, inl (eq-eqb t.0 t.0 refl)), tt)
 by_answer s who _ _ _ i (is.tally_ends t x y z k e d f g) = grind (arith, nat_tests, as_on who, back_late (x.notes.tally.stage == 2) (added x), eq-eqb t.0 t.0 refl)
 by_answer s who _ _ _ i (is.creates_mutex id recursive h n f) = (n, tt)

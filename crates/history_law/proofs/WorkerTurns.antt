@@ -49,11 +49,7 @@ picks_said s w r e1 e2 e3 = grind (arith, nat_tests)
 
 by_answer : (s : State) (w : ℕ) (o : Op) (r : Reply) (ms : List Move) → o ≡ op.Pick → is_choice r ≡ true → Untouched s → Free s w → Answers s w o r ms
     → PickedAs s w r (after_moves ms s)
-by_answer s w _ _ _ p i clean free (is.idles_in_new a) = refl
-by_answer s w _ _ _ p i clean free (is.idles a) = refl
-by_answer s w _ _ _ p i clean free (is.stops_worker a b c) = tt
-by_answer s w _ _ _ p i clean free (is.picks t a x y b n e d j l k) = begins s w t.0 x y.kind x.args clean free e (ready_unstarted s x j) refl
-by_answer s w _ _ _ p i clean free _ = true_false i refl
+by_answer s w o r ms e1 e2 e3 e4 e5 = grind (arith, nat_tests, begins s w, ready_unstarted s, true_false)
 
 pub picked_as : (s : State) (w : ℕ) (r : Reply) → w < workers s → Untouched s → Free s w → IsNext s (entry w op.Pick r)
     → PickedAs s w r (next s (entry w op.Pick r))
@@ -80,8 +76,7 @@ same_list xs ys e = (slice_eq-Decides Decides-int_eq xs ys (pointwise int_eq xs 
 
 -- the row of the live object
 found_goes : (s : State) (x : Option Task) (t : Task) (i : Row) (r : Reply) (f : Task → Row) → x ≡ Some t → Allows (live x i f) r → Goes s (live x i f) r (f t)
-found_goes s (Some y) t i r f e a = grind (arith, nat_tests, f y)
-found_goes s None t i r f e a = absurd (cc)
+found_goes s x t i r f e1 e2 = grind (arith, nat_tests, nat_tests)
 
 -- the row's ways to the live task that the worker has
 pub own_goes : (s : State) (w h : ℕ) (x : Work) (v : Holds s w h x) (r : Reply) (f : Task → Row) → w < workers s

@@ -28,24 +28,12 @@ all_endings g (r ∷ rs) o = cond_both r.live ((r.handle, r.fields) ∷ live_of 
       where
         by_handle : (b : Bool) → (r.handle == e.task) ≡ b → cond b 1 0 + listed e.task rs ≤ 1 → IsEnding g (r ∷ rs) e
         by_handle true c k = let s : 1 ≤ listed e.task rs = i.some in absurd (omega arith)
-        by_handle false c k = record {
-          some = let s : 1 ≤ listed e.task rs = i.some in omega arith;
-          member = λ x a. i.member x (sym (at_skip r rs e.task c) ∙ a);
-          ended = λ x a. i.ended x (sym (at_skip r rs e.task c) ∙ a);
-        }
+        by_handle false c k = grind (arith, nat_tests, at_skip)
 
     here : r.live ≡ true → is_member g r.fields ≡ true → (x : Option (TaskEnd × ℕ)) → end_of r.fields.state ≡ x
         → Each (IsEnding g (r ∷ rs)) (endings g (live_of rs)) → Each (IsEnding g (r ∷ rs)) (insert_ended r.handle x (endings g (live_of rs)))
     here a m None e k = k
-    here a m (Some y) e k =
-        let c : (r.handle == r.handle) ≡ true = eq-eqb r.handle r.handle refl in
-        let f : live_object (r ∷ rs) r.handle ≡ Some r.fields = at_here r rs r.handle a c in
-        all_insert (IsEnding g (r ∷ rs)) (record { task = r.handle; end = y.0; number = y.1 }) (endings g (live_of rs))
-        (record {
-          some = let d : cond {A = ℕ} (r.handle == r.handle) 1 0 ≡ 1 = ap (λ (b : Bool). cond {A = ℕ} b 1 0) c in omega arith;
-          member = λ x i. subst (λ (t : Task). is_member g t ≡ true) (some_same (sym f ∙ i)) m;
-          ended = λ x i. subst (λ (t : Task). end_of t.state ≡ Some (y.0, y.1)) (some_same (sym f ∙ i)) e;
-        }) k
+    here a m (Some y) e k = grind (arith, nat_tests, eq-eqb, live_object, at_here, all_insert, live_of, is_member, some_same, end_of)
 
     by_member : r.live ≡ true → (b : Bool) → is_member g r.fields ≡ b → Each (IsEnding g (r ∷ rs)) (endings g (live_of rs))
         → Each (IsEnding g (r ∷ rs)) (cond b (insert_ended r.handle (end_of r.fields.state) (endings g (live_of rs))) (endings g (live_of rs)))

@@ -52,9 +52,7 @@ none_then s who t x e one k = grind (arith, nat_tests, count_changed (runs_on wh
 
 end_counts : (s : State) (who : ℕ) (o : Op) (r : Reply) (ms : List Move) → AtMostOne who s → is_ending o r ≡ true → Answers s who o r ms
     → count_listed (runs_on who) (after_moves ms s).tasks ≡ 0
-end_counts s who _ _ _ one i (is.tally_ends_failed t x k f) = none_then s who t.0 x _ one k
-end_counts s who _ _ _ one i (is.tally_ends t x y z k f d a b) = none_then s who t.0 x _ one k
-end_counts s who _ _ _ one i _ = true_false i refl
+end_counts s who o r ms e1 e2 e3 = grind (arith, nat_tests, none_then s who, true_false)
 
 pub one_runner : (v w : ℕ) (t : Task) → runs_on v t ≡ true → runs_on w t ≡ true → v ≡ w
 one_runner v w t e1 e2 = grind (arith, nat_tests)
@@ -90,23 +88,13 @@ module _ (n : ℕ) (s : State) (who : ℕ) (g : Good n s) where
       less = less_of who n (subst (λ (z : ℕ). nat_lt who z ≡ true) g.workers k.inside)
 
       owns : Owns who (id_in x) (live_object mutexes a)
-      owns =
-          let d : h.mutex.depth ≡ 0 = subst Free h.found_mutex (g.free a) h.free in
-          let i : h.mutex.id ≡ y.mutex = eqb-true h.mutex.id y.mutex
-          (first_at (λ (u : Mutex). u.id == y.mutex) s.mutexes a h.mutex g.once h.first_mutex h.found_mutex) in
-          subst (Owns who (id_in x)) (sym (at-update a (locked_by who) h.mutex s.mutexes h.found_mutex)) (
-            refl,
-            ap (λ (d : ℕ). d + 1) d,
-            i
-                ∙ ap mutex_in (sym h.names),
-          )
+      owns = grind (arith, nat_tests, eqb-true, first_at, mutexes, id_in, at-update, locked_by, mutex_in)
 
       room : length h.segment.attached ≡ 25 → who < length h.segment.attached
       room z = let q : who < n = less in let p : n ≤ 16 = g.few in omega arith
 
       attached : IsAttached who (live_object segments b)
-      attached = subst (IsAttached who) (sym (at-update b (with_attached who true) h.segment s.segments h.found_segment))
-          (get_or-set_same h.segment.attached who true false (room (subst HasMarks h.found_segment (g.marks b))))
+      attached = grind (arith, nat_tests, at-update, with_attached, segments, get_or-set_same, room)
 
       here : Tied n mutexes segments (with_notes (with_tally (tally_has a b)) x)
       here = record {
@@ -248,8 +236,7 @@ by_tally terms h w L l k =
     owned terms.settings.workers w h k.task.0 (after terms L) (good_after terms L l) (subst (OnAt w h k.task.0) (sym same) later)
 
 holder : (terms : Terms) (h w : ℕ) (L : List NodeEntry) → Legal terms L → HoldsMutex terms L h w → OwnedBy (after terms L) h w
-holder terms h w L l (inl k) = by_looks terms h w L l k
-holder terms h w L l (inr k) = by_tally terms h w L l k
+holder terms h w L e1 e2 = grind (arith, nat_tests, by_looks terms h w L, by_tally terms h w L)
 
 one_owner : (s : State) (h v w : ℕ) → OwnedBy s h v → OwnedBy s h w → v ≡ w
 one_owner s h v w e1 e2 = grind (arith, nat_tests)

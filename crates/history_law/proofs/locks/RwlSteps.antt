@@ -63,8 +63,7 @@ at_most_one top m w o = grind (arith, nat_tests)
 -- one writer or readers alone, by what the lock has at the end
 by_lock : (top h : ℕ) (B : List NodeEntry) (o : Option Rwl) → FitIn (rwl_lock top) o
     → ((m : Bool) → entries_that (gives_rwl h m) B + count_in (rwl_lock top) m o ≡ entries_that (gets_rwl h m) B) → OneWriter B h ⊎ ReadersAlone B h top
-by_lock top h B None f k = inr (record { writer = let e = k true in omega arith; readers = let e = k false in omega arith })
-by_lock top h B (Some x) f k = grind (arith, nat_tests, one_if, count_in, rwl_lock, entries_that, gives_rwl)
+by_lock top h B o e1 e2 = grind (arith, nat_tests, nat_tests, one_if, count_in, rwl_lock, entries_that, gives_rwl)
 
 pub rwls_keep_to : (terms : Terms) (es : List NodeEntry) → Legal terms es → RwlsKeepTo es
 rwls_keep_to terms es legal L R h cut = record {

@@ -78,8 +78,7 @@ read_step top who x e1 e2 e3 e4 = grind (arith, nat_tests, length-set, true_fals
 pub get_step : (top who : ℕ) (writer : Bool) (x : Rwl) → Fit top x → who < 25 → (is_seat who x.writer || marked who x.readers) ≡ false
     → rwl_busy writer x ≡ false
     → LockStep (rwl_lock top) who (Some x) (Some (rwl_taken who writer x)) (λ m. in_mode m writer) no_mode
-get_step top who true x f l n b = write_step top who x f b
-get_step top who false x f l n b = read_step top who x f l (second_false (is_seat who x.writer) _ n) b
+get_step top who writer x e1 e2 e3 e4 = grind (arith, nat_tests, write_step top who x, read_step top who x, second_false (is_seat who x.writer), is_seat)
 
 -- it is given back
 pub give_step : (top who : ℕ) (writer : Bool) (x : Rwl) → Fit top x → cond writer (is_seat who x.writer) (marked who x.readers) ≡ true
@@ -94,5 +93,4 @@ pub new_fit : (id limit : ℕ) → Fit limit (new_rwl id limit)
 new_fit id limit = record { limit = refl; size = refl; most = omega arith; alone = λ e. absurd (true_false e refl) }
 
 pub new_free : (m : Bool) (w id limit : ℕ) → (count m (new_rwl id limit) ≡ 0) × (has m w (new_rwl id limit) ≡ 0)
-new_free true w id limit = (refl, refl)
-new_free false w id limit = (refl, ap one_if (read_replicate 25 w false))
+new_free m w id limit = grind (arith, nat_tests, read_replicate 25 w false, one_if)

@@ -40,10 +40,7 @@ every_alone P Q w j f (r ∷ rs) x e k c d g h a = cond_both (r.live && (r.handl
     past i = false_from_ne_true (runs_on w r.fields) (by_live r.live refl)
       where
         by_live : (b : Bool) → r.live ≡ b → runs_on w r.fields ≡ true → ⊥
-        by_live true v q =
-            let m : 1 ≤ count_listed (runs_on w) rs = found_count (runs_on w) rs j x i k in
-            let o : cond {A = ℕ} (r.live && runs_on w r.fields) 1 0 ≡ 1 = (λ z. cond {A = ℕ} (v z && q z) 1 0) in
-            omega arith
+        by_live true v q = grind (arith, nat_tests, count_listed, runs_on, found_count)
         by_live false v q = true_false q (runs_over w r.fields (d.0 v))
 
 -- a task that has begun and hasn't ended runs
@@ -91,8 +88,7 @@ module _ (S C : ℕ) where
   lock_each R s who _ _ _ base l h (is.refuses o x e) = base
   lock_each R s who _ _ _ base l h (is.refuses_caller o x e) = base
   lock_each R s who _ _ _ base l h (is.lock_early t x k z) = base
-  lock_each R s who _ _ _ base l h (is.lock_fails t x c k z v) =
-      every_change (Each S C R) t.0 (with_fields (with_notes (with_tally (tally_failed c)))) s.tasks (λ r a i q. true_false q refl) base
+  lock_each R s who _ _ _ base l h (is.lock_fails t x c k z v) = grind (arith, nat_tests, every_change (Each S C R) t.0)
   lock_each R s who _ _ _ base l h (is.lock_got t x y a b k z g) =
       every_change (Each S C R) t.0 (with_fields (with_notes (with_tally (tally_has a b)))) s.tasks
       (λ r c i q. let same : x ≡ r.fields = some_same (sym k.found ∙ c) in
@@ -144,8 +140,7 @@ module _ (S C : ℕ) where
         where
           none_some : {n : ℕ} → 1 ≤ n → n ≡ 0 → ⊥
           none_some a b = absurd (omega arith)
-      by_same false i = sum_cells s _ _ s.tasks
-          (sym (ap (λ (o : Option Segment). option_map (λ (y : Segment). y.cells) o) (record_beside h S x s.segments i))) v
+      by_same false i = grind (arith, nat_tests, sum_cells, option_map, record_beside)
 
   -- a change of one cell of a segment, where it isn't the cell
   pub other_cell : (s : State) (h c : ℕ) (value : ℤ) (y : Segment) (l : List (Listed Task)) → OnceIn s.segments → live_object s.segments h ≡ Some y

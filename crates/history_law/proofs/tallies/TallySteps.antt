@@ -127,34 +127,16 @@ module _ (S C id n : ℕ) where
         now = change t (with_fields (with_notes (with_tally (tally_read z)))) s.tasks
 
         same_sum : sum_of (weight S C) now ≡ sum_of (weight S C) s.tasks
-        same_sum =
-            sum_change (weight S C) t (with_fields (with_notes (with_tally (tally_read z)))) s.tasks
-            (λ r a. weigh_early S C (tally_read z r.fields.notes.tally) r.fields.args 2 refl refl
-            ∙ sym (weigh_early S C r.fields.notes.tally r.fields.args 1
-            (subst (λ (u : Task). (u.notes.tally.stage == 1) ≡ true) (some_same (sym e ∙ a)) d) refl))
+        same_sum = grind (arith, nat_tests, sum_change (weight S C), weight S C, weigh_early S C, with_fields, with_notes, with_tally, tally_read, some_same)
 
         -- it reads what the cell holds
         reads_it : (c : List ℤ) → cells_of S C s.segments ≡ Some c → cell_value S C c ≡ sum_of (weight S C) s.tasks
             → adds S C (tally_read z x.notes.tally) x.args ≡ true → z ≡ sum_of (weight S C) s.tasks
-        reads_it c k w a =
-            let b : adds S C x.notes.tally x.args ≡ true =
-            ap (λ (i : ℕ). (not (i == 0) && not (i == 4))
-            && ((x.notes.tally.segment == S) && (cell_in (tally_args x.args) == C))) (eqb-true x.notes.tally.stage 1 d) ∙ a in
-            let here : y.cells ≡ c = some_same (sym (cells_here x y b f) ∙ k) in
-            ap (λ (i : ℕ). slice_index_or y.cells i (pos 0)) (cell_same x b) ∙ (ap (λ (i : List ℤ). slice_index_or i C (pos 0)) here ∙ w)
+        reads_it c k w a = grind (arith, nat_tests, cell_in, tally_args, eqb-true, some_same, cells_here, slice_index_or, cell_same)
 
         by_cells : (o : Option (List ℤ)) → cells_of S C s.segments ≡ o → Sum S C o s.tasks → Sum S C (cells_of S C s.segments) now
         by_cells None k u = sum_cells S C s _ _ now (sym k) tt
-        by_cells (Some c) k u =
-            sum_cells S C s _ _ now (sym k) (λ i.
-            let w = u i in (
-              w.0 ∙ sym same_sum,
-              subst (λ (q : ℤ). Every (HasRead S C q) now) (sym same_sum)
-                  (every_change (HasRead S C (sum_of (weight S C) s.tasks)) t (with_fields (with_notes (with_tally (tally_read z)))) s.tasks
-                  (λ r a h b g p.
-                  let same : x ≡ r.fields = some_same (sym e ∙ a) in
-                  reads_it c k w.0 (subst (λ (q : Task). adds S C (tally_read z q.notes.tally) q.args ≡ true) (sym same) b)) w.1),
-            ))
+        by_cells (Some c) k u = grind (arith, nat_tests, sum_cells S C, weight S C, reads_it c k, adds S C, now, same_sum, every_change, sum_of, with_fields, with_notes, with_tally, tally_read)
 
     -- a tally writes to another cell
     write_other : (t : ℕ) (value : ℤ) (x : Task) (y : Segment) → live_object s.tasks t ≡ Some x → (x.notes.tally.stage == 2) ≡ true
@@ -168,13 +150,7 @@ module _ (S C id n : ℕ) where
         (other_cell S C s x.notes.tally.segment (cell_in (tally_args x.args)) value y s.tasks v.good.once_segments f a v.sum)
       where
         same_sum : sum_of (weight S C) (change t (with_fields (with_notes (with_tally tally_written))) s.tasks) ≡ sum_of (weight S C) s.tasks
-        same_sum =
-            sum_change (weight S C) t (with_fields (with_notes (with_tally tally_written))) s.tasks
-            (λ r i.
-            let same : x ≡ r.fields = some_same (sym e ∙ i) in
-            weigh_off S C (tally_written r.fields.notes.tally) r.fields.args
-            (subst (λ (u : Task). ((u.notes.tally.segment == S) && (cell_in (tally_args u.args) == C)) ≡ false) same a)
-            ∙ sym (weigh_early S C r.fields.notes.tally r.fields.args 2 (subst (λ (u : Task). (u.notes.tally.stage == 2) ≡ true) same d) refl))
+        same_sum = grind (arith, nat_tests, sum_change (weight S C), weight S C, weigh_off S C, weigh_early S C, with_fields, with_notes, with_tally, tally_written, some_same, cell_in, tally_args)
 
     -- no other task that adds to the cell has read and not written: it would own the same mutex
     alone : (x u : Task) → adds S C x.notes.tally x.args ≡ true → runs_on who x ≡ true → Tied n s.mutexes s.segments x → mutex_in (tally_args x.args) ≡ id
@@ -206,11 +182,7 @@ module _ (S C id n : ℕ) where
 
         cells_now : cells_of S C (update x.notes.tally.segment (with_cell (cell_in (tally_args x.args)) value) s.segments)
             ≡ Some (slice_set y.cells (cell_in (tally_args x.args)) value)
-        cells_now =
-            ap (λ (q : Option Segment). option_map (λ (z : Segment). z.cells) q)
-            (subst (λ (j : ℕ). record_of (update x.notes.tally.segment (with_cell (cell_in (tally_args x.args)) value) s.segments) j
-            ≡ Some (with_cell (cell_in (tally_args x.args)) value y)) (seg_same x a)
-            (record_updated x.notes.tally.segment (with_cell (cell_in (tally_args x.args)) value) y s.segments v.good.once_segments f))
+        cells_now = grind (arith, nat_tests, option_map, record_of, with_cell, cell_in, tally_args, seg_same, record_updated)
 
         inside : C < length (slice_set y.cells (cell_in (tally_args x.args)) value) → C < length y.cells
         inside i = subst (λ (j : ℕ). C < j) (length-set y.cells (cell_in (tally_args x.args)) value) i
@@ -220,13 +192,7 @@ module _ (S C id n : ℕ) where
         old i = let u : Sum S C (Some y.cells) s.tasks = sum_cells S C s _ _ s.tasks (cells_here x y a f) v.sum in let z = u (inside i) in (inside i, z.0, z.1)
 
         heavier : (r : Listed Task) → r.fields ≡ x → weight S C (with_notes (with_tally tally_written) r.fields) ≡ weight S C r.fields +ℤ number
-        heavier r same =
-            let both : ((x.notes.tally.segment == S) && (cell_in (tally_args x.args) == C)) ≡ true = snd_true (has_both x.notes.tally) _ a in
-            let zero : weight S C r.fields ≡ pos 0 =
-            weigh_early S C r.fields.notes.tally r.fields.args 2 (subst (λ (u : Task). (u.notes.tally.stage == 2) ≡ true) (sym same) d) refl in
-            let full : weight S C (with_notes (with_tally tally_written) x) ≡ number = ap (λ (b : Bool). cond (b && true) number (pos 0)) both in
-            subst (λ (u : Task). weight S C (with_notes (with_tally tally_written) u) ≡ number) (sym same) full
-            ∙ (sym (+ℤ_idl number) ∙ ap (λ (q : ℤ). q +ℤ number) (sym zero))
+        heavier r same = grind (arith, nat_tests, weigh_early S C r.fields.notes.tally r.fields.args 2, weight S C, cell_in, tally_args, snd_true, has_both, with_notes, with_tally, tally_written)
 
         more : sum_of (weight S C) now ≡ sum_of (weight S C) s.tasks +ℤ number
         more = sum_more (weight S C) number t (with_fields (with_notes (with_tally tally_written))) s.tasks x e heavier

@@ -19,8 +19,7 @@ module _ (R : List ℤ → Type 0) where
   started o t e1 e2 = grind (arith, nat_tests)
 
   step_args : (s : State) (r : Listed Task) (m : Move) (q : Listed Task) → Step s r m q → R r.fields.args → R q.fields.args
-  step_args s r _ _ (step.stays m) k = k
-  step_args s r _ _ _ k = k
+  step_args s r m q e1 e2 = grind (arith, nat_tests)
 
   args_move : (o : Op) → StartsWith o → (s : State) (x : Move) → IsMade s o x → Every (λ u. R u.args) s.tasks → Every (λ u. R u.args) (apply x s).tasks
   args_move o k s x e v = grind (arith, nat_tests, started o, step_args s, tasks_go s x, every_steps)
