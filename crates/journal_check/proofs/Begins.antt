@@ -1,5 +1,5 @@
 -- A follower before the first entry; and what an entry needs beside that its row allows its reply.
-use Rattle.journal_check.proofs.Names.{◌≡◌, ℕ, ◌+◌, ◌≤◌, ◌<◌, Bool, false, List, [], refl, sym, ◌∙◌, ap, subst, arith, ObjectKind, slot_of, issued_at, Terms, opening, seats, NodeEntry, IsHonest, after_from, after, PoolNode, Stands, seat_count, OtherHandles, Renaming, nothing, terms_in, renamed, Follows, made_in, made_at, lasts_in, lasts_of, taken_in, renaming_of, Following, Made, count_in, last_handles, made_count, gone_count, freed_count, of_kind, Laws, room_of, HasFollowed, Judges, JudgesNext}
+use Rattle.journal_check.proofs.Names.{◌≡◌, ℕ, ◌+◌, ◌≤◌, ◌<◌, Bool, false, List, [], refl, sym, ◌∙◌, ap, subst, arith, ObjectKind, slot_of, issued_at, Terms, opening, seats, NodeEntry, IsHonest, after_from, after, PoolNode, Stands, seat_count, OtherHandles, Renaming, nothing, terms_in, renamed, Follows, made_in, made_at, lasts_in, lasts_of, taken_in, renaming_of, Following, Made, count_in, last_handles, made_count, gone_count, freed_count, of_kind, Laws, room_of, HasFollowed, Judges, JudgesNext, nat_tests, eqb-true, eq-eqb}
 use Rattle.mtapi_values.specs.declared.handles.ObjectKind.TheVariants as kind
 use Rattle.node_steps.specs.Stands.{terms_of}
 
@@ -36,14 +36,7 @@ none_in kind.Rwl terms = refl
 none_in kind.Shmem terms = refl
 
 none_yet : (k : ObjectKind) (terms : Terms) → made_in k (opening terms) ≤ 0
-none_yet kind.Action terms = omega arith
-none_yet kind.Task terms = omega arith
-none_yet kind.Group terms = omega arith
-none_yet kind.Queue terms = omega arith
-none_yet kind.Mutex terms = omega arith
-none_yet kind.Sem terms = omega arith
-none_yet kind.Rwl terms = omega arith
-none_yet kind.Shmem terms = omega arith
+none_yet k terms = grind (arith, nat_tests, none_in k terms)
 
 pub begun : (w : Laws) (terms : Terms) (n : PoolNode) (names : OtherHandles) (made : Made) → Stands n [] → terms_of n ≡ terms_in (room_of terms) terms
     → renaming_of names ≡ nothing →

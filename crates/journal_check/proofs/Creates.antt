@@ -1,28 +1,19 @@
 -- An entry whose op makes an object, where it is refused, and where there is no room.
-use Rattle.journal_check.proofs.Names.{◌≡◌, ◌↔◌, ◌+◌, ◌≤◌, Bool, true, false, List, [], ◌∷◌, ◌++◌, Option, Some, None, refl, sym, ◌∙◌, ap, subst, arith, length, Decides, IsTrue, MatchBool, IsSome, length-append, ObjectKind, Terms, Op, Reply, Handle, State, opening, Allows, handle_of, NodeEntry, row_of, next, after, after-one, Stands, Renaming, renamed, renamed_op, made_kind, limit_of, is_full_of, is_fresh_of, is_handle, made_in, Follows, refusal_of, CanAnswer, renaming_of, Following, Tells, Laws, room_of, HasFollowed, Same, Judges}
+use Rattle.journal_check.proofs.Names.{◌≡◌, ◌↔◌, ◌+◌, ◌≤◌, Bool, true, false, List, [], ◌∷◌, ◌++◌, Option, Some, None, refl, sym, ◌∙◌, ap, subst, arith, length, Decides, IsTrue, MatchBool, IsSome, length-append, ObjectKind, Terms, Op, Reply, Handle, State, opening, Allows, handle_of, NodeEntry, row_of, next, after, after-one, Stands, Renaming, renamed, renamed_op, made_kind, limit_of, is_full_of, is_fresh_of, is_handle, made_in, Follows, refusal_of, CanAnswer, renaming_of, Following, Tells, Laws, room_of, HasFollowed, Same, Judges, nat_tests, eqb-true, eq-eqb}
 use Rattle.mtapi_values.specs.declared.handles.ObjectKind.TheVariants as kind
 use Rattle.mtapi_machine.specs.declared.ops.Op.TheVariants as op
 use Rattle.node_steps.specs.Stands.{terms_of}
 
 -- the renamed op makes an object of the same kind
 pub renamed_kind : (g : Renaming) (o : Op) → made_kind (renamed_op g o) ≡ made_kind o
-renamed_kind g (op.TaskStart job args priority cores detached group) = refl
-renamed_kind g (op.TaskEnqueue q args cores detached group) = refl
-renamed_kind g o = refl
+renamed_kind g o = grind (arith, nat_tests)
 
 pub makes_some : (g : Renaming) (o : Op) (k : ObjectKind) → made_kind o ≡ Some k → IsSome (made_kind (renamed_op g o))
 makes_some g o k e = subst IsSome (sym (renamed_kind g o ∙ e)) refl
 
 -- no limit is a handle
 pub plain_limit : (k : ObjectKind) → is_handle (limit_of k) ≡ false
-plain_limit kind.Action = refl
-plain_limit kind.Task = refl
-plain_limit kind.Group = refl
-plain_limit kind.Queue = refl
-plain_limit kind.Mutex = refl
-plain_limit kind.Sem = refl
-plain_limit kind.Rwl = refl
-plain_limit kind.Shmem = refl
+plain_limit k = grind (arith, nat_tests)
 
 module _ (w : Laws) (f : Following) (e : NodeEntry) (k : ObjectKind) (makes : made_kind e.op ≡ Some k) where
   -- the node refuses its op as the state refuses the journal's

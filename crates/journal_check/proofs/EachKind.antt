@@ -1,5 +1,5 @@
 -- What holds of one kind and of all others holds of each kind; and what a renaming and other limits leave of each kind.
-use Rattle.journal_check.proofs.Names.{◌≡◌, ℕ, Bool, true, false, cond, List, [], ◌∷◌, length, refl, sym, ◌∙◌, ap, subst, arith, eqb-true, eq-eqb, ◌==◌, ObjectKind, object_number, Listed, Terms, State, Renaming, Room, renamed, made_in, most_of, room_of}
+use Rattle.journal_check.proofs.Names.{◌≡◌, ℕ, Bool, true, false, cond, List, [], ◌∷◌, length, refl, sym, ◌∙◌, ap, subst, arith, eqb-true, eq-eqb, ◌==◌, ObjectKind, object_number, Listed, Terms, State, Renaming, Room, renamed, made_in, most_of, room_of, nat_tests}
 use Rattle.mtapi_values.specs.declared.handles.ObjectKind.TheVariants as kind
 use Rattle.handle_pool.specs.Inside.{inside}
 
@@ -10,14 +10,7 @@ object_of m = cond (m == 1) kind.Action
     (cond (m == 4) kind.Queue (cond (m == 5) kind.Mutex (cond (m == 6) kind.Sem (cond (m == 7) kind.Rwl kind.Shmem))))))
 
 object-number : (k : ObjectKind) → object_of (object_number k) ≡ k
-object-number kind.Action = refl
-object-number kind.Task = refl
-object-number kind.Group = refl
-object-number kind.Queue = refl
-object-number kind.Mutex = refl
-object-number kind.Sem = refl
-object-number kind.Rwl = refl
-object-number kind.Shmem = refl
+object-number k = grind (arith, nat_tests)
 
 same_kind : (j k : ObjectKind) → object_number j ≡ object_number k → j ≡ k
 same_kind j k e = sym (object-number j) ∙ ap object_of e ∙ object-number k
@@ -48,11 +41,4 @@ made-renamed kind.Shmem g x s = length-inside _ _ s.segments
 
 -- and there may be as many
 pub most-renamed : (k : ObjectKind) (g : Renaming) (terms : Terms) (s : State) → s.terms ≡ terms → most_of k (renamed g (room_of terms) s) ≡ most_of k s
-most-renamed kind.Action g terms s e = sym (ap (λ (t : Terms). t.settings.actions) e)
-most-renamed kind.Task g terms s e = sym (ap (λ (t : Terms). t.settings.tasks) e)
-most-renamed kind.Group g terms s e = sym (ap (λ (t : Terms). t.settings.groups) e)
-most-renamed kind.Queue g terms s e = sym (ap (λ (t : Terms). t.settings.queues) e)
-most-renamed kind.Mutex g terms s e = sym (ap (λ (t : Terms). t.settings.objects) e)
-most-renamed kind.Sem g terms s e = sym (ap (λ (t : Terms). t.settings.objects) e)
-most-renamed kind.Rwl g terms s e = sym (ap (λ (t : Terms). t.settings.objects) e)
-most-renamed kind.Shmem g terms s e = sym (ap (λ (t : Terms). t.settings.objects) e)
+most-renamed k g terms s e = grind (arith, nat_tests)

@@ -1,5 +1,5 @@
 -- An entry that ends the object that it names.
-use Rattle.journal_check.proofs.Names.{◌≡◌, ℕ, ◌+◌, ◌≤◌, true, false, cond, List, [], ◌∷◌, ◌++◌, sym, ◌∙◌, ap, subst, ◌==◌, ObjectKind, generation_of, Terms, State, opening, NodeEntry, next, after, after-one, is_live_of, made_in, gone_in, taken_in, AreGone, Following, Made, gone_count, freed_count, of_kind, EndsOne, Laws, HasFollowed, Judges}
+use Rattle.journal_check.proofs.Names.{◌≡◌, ℕ, ◌+◌, ◌≤◌, true, false, cond, List, [], ◌∷◌, ◌++◌, sym, ◌∙◌, ap, subst, ◌==◌, ObjectKind, generation_of, Terms, State, opening, NodeEntry, next, after, after-one, is_live_of, made_in, gone_in, taken_in, AreGone, Following, Made, gone_count, freed_count, of_kind, EndsOne, Laws, HasFollowed, Judges, nat_tests, arith, eqb-true, eq-eqb}
 use Rattle.journal_check.proofs.Ends.{gone_more, freed_more, told_more}
 
 module _ (w : Laws) (f g : Following) (e : NodeEntry) (k : ObjectKind) (h last : ℕ) (made : Made) (judges : Judges f e true g) (same : g.made

@@ -1,5 +1,5 @@
 -- What was noted of objects that aren't live any more, over an entry and where more is known of them.
-use Rattle.journal_check.proofs.Names.{◌≡◌, ℕ, ◌+◌, ◌≤◌, refl, sym, ◌∙◌, ap, subst, arith, ObjectKind, slot_of, State, made_in, gone_in, taken_in, AreGone, Made, MadeOfKind, count_in, last_handles, made_count, gone_count, freed_count, with_ended, of_kind, Ends, Tells}
+use Rattle.journal_check.proofs.Names.{◌≡◌, ℕ, ◌+◌, ◌≤◌, refl, sym, ◌∙◌, ap, subst, arith, ObjectKind, slot_of, State, made_in, gone_in, taken_in, AreGone, Made, MadeOfKind, count_in, last_handles, made_count, gone_count, freed_count, with_ended, of_kind, Ends, Tells, nat_tests, eqb-true, eq-eqb}
 use Rattle.journal_check.proofs.EachKind.{by_kind}
 
 -- in the next state no fewer are gone, and so many more
@@ -53,10 +53,9 @@ module _ {k : ObjectKind} {gone freed : ℕ} {m n : Made} (ends : Ends k gone fr
     lasts = λ i. sym (same_lasts i) ∙ t.lasts i;
     made = λ i. sym (same_made i) ∙ t.made i;
     gone = by_kind (λ (i : ObjectKind). gone_count (of_kind m i) ≤ gone_in i s) k
-        (let a : gone ≤ gone_in k s = subst (λ (x : MadeOfKind). gone_count x ≤ gone_in k s) ends.one (t.gone k) in omega (arith, a, less))
+        (grind (arith, nat_tests, ends.one, t.gone k, less))
         (λ i ne. subst (λ (x : MadeOfKind). gone_count x ≤ gone_in i s) (ends.others i ne) (t.gone i));
     freed = by_kind (λ (i : ObjectKind). freed_count (of_kind m i) + taken_in i s ≤ made_in i s) k
-        (let a : freed + taken_in k s ≤ made_in k s = subst (λ (x : MadeOfKind). freed_count x + taken_in k s ≤ made_in k s) ends.one (t.freed k) in
-        omega (arith, a, few))
+        (grind (arith, nat_tests, ends.one, t.freed k, few))
         (λ i ne. subst (λ (x : MadeOfKind). freed_count x + taken_in i s ≤ made_in i s) (ends.others i ne) (t.freed i));
   }

@@ -1,5 +1,5 @@
 -- An entry whose op makes nothing.
-use Rattle.journal_check.proofs.Names.{◌≡◌, ℕ, ◌≤◌, Bool, true, false, List, [], ◌∷◌, ◌++◌, Option, None, length, refl, sym, ◌∙◌, subst, arith, Decides, ObjectKind, entry, Op, Reply, Picked, State, Allows, after_row, row, NodeEntry, row_of, next, after, PoolNode, Stands, Renaming, renamed, renamed_op, renamed_answer, renamed_reply, made_kind, takes_task, StepRenames, made_in, MakesNone, AreGone, renaming_of, Following, gone_count, freed_count, of_kind, Tells, Laws, room_of, HasFollowed, Judges}
+use Rattle.journal_check.proofs.Names.{◌≡◌, ℕ, ◌≤◌, Bool, true, false, List, [], ◌∷◌, ◌++◌, Option, None, length, refl, sym, ◌∙◌, subst, arith, Decides, ObjectKind, entry, Op, Reply, Picked, State, Allows, after_row, row, NodeEntry, row_of, next, after, PoolNode, Stands, Renaming, renamed, renamed_op, renamed_answer, renamed_reply, made_kind, takes_task, StepRenames, made_in, MakesNone, AreGone, renaming_of, Following, gone_count, freed_count, of_kind, Tells, Laws, room_of, HasFollowed, Judges, nat_tests, eqb-true, eq-eqb}
 use Rattle.mtapi_machine.specs.declared.ops.Op.TheVariants.{Pick}
 use Rattle.node_steps.specs.Stands.{terms_of}
 use Rattle.journal_check.proofs.Goes.{node_allows, mirrors_on, followed_on}
@@ -7,20 +7,15 @@ use Rattle.journal_check.proofs.Ends.{gone_on, freed_on}
 
 -- the renaming leaves whether a worker takes a task
 takes_op : (g : Renaming) (o : Op) (r : Reply) → takes_task (renamed_op g o) r ≡ takes_task o r
-takes_op g Pick r = refl
-takes_op g o r = refl
+takes_op g o r = grind (arith, nat_tests)
 
 takes_answer : (g : Renaming) (k : Option ObjectKind) (o : Op) (r : Reply) → takes_task o (renamed_answer g k r) ≡ takes_task o r
-takes_answer g k Pick (Picked t a x args) = refl
-takes_answer g k Pick r = refl
-takes_answer g k o r = refl
+takes_answer g k o r = grind (arith, nat_tests)
 
 -- where a worker may take some task, what else it may be told is that it takes one
 takes : (w : Laws) (s : State) (who : ℕ) (o : Op) (given r : Reply) → takes_task o given ≡ true → Allows (row s who o given) given → Allows (row s who o r) r
     → takes_task o r ≡ true
-takes w s who Pick (Picked t a x args) r e i j = w.picks s who t a x args r i j
-takes w s who Pick given r e i j = absurd (cc)
-takes w s who o given r e i j = absurd (cc)
+takes w s who o given r e i j = grind (arith, nat_tests, w.picks s who)
 
 -- what was made stays told where nothing is made
 pub tells_none : (w : Laws) (f : Following) (s : State) (who : ℕ) (o : Op) (r : Reply) → made_kind o ≡ None

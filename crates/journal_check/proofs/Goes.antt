@@ -1,5 +1,5 @@
 -- What an entry of the follower's node says, and how a follower comes one entry further.
-use Rattle.journal_check.proofs.Names.{◌≡◌, ℕ, ◌+◌, ◌≤◌, List, [], ◌∷◌, ◌++◌, length, sym, ◌∙◌, ap, subst, arith, length-append, ObjectKind, entry, Terms, Op, Reply, State, opening, Allows, after_row, row, NodeEntry, LegalFrom, next, after, Legal-rest, after-one, PoolNode, Stands, Renaming, terms_in, renamed, Follows, made_in, renaming_of, OtherHandles, Made, Tells, room_of, Mirrors, HasFollowed}
+use Rattle.journal_check.proofs.Names.{◌≡◌, ℕ, ◌+◌, ◌≤◌, List, [], ◌∷◌, ◌++◌, length, sym, ◌∙◌, ap, subst, arith, length-append, ObjectKind, entry, Terms, Op, Reply, State, opening, Allows, after_row, row, NodeEntry, LegalFrom, next, after, Legal-rest, after-one, PoolNode, Stands, Renaming, terms_in, renamed, Follows, made_in, renaming_of, OtherHandles, Made, Tells, room_of, Mirrors, HasFollowed, nat_tests, eqb-true, eq-eqb}
 use Rattle.node_steps.specs.Stands.{terms_of}
 
 module _ (n m : PoolNode) (own : List NodeEntry) (who : ℕ) (o : Op) (given : Reply) (t : terms_of m ≡ terms_of n) where

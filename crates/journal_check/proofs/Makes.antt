@@ -13,36 +13,14 @@ fewer_live alive retired most within e = grind (arith, nat_tests)
 
 -- the generation of the next handle of a slot
 generation_next : (k : ObjectKind) (s : State) (h : ℕ) → is_next_of k s h ≡ true → generation_of h ≡ made_at k s h + 1
-generation_next k s h e =
-    let a = snd_true (names_kind s.terms.layout k h) (nat_le (generation_of h) s.terms.settings.generations && (generation_of h == made_at k s h + 1)) e in
-    eqb-true (generation_of h) (made_at k s h + 1) (snd_true (nat_le (generation_of h) s.terms.settings.generations) (generation_of h == made_at k s h + 1) a)
+generation_next k s h e = grind (arith, nat_tests, snd_true)
 
 -- the new object is told with what was made before
 module _ {m n : Made} {s t : State} {k : ObjectKind} {h : ℕ} (told : Tells m s) (one : MakesOne s t k h) (last : MakesLast s t k h)
     (notes : Notes k s.terms.settings.generations h m n) (generation : generation_of h ≡ made_at k s h + 1)
     (gone : (i : ObjectKind) → AreGone s t i 0 0) where
   count_here : (j : ℕ) → count_in (of_kind n k) (slot_of j) ≡ made_at k t j
-  count_here j = by_slot (slot_of h == slot_of j) refl
-    where
-      by_slot : (b : Bool) → (slot_of h == slot_of j) ≡ b → count_in (of_kind n k) (slot_of j) ≡ made_at k t j
-      by_slot true e =
-          let is : slot_of h ≡ slot_of j = eqb-true (slot_of h) (slot_of j) e in
-          let back : (slot_of j == slot_of h) ≡ true = eq-eqb (slot_of j) (slot_of h) (sym is) in
-          let more : made_at k t j ≡ made_at k s j + 1 = one.slot j ∙ ap (λ (b : Bool). made_at k s j + cond {A = ℕ} b 1 0) e in
-          let same : made_at k s h ≡ made_at k s j = sym (told.counts k h) ∙ ap (count_in (of_kind m k)) is ∙ told.counts k j in
-          let now : count_in (of_kind n k) (slot_of j) ≡ generation_of h =
-          notes.one.counts (slot_of j) ∙ ap (λ (b : Bool). cond {A = ℕ} b (generation_of h) (count_in (of_kind m k) (slot_of j))) back in
-          omega (arith, more, same, now, generation)
-      by_slot false e =
-          let back : (slot_of j == slot_of h) ≡ false = apart (slot_of h) (slot_of j) e in
-          let more : made_at k t j ≡ made_at k s j + 0 = one.slot j ∙ ap (λ (b : Bool). made_at k s j + cond {A = ℕ} b 1 0) e in
-          let same : count_in (of_kind m k) (slot_of j) ≡ made_at k s j = told.counts k j in
-          let now : count_in (of_kind n k) (slot_of j) ≡ count_in (of_kind m k) (slot_of j) =
-          notes.one.counts (slot_of j) ∙ ap (λ (b : Bool). cond {A = ℕ} b (generation_of h) (count_in (of_kind m k) (slot_of j))) back in
-          omega (arith, more, same, now)
-        where
-          apart : (a b : ℕ) → (a == b) ≡ false → (b == a) ≡ false
-          apart a b d = grind (arith, nat_tests)
+  count_here j = grind (arith, nat_tests, one.slot j, told.counts k h, told.counts k j, notes.one.counts (slot_of j))
 
   pub tells_one : Tells n t
   tells_one = record {
@@ -65,10 +43,7 @@ module _ {m n : Made} {s t : State} {k : ObjectKind} {h : ℕ} (told : Tells m s
   }
 
 pub few_one : {s t : State} {k : ObjectKind} {h c : ℕ} → MakesOne s t k h → ((i : ObjectKind) → made_in i s ≤ c) → (i : ObjectKind) → made_in i t ≤ c + 1
-few_one {s} {t} {k} {h} {c} one few =
-    by_kind (λ (i : ObjectKind). made_in i t ≤ c + 1) k (let e : made_in k t ≡ made_in k s + 1 = one.one in let b : made_in k s ≤ c = few k in
-    omega (arith, e, b))
-    (λ i ne. let e : made_in i t ≡ made_in i s = one.others i ne in let b : made_in i s ≤ c = few i in omega (arith, e, b))
+few_one {s} {t} {k} {h} {c} one few = by_kind (λ (i : ObjectKind). made_in i t ≤ c + 1) k (omega (arith, one.one, few k)) (λ i ne. omega (arith, one.others i ne, few i))
 
 module _ (w : Laws) (f : Following) (e : NodeEntry) (k : ObjectKind) (makes : made_kind e.op ≡ Some k)
     (accepted : (L : List NodeEntry) → HasFollowed f L → refusal_of (after f.terms L) e.who e.op ≡ None)

@@ -1,13 +1,6 @@
 -- Prefixes of a list of entries, one entry more, and the first one that isn't legal.
-use Rattle.journal_check.proofs.Names.{◌≡◌, ℕ, ◌+◌, ◌≤◌, ◌<◌, List, [], ◌∷◌, ◌++◌, zero, suc, length, take, drop, get_or, sym, ◌∙◌, ap, subst, arith, take-append-drop, take-take, Terms, opening, NodeEntry, IsNext, LegalFrom, Fits, Legal, after, Legal-rest, Legal-append, Legal-one, Legal-prefix, IsFirstIllegal}
+use Rattle.journal_check.proofs.Names.{◌≡◌, ℕ, ◌+◌, ◌≤◌, ◌<◌, List, [], ◌∷◌, ◌++◌, zero, suc, length, take, drop, get_or, sym, ◌∙◌, ap, subst, arith, take-append-drop, take-take, Terms, opening, NodeEntry, IsNext, LegalFrom, Fits, Legal, after, Legal-rest, Legal-append, Legal-one, Legal-prefix, IsFirstIllegal, nat_tests, eqb-true, eq-eqb}
 use Rattle.std.proofs.lemmas.Grind.{take_at_read}
-
--- terms that no node has: no list is legal
-pub none_legal : (terms : Terms) (L : List NodeEntry) → (Fits terms → ⊥) → IsFirstIllegal terms L 1
-none_legal terms L unfit = record { some = omega arith; illegal = λ h. unfit h.fits; before = λ m one less. absurd (omega (arith, one, less)) }
-
-pub few_callers : (terms : Terms) → terms.callers < 1 → Fits terms → ⊥
-few_callers terms few f = let a : 1 ≤ terms.callers = f.some_caller in omega (arith, a, few)
 
 -- the empty list
 pub empty_legal : (terms : Terms) → Fits terms → Legal terms []

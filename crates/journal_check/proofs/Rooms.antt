@@ -1,5 +1,5 @@
 -- How many of a kind are live, and how many of its last handles aren't, as the node tells it.
-use Rattle.journal_check.proofs.Names.{◌≡◌, ℕ, ◌+◌, ◌≤◌, ◌<◌, Bool, true, false, cond, List, length, refl, sym, ◌∙◌, ap, arith, ◌==◌, ◌-◌, not, take, get_or, nat_tests, ObjectKind, Terms, State, NodeEntry, after, PoolNode, Stands, Renaming, renamed, Follows, live_in, is_live_of, is_full_of, made_in, most_of, lasts_of, gone_of, gone_in, taken_in, renaming_of, Following, Made, of_kind, last_handles, made_count, gone_count, freed_count, Ends, Laws, room_of, Mirrors, HasFollowed, Same}
+use Rattle.journal_check.proofs.Names.{◌≡◌, ℕ, ◌+◌, ◌≤◌, ◌<◌, Bool, true, false, cond, List, length, refl, sym, ◌∙◌, ap, arith, ◌==◌, ◌-◌, not, take, get_or, nat_tests, ObjectKind, Terms, State, NodeEntry, after, PoolNode, Stands, Renaming, renamed, Follows, live_in, is_live_of, is_full_of, made_in, most_of, lasts_of, gone_of, gone_in, taken_in, renaming_of, Following, Made, of_kind, last_handles, made_count, gone_count, freed_count, Ends, Laws, room_of, Mirrors, HasFollowed, Same, eqb-true, eq-eqb}
 use Rattle.node_steps.specs.Stands.{terms_of}
 use Rattle.journal_check.proofs.Lists.{how_many-next}
 use Rattle.journal_check.proofs.Ends.{told_more, told_less}
@@ -31,13 +31,7 @@ module _ (w : Laws) (f : Following) (k : ObjectKind) (most : ℕ) (mosts : (s : 
 
   -- where the live ones and those that are known to be gone take all, it is full
   pub all_taken : (alive : ℕ) → live_in k reached ≡ alive → alive + gone_count (of_kind f.made k) ≡ most → is_full_of k reached ≡ true
-  all_taken alive live all =
-      let gone : gone_count (of_kind f.made k) ≤ gone_in k reached = h.made.gone k in
-      let kept : taken_in k reached ≤ most_of k reached = w.kept f.terms L k in
-      w.room f.terms L k ∙ equal_too (taken_in k reached) (most_of k reached) (omega (arith, live, gone, kept, all, most_of_it))
-    where
-      equal_too : (m n : ℕ) → m ≡ n → (m == n) ≡ true
-      equal_too m n same = grind (arith, nat_tests)
+  all_taken alive live all = grind (arith, nat_tests, w.room f.terms L k, h.made.gone k, w.kept f.terms L k, most_of_it)
 
 module _ (w : Laws) (f : Following) (k : ObjectKind) (alive most : ℕ)
     (lives : (L : List NodeEntry) → Stands f.node L → live_in k (after (terms_of f.node) L) ≡ alive)
@@ -69,12 +63,7 @@ module _ (w : Laws) (f : Following) (k : ObjectKind) (alive most : ℕ)
     gone_here L h = ap (gone_of k (after f.terms L)) (sym (h.made.lasts k)) ∙ goes L h
 
     pub all_made : (L : List NodeEntry) → HasFollowed f L → alive + gone ≤ made_count (of_kind f.made k)
-    all_made L h =
-        let a : gone_in k (after f.terms L) ≡ gone = gone_here L h in
-        let b : live_in k (after f.terms L) ≡ alive = alive_here L h in
-        let c : made_count (of_kind f.made k) ≡ made_in k (after f.terms L) = h.made.made k in
-        let d : taken_in k (after f.terms L) ≤ made_in k (after f.terms L) = (w.gone f.terms L k).made in
-        omega (arith, a, b, c, d)
+    all_made L h = omega (arith, gone_here L h, alive_here L h, h.made.made k, (w.gone f.terms L k).made)
 
     -- they may be kept, and what was kept before was no more
     pub same_gone : (L : List NodeEntry) → HasFollowed f L → (made : Made) → Ends k gone (made_count (of_kind f.made k) - alive - gone) f.made made
@@ -103,21 +92,10 @@ module _ (w : Laws) (f : Following) (k : ObjectKind) (alive most : ℕ)
 
         free : (L : List NodeEntry) → HasFollowed f L
             → (made_count (of_kind f.made k) - alive - gone) + taken_in k (after f.terms L) ≤ made_in k (after f.terms L)
-        free L h =
-            let a : gone_in k (after f.terms L) ≡ gone = gone_here L h in
-            let b : live_in k (after f.terms L) ≡ alive = alive_here L h in
-            let c : made_count (of_kind f.made k) ≡ made_in k (after f.terms L) = h.made.made k in
-            let d : taken_in k (after f.terms L) ≤ made_in k (after f.terms L) = (w.gone f.terms L k).made in
-            omega (arith, a, b, c, d)
+        free L h = omega (arith, gone_here L h, alive_here L h, h.made.made k, (w.gone f.terms L k).made)
 
         known : gone_count (of_kind f.made k) ≤ gone
-        known = let a : gone_in k (after f.terms K) ≡ gone = gone_here K i in let b : gone_count (of_kind f.made k) ≤ gone_in k (after f.terms K) =
-            i.made.gone k in omega (arith, a, b)
+        known = omega (arith, gone_here K i, i.made.gone k)
 
         known_free : freed_count (of_kind f.made k) ≤ made_count (of_kind f.made k) - alive - gone
-        known_free =
-            let a : gone_in k (after f.terms K) ≡ gone = gone_here K i in
-            let b : live_in k (after f.terms K) ≡ alive = alive_here K i in
-            let c : made_count (of_kind f.made k) ≡ made_in k (after f.terms K) = i.made.made k in
-            let d : freed_count (of_kind f.made k) + taken_in k (after f.terms K) ≤ made_in k (after f.terms K) = i.made.freed k in
-            omega (arith, a, b, c, d)
+        known_free = omega (arith, gone_here K i, alive_here K i, i.made.made k, i.made.freed k)

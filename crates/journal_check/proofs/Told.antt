@@ -1,5 +1,5 @@
 -- The verdict of what was told.
-use Rattle.journal_check.proofs.Names.{◌≡◌, ℕ, ◌<◌, List, refl, ap, subst, arith, Terms, NodeEntry, Legal, IsLegal, IsFirstIllegal, IsRun, IsVerdict}
+use Rattle.journal_check.proofs.Names.{◌≡◌, ℕ, ◌<◌, List, refl, ap, subst, arith, Terms, NodeEntry, Legal, IsLegal, IsFirstIllegal, IsRun, IsVerdict, nat_tests, eqb-true, eq-eqb}
 use Rattle.workload_file.specs.declared.workload.Workload.{Workload}
 use Rattle.node_journals.specs.declared.entries.Journal.{Journal}
 use Rattle.journal_check.specs.declared.verdicts.Verdict.TheVariants.{Yes, Illegal, NotRun}
