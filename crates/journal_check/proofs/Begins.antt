@@ -1,29 +1,16 @@
 -- A follower before the first entry; and what an entry needs beside that its row allows its reply.
 use Rattle.journal_check.proofs.Names.{◌≡◌, ℕ, ◌+◌, ◌≤◌, ◌<◌, Bool, false, List, [], refl, sym, ◌∙◌, ap, subst, arith, ObjectKind, slot_of, issued_at, Terms, opening, seats, NodeEntry, IsHonest, after_from, after, PoolNode, Stands, seat_count, OtherHandles, Renaming, nothing, terms_in, renamed, Follows, made_in, made_at, lasts_in, lasts_of, taken_in, renaming_of, Following, Made, count_in, last_handles, made_count, gone_count, freed_count, of_kind, Laws, room_of, HasFollowed, Judges, JudgesNext, nat_tests, eqb-true, eq-eqb}
+use Rattle.mtapi_machine.proofs.EachKind.{at_opening}
 use Rattle.mtapi_values.specs.declared.handles.ObjectKind.TheVariants as kind
 use Rattle.node_steps.specs.Stands.{terms_of}
 
 none_made : (k : ObjectKind) (terms : Terms) (h : ℕ) → made_at k (opening terms) h ≡ 0
 unfolding issued_at
-none_made kind.Action terms h = refl
-none_made kind.Task terms h = refl
-none_made kind.Group terms h = refl
-none_made kind.Queue terms h = refl
-none_made kind.Mutex terms h = refl
-none_made kind.Sem terms h = refl
-none_made kind.Rwl terms h = refl
-none_made kind.Shmem terms h = refl
+none_made k terms h = at_opening (λ T l. issued_at h l ≡ 0) (λ T. refl) terms k
 
 none_last : (k : ObjectKind) (terms : Terms) → lasts_of k (opening terms) ≡ []
 unfolding lasts_in
-none_last kind.Action terms = refl
-none_last kind.Task terms = refl
-none_last kind.Group terms = refl
-none_last kind.Queue terms = refl
-none_last kind.Mutex terms = refl
-none_last kind.Sem terms = refl
-none_last kind.Rwl terms = refl
-none_last kind.Shmem terms = refl
+none_last k terms = at_opening (λ T l. lasts_in terms.settings.generations l ≡ []) (λ T. refl) terms k
 
 none_in : (k : ObjectKind) (terms : Terms) → made_in k (opening terms) ≡ 0
 none_in kind.Action terms = refl

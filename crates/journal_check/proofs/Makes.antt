@@ -43,7 +43,8 @@ module _ {m n : Made} {s t : State} {k : ObjectKind} {h : ℕ} (told : Tells m s
   }
 
 pub few_one : {s t : State} {k : ObjectKind} {h c : ℕ} → MakesOne s t k h → ((i : ObjectKind) → made_in i s ≤ c) → (i : ObjectKind) → made_in i t ≤ c + 1
-few_one {s} {t} {k} {h} {c} one few = by_kind (λ (i : ObjectKind). made_in i t ≤ c + 1) k (omega (arith, one.one, few k)) (λ i ne. omega (arith, one.others i ne, few i))
+few_one {s} {t} {k} {h} {c} one few = by_kind (λ (i : ObjectKind). made_in i t
+    ≤ c + 1) k (omega (arith, one.one, few k)) (λ i ne. omega (arith, one.others i ne, few i))
 
 module _ (w : Laws) (f : Following) (e : NodeEntry) (k : ObjectKind) (makes : made_kind e.op ≡ Some k)
     (accepted : (L : List NodeEntry) → HasFollowed f L → refusal_of (after f.terms L) e.who e.op ≡ None)

@@ -1,6 +1,7 @@
 -- Prefixes of a list of entries, one entry more, and the first one that isn't legal.
 use Rattle.journal_check.proofs.Names.{◌≡◌, ℕ, ◌+◌, ◌≤◌, ◌<◌, List, [], ◌∷◌, ◌++◌, zero, suc, length, take, drop, get_or, sym, ◌∙◌, ap, subst, arith, take-append-drop, take-take, Terms, opening, NodeEntry, IsNext, LegalFrom, Fits, Legal, after, Legal-rest, Legal-append, Legal-one, Legal-prefix, IsFirstIllegal, nat_tests, eqb-true, eq-eqb}
 use Rattle.std.proofs.lemmas.Grind.{take_at_read}
+use Rattle.std.proofs.lemmas.List.{length-take}
 
 -- the empty list
 pub empty_legal : (terms : Terms) → Fits terms → Legal terms []
@@ -36,7 +37,4 @@ pub legal_front : (terms : Terms) (es : List NodeEntry) (n : ℕ) → Legal term
 legal_front terms es n h = Legal-prefix terms (take n es) (drop n es) (subst (Legal terms) (sym (take-append-drop n es)) h)
 
 pub short_take : (es : List NodeEntry) (i : ℕ) → length (take i es) ≤ length es
-short_take [] zero = omega arith
-short_take [] (suc i) = omega arith
-short_take (e ∷ es) zero = omega arith
-short_take (e ∷ es) (suc i) = let a : length (take i es) ≤ length es = short_take es i in omega (arith, a)
+short_take es i = omega (arith, length-take i es)
