@@ -108,7 +108,7 @@ sort_ages : (k : Sort) (K : Fields k → Fields k → Type 0) → ((x : Fields k
     → ((h : ℕ) (x : Fields k) → makes_of_sort k o ≡ true → is_fresh (all_of k) s h ≡ true → Q ((all_of k).list s) → Q (issue h x ((all_of k).list s)))
     → ((m : List (Listed (Fields k))) → AgesEach K ((all_of k).list s) m → Q ((all_of k).list s) → Q m)
     → (m : Move) → IsMade s o m → Q ((all_of k).list s) → Q ((all_of k).list (apply m s))
-sort_ages k K same s o alter Q new old m e v = grind (arith, nat_tests, sort_move k s o Q, each_change K same, fields_age K, gone_ages K same, with_fields, all_of)
+sort_ages k K same s o alter Q new old m e v = grind (arith, nat_tests, sort_move k s o Q, each_change K same, fields_age K, gone_ages K same)
 
 -- an op whose move makes an object is one that makes it
 

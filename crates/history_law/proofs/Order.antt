@@ -200,7 +200,7 @@ later s u g a b ms ns v w l = from_at g v.number u.tasks b w.task l.all w.found 
 
 in_order : (s u t : State) (g a b : ℕ) (ms ns : List Move) → (v : Gave s g a ms) → (w : Gave u g b ns) → Left g v.number u → Gone kind.Task a u.tasks
     → Numbered t → number_at t.tasks a ≡ Some v.number → number_at t.tasks b ≡ Some w.number → EndedBefore t a b
-in_order s u t g a b ms ns v w l d m x y = grind (arith, nat_tests, later s u g a b ms ns v w l, same_task t.tasks a b v.number (m.once v.number) x, m.once v.number, eqb-true v.number w.number, dead_none a u.tasks d.dead, nat_tests, is_some, live_object, true_false)
+in_order s u t g a b ms ns v w l d m x y = grind (arith, nat_tests, later s u g a b ms ns v w l, same_task t.tasks a b v.number, m.once v.number, dead_none a u.tasks d.dead, true_false)
 
 pub given_in_order : (terms : Terms) (es : List NodeEntry) (g : ℕ) → Legal terms es → GivenInOrder terms es g
 unfolding LegalFrom after_from

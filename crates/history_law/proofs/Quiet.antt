@@ -146,7 +146,7 @@ abbrev closing : State → Move
 closing s = ends_waiting (is_shut_in s.queues) Cancelled
 
 on_close : (s : State) → IsCalm s → IsCalm (apply (closing s) s)
-on_close s v = grind (arith, nat_tests, every_steps (Goes s.actions) s (closing s) s.tasks, tasks_go s (closing s), none_shut s.queues, true_false, snd_true, is_unstarted)
+on_close s v = grind (arith, nat_tests, every_steps (Goes s.actions) s (closing s) s.tasks, tasks_go s (closing s), none_shut s.queues)
 
 by_answer : (s : State) (who : ℕ) (o : Op) (r : Reply) (ms : List Move) → IsHonest o → IsCalm s → is_special o ≡ true → Answers s who o r ms
     → IsCalm (after_moves ms s)

@@ -47,4 +47,4 @@ unfolding started after_from live_of issue change listed issued_at retired is_fu
 one_then = refl
 
 pub fields_refuse : FieldsRefuse
-fields_refuse = grind (arith, nat_tests, has, two_are, not_found, not_live, other_worker, is_watch, other_kind, has_arguments, not_one, true_false, none_runs, one_then)
+fields_refuse = grind (arith, nat_tests, has, two_are, not_found, not_live, other_worker, is_watch, other_kind, has_arguments, not_one, none_runs, one_then)

@@ -117,7 +117,7 @@ beside_issue _ h s who _ _ _ e n _ = true_false e refl
 
 -- so no entry lists the handle but the one that issues it
 unissued : (k : ObjectKind) (h : ℕ) (s : State) (e : NodeEntry) → IsNext s e → issues k h e ≡ false → times k h (next s e) ≡ times k h s
-unissued k h s e i n = grind (arith, nat_tests, beside_issue k h s e.who e.op e.reply, answered s e.who e.op e.reply i.allowed, listed_same k h s e, on_test, is_handle, makes_object)
+unissued k h s e i n = grind (arith, nat_tests, beside_issue k h s e.who e.op e.reply, answered s e.who e.op e.reply i.allowed, listed_same k h s e)
 
 pub none_listed : (k : ObjectKind) (h : ℕ) (s : State) (L : List NodeEntry) → LegalFrom s L → times k h s ≡ 0 → some_entry (issues k h) L ≡ false
     → times k h (after_from s L) ≡ 0
@@ -199,4 +199,4 @@ issued_names T k h s [] same two l i = absurd (cc)
 issued_names T k h s (e ∷ es) same two l i = grind (arith, nat_tests, names_two T k h s same two, issues_fresh k s e h l.0, issued_names T k h (next s e) es (terms_next T s e same) two l.1, terms_next T s e same, on_test, some_entry, named_kind, object_number)
 
 pub not_in_both : (terms : Terms) (es : List NodeEntry) (a b : ObjectKind) (h : ℕ) → Legal terms es → NotInBoth terms.layout terms es a b h
-not_in_both terms es a b h legal two apart = grind (arith, nat_tests, eq-eqb (object_number a) (object_number b), named_after terms es a h two, named_after terms es b h two, issued_names terms a h (opening terms) es refl two legal.from, issued_names terms b h (opening terms) es refl two legal.from, true_false, object_number)
+not_in_both terms es a b h legal two apart = grind (arith, nat_tests, eq-eqb (object_number a), named_after terms es a h, named_after terms es b h, issued_names terms a h, issued_names terms b h)

@@ -144,7 +144,7 @@ by_answer s who o _ _ i (is.looks_last t x e u d) = (waits s who o t.0 None x e 
 by_answer s who _ _ _ i (is.cancels_waiting t x e d) = grind (arith, nat_tests, kind_number)
 by_answer s who _ _ _ i (is.cancels_running t x w k e d) = grind (arith, nat_tests)
 -- a member that has left its group has still ended
-by_answer s who _ _ _ i (is.any_given g last v y ys t z n a b e d) = grind (arith, nat_tests, at-update y.task (with_notes in_no_group) t s.tasks e, with_notes, in_no_group, is_none, end_of)
+by_answer s who _ _ _ i (is.any_given g last v y ys t z n a b e d) = grind (arith, nat_tests, at-update y.task (with_notes in_no_group) t s.tasks e)
 by_answer s who _ _ _ i (is.picks t a x y b n e d j k l) = ((x, e, ready_unstarted s x j, refl, n), tt)
 by_answer s who _ _ _ i (is.finishes t f x k u) =
     ((x, k.found, inr (as_on who f.kind x.state k.runs), inl (done_late f i), inr (λ w. another_kind who w f.kind x (pure_number f.kind i.pure) k.runs)), tt)
@@ -158,7 +158,7 @@ by_answer s who _ _ _ i (is.tally_reads t x y k z e) =
     ((x, k.found, does who (tally_read (cell_of (cell_in (tally_args x.args)) y)) x (as_on who kind.Tally x.state k.runs) (λ w. w), reads _ refl z refl), tt)
 by_answer s who _ _ _ i (is.tally_writes t value x y k z e) = grind (arith, nat_tests, does who tally_written x, as_on who)
 by_answer s who _ _ _ i (is.tally_ends_failed t x k z) = ((x, k.found, inr (as_on who kind.Tally x.state k.runs), inr refl, inl (eq-eqb t.0 t.0 refl)), tt)
-by_answer s who _ _ _ i (is.tally_ends t x y z k e d f g) = grind (arith, nat_tests, as_on who, back_late (x.notes.tally.stage == 2) (added x), eq-eqb t.0 t.0 refl)
+by_answer s who _ _ _ i (is.tally_ends t x y z k e d f g) = grind (arith, nat_tests, as_on who, back_late (x.notes.tally.stage == 2) (added x))
 by_answer s who _ _ _ i (is.creates_mutex id recursive h n f) = (n, tt)
 by_answer s who _ _ _ i (is.locks_mutex h last x k b) = ((λ y. refl), tt)
 by_answer s who _ _ _ i (is.unlocks_mutex h key x k) = ((λ y. refl), tt)

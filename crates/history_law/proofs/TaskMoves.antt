@@ -66,7 +66,7 @@ step_stays Q who h o c s r _ _ (step.noted j f b i e) k a d v =
     let same : k.0 ≡ r.fields =
     some_same (sym k.1 ∙ e) in
     (a, c.notes f r.fields (subst (Noted who f) same k.2) (subst (λ (t : Task). Does o t.notes.tally (f t.notes).tally) same k.3) v)
-step_stays Q who h o c s r _ _ (step.goes j b i e) k a d v = grind (arith, nat_tests, some_same (sym k.1 ∙ e), c.leaves r.fields, is_any_look o, is_unended, is_other)
+step_stays Q who h o c s r _ _ (step.goes j b i e) k a d v = grind (arith, nat_tests, c.leaves r.fields, is_any_look o)
 step_stays Q who h o c s r _ _ (step.freed_of g b u) k a d v = absurd (c.frees g r.fields (fst_true _ _ u) (not_true _ (snd_true (is_member g r.fields) _ u)) v)
 step_stays Q who h o c s r _ _ (step.let_go_of g b u) k a d v = c.lets_go g r u a v
 

@@ -69,7 +69,7 @@ runs_on_its w x t h = ap (λ (y : TaskState). holds (λ r. r.0 == w) (runner y))
 
 -- a task that ends leaves its worker free
 pub ends_free : (s : State) (w h : ℕ) (x : Work) (v : Holds s w h x) (e : TaskEnd) (n : ℕ) → count_listed (runs_on w) (change h (ended e n) s.tasks) ≡ 0
-ends_free s w h x v e n = grind (arith, nat_tests, count_changed (runs_on w) h (ended e n) false s.tasks v.task v.found, runs_on_its w x v.task v.runs, runs_on, and-false)
+ends_free s w h x v e n = grind (arith, nat_tests, count_changed (runs_on w) h (ended e n) false s.tasks v.task v.found, runs_on_its w x v.task v.runs)
 
 pub same_list : (xs ys : List ℤ) → ys ≡ xs → pointwise int_eq xs ys ≡ true
 same_list xs ys e = (slice_eq-Decides Decides-int_eq xs ys (pointwise int_eq xs ys) refl).1 (sym e)
@@ -82,7 +82,7 @@ found_goes s x t i r f e1 e2 = grind (arith, nat_tests, nat_tests)
 pub own_goes : (s : State) (w h : ℕ) (x : Work) (v : Holds s w h x) (r : Reply) (f : Task → Row) → w < workers s
     → Allows (unless (not (nat_lt w (workers s))) (Mtapi m.ErrParameter) (live (live_object s.tasks h) (says tasks.invalid) f)) r
     → Goes s (unless (not (nat_lt w (workers s))) (Mtapi m.ErrParameter) (live (live_object s.tasks h) (says tasks.invalid) f)) r (f v.task)
-own_goes s w h x v r f l a = grind (arith, nat_tests, small_not w (workers s) l, goes_then s, found_goes s (live_object s.tasks h) v.task (says tasks.invalid) r f v.found, nat_lt, live_object)
+own_goes s w h x v r f l a = grind (arith, nat_tests, small_not w (workers s) l, goes_then s)
 
 pub record Finished (r : Reply) (w : ℕ) (u : State) : Type 0 where
   pub reply : r ≡ Ok

@@ -48,7 +48,7 @@ tied_step n who b l k p q x y f g t a i = grind (arith, nat_tests, owns_step, id
 -- after an end of a tally no task runs on its worker
 none_then : (s : State) (who t : ℕ) (x : Task) (e : TaskEnd) → AtMostOne who s → HasTask s who t x kinds.Tally
     → count_listed (runs_on who) (change t (ended e s.ends) s.tasks) ≡ 0
-none_then s who t x e one k = grind (arith, nat_tests, count_changed (runs_on who) t (ended e s.ends) false s.tasks x k.found, as_on who x.state k.runs, runs_on, and-false, one_if, count_listed)
+none_then s who t x e one k = grind (arith, nat_tests, count_changed (runs_on who) t (ended e s.ends) false s.tasks x k.found, as_on who x.state k.runs)
 
 end_counts : (s : State) (who : ℕ) (o : Op) (r : Reply) (ms : List Move) → AtMostOne who s → is_ending o r ≡ true → Answers s who o r ms
     → count_listed (runs_on who) (after_moves ms s).tasks ≡ 0

@@ -65,7 +65,7 @@ one_owner ms i v w h k c a b = grind (arith, nat_tests, live_object, one_passes,
 
 pub ids_move : (i who : ℕ) (o : Op) (s : State) (x : Move) → IsMade s o x → May s who o x → count_listed (HasId i) s.mutexes ≤ 1
     → count_listed (HasId i) (apply x s).mutexes ≤ 1
-ids_move i who o s (makes Mutexes j x) e k v = grind (arith, nat_tests, none_count (HasId x.id) s.mutexes k, eqb-true x.id i, count_issued (HasId i) j x s.mutexes, on_test, count_listed)
+ids_move i who o s (makes Mutexes j x) e k v = grind (arith, nat_tests, none_count (HasId x.id) s.mutexes k, count_issued (HasId i) j x s.mutexes)
 ids_move i who o s (alters Mutexes j f) e k v =
     let t = shown (live_object s.mutexes j) e.may in
     let c = count_changed (HasId i) j (with_fields f) (HasId i t.0) s.mutexes t.0 t.1 (λ r a q. (λ z. a z && (k r.fields z == i)) ∙ ap (HasId i) q) in

@@ -77,7 +77,7 @@ module _ (S C id n : ℕ) where
     back_right x z c e1 = grind (arith, nat_tests)
 
     noted_runs : (t : ℕ) (x : Task) (f : Notes → Notes) → HasTask s who t x kinds.Tally → Every (EndsRight S C) (change t (with_fields (with_notes f)) s.tasks)
-    noted_runs t x f k = grind (arith, nat_tests, every_change (EndsRight S C) t (with_fields (with_notes f)), with_fields, with_notes, true_false, runs_on, some_same, as_on, runs_over)
+    noted_runs t x f k = grind (arith, nat_tests, every_change (EndsRight S C) t (with_fields (with_notes f)), as_on, runs_over)
 
     right_by : (o : Op) (r : Reply) (ms : List Move) → is_end_op o || is_tally_lock o ≡ true → Answers s who o r ms
         → Every (EndsRight S C) (after_moves ms s).tasks
@@ -136,7 +136,7 @@ module _ (S C id n : ℕ) where
 
         by_cells : (o : Option (List ℤ)) → cells_of S C s.segments ≡ o → Sum S C o s.tasks → Sum S C (cells_of S C s.segments) now
         by_cells None k u = sum_cells S C s _ _ now (sym k) tt
-        by_cells (Some c) k u = grind (arith, nat_tests, sum_cells S C, weight S C, reads_it c k, adds S C, now, same_sum, every_change, sum_of, with_fields, with_notes, with_tally, tally_read)
+        by_cells (Some c) k u = grind (arith, nat_tests, sum_cells S C, weight S C, reads_it c k, adds S C, now, same_sum, every_change)
 
     -- a tally writes to another cell
     write_other : (t : ℕ) (value : ℤ) (x : Task) (y : Segment) → live_object s.tasks t ≡ Some x → (x.notes.tally.stage == 2) ≡ true
@@ -150,7 +150,7 @@ module _ (S C id n : ℕ) where
         (other_cell S C s x.notes.tally.segment (cell_in (tally_args x.args)) value y s.tasks v.good.once_segments f a v.sum)
       where
         same_sum : sum_of (weight S C) (change t (with_fields (with_notes (with_tally tally_written))) s.tasks) ≡ sum_of (weight S C) s.tasks
-        same_sum = grind (arith, nat_tests, sum_change (weight S C), weight S C, weigh_off S C, weigh_early S C, with_fields, with_notes, with_tally, tally_written, some_same, cell_in, tally_args)
+        same_sum = grind (arith, nat_tests, sum_change (weight S C), weight S C, weigh_off S C, weigh_early S C)
 
     -- no other task that adds to the cell has read and not written: it would own the same mutex
     alone : (x u : Task) → adds S C x.notes.tally x.args ≡ true → runs_on who x ≡ true → Tied n s.mutexes s.segments x → mutex_in (tally_args x.args) ≡ id
@@ -192,7 +192,7 @@ module _ (S C id n : ℕ) where
         old i = let u : Sum S C (Some y.cells) s.tasks = sum_cells S C s _ _ s.tasks (cells_here x y a f) v.sum in let z = u (inside i) in (inside i, z.0, z.1)
 
         heavier : (r : Listed Task) → r.fields ≡ x → weight S C (with_notes (with_tally tally_written) r.fields) ≡ weight S C r.fields +ℤ number
-        heavier r same = grind (arith, nat_tests, weigh_early S C r.fields.notes.tally r.fields.args 2, weight S C, cell_in, tally_args, snd_true, has_both, with_notes, with_tally, tally_written)
+        heavier r same = grind (arith, nat_tests, weigh_early S C r.fields.notes.tally r.fields.args 2, weight S C, has_both)
 
         more : sum_of (weight S C) now ≡ sum_of (weight S C) s.tasks +ℤ number
         more = sum_more (weight S C) number t (with_fields (with_notes (with_tally tally_written))) s.tasks x e heavier
@@ -225,7 +225,7 @@ module _ (S C id n : ℕ) where
         → value ≡ added x → live_object s.segments x.notes.tally.segment ≡ Some y
         → Sum S C (cells_of S C (update x.notes.tally.segment (with_cell (cell_in (tally_args x.args)) value) s.segments))
         (change t (with_fields (with_notes (with_tally tally_written))) s.tasks)
-    write_sum t value x y e k d w f = grind (arith, nat_tests, write_here t value x y e k d w f, write_other t value x y e d f, eqb-true x.notes.tally.stage 2 d, cell_in, tally_args, has_both)
+    write_sum t value x y e k d w f = grind (arith, nat_tests, write_here t value x y e k d w f, write_other t value x y e d f, has_both)
 
     abbrev moves_sum : Op → Bool
     moves_sum (op.ShmemCreate i2 cells) = true
@@ -240,7 +240,7 @@ module _ (S C id n : ℕ) where
     sum_by _ _ _ l f (is.creates_segment i2 cells h e j) = create_sum S C s h (new_segment i2 cells) cells refl (fresh_unlisted kind.Shmem s h j) v.known v.sum
     sum_by _ _ _ l f (is.writes_cell h c value x k) = grind (arith, nat_tests, other_cell S C, and-true ((h.0 == S) && (c == C)))
     sum_by _ _ _ l f (is.tally_reads t x y k z e) = read_sum t.0 x y k.found z e
-    sum_by _ _ _ l f (is.tally_writes t value x y k z e) = grind (arith, nat_tests, write_sum t.0 value x y k.found, Decides-int_eq value (added x), as_on, not_false, first_false, second_false)
+    sum_by _ _ _ l f (is.tally_writes t value x y k z e) = grind (arith, nat_tests, write_sum t.0 value x y k.found, Decides-int_eq value (added x), as_on)
     sum_by _ _ _ l f _ = true_false l refl
 
     sum_row : (o : Op) (r : Reply) → IsNext s (entry who o r) → KeepsPremises s (entry who o r)

@@ -59,7 +59,7 @@ one_move w who o s (runs_task j y z) k v = whether (y == w)
     as_runs : (b : Bool) → (y == w) ≡ b → count_listed (runs_on w) (apply (runs_task j y z) s).tasks + cond (runs_on w k.0) 1 0
         ≡ count_listed (runs_on w) s.tasks + cond b 1 0
     as_runs b e = count_changed (runs_on w) j (with_fields (with_state (Running y z))) b s.tasks k.0 k.1 (λ r a f. ap (λ (c : Bool). c && (y == w)) a ∙ e)
-one_move w who o s (ends_task j e) k v = grind (arith, nat_tests, count_changed (runs_on w) j (ended e s.ends) false s.tasks k.0 k.1, runs_on, and-false, count_listed)
+one_move w who o s (ends_task j e) k v = grind (arith, nat_tests, count_changed (runs_on w) j (ended e s.ends) false s.tasks k.0 k.1, and-false)
 one_move w who o s x k v = subst (λ (n : ℕ). n ≤ 1) (sym (other_count w who o s x refl k)) v
 
 -- where one task runs on a worker, after its end none of those that were listed does
