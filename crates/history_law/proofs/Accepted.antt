@@ -42,14 +42,24 @@ stands_after terms L = after_stands terms (opening terms) L (opening_stands term
 pub all_after : (terms : Terms) (A B : List NodeEntry) (main : ℕ) → Legal terms (A ++ entry main op.Final Ok ∷ B)
     → AllEnded (after terms (A ++ entry main op.Final Ok ∷ B)).tasks
 unfolding LegalFrom
-all_after terms A B main h = grind (arith, nat_tests, Legal-rest (opening terms) A, stands_after terms, final_stopped terms (after terms A), after-append, after_stopped (after terms A))
+all_after terms A B main h =
+    grind (arith, nat_tests, Legal-rest (opening terms) A, stands_after terms, final_stopped terms (after terms A), after-append, after_stopped (after terms A))
 
 -- The law
 
 listed_after : (terms : Terms) (P Q : List NodeEntry) (e : NodeEntry) (h : ℕ) → LegalFrom (opening terms) (P ++ e ∷ Q) → accepted e ≡ Some h
     → 1 ≤ listed h (after terms (P ++ e ∷ Q)).tasks
 unfolding LegalFrom after_from
-listed_after terms P Q e h l i = grind (arith, nat_tests, Legal-rest (opening terms) P (e ∷ Q) l, next_lists (after terms P) e h, grows_listed h, after_grows (next (after terms P) e), after-append)
+listed_after terms P Q e h l i = grind (
+  arith,
+  nat_tests,
+  Legal-rest (opening terms) P (e
+      ∷ Q) l,
+  next_lists (after terms P) e h,
+  grows_listed h,
+  after_grows (next (after terms P) e),
+  after-append,
+)
 
 pub shown : {A : Type 0} (o : Option A) → IsSome o → (x : A) × (o ≡ Some x)
 shown o e1 = grind (arith, nat_tests)

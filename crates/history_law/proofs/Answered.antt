@@ -25,4 +25,3 @@ second_false a b e1 = grind (arith, nat_tests)
 pub none_first : (a b : Bool) → cond a true b ≡ false → (a ≡ false) × (b ≡ false)
 none_first true b e = true_false refl e
 none_first false b e = (refl, e)
-

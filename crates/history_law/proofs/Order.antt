@@ -121,7 +121,10 @@ ends_rise n s (withdraws h f c) l = omega arith
 ends_rise n s m l = rest_keeps (λ t. n ≤ t.ends) (λ t g q y c r z p. p) m s l
 
 left_move : (g n who : ℕ) (o : Op) (s : State) (x : Move) → May s who o x → Left g n s → Left g n (apply x s)
-left_move g n who o s x k v = record { next = ends_rise n s x v.next; all = each_steps (From g n) s x s.tasks _ (λ h t i a b p q. none_some q) (λ r q y. from_step g n who o s r x q y k v.next) (tasks_go s x) v.all }
+left_move g n who o s x k v = record {
+  next = ends_rise n s x v.next;
+  all = each_steps (From g n) s x s.tasks _ (λ h t i a b p q. none_some q) (λ r q y. from_step g n who o s r x q y k v.next) (tasks_go s x) v.all;
+}
 
 left_along : (g n : ℕ) (s : State) (L : List NodeEntry) → LegalFrom s L → Left g n s → Left g n (after_from s L)
 left_along g n s L l v = kept_along (Left g n) (λ t e i. by_moves (Left g n) t e i (left_move g n e.who e.op)) s L l v
@@ -192,7 +195,8 @@ gave_number s g h ms L o v = grows_number h v.number s.tasks (after_from s L).ta
     ∙ ap number_in v.over)
 
 gave_below : (s : State) (g h : ℕ) (ms : List Move) → OnceIn s.tasks → Numbered s → (v : Gave s g h ms) → v.number ≤ s.ends
-gave_below s g h ms o u v = grind (arith, nat_tests, u.above v.number, number_counts s.tasks h v.number (number_found s.tasks h v.task o v.found ∙ ap number_in v.over))
+gave_below s g h ms o u v =
+    grind (arith, nat_tests, u.above v.number, number_counts s.tasks h v.number (number_found s.tasks h v.task o v.found ∙ ap number_in v.over))
 
 -- a task that is given later ended later
 later : (s u : State) (g a b : ℕ) (ms ns : List Move) → (v : Gave s g a ms) → (w : Gave u g b ns) → Left g v.number u → v.number ≤ w.number
@@ -200,7 +204,8 @@ later s u g a b ms ns v w l = from_at g v.number u.tasks b w.task l.all w.found 
 
 in_order : (s u t : State) (g a b : ℕ) (ms ns : List Move) → (v : Gave s g a ms) → (w : Gave u g b ns) → Left g v.number u → Gone kind.Task a u.tasks
     → Numbered t → number_at t.tasks a ≡ Some v.number → number_at t.tasks b ≡ Some w.number → EndedBefore t a b
-in_order s u t g a b ms ns v w l d m x y = grind (arith, nat_tests, later s u g a b ms ns v w l, same_task t.tasks a b v.number, m.once v.number, dead_none a u.tasks d.dead, true_false)
+in_order s u t g a b ms ns v w l d m x y =
+    grind (arith, nat_tests, later s u g a b ms ns v w l, same_task t.tasks a b v.number, m.once v.number, dead_none a u.tasks d.dead, true_false)
 
 pub given_in_order : (terms : Terms) (es : List NodeEntry) (g : ℕ) → Legal terms es → GivenInOrder terms es g
 unfolding LegalFrom after_from

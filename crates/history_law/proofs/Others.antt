@@ -68,7 +68,8 @@ other_count w who o s x n k = grind (arith, nat_tests, other_step w who o s, tas
 
 work_step : (w who : ℕ) (o : Op) → who ≢ w → (s : State) (r : Listed Task) (m : Move) (q : Listed Task) → Step s r m q → May s who o m
     → (q.live && runs_on w q.fields) ≡ (r.live && runs_on w r.fields)
-work_step w who o e1 s r m q e2 e3 = grind (arith, nat_tests, runs_scheduled w r.fields, not_live r.live, may_end_apart w who r.fields, other_step w who o s r m q, apart_seats, some_same)
+work_step w who o e1 s r m q e2 e3 = grind
+    (arith, nat_tests, runs_scheduled w r.fields, not_live r.live, may_end_apart w who r.fields, other_step w who o s r m q, apart_seats, some_same)
 
 work_count : (w who : ℕ) (o : Op) → who ≢ w → (s : State) (x : Move) → May s who o x
     → count_listed (runs_on w) (apply x s).tasks ≡ count_listed (runs_on w) s.tasks

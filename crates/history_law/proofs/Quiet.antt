@@ -119,8 +119,8 @@ calm_move o q n s m e v = grind (arith, nat_tests, every_steps (Goes s.actions) 
 -- a task that is taken
 takes : (s : State) (w t a : ℕ) (x : Task) (y : Action) → IsCalm s → live_object s.tasks t ≡ Some x → live_object s.actions a ≡ Some y
     → is_eligible (workers s) w x.job x.cores y ≡ true → IsCalm (apply (runs_task t w y.kind) s)
-takes s w t a x y v e d m = grind (arith, nat_tests, every_change (Goes s.actions) t, eqb-true y.job x.job, snd_true y.enabled, fst_true (has_enabled_job x.job y), fst_true (has_enabled_job x.job y
-        && nat_lt w (workers s)), fst_true (has_enabled_job x.job y && nat_lt w (workers s) && in_mask w y.cores), every_at IsPure s.actions a y v.pure d, with_fields, with_state, some_same, has_enabled_job, nat_lt)
+takes s w t a x y v e d m =
+    grind (arith, nat_tests, every_change (Goes s.actions) t, eqb-true y.job x.job, every_at IsPure s.actions a y v.pure d, some_same)
 
 -- a task that runs as this kind has the kind of an action of its job
 running : (actions : List (Listed Action)) (w : ℕ) (k : Kind) (t : Task) → Goes actions t → runs_as w k t ≡ true → HasPure actions t.job k

@@ -80,12 +80,16 @@ refuses_tally_mutex f =
     (record { task = task h1; before = begins; since = caller_gets; cut = refl; got = tally_has_it; unended = refl })) (inl held))
 
 refuses_beside : RwlsKeepTo (makes_rwl ∷ reads_beside) → ⊥
-refuses_beside f = grind (arith, nat_tests, (f (makes_rwl ∷ reads_beside) [] first_handle refl).held 2
-    (record { before = []; by = makes_rwl; behind = reads_beside; cut = refl; issued = refl; limited = refl }))
+refuses_beside f =
+    let made : MadeWith object.Rwl (makes_rwl ∷ reads_beside) first_handle 2 =
+    record { before = []; by = makes_rwl; behind = _; cut = refl; issued = refl; limited = refl } in
+    grind (arith, nat_tests, (f (makes_rwl ∷ reads_beside) [] first_handle refl).held 2 made)
 
 refuses_readers : RwlsKeepTo three_read → ⊥
-refuses_readers f = grind (arith, nat_tests, (f three_read [] first_handle refl).held 2
-    (record { before = []; by = makes_rwl; behind = _; cut = refl; issued = refl; limited = refl }))
+refuses_readers f =
+    let made : MadeWith object.Rwl three_read first_handle 2 =
+    record { before = []; by = makes_rwl; behind = _; cut = refl; issued = refl; limited = refl } in
+    grind (arith, nat_tests, (f three_read [] first_handle refl).held 2 made)
 
 -- a cell of that segment holds 9
 abbrev nine : Segment
@@ -136,12 +140,14 @@ laws_refuse = record {
   end_after_close = refuses_close;
   no_reuse = refuses_reuse;
   kind = λ terms f. (f refl refl).entries refl refl;
-  affinity = λ f. let prefix : List NodeEntry = main (op.ActionCreate 1 kind.Add second_core) (reply.Handle first_handle) ∷ main (add_task 0) (reply.Handle first_handle)
+  affinity = λ f. let prefix : List NodeEntry =
+      main (op.ActionCreate 1 kind.Add second_core) (reply.Handle first_handle) ∷ main (add_task 0) (reply.Handle first_handle)
       ∷ [] in
       let x = f prefix [] 0 (task first_handle) the_action kind.Add (pos 2 ∷ pos 3 ∷ []) refl refl in
       true_false (sym (x.action [] (main (add_task 0) (reply.Handle first_handle)
       ∷ []) (main (op.ActionCreate 1 kind.Add second_core) (reply.Handle first_handle)) 2 refl refl refl));
-  group_order = λ f. let x : EndedBefore (after usual given_twice) first_handle first_handle = f [] [] [] gives_first gives_first first_handle first_handle refl refl refl in
+  group_order = λ f. let x : EndedBefore (after usual given_twice) first_handle first_handle =
+      f [] [] [] gives_first gives_first first_handle first_handle refl refl refl in
       let same : x.first ≡ x.second = some_same (sym x.first_end ∙ x.second_end) in
       let less : x.first < x.second = x.less in
       omega arith;

@@ -114,4 +114,19 @@ nothing_there [] e B k = cc
 nothing_there (x ∷ A) e B k = cc
 
 pub causes_refuse : CausesRefuse
-causes_refuse = grind (arith, nat_tests, needs, no_other, deleted_served, disabled_served, shut, tally_failed, tally_verdict, tally_fits, tally_unwritten, tally_sum, nothing_there, computed)
+causes_refuse = grind (
+  arith,
+  nat_tests,
+  needs,
+  no_other,
+  deleted_served,
+  disabled_served,
+  shut,
+  tally_failed,
+  tally_verdict,
+  tally_fits,
+  tally_unwritten,
+  tally_sum,
+  nothing_there,
+  computed,
+)

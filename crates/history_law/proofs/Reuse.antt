@@ -196,7 +196,10 @@ issued_names : (T : Terms) (k : ObjectKind) (h : ℕ) (s : State) (L : List Node
     → some_entry (issues k h) L ≡ true → named_kind h ≡ object_number k
 unfolding LegalFrom
 issued_names T k h s [] same two l i = absurd (cc)
-issued_names T k h s (e ∷ es) same two l i = grind (arith, nat_tests, names_two T k h s same two, issues_fresh k s e h l.0, issued_names T k h (next s e) es (terms_next T s e same) two l.1, terms_next T s e same, on_test, some_entry, named_kind, object_number)
+issued_names T k h s (e ∷ es) same two l i = on_test (λ b. cond b true (some_entry (issues k h) es) ≡ true → named_kind h ≡ object_number k) (issues k h e)
+    (λ j c. names_two T k h s same two (issues_fresh k s e h l.0 j))
+    (λ d c. issued_names T k h (next s e) es (terms_next T s e same) two l.1 c) i
 
 pub not_in_both : (terms : Terms) (es : List NodeEntry) (a b : ObjectKind) (h : ℕ) → Legal terms es → NotInBoth terms.layout terms es a b h
-not_in_both terms es a b h legal two apart = grind (arith, nat_tests, eq-eqb (object_number a), named_after terms es a h, named_after terms es b h, issued_names terms a h, issued_names terms b h)
+not_in_both terms es a b h legal two apart =
+    grind (arith, nat_tests, eq-eqb (object_number a), named_after terms es a h, named_after terms es b h, issued_names terms a h, issued_names terms b h)

@@ -106,7 +106,8 @@ pub found_steps : (Q : Task → Type 0) (h : ℕ) (s : State) (m : Move) (l k : 
 unfolding live_of
 found_steps Q h s _ _ _ t g (none m) e = absurd (cc)
 found_steps Q h s _ _ _ t g (new j n) e = absurd (cc)
-found_steps Q h s _ _ _ t g (next m r q rs qs x k) e = grind (arith, nat_tests, step_handle s r m q x, by_head Q h r q rs qs t, step_dead s r m q x, g r q x, eqb-true q.handle h, found_steps Q h s m rs qs t g k)
+found_steps Q h s _ _ _ t g (next m r q rs qs x k) e =
+    grind (arith, nat_tests, step_handle s r m q x, by_head Q h r q rs qs t, step_dead s r m q x, g r q x, eqb-true q.handle h, found_steps Q h s m rs qs t g k)
 
 -- how many pass, where no new task does and no step changes whether one passes
 pub many_steps : (p : Listed Task → Bool) (s : State) (m : Move) (l k : List (Listed Task))

@@ -28,4 +28,5 @@ module _ {T A : Type 0} (h : ℕ) (at : List (Listed T) → A) (of : T → A) (n
       → (l : List (Listed T)) (t : T) → OnceIn l → live_object l h ≡ Some t → at (change h f l) ≡ a
   unfolding live_of
   read_changed f a k g [] t o e = absurd (cc)
-  read_changed f a k g (r ∷ rs) t o e = grind (arith, nat_tests, f r, k r, g r, at_past r rs, no_dead r rs t o, read_changed f a k g rs t (once_rest r rs o), change_here, change_past)
+  read_changed f a k g (r ∷ rs) t o e = grind
+      (arith, nat_tests, f r, k r, g r, at_past r rs, no_dead r rs t o, read_changed f a k g rs t (once_rest r rs o), change_here, change_past)

@@ -71,4 +71,3 @@ module _ {T : Type 0} where
   unfolding record_of change
   record_view V j h f [] k v = refl
   record_view V j h f (r ∷ rs) k v = grind (arith, nat_tests, record_view V j h f rs k v, cond_both, option_map, record_of)
-

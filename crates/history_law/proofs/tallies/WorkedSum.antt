@@ -46,7 +46,8 @@ unfolding two_tallies AllStart StartsWith
 all_name = (tt, (tt, (tt, (tt, (refl, (refl, (tt, (tt, (tt, (tt, (tt, (tt, (tt, (tt, (tt, (tt, (tt, (tt, (tt, (tt, (tt, tt)))))))))))))))))))))
 
 one_mutex : NamesOneMutex two_workers two_tallies h1 0 1
-one_mutex A B w t x cut e a = grind (arith, nat_tests, append_assoc A (tally_got w t ∷ []) B, args_along names_one (opening two_workers), front_starts names_one, all_name, every_at)
+one_mutex A B w t x cut e a =
+    grind (arith, nat_tests, append_assoc A (tally_got w t ∷ []) B, args_along names_one (opening two_workers), front_starts names_one, all_name, every_at)
 
 two_legal : Legal two_workers two_tallies
 unfolding two_tallies replay live_of issue change change_all listed issued_at retired is_full may_issue fits answer_of has_worker end_each is_ready can_take
