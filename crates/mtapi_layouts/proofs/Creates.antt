@@ -1,5 +1,5 @@
 -- The rows of the ops that make objects, seen from inside.
-use Rattle.mtapi_layouts.proofs.Names.{◌≡◌, ℕ, ◌≤◌, true, ◌&&◌, List, [], ◌∷◌, Option, Some, inl, refl, sym, ◌∙◌, ap, subst, arith, ◌==◌, not, IfSome, ObjectKind, Two, names_kind, generation_of, Listed, is_full, may_issue, same_tests, has_job, has_enabled_job, Reply, Handle, State, Objects, actions, tasks, queues, Move, Queues, Sort, Fields, all_of, makes_action, starts_task, makes, is_fresh, Row, unless, gives, only, mtapi_unless, handle_of, on, creates, Keyed, creates_keyed, start_refusals, renamed_task, HasTask, NoHandle, HasEach, Fits, renamed_answer, found-has, has-issue, is_plain, Alike, gives_renamed, says_alike, unless_then, unless_alike, only_alike, live_alike, sort-found, sort-any, action-any, served, group_missing, inward, Names, turned_list, room_one, turned}
+use Rattle.mtapi_layouts.proofs.Names.{◌≡◌, ℕ, ◌≤◌, true, ◌&&◌, List, [], ◌∷◌, Option, Some, inl, refl, sym, ◌∙◌, ap, subst, arith, ◌==◌, not, IfSome, ObjectKind, Two, names_kind, generation_of, Listed, is_full, may_issue, same_tests, has_job, has_enabled_job, Reply, Handle, State, Objects, actions, tasks, queues, Move, Queues, Sort, Fields, all_of, makes_action, starts_task, makes, is_fresh, Row, unless, gives, only, mtapi_unless, handle_of, on, creates, Keyed, creates_keyed, start_refusals, renamed_task, HasTask, NoHandle, HasEach, Fits, renamed_answer, found-has, has-issue, is_plain, Alike, gives_renamed, says_alike, unless_then, unless_alike, only_alike, live_alike, sort-found, sort-any, action-any, served, group_missing, inward, Names, turned_list, room_one, turned, nat_tests, eqb-true, eq-eqb}
 use Rattle.mtapi_values.specs.declared.handles.ObjectKind.TheVariants as kind
 use Rattle.mtapi_values.specs.declared.handles.Layout.{Layout}
 use Rattle.mtapi_objects.specs.Actions.{Action}
@@ -14,8 +14,7 @@ use Rattle.mtapi_layouts.proofs.Lists.{may_issue-generation, same_full, same_may
 
 -- the handle in a reply with other handles
 handle_turned : (k : ObjectKind) (r : Reply) → handle_of (renamed_answer inward (Some k) r) ≡ inward k (handle_of r)
-handle_turned k (Handle h) = refl
-handle_turned k r = sym (inward-zero k)
+handle_turned k r = grind (arith, nat_tests, inward-zero)
 
 module _ {s : State} (n : Fits inward s) (two : s.terms.layout ≡ Two) where
   -- a handle that may be issued names its kind
@@ -28,24 +27,9 @@ module _ {s : State} (n : Fits inward s) (two : s.terms.layout ≡ Two) where
       → Type 0) (is : o.list (turned s) ≡ turned_list o.kind f (o.list s)) (v : HasEach inward o.kind P (o.list s)) where
     -- it may be issued inside, where it is turned
     same_fresh : (h : ℕ) → is_fresh o (turned s) (inward o.kind h) ≡ is_fresh o s h
-    same_fresh h = same_tests (is_fresh o (turned s) (inward o.kind h)) (is_fresh o s h) (λ e. outside e) (λ e. inside e)
-      where
-        outside : is_fresh o (turned s) (inward o.kind h) ≡ true → is_fresh o s h ≡ true
-        outside e =
-            let g : may_issue s.terms.settings.generations (inward o.kind h) (turned_list o.kind f (o.list s)) ≡ true =
-            subst (λ (l : List (Listed T)). may_issue s.terms.settings.generations (inward o.kind h) l ≡ true) is e in
-            let once : 1 ≤ generation_of (inward o.kind h) = may_issue-generation s.terms.settings.generations (inward o.kind h) _ g in
-            let some : Names o.kind h = omega (arith, once) in
-            let same : may_issue s.terms.settings.generations h (o.list s) ≡ true =
-            sym (same_may_issue o.kind f P s.terms.settings.generations h (o.list s) some v) ∙ g in
-            let named : names_kind s.terms.layout o.kind h ≡ true = subst (λ (l : Layout). names_kind l o.kind h ≡ true) (sym two) (named-kind o.kind h some) in
-            λ i. named i && same i
-
-        inside : is_fresh o s h ≡ true → is_fresh o (turned s) (inward o.kind h) ≡ true
-        inside e =
-            let g : may_issue s.terms.settings.generations h (o.list s) ≡ true = snd_true (names_kind s.terms.layout o.kind h) _ e in
-            subst (λ (l : List (Listed T)). may_issue s.terms.settings.generations (inward o.kind h) l
-            ≡ true) (sym is) (same_may_issue o.kind f P s.terms.settings.generations h (o.list s) (fresh_names o h e) v ∙ g)
+    same_fresh h = same_tests (is_fresh o (turned s) (inward o.kind h)) (is_fresh o s h)
+        (λ e. grind (arith, nat_tests, same_may_issue o.kind f P s.terms.settings.generations h, named-kind o.kind h, may_issue-generation, is))
+        (λ e. grind (arith, nat_tests, same_may_issue o.kind f P s.terms.settings.generations h, fresh_names o h e, is))
 
     creates_alike : (make other : ℕ → Move) → is_plain o.limit ≡ true
         → ((h : ℕ) → Names o.kind h → MovesRename inward (room_one s.terms) s (other (inward o.kind h) ∷ []) (make h ∷ [])) → (r : Reply) →

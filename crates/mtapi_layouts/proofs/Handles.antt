@@ -1,5 +1,5 @@
 -- Handles of layout two as the pools have them, and back.
-use Rattle.mtapi_layouts.proofs.Names.{◌≡◌, ℕ, ◌+◌, ◌-◌, ◌*◌, ◌/◌, ◌%◌, ◌^◌, ◌<◌, ◌≤◌, Bool, true, false, cond, Some, None, refl, sym, arith, ◌==◌, eqb-true, eq-eqb, ObjectKind, object_number, named_kind, outer, slot_of, generation_of, or_zero, inward, Names, HasRoom}
+use Rattle.mtapi_layouts.proofs.Names.{◌≡◌, ℕ, ◌+◌, ◌-◌, ◌*◌, ◌/◌, ◌%◌, ◌^◌, ◌<◌, ◌≤◌, Bool, true, false, cond, Some, None, refl, sym, arith, ◌==◌, eqb-true, eq-eqb, ObjectKind, object_number, named_kind, outer, slot_of, generation_of, or_zero, inward, Names, HasRoom, nat_tests}
 use Rattle.mtapi_values.specs.declared.handles.ObjectKind.TheVariants.{Action, Task, Group, Queue, Mutex, Sem, Rwl, Shmem}
 
 record NamesKind (k : ObjectKind) (h : ℕ) : Type 0 where
@@ -7,19 +7,7 @@ record NamesKind (k : ObjectKind) (h : ℕ) : Type 0 where
   is : h ≡ inward k h + object_number k * 2 ^ 24
 
 names_kind : (k : ObjectKind) (h : ℕ) → Names k h → NamesKind k h
-names_kind k h some = record {
-  names = by_test (named_kind h == object_number k) some;
-  is = by_value (named_kind h == object_number k) some;
-}
-  where
-    by_test : (b : Bool) → 1 ≤ or_zero (cond b (Some (h - object_number k * 2 ^ 24)) None) → b ≡ true
-    by_test true e = refl
-    by_test false e = absurd (omega arith)
-
-    by_value : (b : Bool) → 1 ≤ or_zero (cond b (Some (h - object_number k * 2 ^ 24)) None)
-        → h ≡ or_zero (cond b (Some (h - object_number k * 2 ^ 24)) None) + object_number k * 2 ^ 24
-    by_value true e = omega arith
-    by_value false e = absurd (omega arith)
+names_kind k h some = grind (arith, nat_tests)
 
 -- in the place of the kind it has the number of this kind
 pub named-kind : (k : ObjectKind) (h : ℕ) → Names k h → (named_kind h == object_number k) ≡ true
@@ -27,11 +15,7 @@ named-kind k h some = (names_kind k h some).names
 
 -- 0 names nothing, and stays
 pub inward-zero : (k : ObjectKind) → inward k 0 ≡ 0
-inward-zero k = by_test (named_kind 0 == object_number k)
-  where
-    by_test : (b : Bool) → or_zero (cond b (Some (0 - object_number k * 2 ^ 24)) None) ≡ 0
-    by_test true = omega arith
-    by_test false = refl
+inward-zero k = grind (arith, nat_tests)
 
 -- no two handles that name the kind become one
 pub inward-one : (k : ObjectKind) (a b : ℕ) → Names k a → inward k a ≡ inward k b → a ≡ b
@@ -61,26 +45,12 @@ outer-names k h room = eq-eqb (named_kind (outer k h)) (object_number k) (names-
 
 -- a pool's handle, turned outwards and inwards again
 pub inward-outer : (k : ObjectKind) (h : ℕ) → HasRoom h → inward k (outer k h) ≡ h
-inward-outer k h room = by_test (named_kind (outer k h) == object_number k) (outer-names k h room)
-  where
-    by_test : (b : Bool) → b ≡ true → or_zero (cond b (Some (outer k h - object_number k * 2 ^ 24)) None) ≡ h
-    by_test true e = omega arith
-    by_test false e = absurd (cc)
+inward-outer k h room = grind (arith, nat_tests, outer-names k h room)
 
 -- a handle that names the kind leaves room for its number once it is turned inwards
 pub inward-room : (k : ObjectKind) (h : ℕ) → Names k h → HasRoom (inward k h)
-inward-room k h some = let n = names_kind k h some in under h (inward k h) (object_number k) n.is (eqb-true (named_kind h) (object_number k) n.names)
-  where
-    under : (a x n : ℕ) → a ≡ x + n * 2 ^ 24 → a / 2 ^ 24 % 256 ≡ n → x % 2 ^ 32 < 2 ^ 24
-    under a x n e d = omega arith
+inward-room k h some = grind (arith, nat_tests, (names_kind k h some).is, (names_kind k h some).names)
 
 -- a handle that has a generation, and the number of the kind in its place, names the kind
 pub names-of : (k : ObjectKind) (h : ℕ) → (named_kind h == object_number k) ≡ true → 1 ≤ generation_of h → Names k h
-names-of k h e once = by_test (named_kind h == object_number k) e
-  where
-    over : (n : ℕ) → n < 256 → 1 ≤ h / 2 ^ 32 → 1 ≤ h - n * 2 ^ 24
-    over n few some = omega arith
-
-    by_test : (b : Bool) → b ≡ true → 1 ≤ or_zero (cond b (Some (h - object_number k * 2 ^ 24)) None)
-    by_test true e = over (object_number k) (number-small k) once
-    by_test false e = absurd (cc)
+names-of k h e once = grind (arith, nat_tests, number-small k)

@@ -1,5 +1,5 @@
 -- Every step of layout two, seen from inside, and histories of such steps.
-use Rattle.mtapi_layouts.proofs.Names.{◌≡◌, ℕ, List, [], ◌∷◌, Option, Some, None, refl, sym, ◌∙◌, ap, subst, option_map, Two, inside, live_object, Op, Reply, State, opening, Move, apply, after_moves, Allows, moves_of, after_row, row, renamed, Fits, answered_kind, renamed_reply, inward, turned_task, in_layout_one, room_one, turned, TaskIsNamed, Named, inward_op, outward_reply, IssuesSmall, IsSmall}
+use Rattle.mtapi_layouts.proofs.Names.{◌≡◌, ℕ, List, [], ◌∷◌, Option, Some, None, refl, sym, ◌∙◌, ap, subst, option_map, Two, inside, live_object, Op, Reply, State, opening, Move, apply, after_moves, Allows, moves_of, after_row, row, renamed, Fits, answered_kind, renamed_reply, inward, turned_task, in_layout_one, room_one, turned, TaskIsNamed, Named, inward_op, outward_reply, IssuesSmall, IsSmall, nat_tests, arith, eqb-true, eq-eqb}
 use Rattle.mtapi_values.specs.Conditions.{holds}
 use Rattle.mtapi_values.specs.Seats.{is_seat}
 use Rattle.mtapi_values.specs.declared.handles.ObjectKind.TheVariants as kind
@@ -16,30 +16,10 @@ use Rattle.mtapi_layouts.proofs.Table.{inward-outward, row_turned, row_small}
 
 -- handles that name their kinds have others, those inside
 fits : {s : State} → Named s → Fits inward s
-fits n = record {
-  one = inward-one;
-  zero = inward-zero;
-  actions = n.actions;
-  tasks = n.tasks;
-  groups = n.groups;
-  queues = n.queues;
-  mutexes = n.mutexes;
-  sems = n.sems;
-  rwls = n.rwls;
-  segments = n.segments;
-}
+fits n = grind (arith, nat_tests, inward-one, inward-zero)
 
 named : {s : State} → Fits inward s → Named s
-named n = record {
-  actions = n.actions;
-  tasks = n.tasks;
-  groups = n.groups;
-  queues = n.queues;
-  mutexes = n.mutexes;
-  sems = n.sems;
-  rwls = n.rwls;
-  segments = n.segments;
-}
+named n = grind (arith, nat_tests)
 
 -- no moves change the terms
 pub all_stay : (ms : List Move) (s : State) → (after_moves ms s).terms ≡ s.terms
@@ -70,17 +50,10 @@ step_turns s who o r two n issued a =
 
 -- the seat that waits for a task
 pub pends_turned : (s : State) (who : ℕ) (o : Op) → Named s → pends_alike (turned s) who (inward_op o) ≡ pends_alike s who o
-pends_turned s who (op.TaskLook t last) n =
-    ap (holds (λ x. is_seat who x.notes.waiter)) (found-turned kind.Task turned_task TaskIsNamed t.0 s.tasks n.tasks) ∙ by_task (live_object s.tasks t.0)
-  where
-    by_task : (o : Option Task) → holds (λ x. is_seat who x.notes.waiter) (option_map turned_task o) ≡ holds (λ x. is_seat who x.notes.waiter) o
-    by_task None = refl
-    by_task (Some x) = refl
-pends_turned s who o n = refl
+pends_turned s who o n = grind (arith, nat_tests, found-turned kind.Task turned_task TaskIsNamed)
 
 honest_out : (o : Op) → IsHonest (inward_op o) → IsHonest o
-honest_out (op.Finish t done) h = h
-honest_out o h = tt
+honest_out o h = grind (arith, nat_tests)
 
 history_from : (s : State) (L : List NodeEntry) → s.terms.layout ≡ Two → Named s → AllIssueSmall L → LegalFrom (turned s) (inner_entries L) →
     LegalFrom s (outer_entries L) × (turned (after_from s (outer_entries L)) ≡ after_from (turned s) (inner_entries L))
@@ -99,19 +72,7 @@ history_from s (e ∷ es) two n small l =
 
 pub opening_turns : (terms : Terms) → StartTurns terms
 unfolding inside
-opening_turns terms = record {
-  named = record {
-    actions = tt;
-    tasks = tt;
-    groups = tt;
-    queues = tt;
-    mutexes = tt;
-    sems = tt;
-    rwls = tt;
-    segments = tt;
-  };
-  turned = refl;
-}
+opening_turns terms = grind (arith, nat_tests)
 
 pub history_turns : (terms : Terms) (L : List NodeEntry) → terms.layout ≡ Two → AllIssueSmall L → Legal (in_layout_one terms) (inner_entries L)
     → HistoryTurns terms L

@@ -1,6 +1,7 @@
 -- The names that the proofs of this crate cite of lower crates and of its own specs/, passed on from one place. Declares nothing.
 pub use Rattle.std.proofs.Common.{Bool, List, None, Option, Some, [], ap, arith, cond, false, inl, refl, subst, sym, true, ℕ, ◌%◌, ◌&&◌, ◌*◌, ◌+◌, ◌-◌, ◌/◌, ◌<◌, ◌^◌, ◌∙◌, ◌∷◌, ◌≡◌, ◌≤◌}
 pub use Rattle.std.proofs.lemmas.Bool.{eq-eqb, eqb-true}
+pub use Rattle.std.proofs.lemmas.Bool.Decides.{nat_tests}
 pub use Rattle.std.specs.Option.{IfSome, option_map}
 pub use Rattle.std.specs.Prelude.{not, ◌==◌}
 pub use Rattle.handle_pool.proofs.LiveLemmas.{same_tests}

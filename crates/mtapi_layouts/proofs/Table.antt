@@ -1,5 +1,5 @@
 -- Every row of layout two, seen from inside, and the handles in the replies inside.
-use Rattle.mtapi_layouts.proofs.Names.{◌≡◌, ℕ, Bool, Option, Some, None, refl, sym, ◌∙◌, ap, subst, ◌==◌, not, ObjectKind, Two, new_action, has_job, Op, Reply, Ok, Handle, Given, Picked, State, Groups, Row, Allows, handle_of, keyed_queues, keyed_mutexes, keyed_sems, keyed_rwls, keyed_segments, asked_for, asked_of, row, Fits, answered_kind, renamed_answer, renamed_reply, HasAnswer, IsRenamed, Alike, unless_alike, mrapi_alike, action-any, count-in, inward, room_one, turned, inward_op, outward, HandleIsSmall, IssuesSmall, IsSmall}
+use Rattle.mtapi_layouts.proofs.Names.{◌≡◌, ℕ, Bool, Option, Some, None, refl, sym, ◌∙◌, ap, subst, ◌==◌, not, ObjectKind, Two, new_action, has_job, Op, Reply, Ok, Handle, Given, Picked, State, Groups, Row, Allows, handle_of, keyed_queues, keyed_mutexes, keyed_sems, keyed_rwls, keyed_segments, asked_for, asked_of, row, Fits, answered_kind, renamed_answer, renamed_reply, HasAnswer, IsRenamed, Alike, unless_alike, mrapi_alike, action-any, count-in, inward, room_one, turned, inward_op, outward, HandleIsSmall, IssuesSmall, IsSmall, nat_tests, arith, eqb-true, eq-eqb}
 use Rattle.mtapi_values.specs.declared.handles.ObjectKind.TheVariants as kind
 use Rattle.mtapi_values.specs.declared.handles.GroupHandle.{GroupHandle}
 use Rattle.mtapi_values.specs.declared.handles.QueueHandle.{QueueHandle}
@@ -18,20 +18,11 @@ use Rattle.mtapi_layouts.proofs.Creates.{creates_action, creates_task, creates_s
 
 -- a reply with turned handles is small
 small_of : (k : Option ObjectKind) (y : Reply) → HasAnswer inward k y → IsSmall (renamed_answer inward k y)
-small_of None (Handle h) has = absurd has
-small_of (Some k) (Handle h) has = inward-room k h has
-small_of k (Given t e) has = inward-room kind.Task t.0 has
-small_of k (Picked t a y args) has = (inward-room kind.Task t.0 has.0, inward-room kind.Action a.0 has.1)
-small_of k y has = tt
+small_of k y has = grind (arith, nat_tests, inward-room)
 
 -- a small reply, turned outwards and inwards again
 pub inward-outward : (k : Option ObjectKind) (q : Reply) → IsSmall q → renamed_answer inward k (outward k q) ≡ q
-inward-outward None (Handle h) small = refl
-inward-outward (Some k) (Handle h) small = ap Handle (inward-outer k h small)
-inward-outward k (Given t e) small = λ i. Given (record { 0 = inward-outer kind.Task t.0 small i }) e
-inward-outward k (Picked t a y args) small =
-    λ i. Picked (record { 0 = inward-outer kind.Task t.0 small.0 i }) (record { 0 = inward-outer kind.Action a.0 small.1 i }) y args
-inward-outward k q small = refl
+inward-outward k q small = grind (arith, nat_tests, inward-outer)
 
 come_small : (k : Option ObjectKind) (q : Reply) → IsRenamed inward k q → IsSmall q
 come_small k q c = subst (λ (y : Reply). IsSmall y) (sym c.is) (small_of k c.own c.has)
@@ -39,28 +30,10 @@ come_small k q c = subst (λ (y : Reply). IsSmall y) (sym c.is) (small_of k c.ow
 -- an op that makes an object reads of its reply the handle alone
 reads_handle : (u : State) (who : ℕ) (k : ObjectKind) (o : Op) (q : Reply) → made_kind o ≡ Some k
     → row u who (inward_op o) q ≡ row u who (inward_op o) (Handle (handle_of q))
-reads_handle u who k (op.ActionCreate job y cores) q i = refl
-reads_handle u who k (op.TaskStart job args priority cores detached group) q i = refl
-reads_handle u who k (op.TaskEnqueue queue args cores detached group) q i = refl
-reads_handle u who k op.GroupCreate q i = refl
-reads_handle u who k (op.QueueCreate id job priority limit ordered retain) q i = refl
-reads_handle u who k (op.MutexCreate id recursive) q i = refl
-reads_handle u who k (op.SemCreate id limit) q i = refl
-reads_handle u who k (op.RwlCreate id limit) q i = refl
-reads_handle u who k (op.ShmemCreate id cells) q i = refl
-reads_handle u who k o q i = absurd (cc)
+reads_handle u who k o q i = grind (arith, nat_tests)
 
 issues : (k : ObjectKind) (o : Op) (q : Reply) → made_kind o ≡ Some k → IssuesSmall o q → HandleIsSmall q
-issues k (op.ActionCreate job y cores) q i small = small
-issues k (op.TaskStart job args priority cores detached group) q i small = small
-issues k (op.TaskEnqueue queue args cores detached group) q i small = small
-issues k op.GroupCreate q i small = small
-issues k (op.QueueCreate id job priority limit ordered retain) q i small = small
-issues k (op.MutexCreate id recursive) q i small = small
-issues k (op.SemCreate id limit) q i small = small
-issues k (op.RwlCreate id limit) q i small = small
-issues k (op.ShmemCreate id cells) q i small = small
-issues k o q i small = absurd (cc)
+issues k o q i small = grind (arith, nat_tests)
 
 module _ {s : State} (n : Fits inward s) (two : s.terms.layout ≡ Two) (who : ℕ) where
   abbrev pub Turned : Op → Reply → Type 0
