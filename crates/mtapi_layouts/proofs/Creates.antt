@@ -1,7 +1,6 @@
 -- The rows of the ops that make objects, seen from inside.
-use Rattle.mtapi_layouts.proofs.Names.{◌≡◌, ℕ, ◌≤◌, true, ◌&&◌, List, [], ◌∷◌, Option, Some, inl, refl, sym, ◌∙◌, ap, subst, arith, ◌==◌, not, IfSome, ObjectKind, Two, names_kind, generation_of, Listed, is_full, may_issue, same_tests, has_job, has_enabled_job, Reply, Handle, State, Objects, actions, tasks, queues, Move, Queues, Sort, Fields, all_of, makes_action, starts_task, makes, is_fresh, Row, unless, gives, only, mtapi_unless, handle_of, on, creates, Keyed, creates_keyed, start_refusals, renamed_task, HasTask, NoHandle, HasEach, Fits, renamed_answer, found-has, has-issue, is_plain, Alike, gives_renamed, says_alike, unless_then, unless_alike, only_alike, live_alike, sort-found, sort-any, action-any, served, group_missing, inward, Names, turned_list, room_one, turned, nat_tests, eqb-true, eq-eqb}
+use Rattle.mtapi_layouts.proofs.Names.{◌≡◌, ℕ, true, [], ◌∷◌, Option, Some, inl, refl, sym, ◌∙◌, ap, subst, arith, ◌==◌, not, IfSome, ObjectKind, Two, names_kind, is_full, same_tests, has_job, has_enabled_job, Reply, Handle, State, Objects, actions, tasks, queues, Move, Queues, Sort, Fields, all_of, makes_action, starts_task, makes, is_fresh, Row, unless, gives, only, mtapi_unless, handle_of, on, creates, Keyed, creates_keyed, start_refusals, renamed_task, HasTask, NoHandle, HasEach, Fits, renamed_answer, found-has, has-issue, is_plain, Alike, gives_renamed, says_alike, unless_then, unless_alike, only_alike, live_alike, sort-found, sort-any, action-any, served, group_missing, inward, Names, turned_list, room_one, turned, nat_tests}
 use Rattle.mtapi_values.specs.declared.handles.ObjectKind.TheVariants as kind
-use Rattle.mtapi_values.specs.declared.handles.Layout.{Layout}
 use Rattle.mtapi_objects.specs.Actions.{Action}
 use Rattle.mtapi_objects.specs.Tasks.{NewTask, new_task}
 use Rattle.mtapi_objects.specs.Queues.{Queue}
@@ -19,17 +18,13 @@ handle_turned k r = grind (arith, nat_tests, inward-zero)
 module _ {s : State} (n : Fits inward s) (two : s.terms.layout ≡ Two) where
   -- a handle that may be issued names its kind
   fresh_names : {T : Type 0} (o : Objects T) (h : ℕ) → is_fresh o s h ≡ true → Names o.kind h
-  fresh_names o h e =
-      names-of o.kind h (subst (λ (l : Layout). names_kind l o.kind h ≡ true) two (fst_true _ _ e))
-      (may_issue-generation s.terms.settings.generations h (o.list s) (snd_true (names_kind s.terms.layout o.kind h) _ e))
+  fresh_names o h e = grind (arith, nat_tests, names-of o.kind h, names_kind, fst_true, may_issue-generation, snd_true)
 
   module _ {T : Type 0} (o : Objects T) (f : T → T) (P : T
       → Type 0) (is : o.list (turned s) ≡ turned_list o.kind f (o.list s)) (v : HasEach inward o.kind P (o.list s)) where
     -- it may be issued inside, where it is turned
     same_fresh : (h : ℕ) → is_fresh o (turned s) (inward o.kind h) ≡ is_fresh o s h
-    same_fresh h = same_tests (is_fresh o (turned s) (inward o.kind h)) (is_fresh o s h)
-        (λ e. grind (arith, nat_tests, same_may_issue o.kind f P s.terms.settings.generations h, named-kind o.kind h, may_issue-generation, is))
-        (λ e. grind (arith, nat_tests, same_may_issue o.kind f P s.terms.settings.generations h, fresh_names o h e, is))
+    same_fresh h = grind (arith, nat_tests, same_tests, is_fresh, nat_tests, same_may_issue, named-kind, may_issue-generation, fresh_names)
 
     creates_alike : (make other : ℕ → Move) → is_plain o.limit ≡ true
         → ((h : ℕ) → Names o.kind h → MovesRename inward (room_one s.terms) s (other (inward o.kind h) ∷ []) (make h ∷ [])) → (r : Reply) →

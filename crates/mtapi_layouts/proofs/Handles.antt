@@ -1,6 +1,5 @@
 -- Handles of layout two as the pools have them, and back.
-use Rattle.mtapi_layouts.proofs.Names.{◌≡◌, ℕ, ◌+◌, ◌-◌, ◌*◌, ◌/◌, ◌%◌, ◌^◌, ◌<◌, ◌≤◌, Bool, true, false, cond, Some, None, refl, sym, arith, ◌==◌, eqb-true, eq-eqb, ObjectKind, object_number, named_kind, outer, slot_of, generation_of, or_zero, inward, Names, HasRoom, nat_tests}
-use Rattle.mtapi_values.specs.declared.handles.ObjectKind.TheVariants.{Action, Task, Group, Queue, Mutex, Sem, Rwl, Shmem}
+use Rattle.mtapi_layouts.proofs.Names.{◌≡◌, ℕ, ◌+◌, ◌*◌, ◌/◌, ◌%◌, ◌^◌, ◌<◌, ◌≤◌, true, sym, arith, ◌==◌, eqb-true, eq-eqb, ObjectKind, object_number, named_kind, outer, slot_of, generation_of, inward, Names, HasRoom, nat_tests}
 
 record NamesKind (k : ObjectKind) (h : ℕ) : Type 0 where
   names : (named_kind h == object_number k) ≡ true
@@ -34,8 +33,7 @@ pub outer-inward : (k : ObjectKind) (h : ℕ) → Names k h → outer k (inward 
 outer-inward k h some = sym (names_kind k h some).is
 
 number-small : (k : ObjectKind) → object_number k < 256
-number-small Action = omega arith
-number-small k = omega arith
+number-small k = grind (arith, nat_tests)
 
 names-sum : (h n : ℕ) → h % 2 ^ 32 < 2 ^ 24 → n < 256 → (h + n * 2 ^ 24) / 2 ^ 24 % 256 ≡ n
 names-sum h n small few = omega arith

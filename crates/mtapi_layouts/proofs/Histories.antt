@@ -1,11 +1,7 @@
 -- Every step of layout two, seen from inside, and histories of such steps.
-use Rattle.mtapi_layouts.proofs.Names.{◌≡◌, ℕ, List, [], ◌∷◌, Option, Some, None, refl, sym, ◌∙◌, ap, subst, option_map, Two, inside, live_object, Op, Reply, State, opening, Move, apply, after_moves, Allows, moves_of, after_row, row, renamed, Fits, answered_kind, renamed_reply, inward, turned_task, in_layout_one, room_one, turned, TaskIsNamed, Named, inward_op, outward_reply, IssuesSmall, IsSmall, nat_tests, arith, eqb-true, eq-eqb}
-use Rattle.mtapi_values.specs.Conditions.{holds}
-use Rattle.mtapi_values.specs.Seats.{is_seat}
+use Rattle.mtapi_layouts.proofs.Names.{◌≡◌, ℕ, List, [], ◌∷◌, refl, sym, ◌∙◌, ap, subst, Two, inside, Op, Reply, State, opening, Move, apply, after_moves, Allows, moves_of, after_row, row, Fits, answered_kind, renamed_reply, inward, turned_task, in_layout_one, room_one, turned, TaskIsNamed, Named, inward_op, outward_reply, IssuesSmall, nat_tests, arith}
 use Rattle.mtapi_values.specs.declared.handles.ObjectKind.TheVariants as kind
-use Rattle.mtapi_objects.specs.Tasks.{Task}
 use Rattle.mtapi_machine.specs.declared.terms.Terms.{Terms}
-use Rattle.mtapi_machine.specs.declared.ops.Op.TheVariants as op
 use Rattle.mtapi_machine.specs.Kept.{pends_alike}
 use Rattle.mtapi_machine.specs.Legal.{NodeEntry, IsHonest, next, LegalFrom, after_from, Legal}
 use Rattle.mtapi_renaming.proofs.LastMoves.{terms_stay}
@@ -35,18 +31,23 @@ history_named s (e ∷ es) two n = history_named (next s e) es (ap (λ (t : Term
 -- a step inside, and a history of such steps
 pub step_turns : (s : State) (who : ℕ) (o : Op) (r : Reply) → s.terms.layout ≡ Two → Named s → IssuesSmall o r → Allows (row (turned s) who (inward_op o) r) r
     → StepTurns s who o r
-step_turns s who o r two n issued a =
-    let small : IsSmall r = row_small (fits n) two who o r issued a in
-    let back : renamed_reply inward o (outward_reply o r) ≡ r = inward-outward (answered_kind o) r small in
-    let w = row_turned (fits n) two who o (outward_reply o r) in
-    record {
-      small = small;
-      allowed = w.allowed.1 (subst (λ (q : Reply). Allows (row (turned s) who (inward_op o) q) q) (sym back) a);
-      leads = ap (λ (t : Terms). renamed inward (room_one t) (after_row s (row s who o (outward_reply o r))))
-          (all_stay (moves_of (row s who o (outward_reply o r))) s)
-          ∙ (w.leads ∙ ap (λ (q : Reply). after_row (turned s) (row (turned s) who (inward_op o) q)) back);
-      named = named w.fits;
-    }
+step_turns s who o r two n issued a = grind (
+  arith,
+  nat_tests,
+  row_small (fits n) two who o r issued a,
+  fits n,
+  inward-outward (answered_kind o) r,
+  row_turned (fits n) two who o
+      (outward_reply o r),
+  renamed_reply,
+  outward_reply,
+  answered_kind,
+  inward_op,
+  room_one,
+  after_row,
+  all_stay,
+  moves_of,
+)
 
 -- the seat that waits for a task
 pub pends_turned : (s : State) (who : ℕ) (o : Op) → Named s → pends_alike (turned s) who (inward_op o) ≡ pends_alike s who o

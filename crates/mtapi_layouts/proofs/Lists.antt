@@ -1,5 +1,5 @@
 -- What a list of objects of layout two answers once its handles are turned.
-use Rattle.mtapi_layouts.proofs.Names.{◌≡◌, ℕ, ◌+◌, ◌*◌, ◌^◌, ◌≤◌, true, ◌&&◌, List, [], ◌∷◌, Some, refl, sym, ap, subst, arith, ◌==◌, not, option_map, eqb-true, eq-eqb, ObjectKind, object_number, slot_of, generation_of, Listed, live_object, issued_at, retired, is_full, may_issue, Agree, same_tests, IsOther, found-renamed, found-has, found-other, inward, Names, HasRoom, turned_list, AreNamed}
+use Rattle.mtapi_layouts.proofs.Names.{◌≡◌, ℕ, ◌+◌, ◌≤◌, true, ◌&&◌, List, [], ◌∷◌, Some, refl, sym, ap, subst, arith, ◌==◌, not, option_map, eqb-true, eq-eqb, ObjectKind, object_number, slot_of, generation_of, Listed, live_object, issued_at, retired, is_full, may_issue, Agree, same_tests, IsOther, found-renamed, found-has, found-other, inward, Names, HasRoom, turned_list, AreNamed}
 use Rattle.std.proofs.lemmas.Bool.Decides.{nat_tests}
 use Rattle.handle_pool.proofs.InsideLemmas.{count-inside}
 use Rattle.mtapi_renaming.proofs.Pairs.{listed-renamed}
@@ -30,17 +30,12 @@ module _ {T : Type 0} (k : ObjectKind) (f : T → T) (P : T → Type 0) where
       (agree l n)
     where
       by_sums : (a b c d m : ℕ) → b ≡ a + m → d ≡ c + m → (a == c) ≡ (b == d)
-      by_sums a b c d m e g = same_tests (a == c) (b == d) (λ p. eq-eqb b d (let same : a ≡ c = eqb-true a c p in omega (arith, same, e, g)))
-          (λ p. eq-eqb a c (let same : b ≡ d = eqb-true b d p in omega (arith, same, e, g)))
+      by_sums a b c d m e g = grind (arith, nat_tests, same_tests (a == c) (b == d), eq-eqb b d, eqb-true a c, eq-eqb a c, eqb-true b d)
 
       agree : (xs : List (Listed T)) → AreNamed k P xs
           → Agree (inward k) (λ i x. f x) (λ r. slot_of r.handle == slot_of (inward k h)) (λ r. slot_of r.handle == slot_of h) xs
       agree [] n = tt
-      agree (r ∷ rs) n = (
-        by_sums (slot_of (inward k r.handle)) (slot_of r.handle) (slot_of (inward k h)) (slot_of h) (object_number k * 2 ^ 24) (inward-parts k r.handle n.0.0).1
-            (inward-parts k h some).1,
-        agree rs n.1,
-      )
+      agree (r ∷ rs) n = grind (arith, nat_tests, agree rs n.1, by_sums, slot_of, object_number, inward-parts)
 
   same_retired : (last : ℕ) (l : List (Listed T)) → AreNamed k P l → retired last (turned_list k f l) ≡ retired last l
   unfolding retired

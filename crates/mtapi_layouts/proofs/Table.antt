@@ -1,6 +1,5 @@
 -- Every row of layout two, seen from inside, and the handles in the replies inside.
-use Rattle.mtapi_layouts.proofs.Names.{◌≡◌, ℕ, Bool, Option, Some, None, refl, sym, ◌∙◌, ap, subst, ◌==◌, not, ObjectKind, Two, new_action, has_job, Op, Reply, Ok, Handle, Given, Picked, State, Groups, Row, Allows, handle_of, keyed_queues, keyed_mutexes, keyed_sems, keyed_rwls, keyed_segments, asked_for, asked_of, row, Fits, answered_kind, renamed_answer, renamed_reply, HasAnswer, IsRenamed, Alike, unless_alike, mrapi_alike, action-any, count-in, inward, room_one, turned, inward_op, outward, HandleIsSmall, IssuesSmall, IsSmall, nat_tests, arith, eqb-true, eq-eqb}
-use Rattle.mtapi_values.specs.declared.handles.ObjectKind.TheVariants as kind
+use Rattle.mtapi_layouts.proofs.Names.{◌≡◌, ℕ, Bool, Option, Some, None, refl, sym, ◌∙◌, ap, subst, ◌==◌, not, ObjectKind, Two, new_action, has_job, Op, Reply, Ok, Handle, State, Groups, Row, Allows, handle_of, keyed_queues, keyed_mutexes, keyed_sems, keyed_rwls, keyed_segments, asked_for, asked_of, row, Fits, answered_kind, renamed_answer, renamed_reply, HasAnswer, IsRenamed, Alike, unless_alike, mrapi_alike, action-any, count-in, inward, room_one, turned, inward_op, outward, HandleIsSmall, IssuesSmall, IsSmall, nat_tests, arith}
 use Rattle.mtapi_values.specs.declared.handles.GroupHandle.{GroupHandle}
 use Rattle.mtapi_values.specs.declared.handles.QueueHandle.{QueueHandle}
 use Rattle.mtapi_objects.specs.Groups.{new_group}
