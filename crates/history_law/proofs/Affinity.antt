@@ -1,9 +1,8 @@
 -- Who picks a task is in the mask of the task, and in that of the action.
-use Rattle.history_law.proofs.Names.{nat_tests, arith, ◌≡◌, ℕ, true, List, ◌∷◌, ◌++◌, Some, ◌∙◌, ap, subst, is_some, ℤ, Kind, TaskHandle, ActionHandle, in_mask, entry, Terms, Op, Picked, live_object, Action, new_action, is_eligible, Task, NewTask, new_task, State, opening, workers, Move, is_ready, NodeEntry, next, LegalFrom, Legal, after_from, after, StartsTask, Legal-front, issues, task_mask, action_mask, ObeysMasks, some_same, Answers, eqb-true, eq-eqb}
+use Rattle.history_law.proofs.Names.{nat_tests, arith, ◌≡◌, ℕ, true, List, ◌∷◌, ◌++◌, Some, ◌∙◌, ap, subst, is_some, ℤ, Kind, TaskHandle, ActionHandle, in_mask, entry, Terms, Op, Picked, live_object, Action, new_action, is_eligible, Task, NewTask, new_task, State, opening, workers, Move, is_ready, NodeEntry, next, LegalFrom, Legal, after_from, after, StartsTask, Legal-front, issues, task_mask, action_mask, ObeysMasks, some_same, Answers}
 use Rattle.mtapi_values.specs.declared.handles.ObjectKind.TheVariants as kind
 use Rattle.mtapi_machine.specs.declared.ops.Op.TheVariants as op
 use Rattle.mtapi_machine.specs.Answers as is
-use Rattle.history_law.proofs.SeatMoves.{answer}
 use Rattle.history_law.proofs.Ages.{SameTask, SameAction, under_at, live_listed}
 use Rattle.history_law.proofs.lists.Objects.{MadeAs, started_as, made_as, task_then, action_then, cut_from, has_behind}
 use Rattle.history_law.proofs.Reuse.{was_issued}

@@ -1,5 +1,5 @@
 -- What each move does to the objects of one kind: they stay listed, none comes back to life, and a new one has a new handle.
-use Rattle.history_law.proofs.Names.{nat_tests, ◌≡◌, ℕ, ◌≤◌, Bool, true, false, cond, List, [], ◌∷◌, Some, refl, sym, ◌∙◌, ap, subst, arith, ◌==◌, ◌&&◌, is_some, cond_both, ObjectKind, Op, Listed, live_of, live_object, listed, change, issue, with_fields, gone, Action, with_enabled, Queue, Task, new_task, NewTask, State, FieldsOf, objects_of, is_open, Sort, Fields, all_of, Move, Groups, Queues, Mutexes, Sems, Rwls, Segments, makes_action, enables, withdraws, starts_task, is_fresh, apply, IsMade, WithdrawsAction, AltersObject, MakesAction, StartsTask, makes_of_sort, snd_true, rest_keeps, some_same, eqb-true, eq-eqb}
+use Rattle.history_law.proofs.Names.{nat_tests, ◌≡◌, ℕ, ◌≤◌, Bool, true, false, List, [], ◌∷◌, Some, refl, sym, ◌∙◌, ap, arith, ◌==◌, ◌&&◌, is_some, cond_both, ObjectKind, Op, Listed, live_of, live_object, listed, change, issue, with_fields, gone, Action, with_enabled, Queue, Task, new_task, NewTask, State, FieldsOf, objects_of, is_open, Sort, Fields, all_of, Move, Groups, Queues, Mutexes, Sems, Rwls, Segments, makes_action, enables, withdraws, starts_task, is_fresh, apply, IsMade, WithdrawsAction, AltersObject, MakesAction, StartsTask, makes_of_sort, snd_true, rest_keeps, some_same}
 use Rattle.mtapi_values.specs.declared.handles.ObjectKind.TheVariants as kind
 use Rattle.history_law.specs.Words.{makes_object}
 use Rattle.history_law.proofs.Moves.{opens_fresh}

@@ -1,5 +1,5 @@
 -- What holds after an entry whose reply passes a test.
-use Rattle.history_law.proofs.Names.{nat_tests, arith, ◌≡◌, Bool, true, false, cond, List, [], Some, None, refl, sym, ◌∙◌, ap, subst, ◌||◌, Reply, Move, Row, unless, gives, never, Allows, moves_of, AllGives, eqb-true, eq-eqb, some_same}
+use Rattle.history_law.proofs.Names.{nat_tests, arith, ◌≡◌, Bool, true, false, cond, Some, None, refl, ◌||◌}
 
 pub true_false : {A : Type 0} {b : Bool} → b ≡ true → b ≡ false → A
 true_false e f = absurd (cc)

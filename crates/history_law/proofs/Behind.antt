@@ -1,5 +1,5 @@
 -- What an Ok `enter` and an Ok `final` stand behind.
-use Rattle.history_law.proofs.Names.{◌≡◌, ℕ, zero, suc, ◌<◌, Bool, true, false, List, [], ◌∷◌, ◌++◌, refl, ◌∙◌, ap, arith, ◌==◌, ◌&&◌, not, slice_set, replicate, MatchBool, eq-eqb, true_from_ne_false, nat_tests, marked, all_marked, entry, Terms, Op, Reply, Ok, Pending, Mtapi, State, opening, workers, is_past_open, Move, released, stops, apply, Allows, after_row, row, IsMade, is_pick, NodeEntry, IsNext, next, LegalFrom, Legal, after_from, after, Legal-front, fst_true, snd_true, rest_keeps, some_entry, is_release, says_ok, says_stop, is_released, is_stop_of, eqb-true, some_same}
+use Rattle.history_law.proofs.Names.{◌≡◌, ℕ, zero, suc, ◌<◌, Bool, true, false, List, [], ◌∷◌, ◌++◌, refl, ◌∙◌, ap, arith, ◌==◌, ◌&&◌, not, MatchBool, true_from_ne_false, nat_tests, marked, all_marked, entry, Terms, Op, Reply, Ok, Pending, Mtapi, State, opening, workers, is_past_open, Move, stops, apply, Allows, after_row, row, IsMade, is_pick, NodeEntry, IsNext, next, LegalFrom, Legal, after_from, after, Legal-front, fst_true, snd_true, rest_keeps, some_entry, is_release, says_ok, says_stop, is_released, is_stop_of}
 use Rattle.history_law.proofs.Others.{release_move}
 use Rattle.history_law.proofs.lists.Slots.{set_apart, read_replicate}
 use Rattle.mtapi_values.specs.declared.statuses.MtapiStatus.TheVariants as m

@@ -1,5 +1,5 @@
 -- What bounds a history: its seats, the marks of stopped workers, and the phase before the node is closed.
-use Rattle.history_law.proofs.Names.{◌≡◌, ℕ, ◌+◌, true, false, List, [], ◌∷◌, refl, ◌∙◌, ap, subst, entry, Op, Initialize, Close, Final, Reply, Open, Terms, State, opening, seats, is_new, is_past_open, Move, phase_is, stops, apply, after_moves, NodeEntry, IsNext, LegalFrom, next, after_from, after, rest_keeps, closes, NoClose, BySeats, cond_both, not, length, nat_tests, arith, eqb-true, eq-eqb, some_same}
+use Rattle.history_law.proofs.Names.{◌≡◌, ℕ, true, false, List, [], ◌∷◌, refl, ◌∙◌, ap, entry, Op, Initialize, Close, Final, Reply, Open, Terms, State, opening, seats, is_new, is_past_open, Move, phase_is, stops, apply, after_moves, NodeEntry, IsNext, LegalFrom, next, after_from, after, rest_keeps, closes, NoClose, BySeats, cond_both, not, length, nat_tests, arith}
 use Rattle.std.proofs.Math.ListN.{length-set}
 use Rattle.history_law.proofs.SeatMoves.{May, by_moves}
 use Rattle.history_law.proofs.Others.{phase_stays, terms_stay}

@@ -1,5 +1,5 @@
 -- A task that has ended was ended by an entry that may end it.
-use Rattle.history_law.proofs.Names.{arith, nat_tests, ◌≡◌, ℕ, Bool, true, false, cond, List, [], ◌∷◌, Option, Some, None, refl, sym, ◌∙◌, ap, subst, ◌==◌, ◌&&◌, ◌||◌, not, nat_lt, eqb-true, TaskEnd, Cancelled, Failed, is_shut_in, is_in, TaskHandle, Listed, live_of, live_object, change, with_fields, gone, Action, with_enabled, has_worker, Task, NewTask, scheduled, is_unstarted, added, fits, Op, Reply, State, Terms, opening, workers, Move, withdraws, starts_task, runs_task, ends_task, ends_waiting, apply, after_moves, NodeEntry, next, LegalFrom, Legal, after_from, end_in, end_at, after_grows, some_same, fst_true, snd_true, not_true, task_at, TallyEnd, Answers, tally_verdict, answered, eq-eqb}
+use Rattle.history_law.proofs.Names.{arith, nat_tests, ◌≡◌, ℕ, Bool, true, false, cond, List, [], ◌∷◌, Option, Some, None, refl, sym, ◌∙◌, ap, subst, ◌==◌, ◌&&◌, ◌||◌, not, nat_lt, eqb-true, TaskEnd, Cancelled, Failed, is_shut_in, is_in, TaskHandle, Listed, live_of, live_object, change, with_fields, gone, Action, with_enabled, has_worker, Task, NewTask, scheduled, is_unstarted, added, fits, Op, Reply, State, Terms, opening, workers, Move, withdraws, starts_task, runs_task, ends_task, ends_waiting, apply, after_moves, NodeEntry, next, LegalFrom, Legal, after_from, end_in, end_at, after_grows, some_same, fst_true, snd_true, not_true, task_at, TallyEnd, Answers, tally_verdict, answered}
 use Rattle.mtapi_machine.specs.Answers as is
 use Rattle.history_law.specs.Causes.{IsLeft, Cause, by_cancel, by_disabled_queue, by_close, by_deleted_queue, by_deleted_action, by_disabled_action, by_answer, by_watch, by_failed_tally, by_sum, by_tally, HasCause, EndHasItsCause}
 use Rattle.history_law.proofs.Answered.{none_some, on_test, second_false}

@@ -1,5 +1,5 @@
 -- The end of a task, by its handle: it stays, and where all have ended it is there.
-use Rattle.history_law.proofs.Names.{nat_tests, ◌≡◌, ℕ, ◌≤◌, false, cond, List, [], ◌∷◌, ◌++◌, Option, Some, None, refl, sym, ◌∙◌, ap, subst, arith, ◌==◌, is_none, TaskEnd, Listed, listed, Task, TaskState, Scheduled, Running, Ended, end_of, State, Grows, NodeEntry, after_from, after_grows, after-append, end_in, end_at, cond_both, eqb-true, eq-eqb, some_same}
+use Rattle.history_law.proofs.Names.{nat_tests, ◌≡◌, ℕ, ◌≤◌, false, List, [], ◌∷◌, ◌++◌, Some, refl, sym, subst, arith, is_none, TaskEnd, Listed, listed, Task, TaskState, Scheduled, Running, Ended, end_of, State, Grows, NodeEntry, after_from, after_grows, after-append, end_in, end_at, cond_both}
 use Rattle.history_law.proofs.Held.{HasEnded, AllEnded}
 
 -- an end stays an end

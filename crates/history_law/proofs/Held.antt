@@ -1,7 +1,7 @@
 -- What holds after every legal list of the tasks, the phase and the marks of stopped workers, and the changes that keep it.
-use Rattle.history_law.proofs.Names.{nat_tests, ◌≡◌, ℕ, Bool, true, false, cond, List, [], ◌∷◌, refl, arith, slice_set, TaskEnd, Phase, Listed, live_of, any_listed, any_live, with_fields, gone, Task, is_unended, ended, is_open, is_past_open, eqb-true, eq-eqb, some_same}
+use Rattle.history_law.proofs.Names.{nat_tests, ◌≡◌, ℕ, Bool, true, false, List, [], ◌∷◌, refl, arith, slice_set, TaskEnd, Phase, Listed, live_of, any_listed, with_fields, gone, Task, is_unended, ended, is_open, is_past_open}
 use Rattle.history_law.proofs.lists.Every.{Each, Every}
-use Rattle.history_law.proofs.Answered.{true_false, none_first}
+use Rattle.history_law.proofs.Answered.{true_false}
 
 -- the task has ended
 abbrev pub HasEnded : Task → Type 0

@@ -1,5 +1,5 @@
 -- No two ends have one number, and every number is below the next one.
-use Rattle.history_law.proofs.Names.{◌≡◌, ℕ, ◌+◌, ◌≤◌, ◌<◌, Bool, true, false, cond, List, [], ◌∷◌, refl, ap, arith, ◌==◌, ◌&&◌, nat_lt, eqb-true, cond_both, nat_tests, TaskEnd, Failed, Listed, how_many, change, change_all, issue, count_listed, with_fields, gone, Task, TaskState, Scheduled, Running, Ended, with_state, with_notes, ended, end_each, new_task, is_member, freed, let_go, Terms, State, opening, Move, starts_task, runs_task, ends_task, ends_waiting, withdraws, notes, leaves, frees_members, lets_members_go, apply, NodeEntry, after_from, along, rest_keeps, eq-eqb, some_same}
+use Rattle.history_law.proofs.Names.{◌≡◌, ℕ, ◌+◌, ◌≤◌, ◌<◌, Bool, false, cond, List, [], ◌∷◌, refl, ap, arith, ◌==◌, nat_lt, cond_both, nat_tests, TaskEnd, Failed, Listed, how_many, change, change_all, issue, count_listed, with_fields, gone, Task, TaskState, Scheduled, Running, Ended, with_state, with_notes, ended, end_each, new_task, is_member, freed, let_go, Terms, State, opening, Move, starts_task, runs_task, ends_task, ends_waiting, withdraws, notes, leaves, frees_members, lets_members_go, apply, NodeEntry, after_from, along, rest_keeps}
 
 abbrev pub is_number : ℕ → TaskState → Bool
 is_number n Scheduled = false

@@ -1,5 +1,5 @@
 -- No two objects of a kind are issued under one handle, and what was issued stays listed.
-use Rattle.history_law.proofs.Names.{ℕ, ◌≤◌, [], sym, subst, arith, ObjectKind, Op, listed, State, objects_of, Move, apply, NodeEntry, next, IsMade, by_moves, times, nat_tests, eqb-true, eq-eqb, some_same}
+use Rattle.history_law.proofs.Names.{ℕ, ◌≤◌, [], sym, subst, arith, ObjectKind, Op, listed, State, objects_of, Move, apply, NodeEntry, next, IsMade, by_moves, times}
 use Rattle.history_law.proofs.Reuse.{fresh_unlisted, listed_issue_some}
 use Rattle.history_law.proofs.lists.Handles.{OnceIn, once_same, once_more}
 use Rattle.history_law.proofs.Ages.{SameFields, kind_move, listed_ages}

@@ -1,5 +1,5 @@
 -- What the entries of other seats leave to a seat.
-use Rattle.history_law.proofs.Names.{◌≡◌, ◌≢◌, ℕ, zero, suc, Bool, true, false, cond, List, [], ◌∷◌, Some, None, refl, sym, ◌∙◌, ap, subst, arith, ◌==◌, ◌&&◌, not, slice_set, nat_tests, TaskEnd, marked, holds, Op, Reply, Terms, Listed, live_object, count_listed, with_fields, gone, is_member, in_no_group, let_go, Task, Notes, with_notes, TaskState, Scheduled, Running, Ended, runner, runs_on, is_unstarted, is_unended, State, opening, NodeEntry, next, LegalFrom, Legal, after_from, after, end_in, end_at, moves_phase, is_release, is_late_end, IsWaiter, Waits, OnceListed, Work, RunsWith, IsUntouched, Others, WorkerKeeps, NoPhase, NoRelease, Move, phase_is, released, stops, runs_task, ends_task, notes, leaves, apply, after_moves, fst_true, snd_true, not_true, rest_keeps, some_same, eq-eqb, Answers, IsNext, eqb-true}
+use Rattle.history_law.proofs.Names.{◌≡◌, ◌≢◌, ℕ, zero, suc, Bool, true, false, List, [], ◌∷◌, Some, None, refl, sym, ◌∙◌, ap, subst, arith, ◌==◌, ◌&&◌, not, slice_set, nat_tests, TaskEnd, marked, holds, Op, Reply, Terms, Listed, live_object, count_listed, with_fields, gone, is_member, in_no_group, let_go, Task, Notes, with_notes, TaskState, Scheduled, Running, Ended, runner, runs_on, is_unstarted, is_unended, State, opening, NodeEntry, next, LegalFrom, Legal, after_from, after, end_at, moves_phase, is_release, is_late_end, IsWaiter, Waits, OnceListed, Work, RunsWith, IsUntouched, Others, WorkerKeeps, NoPhase, NoRelease, Move, phase_is, released, stops, runs_task, ends_task, notes, leaves, apply, after_moves, fst_true, snd_true, not_true, rest_keeps, some_same, eq-eqb, Answers, IsNext}
 use Rattle.history_law.proofs.Reuse.{terms_next}
 use Rattle.history_law.proofs.SeatMoves.{Noted, May, MayEnd, is_any_look, by_moves, answer, kept_along}
 pub use Rattle.history_law.proofs.TaskMoves.{same_found}

@@ -1,5 +1,5 @@
 -- The lists that the laws refuse, by computing.
-use Rattle.history_law.proofs.Names.{nat_tests, ◌≡◌, ℕ, ◌<◌, ◌≤◌, Bool, true, false, ◌⊎◌, inl, inr, ap, List, [], ◌∷◌, ◌++◌, Option, Some, None, refl, sym, ◌∙◌, arith, pos, IsSome, slice_set, Two, no_marks, TaskHandle, Op, Task, Segment, Listed, live_of, issue, change, listed, issued_at, retired, is_full, may_issue, has_worker, end_each, Terms, is_ready, can_take, has_better, NodeEntry, LegalFrom, after_from, after, kept, DropsToSame, end_at, usual, main, worker, first_handle, next_handle, task, the_action, add_task, some_entry, is_live, EndsAfterClose, ObeysMasks, HasMutex, MutexesKeepTo, MadeWith, SemsKeepTo, OneWriter, ReadersAlone, RwlsKeepTo, tally_got, h1, two_workers, gets_both, begins, record_of, number_added, sum_of, writes_to, HoldsTheSum, GivenInOrder, EndedBefore, RunsInOrder, TellsItsEnd, Cancelled, Completed, NeverAgain, NotInBoth, second_core, too_early, up_to_the_end, again, one_for_two, on_another_core, given_twice, puts_one, two_put, picks_second, final_first, cancelled_first, completed_then, two_ends, makes_sem, both_hold, both_own, makes_rwl, reads_beside, written_untold, caller_gets, beside_a_tally, LawsRefuse, three_read, one_reads_twice, gives_back_unread, reads_none, gives_anothers, gets_none, gives_unlocked, some_same, cond_both, eqb-true, eq-eqb}
+use Rattle.history_law.proofs.Names.{nat_tests, ◌≡◌, ℕ, ◌<◌, ◌≤◌, Bool, true, false, inl, inr, ap, List, [], ◌∷◌, ◌++◌, Option, Some, None, refl, sym, ◌∙◌, arith, pos, IsSome, slice_set, no_marks, TaskHandle, Op, Task, Segment, Listed, live_of, issue, change, listed, issued_at, retired, is_full, may_issue, has_worker, end_each, is_ready, can_take, has_better, NodeEntry, LegalFrom, after_from, after, kept, DropsToSame, end_at, usual, main, worker, first_handle, next_handle, task, the_action, add_task, some_entry, is_live, EndsAfterClose, HasMutex, MutexesKeepTo, MadeWith, RwlsKeepTo, tally_got, h1, two_workers, gets_both, begins, record_of, number_added, sum_of, writes_to, HoldsTheSum, EndedBefore, RunsInOrder, Cancelled, Completed, NeverAgain, second_core, too_early, up_to_the_end, again, given_twice, puts_one, two_put, picks_second, final_first, cancelled_first, completed_then, makes_sem, both_hold, both_own, makes_rwl, reads_beside, written_untold, caller_gets, beside_a_tally, LawsRefuse, three_read, one_reads_twice, gives_back_unread, reads_none, gives_anothers, gets_none, gives_unlocked, some_same}
 use Rattle.mtapi_values.specs.declared.kinds.Kind.TheVariants as kind
 use Rattle.mtapi_values.specs.declared.handles.ObjectKind.TheVariants as object
 use Rattle.mtapi_machine.specs.declared.ops.Op.TheVariants as op

@@ -1,5 +1,5 @@
 -- What is no cause of an end: what each cause needs, and that it isn't so.
-use Rattle.history_law.proofs.Names.{◌≡◌, ℕ, true, false, List, [], ◌∷◌, ◌++◌, ◌∙◌, ◌==◌, ◌⊎◌, inl, inr, refl, sym, arith, pos, ℤ, TaskEnd, Completed, Cancelled, live_of, change, has_worker, gone, with_fields, Op, Task, NodeEntry, State, first_handle, next_handle, nat_tests, eqb-true, eq-eqb, some_same}
+use Rattle.history_law.proofs.Names.{◌≡◌, ℕ, true, false, List, [], ◌∷◌, ◌++◌, ◌==◌, ◌⊎◌, inl, inr, refl, arith, pos, ℤ, TaskEnd, Completed, Cancelled, live_of, change, has_worker, gone, with_fields, Op, Task, NodeEntry, State, first_handle, next_handle, nat_tests}
 use Rattle.mtapi_values.specs.declared.statuses.MtapiStatus.{MtapiStatus}
 use Rattle.mtapi_values.specs.declared.statuses.MtapiStatus.TheVariants as status
 use Rattle.mtapi_values.specs.declared.ends.TaskEnd.TheVariants.{Failed}

@@ -1,5 +1,5 @@
 -- The lists that the further clauses refuse, by computing.
-use Rattle.history_law.proofs.Names.{◌≡◌, ◌<◌, ◌≤◌, true, List, [], ◌∷◌, ◌++◌, Some, IsSome, refl, sym, ◌∙◌, arith, pos, Cancelled, live_of, issue, change, listed, issued_at, retired, is_full, may_issue, has_worker, end_each, is_ready, can_take, has_better, NodeEntry, after_from, after, end_at, usual, main, first_handle, next_handle, task, the_action, EndsOnce, ObeysMasks, GivenInOrder, EndedBefore, RunsInOrder, NotInBoth, too_early, up_to_the_end, two_put, puts_one, some_same, nat_tests, eqb-true, eq-eqb}
+use Rattle.history_law.proofs.Names.{◌≡◌, ◌<◌, ◌≤◌, true, List, [], ◌∷◌, ◌++◌, Some, IsSome, refl, sym, ◌∙◌, arith, pos, Cancelled, live_of, issue, change, listed, issued_at, retired, is_full, may_issue, has_worker, end_each, is_ready, can_take, has_better, NodeEntry, after_from, after, end_at, usual, main, first_handle, next_handle, task, the_action, EndsOnce, ObeysMasks, GivenInOrder, EndedBefore, RunsInOrder, NotInBoth, too_early, up_to_the_end, two_put, puts_one, some_same}
 use Rattle.mtapi_values.specs.declared.kinds.Kind.TheVariants as kind
 use Rattle.mtapi_values.specs.declared.handles.ObjectKind.TheVariants as object
 use Rattle.mtapi_values.specs.declared.handles.Layout.TheVariants.{Two}

@@ -1,11 +1,11 @@
 -- What the fields of laws refuse, by computing.
-use Rattle.history_law.proofs.Names.{◌≡◌, ℕ, zero, suc, ◌++◌, refl, sym, ◌∙◌, ap, arith, live_of, count_listed, issue, change, listed, issued_at, retired, is_full, may_issue, has_worker, runs_on, is_ready, can_take, has_better, after_from, after, usual, first_handle, next_handle, Holds, started, takes, some_same, nat_tests, eqb-true, eq-eqb}
+use Rattle.history_law.proofs.Names.{◌≡◌, ℕ, zero, suc, ◌++◌, refl, arith, live_of, count_listed, issue, change, listed, issued_at, retired, is_full, may_issue, has_worker, runs_on, is_ready, can_take, has_better, after_from, after, usual, first_handle, next_handle, Holds, started, takes, some_same, nat_tests}
 use Rattle.std.specs.Prelude.{[], ◌∷◌, ℤ}
 use Rattle.mtapi_values.specs.declared.kinds.Kind.TheVariants as kind
 use Rattle.mtapi_objects.specs.Tasks.{Running}
 use Rattle.history_law.specs.Seats.{Free, Work}
 use Rattle.history_law.specs.RefusedFields.{FieldsRefuse, one_runs, two_run, has_left, watched, watching}
-use Rattle.history_law.proofs.Refused.{not_some, true_false}
+use Rattle.history_law.proofs.Refused.{not_some}
 use Rattle.history_law.proofs.RefusedRuns.{not_one}
 
 has : Holds one_runs 0 first_handle watched

@@ -1,5 +1,5 @@
 -- What the laws of a run refuse, by computing.
-use Rattle.history_law.proofs.Names.{◌≡◌, ℕ, zero, suc, ◌≤◌, List, [], ◌∷◌, ◌++◌, Option, Some, None, refl, sym, ◌∙◌, ap, arith, true, ◌+◌, ◌==◌, Timeout, ErrTaskInvalid, Failed, Cancelled, is_seat, live_of, live_object, count_listed, issue, change, listed, issued_at, retired, is_full, may_issue, has_worker, Task, runs_on, is_ready, can_take, has_better, opening, seats, NodeEntry, after_from, after, end_at, usual, main, first_handle, add_task, task, TasksEndOnce, OnceListed, Waits, KeepsWaiter, Holds, WorkerKeeps, EndsInTime, KeepsPhase, KeepsRelease, KeepsEarly, AreUntouched, KeepsStops, BySeats, EntersBehindRelease, FinalsBehindStops, KeepsOnce, HasMarks, too_early, final_first, started, waits, looks_last, takes, ends, ends_late, opens, releases, closes_it, enters_first, by_no_seat, with_tasks, a_task, listed_once, has_looked, has_stopped, RunLawsRefuse, has_no_marks, was_cancelled, adding, finishes_it, has_got_both, h1, EndsPlainly, task_at, Serves, TalliesHold, got_both, cond_both, nat_tests, eqb-true, eq-eqb, some_same}
+use Rattle.history_law.proofs.Names.{◌≡◌, ℕ, zero, suc, ◌≤◌, List, [], ◌∷◌, ◌++◌, Option, Some, None, refl, sym, ◌∙◌, arith, true, ◌+◌, ◌==◌, Timeout, Failed, Cancelled, is_seat, live_of, live_object, count_listed, issue, change, listed, issued_at, retired, is_full, may_issue, has_worker, Task, runs_on, is_ready, can_take, has_better, opening, NodeEntry, after_from, after, end_at, usual, main, first_handle, add_task, TasksEndOnce, OnceListed, Waits, KeepsWaiter, Holds, KeepsPhase, KeepsRelease, KeepsEarly, AreUntouched, KeepsOnce, too_early, started, waits, looks_last, takes, ends, ends_late, opens, releases, closes_it, with_tasks, a_task, listed_once, has_looked, RunLawsRefuse, was_cancelled, adding, has_got_both, h1, EndsPlainly, task_at, TalliesHold, got_both, cond_both, nat_tests}
 use Rattle.mtapi_machine.specs.declared.ops.Op.TheVariants as op
 use Rattle.mtapi_machine.specs.declared.replies.Reply.TheVariants as reply
 use Rattle.history_law.specs.Refused.{makes_action}

@@ -1,5 +1,5 @@
 -- No handle is used again, and in layout two none names objects of two kinds.
-use Rattle.history_law.proofs.Names.{nat_tests, ◌≡◌, ℕ, ◌+◌, ◌≤◌, Bool, true, false, cond, List, [], ◌∷◌, ◌++◌, refl, sym, ◌∙◌, ap, subst, arith, ◌==◌, eqb-true, eq-eqb, false_from_ne_true, true_from_ne_false, ObjectKind, Layout, Two, object_number, named_kind, names_kind, Terms, Op, Reply, Handle, Listed, listed, may_issue, issue, Objects, FieldsOf, objects_of, State, opening, Move, is_fresh, apply, Allows, live, after_row, row, NodeEntry, IsNext, next, LegalFrom, Legal, after_from, after, IsMade, Legal-front, Legal-rest, after-append, fst_true, snd_true, own_kind, at_opening, along, by_moves, rest_keeps, some_entry, times, is_live, is_handle, issues, NeverAgain, NotInBoth, released, Answers, after_moves, ◌&&◌, answered, some_same}
+use Rattle.history_law.proofs.Names.{nat_tests, ◌≡◌, ℕ, ◌+◌, ◌≤◌, Bool, true, false, cond, List, [], ◌∷◌, ◌++◌, refl, sym, ◌∙◌, ap, subst, arith, ◌==◌, eqb-true, eq-eqb, false_from_ne_true, true_from_ne_false, ObjectKind, Layout, Two, object_number, named_kind, names_kind, Terms, Op, Reply, Handle, Listed, listed, may_issue, issue, Objects, FieldsOf, objects_of, State, opening, Move, is_fresh, apply, Allows, live, after_row, row, NodeEntry, IsNext, next, LegalFrom, Legal, after_from, after, IsMade, Legal-front, Legal-rest, after-append, fst_true, snd_true, own_kind, at_opening, along, by_moves, rest_keeps, some_entry, times, is_live, is_handle, issues, NeverAgain, NotInBoth, released, Answers, after_moves, answered}
 use Rattle.mtapi_values.specs.declared.handles.ObjectKind.TheVariants as kind
 use Rattle.history_law.specs.Words.{makes_object}
 use Rattle.mtapi_machine.specs.Answers as is

@@ -1,6 +1,5 @@
 -- What holds of each reply with the moves that come with it, for a row and for the families of rows.
-use Rattle.history_law.proofs.Names.{◌≡◌, ℕ, Bool, true, false, cond, List, [], ◌∷◌, Option, Some, None, refl, sym, subst, nat_lt, MrapiStatus, live_object, Reply, Ok, Pending, Mrapi, State, workers, Move, Sort, Fields, all_of, alters, removes, Row, unless, gives, never, Allows, only, live, moves_of, mrapi, mrapi_open, mrapi_unless, alters_one, looks_one, deletes, cond_both, nat_tests, arith, eqb-true, eq-eqb, some_same}
-use Rattle.mtapi_values.specs.declared.statuses.MrapiStatus.TheVariants as c
+use Rattle.history_law.proofs.Names.{◌≡◌, Bool, true, false, List, [], refl, sym, subst, Reply, Move, Row, unless, gives, never, Allows, only, moves_of, nat_tests, arith}
 
 -- Q of each refusal with no move, and of what the row gives where the conditions before it aren't met
 abbrev pub OfEachReply : (Reply → List Move → Type 0) → Row → Type 0

@@ -1,5 +1,5 @@
 -- What is left of a row once conditions before its effect weren't met.
-use Rattle.history_law.proofs.Names.{◌≡◌, ℕ, ◌<◌, Bool, true, false, refl, ◌∙◌, ap, nat_lt, lt-ltb, Reply, State, Row, unless, Allows, after_row, not, nat_tests, arith, eqb-true, eq-eqb, some_same}
+use Rattle.history_law.proofs.Names.{◌≡◌, ℕ, ◌<◌, Bool, false, ◌∙◌, ap, nat_lt, lt-ltb, Reply, State, Row, unless, Allows, after_row, not, nat_tests, arith}
 
 -- the reply is allowed by what is left of the row, which leads to the same state
 pub record Goes (s : State) (w : Row) (r : Reply) (v : Row) : Type 0 where

@@ -1,5 +1,5 @@
 -- What a worker asks of the task that it has isn't refused.
-use Rattle.history_law.proofs.Names.{◌≡◌, ℕ, ◌<◌, true, Some, sym, ◌∙◌, ap, arith, nat_tests, Kind, TaskHandle, live_object, Task, runs_as, entry, Op, Reply, State, workers, IsNext, Work, Holds, AsksOf, IsServed, eqb-true, eq-eqb, some_same}
+use Rattle.history_law.proofs.Names.{◌≡◌, ℕ, ◌<◌, true, Some, sym, arith, nat_tests, Kind, TaskHandle, live_object, Task, runs_as, entry, Op, Reply, State, workers, IsNext, Work, Holds, AsksOf, IsServed}
 use Rattle.history_law.proofs.WorkerTurns.{same_list, runs_as_its, finish_said}
 use Rattle.mtapi_values.specs.declared.kinds.Kind.TheVariants as kind
 use Rattle.mtapi_machine.specs.declared.ops.Op.TheVariants as op

@@ -1,5 +1,5 @@
 -- What each move does to the objects of a kind that no rule of tasks speaks of.
-use Rattle.history_law.proofs.Names.{ℕ, List, Listed, change, issue, with_fields, gone, Op, State, Move, Sort, Groups, Queues, Mutexes, Sems, Rwls, Segments, Fields, all_of, makes, alters, removes, apply, IsMade, AltersObject, RemovesObject, nat_tests, arith, eqb-true, eq-eqb, some_same}
+use Rattle.history_law.proofs.Names.{ℕ, List, Listed, change, issue, with_fields, gone, Op, State, Move, Sort, Groups, Queues, Mutexes, Sems, Rwls, Segments, Fields, all_of, makes, alters, removes, apply, IsMade, AltersObject, RemovesObject}
 
 -- what making, altering and removing keep, each move keeps
 pub sort_move : (k : Sort) (s : State) (o : Op) (Q : List (Listed (Fields k)) → Type 0)

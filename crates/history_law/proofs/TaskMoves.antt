@@ -1,5 +1,5 @@
 -- What each move of a seat keeps of every task, and of the live task of a handle.
-use Rattle.history_law.proofs.Names.{nat_tests, arith, ◌≡◌, ℕ, Bool, true, false, Option, Some, None, ◌⊎◌, inl, inr, sym, ◌∙◌, subst, Kind, TaskEnd, Failed, is_other, Op, Listed, live_object, is_member, let_go, Task, NewTask, Notes, Running, Ended, runs_as, is_unstarted, is_unended, with_state, with_notes, ended, new_task, State, Move, apply, fst_true, snd_true, not_true, is_late_end, some_same, eqb-true, eq-eqb}
+use Rattle.history_law.proofs.Names.{nat_tests, arith, ◌≡◌, ℕ, Bool, true, false, Option, Some, None, ◌⊎◌, inl, inr, sym, ◌∙◌, subst, Kind, TaskEnd, Failed, is_other, Op, Listed, live_object, is_member, let_go, Task, NewTask, Notes, Running, Ended, runs_as, is_unstarted, is_unended, with_state, with_notes, ended, new_task, State, Move, apply, fst_true, snd_true, not_true, is_late_end, some_same}
 use Rattle.mtapi_values.specs.declared.kinds.Kind.TheVariants as kind
 use Rattle.history_law.proofs.SeatMoves.{May, MayEnd, Noted, Does, EndsTally, is_any_look}
 use Rattle.history_law.proofs.lists.Every.{Every}

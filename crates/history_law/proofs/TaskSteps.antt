@@ -1,5 +1,5 @@
 -- What each move does to the list of tasks: one task may be new, and each that was listed goes one step or stays as it is.
-use Rattle.history_law.proofs.Names.{◌≡◌, ℕ, ◌+◌, ◌≤◌, Bool, true, false, List, [], ◌∷◌, Some, refl, sym, ap, cond, ◌∙◌, arith, ◌==◌, ◌&&◌, not, eqb-true, cond_both, Kind, TaskEnd, Failed, MtapiStatus, Listed, live_of, live_object, how_many, change, change_all, issue, with_fields, gone, Action, has_worker, is_member, freed, let_go, Task, NewTask, Notes, Running, is_unstarted, is_unended, with_state, with_notes, ended, end_each, new_task, State, workers, Move, starts_task, runs_task, ends_task, ends_waiting, withdraws, notes, leaves, frees_members, lets_members_go, apply, fst_true, snd_true, rest_keeps, ℤ, pos, ◌+ℤ◌, sum_of, nat_tests, eq-eqb, some_same}
+use Rattle.history_law.proofs.Names.{◌≡◌, ℕ, ◌+◌, ◌≤◌, Bool, true, false, List, [], ◌∷◌, Some, refl, ap, cond, ◌∙◌, arith, ◌==◌, ◌&&◌, not, eqb-true, cond_both, Kind, TaskEnd, Failed, MtapiStatus, Listed, live_of, live_object, how_many, change, change_all, issue, with_fields, gone, Action, has_worker, is_member, freed, let_go, Task, NewTask, Notes, Running, is_unstarted, is_unended, with_state, with_notes, ended, end_each, new_task, State, workers, Move, starts_task, runs_task, ends_task, ends_waiting, withdraws, notes, leaves, frees_members, lets_members_go, apply, fst_true, snd_true, rest_keeps, ℤ, pos, ◌+ℤ◌, sum_of, nat_tests}
 use Rattle.history_law.proofs.lists.Every.{Each, Every}
 use Rattle.history_law.proofs.lists.Found.{FoundAs, at_here, at_past, by_head}
 

@@ -1,5 +1,5 @@
 -- An entry tells the end that the record has.
-use Rattle.history_law.proofs.Names.{arith, nat_tests, ◌≡◌, ℕ, cond, List, [], ◌∷◌, Option, Some, None, refl, ◌∙◌, ap, subst, ◌==◌, eqb-true, MtapiStatus, MrapiStatus, Mtapi, Mrapi, ends_task, notes, with_waiter, TaskEnd, live_object, change, Task, ended, watch_end, Terms, Op, Reply, State, opening, Move, after_moves, task_end, NodeEntry, IsNext, next, LegalFrom, Legal, after_from, after, end_in, end_at, after-append, after_grows, told_by, TellsItsEnd, Answers, tally_verdict, answered, eq-eqb, some_same}
+use Rattle.history_law.proofs.Names.{arith, nat_tests, ◌≡◌, ℕ, cond, List, [], ◌∷◌, Option, Some, None, refl, ◌∙◌, ap, subst, ◌==◌, eqb-true, MtapiStatus, MrapiStatus, Mtapi, Mrapi, ends_task, notes, with_waiter, TaskEnd, live_object, change, Task, ended, watch_end, Terms, Op, Reply, State, opening, Move, after_moves, task_end, NodeEntry, IsNext, next, LegalFrom, Legal, after_from, after, end_in, end_at, after-append, after_grows, told_by, TellsItsEnd, Answers, tally_verdict, answered}
 use Rattle.history_law.proofs.Moves.{once_from}
 use Rattle.history_law.proofs.lists.Handles.{OnceIn}
 use Rattle.history_law.proofs.Ends.{grows_end}

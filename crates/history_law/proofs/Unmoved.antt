@@ -1,5 +1,5 @@
 -- What an op leaves that alters and removes no object of a kind.
-use Rattle.history_law.proofs.Names.{◌≡◌, ℕ, ◌≤◌, List, Option, refl, ◌∙◌, Listed, live_object, listed, State, Sort, Fields, all_of, NodeEntry, next, AltersObject, RemovesObject, by_moves, nat_tests, arith, eqb-true, eq-eqb, some_same}
+use Rattle.history_law.proofs.Names.{◌≡◌, ℕ, ◌≤◌, List, Option, refl, ◌∙◌, Listed, live_object, listed, State, Sort, Fields, all_of, NodeEntry, next, AltersObject, RemovesObject, by_moves}
 use Rattle.history_law.proofs.lists.AtHandles.{at_issue_other}
 use Rattle.history_law.proofs.Reuse.{apart_if, listed_issue_some}
 use Rattle.history_law.proofs.Sorts.{sort_move}

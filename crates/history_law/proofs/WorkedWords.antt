@@ -1,5 +1,5 @@
 -- The words of the laws, by computing.
-use Rattle.history_law.proofs.Names.{refl, arith, nat_tests}
+use Rattle.history_law.proofs.Names.{arith, nat_tests}
 use Rattle.history_law.specs.Order.{number_at}
 use Rattle.history_law.specs.Quiet.{task_at}
 use Rattle.history_law.specs.Tally.{record_of}

@@ -1,12 +1,12 @@
 -- What a worker's pick and finish do to its task.
-use Rattle.history_law.proofs.Names.{row, ◌≡◌, ℕ, ◌<◌, Bool, true, false, cond, List, Some, refl, sym, ◌∙◌, ap, subst, arith, ◌==◌, ◌&&◌, int_eq, pointwise, entry, holds, Kind, TaskEnd, Answered, eq-eqb, Decides-int_eq, slice_eq-Decides, Reply, Ok, Picked, Idle, Stop, live_object, count_listed, any_listed, change, with_fields, Task, TaskState, Running, runner, runs_on, runs_as, kind_number, is_unstarted, with_state, no_tally, ended, State, workers, tasks, changed, Allows, task_end, IsNext, next, at-update, Work, RunsWith, Holds, Free, IsUntouched, and-false, ℤ, Answers, Move, Op, after_moves, moves_of, nat_tests, row, Row, unless, says, live, Mtapi, not, nat_lt, Option, None, eqb-true, some_same}
+use Rattle.history_law.proofs.Names.{row, ◌≡◌, ℕ, ◌<◌, Bool, true, false, cond, List, Some, refl, sym, ◌∙◌, ap, subst, arith, ◌==◌, ◌&&◌, int_eq, pointwise, entry, holds, Kind, TaskEnd, Answered, eq-eqb, Decides-int_eq, slice_eq-Decides, Reply, Ok, Picked, Idle, Stop, live_object, count_listed, any_listed, change, with_fields, Task, TaskState, Running, runner, runs_on, runs_as, kind_number, is_unstarted, with_state, no_tally, ended, State, workers, tasks, changed, Allows, task_end, IsNext, next, at-update, Work, RunsWith, Holds, Free, IsUntouched, ℤ, Answers, Move, Op, after_moves, moves_of, nat_tests, row, Row, unless, says, live, Mtapi, not, nat_lt, Option}
 use Rattle.history_law.proofs.Others.{runs_scheduled}
 use Rattle.mtapi_machine.specs.declared.ops.Op.TheVariants as op
 use Rattle.history_law.proofs.lists.Found.{count_changed, count_none}
 use Rattle.history_law.proofs.Answered.{true_false}
 use Rattle.history_law.proofs.SeatMoves.{answer, ready_unstarted}
 use Rattle.mtapi_machine.specs.Answers as is
-use Rattle.history_law.proofs.RowRest.{Goes, pass, goes_then, small_not}
+use Rattle.history_law.proofs.RowRest.{Goes, goes_then, small_not}
 use Rattle.mtapi_values.specs.declared.statuses.MtapiStatus.TheVariants as m
 
 -- each task that hasn't begun is untouched

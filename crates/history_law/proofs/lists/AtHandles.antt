@@ -1,5 +1,5 @@
 -- The live object of a handle, after a change of the list.
-use Rattle.history_law.proofs.Names.{◌≡◌, ℕ, Bool, true, false, List, [], ◌∷◌, Option, Some, None, refl, sym, ◌∙◌, subst, arith, ◌==◌, eq-eqb, eqb-true, Listed, live_of, live_object, listed, change, issue, gone, with_fields, at-update, nat_tests, some_same}
+use Rattle.history_law.proofs.Names.{◌≡◌, ℕ, Bool, true, false, List, [], ◌∷◌, Option, Some, None, refl, ◌∙◌, arith, ◌==◌, eq-eqb, eqb-true, Listed, live_of, live_object, listed, change, issue, gone, with_fields, at-update, nat_tests}
 use Rattle.history_law.proofs.Answered.{on_test}
 use Rattle.history_law.proofs.lists.Found.{at_skip, at_here}
 use Rattle.history_law.proofs.lists.Handles.{OnceIn, head_apart}

@@ -1,5 +1,5 @@
 -- How often entries pass one test and another, beside a number that a state has.
-use Rattle.history_law.proofs.Names.{◌≡◌, ℕ, ◌+◌, Bool, true, false, cond, List, [], ◌∷◌, ◌++◌, refl, ap, arith, State, NodeEntry, IsNext, next, LegalFrom, after_from, some_entry, entries_that, nat_tests, eqb-true, eq-eqb, some_same}
+use Rattle.history_law.proofs.Names.{◌≡◌, ℕ, ◌+◌, Bool, true, false, cond, List, [], ◌∷◌, ◌++◌, refl, ap, arith, State, NodeEntry, IsNext, next, LegalFrom, after_from, some_entry, entries_that, nat_tests}
 use Rattle.history_law.proofs.Answered.{on_test}
 
 abbrev pub one_if : Bool → ℕ

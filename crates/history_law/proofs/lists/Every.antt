@@ -1,6 +1,6 @@
 -- What holds of every task that was ever issued, after a change of the list.
-use Rattle.history_law.proofs.Names.{arith, nat_tests, ◌≡◌, ℕ, Bool, true, false, List, [], ◌∷◌, Some, refl, sym, ◌∙◌, subst, cond_both, Listed, live_of, live_object, change, issue, some_same, fst_true, snd_true, eqb-true, eq-eqb}
-use Rattle.history_law.proofs.lists.Found.{at_head, at_here, at_past}
+use Rattle.history_law.proofs.Names.{arith, nat_tests, ◌≡◌, ℕ, Bool, true, false, List, [], ◌∷◌, Some, refl, cond_both, Listed, live_of, live_object, change, issue, some_same, fst_true, snd_true}
+use Rattle.history_law.proofs.lists.Found.{at_here, at_past}
 
 -- P of each
 abbrev pub Each : {A : Type 0} → (A → Type 0) → List A → Type 0

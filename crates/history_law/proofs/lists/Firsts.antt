@@ -1,10 +1,9 @@
 -- What is known of the first live object that passes, and of two live ones where at most one passes.
-use Rattle.history_law.proofs.Names.{nat_tests, ◌≡◌, ℕ, ◌+◌, ◌≤◌, Bool, true, false, cond, List, [], ◌∷◌, Some, refl, sym, ◌∙◌, subst, arith, ◌==◌, ◌&&◌, is_some, eq-eqb, Listed, live_of, live_object, listed, count_listed, some_same, eqb-true}
+use Rattle.history_law.proofs.Names.{nat_tests, ◌≡◌, ℕ, ◌≤◌, Bool, true, false, List, [], ◌∷◌, Some, arith, ◌==◌, is_some, Listed, live_of, live_object, listed, count_listed, some_same}
 use Rattle.handle_pool.specs.Issued.{first_handle}
-use Rattle.history_law.proofs.Answered.{true_false, whether, on_test}
 use Rattle.history_law.proofs.lists.Handles.{OnceIn, once_rest}
 use Rattle.history_law.proofs.Ages.{live_listed}
-use Rattle.history_law.proofs.lists.Found.{at_skip, at_dead, at_here, at_head, at_past}
+use Rattle.history_law.proofs.lists.Found.{at_here, at_head, at_past}
 
 module _ {T : Type 0} where
   -- a head that has the handle has it alone

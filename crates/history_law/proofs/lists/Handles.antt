@@ -1,5 +1,5 @@
 -- How often a handle is listed, after a change of the list.
-use Rattle.history_law.proofs.Names.{◌≡◌, ℕ, ◌≤◌, Bool, false, cond, List, [], ◌∷◌, refl, sym, ap, subst, arith, ◌==◌, eq-eqb, Listed, change, issue, listed, listed-issue, nat_tests, eqb-true, some_same}
+use Rattle.history_law.proofs.Names.{◌≡◌, ℕ, ◌≤◌, false, List, [], ◌∷◌, refl, sym, subst, arith, ◌==◌, Listed, change, issue, listed, listed-issue, nat_tests}
 
 module _ {T : Type 0} where
   pub listed_change : (j h : ℕ) (f : Listed T → Listed T) (l : List (Listed T)) → ((r : Listed T) → (f r).handle ≡ r.handle)

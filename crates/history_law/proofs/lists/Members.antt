@@ -1,5 +1,5 @@
 -- The members of a group that have ended, as the machine finds them.
-use Rattle.history_law.proofs.Names.{◌≡◌, ℕ, ◌+◌, ◌≤◌, Bool, true, false, cond, List, [], ◌∷◌, Option, Some, None, refl, sym, ◌∙◌, ap, subst, arith, ◌==◌, nat_lt, eq-eqb, cond_both, TaskEnd, Listed, live_of, live_object, listed, Task, end_of, is_member, Ending, insert, insert_ended, endings, some_same, nat_tests, eqb-true}
+use Rattle.history_law.proofs.Names.{◌≡◌, ℕ, ◌+◌, ◌≤◌, Bool, true, false, cond, List, [], ◌∷◌, Option, Some, None, refl, arith, ◌==◌, nat_lt, eq-eqb, cond_both, TaskEnd, Listed, live_of, live_object, listed, Task, end_of, is_member, Ending, insert, insert_ended, endings, some_same, nat_tests}
 use Rattle.history_law.proofs.lists.Every.{Each, each_map}
 use Rattle.history_law.proofs.lists.Found.{at_skip, at_here}
 use Rattle.history_law.proofs.lists.Handles.{once_rest}

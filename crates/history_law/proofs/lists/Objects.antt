@@ -1,5 +1,5 @@
 -- What an entry says of a new object, its record keeps.
-use Rattle.history_law.proofs.Names.{◌≡◌, ℕ, ◌≤◌, true, List, [], ◌∷◌, ◌++◌, refl, sym, ◌∙◌, subst, ObjectKind, Op, Handle, Listed, listed, issue, Action, new_action, Task, NewTask, new_task, State, FieldsOf, objects_of, Move, starts_task, is_fresh, apply, after_moves, new_queue, NodeEntry, IsNext, next, LegalFrom, after_from, IsMade, StartsTask, Legal-rest, after-append, along, issues, ◌+◌, Answers, answered, nat_tests, arith, eqb-true, eq-eqb, some_same}
+use Rattle.history_law.proofs.Names.{◌≡◌, ℕ, ◌≤◌, true, List, [], ◌∷◌, ◌++◌, refl, sym, ◌∙◌, subst, ObjectKind, Op, Handle, Listed, listed, issue, Action, new_action, Task, NewTask, new_task, State, FieldsOf, objects_of, Move, starts_task, is_fresh, apply, after_moves, new_queue, NodeEntry, IsNext, next, LegalFrom, after_from, IsMade, StartsTask, Legal-rest, after-append, along, issues, ◌+◌, Answers, answered, nat_tests, arith}
 use Rattle.mtapi_values.specs.declared.handles.ObjectKind.TheVariants as kind
 use Rattle.mtapi_machine.specs.declared.ops.Op.TheVariants as op
 use Rattle.history_law.specs.Words.{makes_object}

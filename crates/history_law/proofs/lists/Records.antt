@@ -1,6 +1,5 @@
 -- The record of a live object, where no handle is listed twice.
-use Rattle.history_law.proofs.Names.{nat_tests, ◌≡◌, ℕ, Bool, true, cond, List, [], ◌∷◌, Some, sym, ◌∙◌, ap, arith, ◌==◌, ◌&&◌, Listed, live_of, live_object, listed, change, snd_true, some_same, false_from_ne_true, eqb-true, eq-eqb}
-use Rattle.history_law.proofs.Answered.{whether}
+use Rattle.history_law.proofs.Names.{nat_tests, ◌≡◌, ℕ, Bool, true, cond, List, [], ◌∷◌, Some, sym, ◌∙◌, ap, arith, ◌==◌, Listed, live_of, live_object, listed, change, some_same, false_from_ne_true}
 use Rattle.history_law.proofs.Ages.{live_listed}
 use Rattle.history_law.proofs.lists.Found.{at_here, change_here, change_past, at_head, at_past}
 use Rattle.history_law.proofs.lists.Handles.{OnceIn, once_rest}

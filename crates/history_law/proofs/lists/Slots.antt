@@ -1,5 +1,5 @@
 -- A list in which one element is set has the others as before.
-use Rattle.history_law.proofs.Names.{arith, nat_tests, ◌≡◌, ℕ, false, List, sym, ◌==◌, slice_index_or, slice_set, eq-eqb, get_or-set_other, cond, eqb-true, get_or-set_same, length, ◌<◌, some_same, zero, suc, replicate, refl}
+use Rattle.history_law.proofs.Names.{arith, nat_tests, ◌≡◌, ℕ, false, List, sym, ◌==◌, slice_index_or, slice_set, eq-eqb, get_or-set_other, cond, eqb-true, get_or-set_same, length, ◌<◌, zero, suc, replicate, refl}
 use Rattle.history_law.proofs.Answered.{true_false, on_test}
 
 pub set_apart : {A : Type 0} (l : List A) (i w : ℕ) (v d : A) → (i == w) ≡ false → slice_index_or (slice_set l i v) w d ≡ slice_index_or l w d

@@ -1,5 +1,5 @@
 -- Sums over listed tasks, and the records of handles, after a change of the list.
-use Rattle.history_law.proofs.Names.{nat_tests, arith, ◌≡◌, ℕ, suc, zero, Bool, false, cond, List, [], ◌∷◌, Option, Some, None, refl, sym, ◌∙◌, ap, ◌==◌, ◌&&◌, is_some, ℤ, pos, ◌+ℤ◌, slice_index_or, replicate, option_map, eqb-true, eq-eqb, cond_both, +ℤ_comm, +ℤ_assoc, Listed, live_of, live_object, listed, change, issue, update, with_fields, Task, some_same, at-update, record_of, sum_of, fst_true, snd_true}
+use Rattle.history_law.proofs.Names.{nat_tests, arith, ◌≡◌, ℕ, Bool, false, cond, List, [], ◌∷◌, Option, Some, None, refl, sym, ◌∙◌, ap, ◌==◌, ◌&&◌, is_some, ℤ, pos, ◌+ℤ◌, option_map, eqb-true, eq-eqb, cond_both, +ℤ_comm, +ℤ_assoc, Listed, live_of, live_object, listed, change, issue, update, with_fields, Task, some_same, at-update, record_of, sum_of, fst_true, snd_true}
 use Rattle.history_law.proofs.lists.Handles.{OnceIn, once_rest, listed_change, once_same, head_apart}
 use Rattle.history_law.proofs.lists.Every.{Every}
 use Rattle.history_law.proofs.lists.Found.{at_here, at_head, at_past}

@@ -1,5 +1,5 @@
 -- What an entry does to the segment of one handle, and what that leaves of the seats that are attached.
-use Rattle.history_law.proofs.Names.{nat_tests, ◌≡◌, ℕ, zero, suc, ◌<◌, Bool, true, false, cond, List, [], ◌∷◌, Option, Some, None, ◌⊎◌, inl, inr, refl, sym, ◌∙◌, ap, subst, arith, ◌==◌, nat_lt, ℤ, slice_set, eqb-true, eq-eqb, marked, any_mark, Op, Reply, live_object, Segment, new_segment, with_attached, with_cell, State, workers, Move, after_moves, IsAttached, cond_both, lt-ltb, length, Answers, change, with_fields, some_same, length-set}
+use Rattle.history_law.proofs.Names.{nat_tests, ◌≡◌, ℕ, zero, suc, ◌<◌, Bool, true, false, cond, List, [], ◌∷◌, Option, Some, None, ◌⊎◌, inl, inr, refl, sym, ◌∙◌, ap, subst, arith, ◌==◌, nat_lt, ℤ, eqb-true, marked, any_mark, Op, Reply, live_object, Segment, new_segment, with_attached, with_cell, State, workers, Move, after_moves, IsAttached, cond_both, lt-ltb, length, Answers, change, with_fields, length-set}
 use Rattle.history_law.proofs.Others.{set_keeps}
 use Rattle.history_law.proofs.lists.Slots.{set_apart}
 use Rattle.mtapi_values.specs.declared.handles.ObjectKind.TheVariants as kind

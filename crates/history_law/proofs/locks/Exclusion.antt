@@ -1,5 +1,5 @@
 -- Semaphores are held within their limits.
-use Rattle.history_law.proofs.Names.{◌≡◌, ℕ, zero, suc, ◌+◌, ◌<◌, ◌≤◌, Bool, true, false, List, [], ◌∷◌, Option, Some, None, refl, subst, arith, ◌==◌, ◌-◌, ◌&&◌, nat_lt, length, replicate, slice_index, slice_set, nat_tests, length-set, Terms, Op, Reply, Handle, live_object, listed, Sem, new_sem, total, sem_busy, sem_taken, sem_given, State, NodeEntry, Legal, some_same, entries_that, says_ok, looks_at_sem, unlocks_sem, gets_sem, gives_sem, by_seat, SemsKeepTo, limit_of, Legal-prefix, Answers, Move, after_moves, eqb-true, eq-eqb}
+use Rattle.history_law.proofs.Names.{◌≡◌, ℕ, zero, suc, ◌+◌, ◌<◌, ◌≤◌, Bool, true, false, List, [], ◌∷◌, Option, Some, None, refl, subst, arith, ◌==◌, ◌-◌, ◌&&◌, nat_lt, length, slice_index, slice_set, nat_tests, length-set, Terms, Op, Reply, Handle, live_object, listed, Sem, new_sem, total, sem_busy, sem_taken, sem_given, State, NodeEntry, Legal, some_same, entries_that, says_ok, looks_at_sem, unlocks_sem, gets_sem, gives_sem, by_seat, SemsKeepTo, limit_of, Legal-prefix, Answers, Move, after_moves}
 use Rattle.mtapi_values.specs.declared.handles.ObjectKind.TheVariants as kind
 use Rattle.mtapi_machine.specs.declared.ops.Op.TheVariants as op
 use Rattle.history_law.specs.Words.{makes_object}

@@ -1,5 +1,5 @@
 -- At most one seat holds a mutex.
-use Rattle.history_law.proofs.Names.{◌≡◌, ℕ, ◌+◌, ◌<◌, ◌≤◌, Bool, true, false, cond, List, [], ◌∷◌, ◌++◌, Some, None, inl, inr, refl, sym, ◌∙◌, ap, subst, arith, ◌==◌, ◌&&◌, nat_lt, length, TaskHandle, Terms, Op, Reply, Listed, live_of, live_object, count_listed, change, with_fields, eqb-true, nat_tests, Task, Adds, runs_on, runs_as, with_notes, with_tally, tally_failed, tally_has, ended, Mutex, locked_by, with_attached, State, opening, workers, Move, Mutexes, Segments, alters, notes, after_moves, NodeEntry, IsNext, next, LegalFrom, Legal, after_from, after, Legal-rest, after-append, after-one, at-update, some_same, entries_that, by_seat, gets_mutex, gives_mutex, says_end, is_tally_end, ends_tally, HasMutex, tally_got, HoldsByLooks, HoldsByTally, HoldsMutex, MutexesKeepTo, mutex_in, and-false, Answers, IsAttached, Legal-prefix, Segment, TaskEnd, eq-eqb, get_or-set_same}
+use Rattle.history_law.proofs.Names.{◌≡◌, ℕ, ◌+◌, ◌<◌, ◌≤◌, Bool, true, false, List, [], ◌∷◌, ◌++◌, Some, None, refl, sym, ◌∙◌, ap, subst, arith, ◌==◌, ◌&&◌, nat_lt, length, TaskHandle, Terms, Op, Reply, Listed, live_of, live_object, count_listed, change, with_fields, eqb-true, nat_tests, Task, Adds, runs_on, runs_as, with_notes, with_tally, tally_failed, tally_has, ended, Mutex, locked_by, with_attached, State, opening, workers, Move, Mutexes, Segments, alters, notes, after_moves, NodeEntry, IsNext, next, LegalFrom, Legal, after_from, after, Legal-rest, after-append, after-one, at-update, some_same, entries_that, by_seat, gets_mutex, gives_mutex, says_end, is_tally_end, ends_tally, HasMutex, tally_got, HoldsByLooks, HoldsByTally, HoldsMutex, MutexesKeepTo, mutex_in, Answers, IsAttached, Legal-prefix, Segment, TaskEnd, get_or-set_same}
 use Rattle.mtapi_values.specs.declared.kinds.Kind.TheVariants as kinds
 use Rattle.mtapi_values.specs.declared.handles.ObjectKind.TheVariants as kind
 use Rattle.mtapi_machine.specs.declared.ops.Op.TheVariants as op
@@ -15,7 +15,7 @@ use Rattle.history_law.proofs.SeatMoves.{is_tally_lock, by_moves, answer, kept_a
 use Rattle.history_law.proofs.Others.{runs_scheduled}
 use Rattle.history_law.proofs.OnceIssued.{once_none, once_next}
 use Rattle.history_law.proofs.Answered.{true_false, whether, on_test}
-use Rattle.history_law.proofs.lists.Counts.{one_if, counts_along}
+use Rattle.history_law.proofs.lists.Counts.{counts_along}
 use Rattle.history_law.proofs.lists.Firsts.{first_at}
 use Rattle.history_law.proofs.TaskMoves.{every_moved, found_moved}
 use Rattle.history_law.proofs.tallies.Ties.{Owns, id_in, Tied, Ties, ties_kept, AtMostOne, one_move, none_runs, On, OnAt, on_stays, on_runs, as_on}

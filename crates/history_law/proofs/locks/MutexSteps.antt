@@ -1,5 +1,5 @@
 -- What each entry does to the mutexes, and so every list of entries: at most one seat holds one.
-use Rattle.history_law.proofs.Names.{◌≡◌, ℕ, ◌≤◌, Bool, true, false, List, Option, Some, refl, sym, subst, arith, ◌==◌, ◌&&◌, ◌||◌, not, nat_lt, nat_tests, Op, Reply, live_object, Mutex, new_mutex, locked_by, unlocked, State, workers, Move, after_moves, not_false, says_ok, looks_at_mutex, unlocks_mutex, says_number, says_end, and-false, Answers, eqb-true, eq-eqb, some_same}
+use Rattle.history_law.proofs.Names.{◌≡◌, ℕ, ◌≤◌, Bool, true, false, List, Option, Some, refl, sym, subst, arith, ◌==◌, ◌&&◌, ◌||◌, not, nat_lt, nat_tests, Op, Reply, live_object, Mutex, new_mutex, locked_by, unlocked, State, workers, Move, after_moves, not_false, says_ok, looks_at_mutex, unlocks_mutex, says_number, says_end, and-false, Answers}
 use Rattle.mtapi_values.specs.declared.handles.ObjectKind.TheVariants as kind
 use Rattle.mtapi_machine.specs.declared.ops.Op.TheVariants as op
 use Rattle.history_law.proofs.Reuse.{fresh_unlisted}

@@ -1,5 +1,5 @@
 -- What an entry does to the mutex of one handle, and what that leaves of its owner.
-use Rattle.history_law.proofs.Names.{◌≡◌, ℕ, ◌+◌, ◌<◌, ◌≤◌, Bool, true, false, cond, Option, Some, None, ◌⊎◌, refl, arith, ◌==◌, ◌&&◌, not, nat_lt, is_some, nat_tests, is_seat, is_other, Mutex, new_mutex, locked_by, unlocked, eqb-true, eq-eqb, some_same}
+use Rattle.history_law.proofs.Names.{◌≡◌, ℕ, ◌+◌, ◌<◌, ◌≤◌, Bool, true, false, cond, Option, Some, None, ◌⊎◌, refl, arith, ◌==◌, ◌&&◌, not, nat_lt, is_some, nat_tests, is_seat, is_other, Mutex, new_mutex, locked_by, unlocked}
 use Rattle.history_law.proofs.lists.Counts.{one_if}
 use Rattle.history_law.proofs.tallies.Ties.{Owns}
 

@@ -1,5 +1,5 @@
 -- What each entry does to a reader-writer lock, and so every list of entries.
-use Rattle.history_law.proofs.Names.{nat_tests, ◌≡◌, ℕ, ◌+◌, ◌<◌, ◌≤◌, Bool, true, false, List, Option, Some, None, ◌⊎◌, inr, refl, ap, subst, arith, ◌&&◌, ◌==◌, Terms, Op, Reply, Handle, live_object, listed, Rwl, new_rwl, rwl_taken, rwl_given, State, NodeEntry, Legal, not_false, some_same, entries_that, says_ok, by_seat, looks_at_rwl, unlocks_rwl, gets_rwl, gives_rwl, OneWriter, ReadersAlone, RwlsKeepTo, limit_of, Legal-prefix, Answers, Move, after_moves, and-false, eqb-true, eq-eqb}
+use Rattle.history_law.proofs.Names.{nat_tests, ◌≡◌, ℕ, ◌+◌, ◌<◌, ◌≤◌, Bool, true, false, List, Option, Some, None, ◌⊎◌, refl, subst, arith, ◌&&◌, ◌==◌, Terms, Op, Reply, Handle, live_object, listed, Rwl, new_rwl, rwl_taken, rwl_given, State, NodeEntry, Legal, not_false, some_same, entries_that, says_ok, by_seat, looks_at_rwl, unlocks_rwl, gets_rwl, gives_rwl, OneWriter, ReadersAlone, RwlsKeepTo, limit_of, Legal-prefix, Answers, Move, after_moves, and-false}
 use Rattle.mtapi_values.specs.declared.handles.ObjectKind.TheVariants as kind
 use Rattle.mtapi_machine.specs.declared.ops.Op.TheVariants as op
 use Rattle.history_law.specs.Words.{makes_object}

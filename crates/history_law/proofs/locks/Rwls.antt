@@ -1,5 +1,5 @@
 -- A reader-writer lock has one writer or readers alone.
-use Rattle.history_law.proofs.Names.{◌≡◌, ℕ, zero, suc, ◌+◌, ◌<◌, ◌≤◌, Bool, true, false, cond, List, [], ◌∷◌, Some, None, refl, ap, arith, ◌==◌, ◌||◌, not, is_some, length, replicate, slice_index_or, slice_set, nat_tests, is_seat, marked, any_mark, how_many, Rwl, new_rwl, rwl_held, rwl_busy, rwl_taken, rwl_given, length-set, eqb-true, eq-eqb, some_same}
+use Rattle.history_law.proofs.Names.{◌≡◌, ℕ, zero, suc, ◌+◌, ◌<◌, ◌≤◌, Bool, true, false, cond, List, [], ◌∷◌, Some, None, refl, arith, ◌==◌, ◌||◌, not, is_some, length, slice_set, nat_tests, is_seat, marked, any_mark, how_many, Rwl, new_rwl, rwl_held, rwl_busy, rwl_taken, rwl_given, length-set}
 use Rattle.history_law.proofs.Answered.{true_false, first_false, second_false}
 use Rattle.history_law.proofs.lists.Counts.{one_if}
 use Rattle.history_law.proofs.locks.Locks.{Lock, LockStep}

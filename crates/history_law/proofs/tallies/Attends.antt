@@ -1,5 +1,5 @@
 -- A running tally that has its mutex and its segment owns the one and is attached to the other.
-use Rattle.history_law.proofs.Names.{arith, nat_tests, Terms, Legal, List, NodeEntry, TalliesHold, after, live_object, eqb-true, eq-eqb, some_same}
+use Rattle.history_law.proofs.Names.{arith, nat_tests, Terms, Legal, List, NodeEntry, TalliesHold, after, live_object}
 use Rattle.history_law.proofs.lists.Every.{every_at}
 use Rattle.history_law.proofs.locks.Exclusive.{good_after}
 use Rattle.history_law.proofs.tallies.Ties.{id_in}

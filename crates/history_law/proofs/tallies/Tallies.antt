@@ -1,5 +1,5 @@
 -- The sum that a cell holds after tallies.
-use Rattle.history_law.proofs.Names.{nat_tests, ◌≡◌, ℕ, ◌+◌, ◌<◌, ◌≤◌, Bool, true, false, cond, List, [], ◌∷◌, Option, Some, None, refl, sym, ◌∙◌, ap, subst, arith, ◌==◌, ◌&&◌, is_none, length, ℤ, pos, slice_set, slice_index_or, replicate, option_map, eqb-true, eq-eqb, cond_both, false_from_ne_true, true_from_ne_false, holds, TaskHandle, Op, Reply, Listed, live_of, live_object, count_listed, listed, change, issue, update, with_fields, gone, Task, TaskState, Scheduled, Running, Ended, runner, end_of, scheduled, runs_on, is_unstarted, is_unended, with_notes, with_tally, tally_failed, tally_has, Mutex, Segment, with_cell, State, Move, Mutexes, makes, alters, removes, apply, after_moves, IsMade, fst_true, snd_true, at-update, some_same, record_of, adds_to, sum_of, length-set, Answers}
+use Rattle.history_law.proofs.Names.{nat_tests, ◌≡◌, ℕ, ◌<◌, ◌≤◌, Bool, true, false, cond, List, [], ◌∷◌, Option, Some, None, refl, sym, ◌∙◌, ap, subst, arith, ◌==◌, ◌&&◌, is_none, length, ℤ, pos, slice_set, slice_index_or, replicate, option_map, eqb-true, eq-eqb, cond_both, false_from_ne_true, true_from_ne_false, holds, TaskHandle, Op, Reply, Listed, live_of, live_object, count_listed, listed, change, issue, update, with_fields, gone, Task, TaskState, Running, runner, end_of, scheduled, runs_on, is_unstarted, is_unended, with_notes, with_tally, tally_has, Mutex, Segment, with_cell, State, Move, Mutexes, makes, alters, removes, apply, after_moves, IsMade, fst_true, snd_true, at-update, some_same, record_of, adds_to, sum_of, length-set, Answers}
 use Rattle.mtapi_machine.specs.declared.ops.Op.TheVariants as op
 use Rattle.mtapi_machine.specs.declared.replies.Reply.TheVariants as reply
 use Rattle.history_law.proofs.Accepted.{shown}
@@ -10,7 +10,7 @@ use Rattle.history_law.proofs.lists.Every.{Every, every_change, every_map, alway
 use Rattle.history_law.proofs.SeatMoves.{May, is_tally_lock}
 use Rattle.mtapi_machine.specs.Answers as is
 use Rattle.history_law.proofs.Others.{runs_over}
-use Rattle.history_law.proofs.Answered.{true_false, whether, on_test}
+use Rattle.history_law.proofs.Answered.{true_false, whether}
 use Rattle.history_law.proofs.lists.Firsts.{found_count, one_passes}
 use Rattle.history_law.proofs.tallies.Ties.{Owns, none_count, none_runs}
 use Rattle.history_law.proofs.lists.Sums.{sum_none, record_new, record_beside, record_other, record_at, record_updated}

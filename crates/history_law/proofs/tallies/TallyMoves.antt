@@ -1,5 +1,5 @@
 -- What each move leaves of the tallies of a cell: what they wrote, what they read, the mutex that they name, and how they ended.
-use Rattle.history_law.proofs.Names.{arith, nat_tests, ◌≡◌, ℕ, Bool, true, false, cond, List, Option, ◌⊎◌, inl, inr, refl, sym, some_same, ◌∙◌, ap, subst, ◌==◌, ◌&&◌, not, ℤ, pos, option_map, Op, Listed, with_fields, gone, Mutex, Segment, Task, Notes, TallyNotes, is_unended, with_notes, tally_args, cell_in, number_in, State, Move, Segments, makes, alters, removes, apply, IsMade, makes_of_sort, fst_true, is_tally_end, record_of, is_completed, sum_of, eqb-true, eq-eqb}
+use Rattle.history_law.proofs.Names.{arith, nat_tests, ◌≡◌, ℕ, Bool, true, false, cond, List, Option, refl, sym, some_same, ◌∙◌, ap, ◌==◌, ◌&&◌, not, ℤ, pos, option_map, Op, Listed, with_fields, gone, Mutex, Segment, Task, Notes, TallyNotes, is_unended, with_notes, tally_args, cell_in, number_in, State, Move, Segments, makes, alters, removes, apply, IsMade, makes_of_sort, fst_true, is_tally_end, record_of, is_completed, sum_of}
 use Rattle.history_law.proofs.Answered.{true_false}
 use Rattle.history_law.proofs.SeatMoves.{May, MayEnd, Noted, Does, is_tally_lock, is_tally_read, is_tally_write, writes_cells, EndsTally}
 use Rattle.history_law.proofs.TaskMoves.{IsKept}

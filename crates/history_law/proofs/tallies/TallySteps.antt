@@ -1,5 +1,5 @@
 -- What each entry leaves of the sum that a cell holds, and so every list of entries.
-use Rattle.history_law.proofs.Names.{◌≡◌, ℕ, ◌<◌, ◌≤◌, Bool, true, false, cond, List, [], ◌∷◌, ◌++◌, Option, Some, None, refl, sym, ◌∙◌, ap, subst, arith, ◌==◌, ◌&&◌, ◌||◌, not, nat_lt, is_some, length, ℤ, pos, ◌+ℤ◌, slice_set, slice_index_or, option_map, eqb-true, false_from_ne_true, nat_tests, Decides-int_eq, append_assoc, +ℤ_idl, TaskHandle, TaskEnd, Failed, Completed, entry, Terms, Op, Reply, Listed, live_object, count_listed, listed, change, update, with_fields, Task, tally_args, cell_in, number_in, added, runs_on, is_unended, with_notes, with_tally, tally_read, tally_written, ended, Segment, new_segment, cell_of, with_cell, State, opening, Move, notes, after_moves, after_row, row, NodeEntry, IsNext, next, LegalFrom, Legal, after_from, after, after-one, not_false, fst_true, snd_true, some_same, some_entry, tally_got, record_of, mutex_in, adds_to, completed_in, number_added, sum_of, writes_to, NamesOneMutex, HoldsTheSum, length-set, get_or-set_same, Answers, Notes, tally_failed, tally_has, eq-eqb}
+use Rattle.history_law.proofs.Names.{◌≡◌, ℕ, ◌<◌, ◌≤◌, Bool, true, false, cond, List, [], ◌∷◌, ◌++◌, Option, Some, None, refl, sym, ◌∙◌, ap, subst, arith, ◌==◌, ◌&&◌, ◌||◌, nat_lt, is_some, length, ℤ, pos, ◌+ℤ◌, slice_set, slice_index_or, option_map, eqb-true, false_from_ne_true, nat_tests, Decides-int_eq, append_assoc, TaskHandle, TaskEnd, Failed, Completed, entry, Terms, Op, Reply, Listed, live_object, count_listed, listed, change, update, with_fields, Task, tally_args, cell_in, number_in, added, runs_on, is_unended, with_notes, with_tally, tally_read, tally_written, ended, Segment, new_segment, cell_of, with_cell, State, opening, Move, notes, after_moves, after_row, row, NodeEntry, IsNext, next, LegalFrom, Legal, after_from, after, after-one, fst_true, snd_true, some_same, some_entry, tally_got, record_of, mutex_in, adds_to, completed_in, number_added, sum_of, writes_to, NamesOneMutex, HoldsTheSum, length-set, get_or-set_same, Answers, Notes, tally_failed, tally_has}
 use Rattle.mtapi_values.specs.declared.handles.ObjectKind.TheVariants as kind
 use Rattle.mtapi_values.specs.declared.statuses.MtapiStatus.TheVariants as m
 use Rattle.mtapi_machine.specs.declared.ops.Op.TheVariants as op
@@ -18,7 +18,7 @@ use Rattle.mtapi_values.specs.declared.kinds.Kind.TheVariants as kinds
 use Rattle.history_law.proofs.locks.MutexSteps.{is_end_op}
 use Rattle.history_law.proofs.locks.Locks.{and-true}
 use Rattle.history_law.proofs.OnceIssued.{listed_next}
-use Rattle.history_law.proofs.Answered.{true_false, first_false, second_false, none_first, whether}
+use Rattle.history_law.proofs.Answered.{true_false, none_first, whether}
 use Rattle.history_law.proofs.tallies.Ties.{has_both, Owns, Tied, as_on}
 use Rattle.history_law.proofs.locks.Exclusive.{Good, good_next, good_opening}
 use Rattle.history_law.proofs.lists.Sums.{sum_more, sum_change, sum_same, record_at, record_updated}

@@ -1,5 +1,5 @@
 -- A running tally that has its mutex owns it, and at most one task runs on a worker.
-use Rattle.history_law.proofs.Names.{nat_tests, ◌≡◌, ℕ, ◌+◌, ◌<◌, ◌≤◌, Bool, true, false, cond, List, [], ◌∷◌, Option, Some, None, refl, sym, ◌∙◌, ap, subst, arith, ◌==◌, ◌&&◌, not, eqb-true, holds, Op, Listed, live_of, live_object, any_listed, count_listed, with_fields, Mutex, tally_args, Task, TallyNotes, TaskState, Running, runner, runs_on, runs_as, kind_number, is_unstarted, is_unended, with_state, ended, State, Move, runs_task, ends_task, apply, is_tally_end, mutex_in, and-false, IsAttached, Segment, eq-eqb, some_same}
+use Rattle.history_law.proofs.Names.{nat_tests, ◌≡◌, ℕ, ◌+◌, ◌<◌, ◌≤◌, Bool, true, false, cond, List, [], ◌∷◌, Option, Some, None, refl, sym, ◌∙◌, ap, subst, arith, ◌==◌, ◌&&◌, not, eqb-true, holds, Op, Listed, live_of, live_object, any_listed, count_listed, with_fields, Mutex, tally_args, Task, TallyNotes, TaskState, Running, runner, runs_on, runs_as, kind_number, is_unstarted, with_state, ended, State, Move, runs_task, ends_task, apply, is_tally_end, mutex_in, and-false, IsAttached, Segment}
 use Rattle.mtapi_values.specs.declared.kinds.Kind.TheVariants as kind
 use Rattle.history_law.proofs.Answered.{whether}
 use Rattle.history_law.proofs.lists.Every.{Every}

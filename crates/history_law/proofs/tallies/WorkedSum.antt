@@ -1,10 +1,8 @@
 -- The worked history of two tallies, by computing.
-use Rattle.history_law.proofs.Names.{nat_tests, ◌≡◌, false, List, [], ◌∷◌, ◌++◌, Some, refl, sym, ◌∙◌, subst, arith, ℤ, pos, append_assoc, no_marks, fits, answer_of, Listed, Task, live_of, issue, change, change_all, listed, issued_at, retired, is_full, may_issue, has_worker, NewTask, tally_args, end_each, Segment, Op, is_ready, can_take, has_better, State, opening, Move, apply, NodeEntry, next, Legal, after_from, after, replay, IsMade, StartsTask, h1, fits_of, by_moves, legal_if, some_entry, tally_got, record_of, mutex_in, sum_of, number_added, writes_to, NamesOneMutex, two_workers, two_tallies, TalliesAddUp, eqb-true, eq-eqb, some_same}
+use Rattle.history_law.proofs.Names.{nat_tests, ◌≡◌, false, List, [], ◌∷◌, ◌++◌, Some, refl, arith, ℤ, pos, append_assoc, no_marks, fits, answer_of, Listed, Task, live_of, issue, change, change_all, listed, issued_at, retired, is_full, may_issue, has_worker, NewTask, tally_args, end_each, Segment, Op, is_ready, can_take, has_better, State, opening, Move, apply, NodeEntry, next, Legal, after_from, after, replay, IsMade, StartsTask, h1, fits_of, by_moves, legal_if, some_entry, tally_got, record_of, mutex_in, sum_of, number_added, writes_to, NamesOneMutex, two_workers, two_tallies, TalliesAddUp}
 use Rattle.mtapi_machine.specs.declared.ops.Op.TheVariants as op
 use Rattle.history_law.proofs.lists.Every.{Every, every_at}
-use Rattle.history_law.proofs.TaskSteps as step
 use Rattle.history_law.proofs.TaskSteps.{Step, tasks_go, every_steps}
-use Rattle.mtapi_machine.specs.Laws.{IsBy}
 
 module _ (R : List ℤ → Type 0) where
   -- what holds of the arguments of each task that is started holds of those of every task
