@@ -1,12 +1,13 @@
 -- The generated workload is well formed.
-use Rattle.generated_workload.proofs.Names.{◌≡◌, ℕ, ℤ, zero, suc, pos, ◌+◌, ◌%◌, ◌^◌, ◌≤◌, ◌<◌, Bool, true, false, cond, ◌||◌, eqb, List, [], ◌∷◌, ◌++◌, length, map, append_assoc, Result, Ok, Err, refl, sym, ap, subst, ◌∙◌, arith, rules, inl, inr, IfOk, FitsSigned, AllByRecursion, list_all, list_any, is_ascii_digit, decimal, le-leb, and_parts, and_from, cases_Bool, decimal_injective, length-decimal-le, digits_decimal, append-nil, map-append, length-map, length-append, own, Statement, is_called, IsBoundAt, IsNew, IsStatement, AreStatements, begins, statement_lines, Rise, WellFormed, push_statement, begins_push, any_push, Below, below_push, rise_push, binding, first_statements, task_deed, task_name, task_statement, last_statement}
+use Rattle.generated_workload.proofs.Names.{AllFit, fields, generated_settings, ◌≡◌, ℕ, ℤ, zero, suc, pos, ◌+◌, ◌%◌, ◌^◌, ◌≤◌, ◌<◌, Bool, true, false, cond, ◌||◌, eqb, List, [], ◌∷◌, ◌++◌, length, map, append_assoc, Result, Ok, Err, refl, sym, ap, subst, ◌∙◌, arith, rules, inl, inr, IfOk, FitsSigned, AllByRecursion, list_all, list_any, is_ascii_digit, decimal, le-leb, and_parts, and_from, cases_Bool, decimal_injective, length-decimal-le, digits_decimal, append-nil, map-append, length-map, length-append, own, Statement, is_called, IsBoundAt, IsNew, IsStatement, AreStatements, begins, statement_lines, Rise, WellFormed, push_statement, begins_push, any_push, Below, below_push, rise_push, binding, first_statements, task_deed, task_name, task_statement, last_statement}
 use Rattle.std.specs.declared.alloc.AllocError.{AllocError}
 use Rattle.std.specs.Int.{w64}
 use Rattle.std.specs.Str.{bytes_eq}
 use Rattle.std.proofs.lemmas.Slice.Eq.{bytes_eq-Decides}
 use Rattle.workload_file.specs.declared.table.Sort.TheVariants as sort
 use Rattle.workload_file.specs.declared.workload.Workload.{Workload}
-use Rattle.workload_file.specs.Deeds.{is_begin, deed_spelled, binds}
+use Rattle.workload_file.specs.declared.table.Word.TheVariants as word
+use Rattle.workload_file.specs.Deeds.{is_begin, deed_spelled, binds, setting_values}
 use Rattle.workload_file.specs.Table.{row}
 use Rattle.workload_file.specs.Values.{is_name, is_name_byte, is_letter}
 use Rattle.generated_workload.specs.Generated.{start, tasks, generated}
@@ -59,6 +60,24 @@ unbound (suc i) j le few = any_push (λ s. is_called (task_name j) s.name) (task
 -- neither an action nor the group has it
 pub is_new : (i : ℕ) → i < 19000 → IsNew (first_statements ++ tasks i) (task_name i)
 is_new i lt = (is_task_name i lt, unbound i i (omega arith) lt)
+
+-- ---- the settings
+
+pub settings_fit : (n w : ℕ) → 1 ≤ n → n ≤ 19000 → 1 ≤ w → w ≤ 16 → AllFit [] (fields word.Node) (setting_values (generated_settings n w))
+unfolding row
+settings_fit n w a b c d = (
+  (c, d),
+  (
+    (a, omega arith),
+    (
+      (omega arith, omega arith),
+      (
+        (omega arith, omega arith),
+        ((omega arith, omega arith), ((omega arith, omega arith), ((omega arith, omega arith), ((omega arith, omega arith), tt)))),
+      ),
+    ),
+  ),
+)
 
 -- ---- statements
 
@@ -173,30 +192,15 @@ is_formed n w some few workers most =
           ≤ 20000) (sym (lines_are n w)) (few_lines (first_statements ++ (tasks n ++ last_statement n ∷ [])) (omega (arith, g.count)));
       lines = subst (λ (lines : List ℕ). Rise 0 lines) (sym (lines_are n w)) g.rise;
       usual = λ e. absurd (omega (arith, e));
-      settings = (
-        (workers, most),
-        (
-          (some, omega arith),
-          (
-            (omega arith, omega arith),
-            (
-              (omega arith, omega arith),
-              ((omega arith, omega arith), ((omega arith, omega arith), ((omega arith, omega arith), ((omega arith, omega arith), tt)))),
-            ),
-          ),
-        ),
-      );
+      settings = settings_fit n w some few workers most;
     }
-
-next_number : (i : ℕ) → suc i ≡ i + 1
-next_number i = omega arith
 
 -- a list with one more task
 pub one_more : (before list : List Statement) (i : ℕ) (next : List Statement) → list ≡ before ++ tasks i → next ≡ list ++ task_statement i ∷ []
     → next ≡ before ++ tasks (i + 1)
 unfolding tasks
 one_more before list i next e f = f ∙ ap (λ (xs : List Statement). xs ++ task_statement i ∷ []) e ∙ append_assoc before (tasks i) (task_statement i ∷ [])
-    ∙ ap (λ (k : ℕ). before ++ tasks k) (next_number i)
+    ∙ ap (λ (k : ℕ). before ++ tasks k) (let k : suc i ≡ i + 1 = omega arith in k)
 
 -- what was made is well formed
 pub formed_of : (n w : ℕ) (r : Result Workload AllocError) → 1 ≤ n → n ≤ 19000 → 1 ≤ w → w ≤ 16 → IfOk r (λ load. load ≡ generated n w)

@@ -1,20 +1,19 @@
 -- The lines of the generated text before its first task.
-use Rattle.generated_workload.proofs.Names.{◌≡◌, ℕ, ◌≤◌, List, [], ◌∷◌, ◌++◌, true, Some, Ok, refl, ◌∙◌, ap, arith, codes, list_all, decimal, and_from, length-decimal-le, Reading, Statement, fields, values_in, change_of, settings_by, line_text, AllFit, IsRead, node_settings, is_word, binding, all_cores, first_statements, generated_settings, node_words, first_lines, LineEffect, OptionValue}
-use Rattle.mtapi_values.specs.declared.kinds.Kind.TheVariants as kind
+use Rattle.generated_workload.proofs.Names.{◌≡◌, ℕ, ◌≤◌, List, [], ◌∷◌, ◌++◌, true, Some, Ok, refl, ◌∙◌, ap, arith, codes, list_all, decimal, and_from, length-decimal-le, Reading, Statement, change_of, line_text, IsRead, node_settings, is_word, first_statements, generated_settings, node_words, first_lines, LineEffect}
 use Rattle.mtapi_values.specs.Kinds.{kind_named}
 use Rattle.workload_file.specs.declared.table.Word.TheVariants as word
 use Rattle.workload_file.specs.declared.reading.LineEffect.TheVariants as change
-use Rattle.workload_file.specs.declared.workload.Deed.TheVariants as deed
 use Rattle.workload_file.specs.Cuts.{words_of}
 use Rattle.workload_file.specs.Table.{row, key_text, word_of}
 use Rattle.number_text.specs.Numbers.{number_within as wide_within, number as wide_number}
 use Rattle.workload_file.specs.Values.{is_name, number_within, number}
 use Rattle.workload_file.specs.Options.{has_twice, text_of}
 use Rattle.workload_file.specs.Names.{is_taken, is_misplaced, is_ninth_caller}
-use Rattle.workload_file.specs.Deeds.{setting_values, deed_with, number_in, kind_in, cores_in}
+use Rattle.workload_file.specs.Deeds.{deed_with, number_in, kind_in, cores_in}
 use Rattle.workload_file.specs.Changes.{value_given, value_absent, change_with}
 use Rattle.workload_file.specs.Reading.{line_gives, with_change, line_adds, lines_add, start}
-use Rattle.generated_workload.proofs.Lines.{decimal_inner, inner_word, within_decimal, total, words_add, more, one}
+use Rattle.generated_workload.proofs.Lines.{decimal_inner, inner_word, within_decimal, total, words_add, more}
+use Rattle.generated_workload.proofs.Formed.{settings_fit}
 use Rattle.workload_file.specs.Faulty.{is_faulty}
 
 -- what was read behind the node's line: these statements, and how many lines were statements
@@ -50,31 +49,6 @@ node_is n w a b c d = record {
   bound = refl;
 }
 
-node_values : (n w : ℕ) → 1 ≤ n → n ≤ 19000 → 1 ≤ w → w ≤ 16
-    → values_in start.current.statements (options n w) (fields word.Node) ≡ setting_values (generated_settings n w)
-unfolding start row key_text text_of value_given value_absent
-node_values n w a b c d = rw (within_decimal 1 16 w c d (omega arith), within_decimal 1 65536 n a (omega arith) (omega arith)) refl
-
-settings_fit : (n w : ℕ) → 1 ≤ n → n ≤ 19000 → 1 ≤ w → w ≤ 16 → AllFit [] (fields word.Node) (setting_values (generated_settings n w))
-unfolding row
-settings_fit n w a b c d = (
-  (c, d),
-  (
-    (a, omega arith),
-    (
-      (omega arith, omega arith),
-      (
-        (omega arith, omega arith),
-        ((omega arith, omega arith), ((omega arith, omega arith), ((omega arith, omega arith), ((omega arith, omega arith), tt)))),
-      ),
-    ),
-  ),
-)
-
-node_state : (n w : ℕ) → with_change start 1 (Some (change.Node (generated_settings n w))) ≡ state n w [] 1
-unfolding start with_change
-node_state n w = refl
-
 -- what is known of the words of a line
 pub record Good (words : List (List ℕ)) : Type 0 where
   pub good : list_all is_word words ≡ true
@@ -90,42 +64,24 @@ node_good n w le most =
     record { good = and_from _ _ workers (and_from _ _ tasks refl); few = omega (arith, a, b) }
 
 node_change : (n w : ℕ) → 1 ≤ n → n ≤ 19000 → 1 ≤ w → w ≤ 16 → change_of start 1 word.Node [] (options n w) ≡ change.Node (generated_settings n w)
-unfolding change_with
-node_change n w a b c d = ap (λ (vs : List OptionValue). change.Node (settings_by vs)) (node_values n w a b c d)
-    ∙ ap change.Node (node_settings [] (generated_settings n w) (settings_fit n w a b c d))
+unfolding start row key_text text_of value_given value_absent change_with
+node_change n w a b c d = rw (within_decimal 1 16 w c d (omega arith), within_decimal 1 65536 n a (omega arith) (omega arith))
+    (ap change.Node (node_settings [] (generated_settings n w) (settings_fit n w a b c d)))
 
 node_adds : (n w : ℕ) → 1 ≤ n → n ≤ 19000 → 1 ≤ w → w ≤ 16 → line_adds start 1 (line_text (node_words n w)) ≡ Ok (state n w [] 1)
+unfolding start with_change
 node_adds n w a b c d =
     let g = node_good n w b d in
     words_add start 1 (codes "node") (options n w) word.Node [] (options n w) g.good (omega (arith, g.few)) (node_is n w a b c d)
-    ∙ ap Ok (ap (λ (x : LineEffect). with_change start 1 (Some x)) (node_change n w a b c d) ∙ node_state n w)
+    ∙ ap Ok (ap (λ (x : LineEffect). with_change start 1 (Some x)) (node_change n w a b c d))
 
 -- ---- the actions and the group
 
-abbrev pub add : Statement
-add = binding 2 (codes "a") (deed.Action 1 kind.Add all_cores)
-
-abbrev pub triangle : Statement
-triangle = binding 3 (codes "b") (deed.Action 2 kind.Triangle all_cores)
-
-add_adds : (n w : ℕ) → line_adds (state n w [] 1) 2 (codes "action a job=1 kind=add") ≡ Ok (state n w (add ∷ []) 2)
-unfolding line_adds line_gives words_of is_faulty row key_text word_of is_ninth_caller is_misplaced is_name has_twice is_taken change_with text_of value_given
-    value_absent deed_with number_in kind_in cores_in with_change kind_named number_within number wide_within wide_number
-add_adds n w = refl
-
-triangle_adds : (n w : ℕ) → line_adds (state n w (add ∷ []) 2) 3 (codes "action b job=2 kind=triangle") ≡ Ok (state n w (add ∷ triangle ∷ []) 3)
-unfolding line_adds line_gives words_of is_faulty row key_text word_of is_ninth_caller is_misplaced is_name has_twice is_taken change_with text_of value_given
-    value_absent deed_with number_in kind_in cores_in with_change kind_named number_within number wide_within wide_number
-triangle_adds n w = refl
-
-group_adds : (n w : ℕ) → line_adds (state n w (add ∷ triangle ∷ []) 3) 4 (codes "group g") ≡ Ok (state n w first_statements 4)
-unfolding line_adds line_gives words_of is_faulty row key_text word_of is_ninth_caller is_misplaced is_name has_twice is_taken change_with text_of value_given
-    value_absent deed_with number_in kind_in cores_in with_change
-group_adds n w = refl
+rest_add : (n w : ℕ) → lines_add (state n w [] 1) 2 (codes "action a job=1 kind=add" ∷ codes "action b job=2 kind=triangle" ∷ codes "group g" ∷ [])
+    ≡ Ok (state n w first_statements 4)
+unfolding lines_add line_adds line_gives words_of is_faulty row key_text word_of is_ninth_caller is_misplaced is_name has_twice is_taken change_with text_of
+    value_given value_absent deed_with number_in kind_in cores_in with_change kind_named number_within number wide_within wide_number
+rest_add n w = refl
 
 pub first_add : (n w : ℕ) → 1 ≤ n → n ≤ 19000 → 1 ≤ w → w ≤ 16 → lines_add start 1 (first_lines n w) ≡ Ok (state n w first_statements 4)
-first_add n w a b c d =
-    more start (state n w [] 1) (state n w first_statements 4) 1 _ _ (node_adds n w a b c d)
-    (more (state n w [] 1) (state n w (add ∷ []) 2) (state n w first_statements 4) 2 _ _ (add_adds n w)
-    (more (state n w (add ∷ []) 2) (state n w (add ∷ triangle ∷ []) 3) (state n w first_statements 4) 3 _ _ (triangle_adds n w)
-    (one (state n w (add ∷ triangle ∷ []) 3) (state n w first_statements 4) 4 _ (group_adds n w))))
+first_add n w a b c d = more start (state n w [] 1) (state n w first_statements 4) 1 _ _ (node_adds n w a b c d) (rest_add n w)

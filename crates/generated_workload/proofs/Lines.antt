@@ -66,10 +66,6 @@ pub more : (r mid s : Reading) (line : ℕ) (text : List ℕ) (texts : List (Lis
 unfolding lines_add
 more r mid s line text texts e h = rw e h
 
-pub one : (r s : Reading) (line : ℕ) (text : List ℕ) → line_adds r line text ≡ Ok s → lines_add r line (text ∷ []) ≡ Ok s
-unfolding lines_add
-one r s line text e = rw e refl
-
 -- one line more
 pub push : (texts : List (List ℕ)) (r s t : Reading) (line : ℕ) (text : List ℕ) → lines_add r line texts ≡ Ok s → line_adds s (line + length texts) text ≡ Ok t
     → lines_add r line (texts ++ text ∷ []) ≡ Ok t
@@ -78,7 +74,7 @@ push [] r s t line text e f =
     let at : line + 0 ≡ line = omega arith in
     let here : line_adds s line text ≡ Ok t = subst (λ (k : ℕ). line_adds s k text ≡ Ok t) at f in
     let same : r ≡ s = ok_is r s e in
-    one r t line text (subst (λ (x : Reading). line_adds x line text ≡ Ok t) (sym same) here)
+    rw (subst (λ (x : Reading). line_adds x line text ≡ Ok t) (sym same) here) refl
 push (x ∷ xs) r s t line text e f =
     let b = bind_ok (line_adds r line x) _ s e in
     let at : line + length (x ∷ xs) ≡ (line + 1) + length xs = omega arith in

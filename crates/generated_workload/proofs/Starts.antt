@@ -1,10 +1,8 @@
 -- The lines of the generated text that start a task, and the wait for all of them.
-use Rattle.generated_workload.proofs.Names.{◌≡◌, ℕ, ℤ, suc, pos, ◌+◌, ◌%◌, ◌^◌, ◌≤◌, ◌<◌, Bool, true, false, cond, eqb, List, [], ◌∷◌, ◌++◌, length, Some, None, Ok, refl, ap, ◌∙◌, arith, codes, nat_le, position, Option, list_all, list_any, position_or_len, decimal, and_from, or_parts, lt-ltb, le-ltb, lt-leb, length-decimal-le, list_of, list_text, list_written, OptionValue, Reading, Statement, fields, naming, bound_at, is_called, use_in, values_in, change_of, line_text, IsRead, is_inner, is_word, all_append, binding, all_cores, first_statements, task_name, task_statement, last_statement, start_words, task_words, last_line, LineEffect}
+use Rattle.generated_workload.proofs.Names.{◌≡◌, ℕ, ℤ, suc, pos, ◌+◌, ◌%◌, ◌^◌, ◌≤◌, ◌<◌, Bool, true, false, cond, eqb, List, [], ◌∷◌, ◌++◌, length, Some, None, Ok, refl, ap, ◌∙◌, arith, codes, nat_le, position, list_all, list_any, position_or_len, decimal, and_from, or_parts, lt-ltb, le-ltb, lt-leb, length-decimal-le, list_of, list_text, list_written, Reading, Statement, bound_at, is_called, change_of, line_text, IsRead, is_inner, is_word, all_append, binding, first_statements, task_name, task_statement, last_statement, start_words, task_words, last_line, LineEffect}
 use Rattle.std.proofs.Common.{length-append}
-use Rattle.mtapi_values.specs.declared.timeouts.Timeout.TheVariants as timeout
 use Rattle.workload_file.specs.declared.table.Word.TheVariants as word
 use Rattle.workload_file.specs.declared.table.Sort.TheVariants as sort
-use Rattle.workload_file.specs.declared.values.OptionValue.TheVariants as given
 use Rattle.workload_file.specs.declared.reading.LineEffect.TheVariants as change
 use Rattle.workload_file.specs.Table.{row, key_text, word_of}
 use Rattle.workload_file.specs.Values.{is_name, timeout_of}
@@ -43,9 +41,6 @@ group_place xs = rw (lt-ltb 2 (length (first_statements ++ xs)) (omega arith)) r
 abbrev options : ℕ → List ℤ → List (List ℕ)
 options job args = (codes "job=" ++ decimal job) ∷ (codes "args=" ++ list_text args) ∷ codes "group=g" ∷ []
 
-abbrev values : ℕ → List ℤ → List OptionValue
-values job args = given.Number job ∷ given.Args args ∷ given.Number 0 ∷ given.Cores all_cores ∷ given.Flag false ∷ given.Place (Some 2) ∷ []
-
 -- what the numbers and the name of a start have to be
 record Fit (name : List ℕ) (job : ℕ) (args : List ℤ) : Type 0 where
   low : 1 ≤ job
@@ -73,22 +68,11 @@ start_is r name job args f few new group = record {
   bound = refl;
 }
 
-start_values : (before : List Statement) (name : List ℕ) (job : ℕ) (args : List ℤ) → Fit name job args → place_of sort.Group (codes "g") before ≡ Some 2
-    → values_in before (options job args) (fields word.Start) ≡ values job args
-unfolding row key_text is_name text_of value_given value_absent
-start_values before name job args f group = rw (within_decimal 1 65535 job f.low f.high (omega (arith, f.high)), f.list, group) refl
-
-start_made : (line : ℕ) (name : List ℕ) (job : ℕ) (args : List ℤ) (place : Option ℕ)
-    → change_with line word.Start name place (values job args) ≡ change.Statement (binding line name (start job args))
-unfolding row change_with deed_with number_in args_in cores_in flag_in place_in
-start_made line name job args place = refl
-
-start_change : (r : Reading) (line : ℕ) (name : List ℕ) (job : ℕ) (args : List ℤ)
-    → values_in r.current.statements (options job args) (fields word.Start) ≡ values job args
+start_change : (r : Reading) (line : ℕ) (name : List ℕ) (job : ℕ) (args : List ℤ) → Fit name job args
+    → place_of sort.Group (codes "g") r.current.statements ≡ Some 2
     → change_of r line word.Start name (options job args) ≡ change.Statement (binding line name (start job args))
-start_change r line name job args e =
-    let place = use_in r.current.statements (naming word.Start) name in
-    ap (λ (vs : List OptionValue). change_with line word.Start name place vs) e ∙ start_made line name job args place
+unfolding row key_text is_name text_of value_given value_absent change_with deed_with number_in args_in cores_in flag_in place_in
+start_change r line name job args f group = rw (within_decimal 1 65535 job f.low f.high (omega (arith, f.high)), f.list, group) refl
 
 start_adds : (n w i : ℕ) (name : List ℕ) (job : ℕ) (args : List ℤ) → i < 19000 → Fit name job args → bound_at name (first_statements ++ tasks i) ≡ None
     → list_all is_word (start_words name job args) ≡ true → total (start_words name job args) ≤ 513
@@ -100,7 +84,7 @@ start_adds n w i name job args lt f new words few =
     let group = group_place (tasks i) in
     words_add r (i + 5) (codes "start") (name ∷ options job args) word.Start name (options job args) words few (start_is r name job args f room new group)
     ∙ ap (λ (x : LineEffect). Ok (with_change r (i + 5) (Some x)))
-    (start_change r (i + 5) name job args (start_values r.current.statements name job args f group))
+    (start_change r (i + 5) name job args f group)
 
 -- ---- a task
 
@@ -191,24 +175,10 @@ last_is r few group = record {
   bound = rw group refl;
 }
 
-last_values : (before : List Statement) → values_in before waits (fields word.WaitAll) ≡ given.Timeout timeout.Infinite ∷ []
-unfolding row key_text text_of value_given timeout_of
-last_values before = refl
-
-last_used : (before : List Statement) → place_of sort.Group (codes "g") before ≡ Some 2 → use_in before (naming word.WaitAll) (codes "g") ≡ Some 2
-unfolding row
-last_used before e = e
-
-last_made : (n : ℕ) → change_with (n + 5) word.WaitAll (codes "g") (Some 2) (given.Timeout timeout.Infinite ∷ []) ≡ change.Statement (last_statement n)
-unfolding row change_with deed_with timeout_in
-last_made n = refl
-
 last_change : (r : Reading) (n : ℕ) → place_of sort.Group (codes "g") r.current.statements ≡ Some 2
     → change_of r (n + 5) word.WaitAll (codes "g") waits ≡ change.Statement (last_statement n)
-last_change r n group =
-    ap (λ (o : Option ℕ). change_with (n + 5) word.WaitAll (codes "g") o (values_in r.current.statements waits (fields word.WaitAll)))
-    (last_used r.current.statements group)
-    ∙ (ap (λ (vs : List OptionValue). change_with (n + 5) word.WaitAll (codes "g") (Some 2) vs) (last_values r.current.statements) ∙ last_made n)
+unfolding row key_text text_of value_given timeout_of change_with deed_with timeout_in
+last_change r n group = rw group refl
 
 last_few : total (codes "wait_all" ∷ codes "g" ∷ waits) ≤ 513
 unfolding total
