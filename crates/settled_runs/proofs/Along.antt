@@ -103,9 +103,9 @@ cut who (e ∷ es) (n ∷ ns) A l B i = by (e.who == who) refl i (cut who es ns)
             ∙ c) (k C l B (same_tail _ _ _ _ g))
 
 -- the lines of any seat in two, and those of its own
-pub cut_split : (who : ℕ) (es : List NodeEntry) (ns : List ℕ) (A : List Line) (l : Line) (B : List Line) (c : Cut who es ns A l B) (v : ℕ)
+pub cut_split : {who : ℕ} {es : List NodeEntry} {ns : List ℕ} {A : List Line} {l : Line} {B : List Line} (c : Cut who es ns A l B) (v : ℕ)
     → lines_of v es ns ≡ lines_of v c.before c.first ++ lines_of v (entry who l.op l.reply ∷ c.behind) (l.beside ∷ c.rest)
-cut_split who es ns A l B c v = (λ i. lines_of v (c.is i) (c.numbers i))
+cut_split {who} {es} {ns} {A} {l} {B} c v = (λ i. lines_of v (c.is i) (c.numbers i))
     ∙ lines_append v c.before (entry who l.op l.reply ∷ c.behind) c.first (l.beside ∷ c.rest) c.same
 
 -- Statements
@@ -162,23 +162,27 @@ carried_more bound (s ∷ ss) ts ls ks (r ∷ rs) qs a b = (
 )
 carried_more bound _ ts ls ks _ qs a b = absurd a
 
--- a statement of a part, with its lines and its reply, and what stands before it
-pub record Step (all : List Statement) (ls : List Line) (rs : List Reply) (before : List Statement) (l1 : List Line) (r1 : List Reply) (s : Statement)
-    (front : List Line) (r : Reply) : Type 0 where
+-- a statement of a part, with its lines and its reply, and what stands before it and behind it
+pub record Step (all : List Statement) (ls : List Line) (rs : List Reply) (s : Statement) : Type 0 where
+  pub before : List Statement
+  pub first : List Line
+  pub replies : List Reply
+  pub front : List Line
+  pub reply : Reply
   pub rest : List Statement
   pub more : List Line
   pub others : List Reply
   pub parted : all ≡ before ++ s ∷ rest
-  pub is : ls ≡ l1 ++ (front ++ more)
-  pub told : rs ≡ r1 ++ r ∷ others
-  pub carried : Carried Made [] before l1 r1
-  pub many : length r1 ≡ length before
-  pub made : Made (call_of (map handle_of r1) s.deed) front r
+  pub is : ls ≡ first ++ (front ++ more)
+  pub told : rs ≡ replies ++ reply ∷ others
+  pub carried : Carried Made [] before first replies
+  pub many : length replies ≡ length before
+  pub made : Made (call_of (map handle_of replies) s.deed) front reply
 
 -- what holds before all statements, and is kept by each, holds behind them
 module _ (all : List Statement) (ls : List Line) (rs : List Reply) (I : List Statement → List Line → List Reply → Type 0)
-    (step : (before : List Statement) (l1 : List Line) (r1 : List Reply) (s : Statement) (front : List Line) (r : Reply) → Step all ls rs before l1 r1 s front r
-    → I before l1 r1 → I (before ++ s ∷ []) (l1 ++ front) (r1 ++ r ∷ [])) where
+    (step : (s : Statement) (x : Step all ls rs s) → I x.before x.first x.replies
+    → I (x.before ++ s ∷ []) (x.first ++ x.front) (x.replies ++ x.reply ∷ [])) where
   along_from : (before : List Statement) (l1 : List Line) (r1 : List Reply) (ss : List Statement) (ks : List Line) (qs : List Reply)
       → Carried Made [] before l1 r1 → length r1 ≡ length before → Carried Made (map handle_of r1) ss ks qs → all ≡ before ++ ss → ls ≡ l1 ++ ks → rs ≡ r1 ++ qs
       → I before l1 r1 → I all ls rs
@@ -194,7 +198,22 @@ module _ (all : List Statement) (ls : List Line) (rs : List Reply) (I : List Sta
       (length_push r1 r ∙ ap (λ (k : ℕ). k + 1) n
       ∙ sym (length_push before s)) (subst (λ (x : List ℕ). Carried Made x ss c.1 qs) (sym (map_push handle_of r1 r)) c.4)
       (a ∙ sym (append_assoc before (s ∷ []) ss)) (e2 ∙ sym (append_assoc l1 c.0 c.1)) (t ∙ sym (append_assoc r1 (r ∷ []) qs))
-      (step before l1 r1 s c.0 r (record { rest = ss; more = c.1; others = qs; parted = a; is = e2; told = t; carried = c1; many = n; made = c.3 }) i)
+      (step s (record {
+        before = before;
+        first = l1;
+        replies = r1;
+        front = c.0;
+        reply = r;
+        rest = ss;
+        more = c.1;
+        others = qs;
+        parted = a;
+        is = e2;
+        told = t;
+        carried = c1;
+        many = n;
+        made = c.3;
+      }) i)
   along_from before l1 r1 _ ks _ c1 n c a e t i = absurd c
 
   pub along : Carried Made [] all ls rs → I [] [] [] → I all ls rs
@@ -245,18 +264,20 @@ granted_more [] [] s r a l g = (g, tt)
 granted_more (t ∷ before) (x ∷ r1) s r a l g = (a.0, granted_more before r1 s r a.1 (omega arith) g)
 granted_more _ _ s r a l g = absurd (omega arith)
 
-module _ (all : List Statement) (ls : List Line) (rs : List Reply) (before : List Statement) (l1 : List Line) (r1 : List Reply) (s : Statement)
-    (front : List Line) (r : Reply) (x : Step all ls rs before l1 r1 s front r) where
-  pub step_granted : AllGranted all rs → AllGranted before r1 × GrantedTo s.deed r
-  step_granted g = granted_at before s x.rest r1 r x.others x.many
-      (subst (λ (z : List Statement). AllGranted z (r1 ++ r ∷ x.others)) x.parted (subst (AllGranted all) x.told g))
+module _ {all : List Statement} {ls : List Line} {rs : List Reply} {s : Statement} (x : Step all ls rs s) where
+  pub step_granted : AllGranted all rs → AllGranted x.before x.replies × GrantedTo s.deed x.reply
+  step_granted g = granted_at x.before s x.rest x.replies x.reply x.others x.many
+      (subst (λ (z : List Statement). AllGranted z (x.replies ++ x.reply ∷ x.others)) x.parted (subst (AllGranted all) x.told g))
 
-  pub step_statement : AreStatements [] all → IsStatement before s
-  step_statement a = statement_at [] before s x.rest (subst (AreStatements []) x.parted a)
+  pub step_statement : AreStatements [] all → IsStatement x.before s
+  step_statement a = statement_at [] x.before s x.rest (subst (AreStatements []) x.parted a)
+
+  pub step_before : AreStatements [] all → AreStatements [] x.before
+  step_before a = are_front [] x.before (s ∷ x.rest) (subst (AreStatements []) x.parted a)
 
   pub step_settled : (settings : NodeSettings) (known : List Action) → are_settled settings known all [] all ≡ true
-      → is_settled_deed settings (known ++ actions_in before) before all s.deed ≡ true
-  step_settled settings known e = deed_in settings known all all [] (sym (append-nil all)) e before s x.rest x.parted
+      → is_settled_deed settings (known ++ actions_in x.before) x.before all s.deed ≡ true
+  step_settled settings known e = deed_in settings known all all [] (sym (append-nil all)) e x.before s x.rest x.parted
 
 -- The statement that a place stands for
 
@@ -274,58 +295,54 @@ bound_by t before place b =
     let x = some_within before place b.0 in
     record { statement = x.0; found = x.1; binding = subst (λ (o : Option Statement). IfSome o (λ s. binds t s.deed ≡ true)) x.1 b.1; early = b.0 }
 
-pub bound_longer : (t : Sort) (before more : List Statement) (place : ℕ) → BoundBy t before place → BoundBy t (before ++ more) place
-bound_longer t before more place b = record {
-  statement = b.statement;
-  found = get_front before more place b.early ∙ b.found;
-  binding = b.binding;
-  early = (let k : place < length before = b.early in let n : length (before ++ more) ≡ length before + length more = length-append before more in omega arith);
-}
+module _ {all : List Statement} {ls : List Line} {rs : List Reply} {s : Statement} (x : Step all ls rs s) where
+  pub step_found : (t : Sort) (place : ℕ) (b : BoundBy t x.before place) → slice_get all place ≡ Some b.statement
+  step_found t place b = ap (λ (z : List Statement). slice_get z place) x.parted ∙ get_front x.before (s ∷ x.rest) place b.early ∙ b.found
 
-pub bound_shorter : (t : Sort) (before more : List Statement) (place : ℕ) → place < length before → BoundBy t (before ++ more) place → BoundBy t before place
-bound_shorter t before more place l b =
-    record { statement = b.statement; found = sym (get_front before more place l) ∙ b.found; binding = b.binding; early = l }
+  pub step_longer : (t : Sort) (place : ℕ) → BoundBy t x.before place → BoundBy t all place
+  step_longer t place b = record {
+    statement = b.statement;
+    found = step_found t place b;
+    binding = b.binding;
+    early = (let k : place < length x.before = b.early in let n : length all ≡ length x.before + length (s ∷ x.rest) = ap length x.parted
+        ∙ length-append x.before (s ∷ x.rest) in omega arith);
+  }
 
--- a place that is bound behind some statements is bound behind all, with the same handle
-pub step_bound : (all : List Statement) (ls : List Line) (rs : List Reply) (before : List Statement) (l1 : List Line) (r1 : List Reply) (s : Statement)
-    (front : List Line) (r : Reply) → Step all ls rs before l1 r1 s front r → (t : Sort) (place : ℕ) → IsBoundAt t before place
-    → BoundBy t all place × (handle_at (map handle_of rs) place ≡ handle_at (map handle_of r1) place)
-step_bound all ls rs before l1 r1 s front r x t place b = (
-  subst (λ (z : List Statement). BoundBy t z place) (sym x.parted) (bound_longer t before (s ∷ x.rest) place (bound_by t before place b)),
-  ap (λ (z : List Reply). handle_at (map handle_of z) place) x.told
-      ∙ handles_front r1 (r ∷ x.others) place (let k : place < length before = b.0 in let n : length r1 ≡ length before = x.many in omega arith),
-)
+  pub step_shorter : (t : Sort) (place : ℕ) → place < length x.before → BoundBy t all place → BoundBy t x.before place
+  step_shorter t place l b = record {
+    statement = b.statement;
+    found = sym (get_front x.before (s ∷ x.rest) place l) ∙ ap (λ (z : List Statement). slice_get z place) (sym x.parted) ∙ b.found;
+    binding = b.binding;
+    early = l;
+  }
+
+  pub step_handle : (place : ℕ) → place < length x.before → handle_at (map handle_of rs) place ≡ handle_at (map handle_of x.replies) place
+  step_handle place l = ap (λ (z : List Reply). handle_at (map handle_of z) place) x.told
+      ∙ handles_front x.replies (x.reply ∷ x.others) place (let n : length x.replies ≡ length x.before = x.many in omega arith)
+
+  -- a place that is bound behind some statements is bound behind all, with the same handle
+  pub step_bound : (t : Sort) (place : ℕ) → IsBoundAt t x.before place
+      → BoundBy t all place × (handle_at (map handle_of rs) place ≡ handle_at (map handle_of x.replies) place)
+  step_bound t place b = (step_longer t place (bound_by t x.before place b), step_handle place b.0)
 
 pub record Found (all : List Statement) (ls : List Line) (rs : List Reply) (place : ℕ) (s : Statement) : Type 0 where
-  pub before : List Statement
-  pub first : List Line
-  pub replies : List Reply
-  pub front : List Line
-  pub reply : Reply
-  pub step : Step all ls rs before first replies s front reply
-  pub early : length before ≡ place
+  pub step : Step all ls rs s
+  pub early : length step.before ≡ place
 
 pub found : (all : List Statement) (ls : List Line) (rs : List Reply) → Carried Made [] all ls rs → (place : ℕ) (s : Statement) → slice_get all place ≡ Some s
     → Found all ls rs place s
 found all ls rs c =
     along all ls rs (λ b l r. (place : ℕ) (s : Statement) → slice_get b place ≡ Some s → Found all ls rs place s)
-    (λ b l r t front q x i place s e. elim (get_last b t s place e) as (λ k. Found all ls rs place s) [
+    (λ t x i place s e. elim (get_last x.before t s place e) as (λ k. Found all ls rs place s) [
       | inl k ↦ i place s k
-      | inr k ↦ record {
-        before = b;
-        first = l;
-        replies = r;
-        front = front;
-        reply = q;
-        step = subst (λ (z : Statement). Step all ls rs b l r z front q) k.0 x;
-        early = k.1;
-      }
+      | inr k ↦
+          subst (Found all ls rs place) k.0 (record { step = x; early = k.1 })
     ]) c (λ place s e. absurd (cc))
 
-module _ (all : List Statement) (ls : List Line) (rs : List Reply) (place : ℕ) (s : Statement) (f : Found all ls rs place s) where
-  pub found_bound : handle_at (map handle_of rs) place ≡ handle_of f.reply
+module _ {all : List Statement} {ls : List Line} {rs : List Reply} {place : ℕ} {s : Statement} (f : Found all ls rs place s) where
+  pub found_bound : handle_at (map handle_of rs) place ≡ handle_of f.step.reply
   found_bound = ap (λ (x : List Reply). handle_at (map handle_of x) place) f.step.told
-      ∙ bound_here f.replies f.reply f.step.others place (f.step.many ∙ f.early)
+      ∙ bound_here f.step.replies f.step.reply f.step.others place (f.step.many ∙ f.early)
 
-  pub found_granted : AllGranted all rs → GrantedTo s.deed f.reply
-  found_granted g = (step_granted all ls rs f.before f.first f.replies s f.front f.reply f.step g).1
+  pub found_granted : AllGranted all rs → GrantedTo s.deed f.step.reply
+  found_granted g = (step_granted f.step g).1

@@ -1,7 +1,7 @@
 -- How many entries of a run ask for an op of some class: the statements bound it.
-use Rattle.settled_runs.proofs.Names.{Each, ◌≡◌, ℕ, suc, ◌+◌, ◌≤◌, ◌<◌, Bool, true, false, List, [], ◌∷◌, ◌++◌, length, refl, ◌∙◌, ap, subst, arith, ◌==◌, ◌&&◌, ◌||◌, nat_le, map, flat_map, nat_tests, eq-eqb, both_true, snd_true, how_many, Deed, Statement, Part, Workload, Op, Reply, handle_of, NodeEntry, Call, Once, Looking, call_of, Line, Made, RunOf, entries_that, BySeats, true_false, lines_of, Carried, all_statements, is_settled}
-use Rattle.settled_runs.proofs.{Along.Step, Along.along, Granted.bit, Granted.bit_within}
-use Rattle.settled_runs.proofs.Each.{AllSeats, CallEach, OnlyBy, PartAt, each_map, each_of, is_outside, map_seats, settled_whole, run_each, run_parts, work_outside}
+use Rattle.settled_runs.proofs.Names.{Each, ◌≡◌, ℕ, suc, ◌+◌, ◌≤◌, ◌<◌, Bool, true, false, List, [], ◌∷◌, ◌++◌, length, refl, ◌∙◌, ap, subst, arith, ◌==◌, ◌&&◌, ◌||◌, nat_le, map, flat_map, nat_tests, eq-eqb, both_true, snd_true, how_many, Deed, Statement, Part, Workload, Op, Reply, handle_of, NodeEntry, Call, Once, Looking, call_of, Line, Made, entries_that, BySeats, true_false, lines_of, Carried, all_statements, Layout, entry}
+use Rattle.settled_runs.proofs.{Along.Step, Along.along, Along.Cut, Granted.bit, Granted.bit_within}
+use Rattle.settled_runs.proofs.Each.{AllSeats, CallEach, OnlyBy, PartAt, each_map, each_of, is_outside, run_each, run_parts, work_outside, RanSettled, each_op, map_run, seats_are}
 
 -- How many pass
 
@@ -67,6 +67,11 @@ only_asks who p L ks l o = omega (
   own_asks p who L ks l,
 )
 
+-- the entries before a line's, its own and those behind it
+pub cut_asks : {who : ℕ} {es : List NodeEntry} {ns : List ℕ} {A : List Line} {l : Line} {B : List Line} (c : Cut who es ns A l B) (p : Op → Bool)
+    → asks p es ≡ asks p c.before + (bit (p l.op) + asks p c.behind)
+cut_asks {who} {l} c p = ap (asks p) c.is ∙ many_append (λ e. p e.op) c.before (entry who l.op l.reply ∷ c.behind)
+
 -- how often a call may ask for it
 abbrev pub CallAsks : (Op → Bool) → ℕ → Call → Type 0
 CallAsks p n (Once o) = bit (p o) ≤ n
@@ -85,31 +90,28 @@ module _ (p : Op → Bool) where
 
   -- where each statement of a class asks for it once at most, and no other does
   pub statements_ask : (q : Deed → Bool) (all : List Statement) (ls : List Line) (rs : List Reply) → Carried Made [] all ls rs
-      → ((before : List Statement) (l1 : List Line) (r1 : List Reply) (s : Statement) (front : List Line) (r : Reply) → Step all ls rs before l1 r1 s front r
-      → CallAsks p (bit (q s.deed)) (call_of (map handle_of r1) s.deed)) → asked p ls ≤ how_many (λ s. q s.deed) all
+      → ((s : Statement) (x : Step all ls rs s) → CallAsks p (bit (q s.deed)) (call_of (map handle_of x.replies) s.deed)) → asked p ls ≤ how_many (λ s. q s.deed) all
   statements_ask q all ls rs c per =
-      along all ls rs (λ b l r. asked p l ≤ how_many (λ s. q s.deed) b)
-      (λ b l1 r1 s front r x i. more b l1 s front (made_asks (call_of (map handle_of r1) s.deed) (bit (q s.deed)) front r (per b l1 r1 s front r x) x.made) i) c
-      (omega arith)
-    where
-      more : (b : List Statement) (l1 : List Line) (s : Statement) (front : List Line) → asked p front ≤ bit (q s.deed)
-          → asked p l1 ≤ how_many (λ z. q z.deed) b → asked p (l1 ++ front) ≤ how_many (λ z. q z.deed) (b ++ s ∷ [])
-      more b l1 s front i j = omega (arith, i, j, many_append (λ l. p l.op) l1 front, many_append (λ z. q z.deed) b (s ∷ []))
+      along all ls rs (λ b l r. asked p l ≤ how_many (λ s. q s.deed) b) (λ s x i.
+      let j : asked p x.front ≤ bit (q s.deed) = made_asks (call_of (map handle_of x.replies) s.deed) (bit (q s.deed)) x.front x.reply (per s x) x.made in
+      omega (arith, i, j, many_append (λ l. p l.op) x.first x.front, many_append (λ z. q z.deed) x.before (s ∷ []))) c (omega arith)
 
 -- but for the ops at the begin and at the end of a seat, only statements of the second class ask for ops of the first, one each
 pub record IsClass (p : Op → Bool) (q : Deed → Bool) : Type 0 where
   pub calls : (bound : List ℕ) (d : Deed) → CallAsks p (bit (q d)) (call_of bound d)
   pub outside : (o : Op) → is_outside o ≡ true → p o ≡ false
 
-module _ (p : Op → Bool) (q : Deed → Bool) (k : IsClass p q) (load : Workload) (es : List NodeEntry) (ns : List ℕ) (same : length es ≡ length ns) where
+pub outside_none : (p : Op → Bool) → ((o : Op) → is_outside o ≡ true → p o ≡ false) → (ls : List Line) → Each (λ l. is_outside l.op ≡ true) ls → asked p ls ≡ 0
+outside_none p out ls a = many_none (λ l. p l.op) ls (each_op (λ o. is_outside o ≡ true) (λ o. p o ≡ false) out ls a)
+
+module _ {p : Op → Bool} {q : Deed → Bool} (k : IsClass p q) {layout : Layout} {load : Workload} {es : List NodeEntry} {ns : List ℕ}
+    (u : RanSettled layout load es ns) where
   seat_class : (w : ℕ) (x : Part) (rs : List Reply) → PartAt load es ns w x rs → asked p (lines_of w es ns) ≤ how_many (λ s. q s.deed) x.statements
   seat_class w x rs y =
-      let none : (ls : List Line) → Each (λ l. is_outside l.op ≡ true) ls → asked p ls ≡ 0 =
-      λ ls a. many_none (λ l. p l.op) ls (each_map (λ (l : Line). is_outside l.op ≡ true) (λ (l : Line). p l.op ≡ false) (λ l e. k.outside l.op e) ls a) in
-      let a : asked p y.start ≡ 0 = none y.start y.first in
+      let a : asked p y.start ≡ 0 = outside_none p k.outside y.start y.first in
       let b : asked p y.body ≤ how_many (λ s. q s.deed) x.statements =
-      statements_ask p q x.statements y.body rs y.carried (λ b l1 r1 s front r z. k.calls (map handle_of r1) s.deed) in
-      let c : asked p y.finish ≡ 0 = none y.finish y.last in
+      statements_ask p q x.statements y.body rs y.carried (λ s z. k.calls (map handle_of z.replies) s.deed) in
+      let c : asked p y.finish ≡ 0 = outside_none p k.outside y.finish y.last in
       let d : asked p (lines_of w es ns) ≡ asked p y.start + asked p (y.body ++ y.finish) =
       ap (asked p) y.is ∙ many_append (λ l. p l.op) y.start (y.body ++ y.finish) in
       let e : asked p (y.body ++ y.finish) ≡ asked p y.body + asked p y.finish = many_append (λ l. p l.op) y.body y.finish in
@@ -137,7 +139,7 @@ module _ (p : Op → Bool) (q : Deed → Bool) (k : IsClass p q) (load : Workloa
       many_or (later first) (λ e. (e.who == first)
       && p e.op) (later (suc first)) es (each_of (λ (e : NodeEntry). later first e ≡ true
       → (((e.who == first) && p e.op) || later (suc first) e) ≡ true) (λ e i. grind (arith, nat_tests)) es) in
-      let d : how_many (λ e. (e.who == first) && p e.op) es ≡ asked p (lines_of first es ns) = own_asks p first es ns same in
+      let d : how_many (λ e. (e.who == first) && p e.op) es ≡ asked p (lines_of first es ns) = own_asks p first es ns u.same in
       let f : asked p (lines_of first es ns) ≤ how_many (λ s. q s.deed) x.statements = seat_class first x rs a.0 in
       let g : how_many (later (suc first)) es ≤ how_many (λ s. q s.deed) (flat_map (λ y. y.statements) ps) =
       seats_ask (suc first) ps rss a.1 (subst (λ (n : ℕ). BySeats n es) (let e : first + suc (length ps) ≡ suc first + length ps = omega arith in e) b) in
@@ -147,21 +149,16 @@ module _ (p : Op → Bool) (q : Deed → Bool) (k : IsClass p q) (load : Workloa
       omega arith
 
   -- the entries of a run that ask for it are no more than the statements
-  pub run_asks : RunOf load es ns → BySeats (load.settings.workers + length load.parts) es → is_settled load ≡ true
-      → asks p es ≤ how_many (λ s. q s.deed) (all_statements load)
-  run_asks run b settled =
-      let seats : AllSeats (PartAt load es ns) load.settings.workers load.parts run.replies =
-      run_parts load es ns same run b (settled_whole load settled).parts in
+  pub run_asks : asks p es ≤ how_many (λ s. q s.deed) (all_statements load)
+  run_asks =
       let a : asks p es ≤ how_many (later load.settings.workers) es =
       many_within (λ e. p e.op) (later load.settings.workers) es
-      (run_each load es ns same run b (λ e. p e.op ≡ true
-      → later load.settings.workers e ≡ true) (λ w o r i j. true_false j (k.outside o (work_outside o i)))
-      (map_seats (PartAt load es ns) (λ w x rs. Each (λ l. p l.op ≡ true
-      → (nat_le load.settings.workers w && p l.op) ≡ true) (lines_of w es ns)) load.settings.workers
+      (run_each u (λ e. p e.op ≡ true → later load.settings.workers e ≡ true) (λ w o r i j. true_false j (k.outside o (work_outside o i)))
+      (map_run u (PartAt load es ns) (λ w x rs. Each (λ l. p l.op ≡ true → (nat_le load.settings.workers w && p l.op) ≡ true) (lines_of w es ns))
       (λ w x rs i y. each_of (λ (l : Line). p l.op ≡ true
       → (nat_le load.settings.workers w && p l.op)
       ≡ true) (λ l j. both_true _ _ (let n : nat_le load.settings.workers w ≡ true = grind (arith, nat_tests) in n) j)
-      (lines_of w es ns)) load.settings.workers load.parts run.replies (omega arith) seats)) in
+      (lines_of w es ns)) (run_parts u))) in
       let c : how_many (later load.settings.workers) es ≤ how_many (λ s. q s.deed) (all_statements load) =
-      seats_ask load.settings.workers load.parts run.replies seats b in
+      seats_ask load.settings.workers load.parts u.run.replies (run_parts u) (seats_are u) in
       omega arith

@@ -1,6 +1,6 @@
 -- What holds of each line of a seat, and of each entry of a run.
-use Rattle.settled_runs.proofs.Names.{Each, list_any, list_all, flat_map, ap, append_assoc, arith, cond, refl, suc, sym, ◌∙◌, Bool, List, Option, [], false, length, true, ℕ, ◌++◌, ◌+◌, ◌<◌, ◌∷◌, ◌≡◌, ◌≤◌, subst, append-nil, eq-eqb, eqb-true, or_left, or_right, list_any-append, nat_lt, not, ◌==◌, nat_tests, Made, line, Line, before_it, head_of, in_lines, tail_of_main, Action, BySeats, Call, Looking, Once, CallerRan, MainRan, PartsRan, NodeEntry, NodeSettings, Op, Part, Reply, RunOf, WorkerRan, is_work, Statement, Workload, entry, fst_true, not_true, snd_true, true_false, has_room, are_settled_parts, has_one_fault_a_group, is_settled_further, is_settled_part, set_up, action_in, actions_in, all_statements, lines_of, CallersRan, Carried, has_begin, all_work, are_settled, has_different_ids, has_one_kind_a_job, is_settled, keep_limits, sets_up_first, inl, inr, cases_eq, cond_both, Timeout, Looked, whether}
-use Rattle.settled_runs.proofs.Along.{Step, along}
+use Rattle.settled_runs.proofs.Names.{Each, list_any, list_all, flat_map, ap, append_assoc, arith, cond, refl, suc, sym, ◌∙◌, Bool, List, Option, [], false, length, true, ℕ, ◌++◌, ◌+◌, ◌<◌, ◌∷◌, ◌≡◌, ◌≤◌, subst, append-nil, eq-eqb, eqb-true, or_left, or_right, list_any-append, nat_lt, not, ◌==◌, nat_tests, Made, line, Line, before_it, head_of, in_lines, tail_of_main, Action, BySeats, Call, Looking, Once, CallerRan, MainRan, PartsRan, NodeEntry, NodeSettings, Op, Part, Reply, RunOf, WorkerRan, is_work, Statement, Workload, entry, fst_true, not_true, snd_true, true_false, has_room, are_settled_parts, has_one_fault_a_group, is_settled_further, is_settled_part, set_up, action_in, actions_in, all_statements, lines_of, CallersRan, Carried, has_begin, all_work, are_settled, has_different_ids, has_one_kind_a_job, is_settled, keep_limits, sets_up_first, inl, inr, cases_eq, cond_both, Timeout, Looked, whether, Layout, Legal, SettledRun, by_seats, call_of, handle_of, map, opening, run_terms}
+use Rattle.settled_runs.proofs.Along.{Cut, Step, along}
 
 module _ {X : Type 0} (P : X → Type 0) where
   pub each_both : (xs ys : List X) → Each P xs → Each P ys → Each P (xs ++ ys)
@@ -34,16 +34,22 @@ module _ (P : Op → Type 0) where
   pub made_each : (c : Call) (ls : List Line) (r : Reply) → CallEach P c → Made c ls r → Each (λ l. P l.op) ls
   made_each c ls r e1 e2 = grind (arith, nat_tests)
 
+  pub step_each : {all : List Statement} {ls : List Line} {rs : List Reply} {s : Statement} (x : Step all ls rs s)
+      → CallEach P (call_of (map handle_of x.replies) s.deed) → Each (λ l. P l.op) x.front
+  step_each {s} x e = made_each (call_of (map handle_of x.replies) s.deed) x.front x.reply e x.made
+
   -- the lines of statements
   pub statements_each : (all : List Statement) (ls : List Line) (rs : List Reply) → Carried Made [] all ls rs
-      → ((before : List Statement) (l1 : List Line) (r1 : List Reply) (s : Statement) (front : List Line) (r : Reply) → Step all ls rs before l1 r1 s front r
-      → Each (λ l. P l.op) front) → Each (λ l. P l.op) ls
-  statements_each all ls rs c per = along all ls rs (λ b l r. Each (λ k. P k.op) l)
-      (λ b l1 r1 s front r x i. each_both (λ (k : Line). P k.op) l1 front i (per b l1 r1 s front r x)) c tt
+      → ((s : Statement) (x : Step all ls rs s) → Each (λ l. P l.op) x.front) → Each (λ l. P l.op) ls
+  statements_each all ls rs c per = along all ls rs (λ b l r. Each (λ k. P k.op) l) (λ s x i. each_both (λ (k : Line). P k.op) x.first x.front i (per s x)) c tt
 
 -- a call that keeps no look has one line
 pub one_look : (o : Bool → Op) (t : Timeout) (ls : List Line) (r : Reply) (m : Looked false o t ls r) → ls ≡ line (o m.last) r m.beside ∷ []
 one_look o t ls r m = m.is ∙ ap (λ (x : Option ℕ). before_it (o false) x ++ line (o m.last) r m.beside ∷ []) (m.none_kept refl)
+
+-- what each line of these asks for
+pub each_op : (P Q : Op → Type 0) → ((o : Op) → P o → Q o) → (ls : List Line) → Each (λ l. P l.op) ls → Each (λ l. Q l.op) ls
+each_op P Q f ls a = each_map (λ (l : Line). P l.op) (λ (l : Line). Q l.op) (λ l e. f l.op e) ls a
 
 -- Workers
 
@@ -100,8 +106,20 @@ entries_each Q n (e ∷ es) (m ∷ ns) l b k = (
 )
 
 -- only this seat asks for such an op
+abbrev pub IsBy : ℕ → (Op → Bool) → NodeEntry → Type 0
+IsBy who p e = p e.op ≡ true → e.who ≡ who
+
 abbrev pub OnlyBy : ℕ → (Op → Bool) → List NodeEntry → Type 0
-OnlyBy who p es = Each (λ e. p e.op ≡ true → e.who ≡ who) es
+OnlyBy who p es = Each (IsBy who p) es
+
+-- what each entry is, those before a line's and those behind it are
+module _ {who : ℕ} {es : List NodeEntry} {ns : List ℕ} {A : List Line} {l : Line} {B : List Line} (c : Cut who es ns A l B) (Q : NodeEntry → Type 0)
+    (a : Each Q es) where
+  pub cut_before : Each Q c.before
+  cut_before = each_front Q c.before (entry who l.op l.reply ∷ c.behind) (subst (Each Q) c.is a)
+
+  pub cut_behind : Each Q c.behind
+  cut_behind = (each_behind Q c.before (entry who l.op l.reply ∷ c.behind) (subst (Each Q) c.is a)).1
 
 -- so what its lines are, the entries are, if those are that don't ask for it
 pub own_each : (who : ℕ) (p : Op → Bool) (Q : NodeEntry → Type 0) (L : List NodeEntry) (ks : List ℕ) → length L ≡ length ks → OnlyBy who p L
@@ -273,45 +291,67 @@ module _ (load : Workload) (es : List NodeEntry) (ns : List ℕ) where
       )
   parts_at _ _ c e w = absurd c
 
+-- a run of a settled workload, of whose form nothing is said
+pub record RanSettled (layout : Layout) (load : Workload) (es : List NodeEntry) (ns : List ℕ) : Type 0 where
+  pub settled : is_settled load ≡ true
+  pub legal : Legal (run_terms layout load) es
+  pub same : length es ≡ length ns
+  pub run : RunOf load es ns
+
+abbrev pub ran : {layout : Layout} {load : Workload} {es : List NodeEntry} {ns : List ℕ} → SettledRun layout load es ns → RanSettled layout load es ns
+ran u = record { settled = u.settled; legal = u.legal; same = u.same; run = u.run }
+
+module _ {layout : Layout} {load : Workload} {es : List NodeEntry} {ns : List ℕ} (u : RanSettled layout load es ns) where
+  pub seats_are : BySeats (load.settings.workers + length load.parts) es
+  seats_are = by_seats (opening (run_terms layout load)) es u.legal.from
+
+  -- this holds of each seat that runs a part
+  abbrev pub OfSeats : (ℕ → Part → List Reply → Type 0) → Type 0
+  OfSeats R = AllSeats R load.settings.workers load.parts u.run.replies
+
+  pub map_run : (R S : ℕ → Part → List Reply → Type 0) → ((w : ℕ) (p : Part) (rs : List Reply) → load.settings.workers ≤ w → R w p rs → S w p rs) → OfSeats R
+      → OfSeats S
+  map_run R S f = map_seats R S load.settings.workers f load.settings.workers load.parts u.run.replies (omega arith)
+
+  pub run_parts : OfSeats (PartAt load es ns)
+  run_parts = parts_at load es ns load.parts u.run.replies u.run.parts (settled_whole load u.settled).parts (λ p i. i)
+
+  pub run_each : (Q : NodeEntry → Type 0) → ((w : ℕ) (o : Op) (r : Reply) → is_at_work o ≡ true → Q (entry w o r))
+      → OfSeats (λ w p rs. Each (λ l. Q (entry w l.op l.reply)) (lines_of w es ns)) → Each Q es
+  run_each Q out parts = entries_each Q (load.settings.workers + length load.parts) es ns u.same seats_are (λ w i. whether (nat_lt w load.settings.workers)
+      (λ j. each_map (λ (l : Line). is_at_work l.op
+      ≡ true) (λ (l : Line). Q (entry w l.op l.reply)) (λ l k. out w l.op l.reply k) (lines_of w es ns)
+      (worker_each (lines_of w es ns) (u.run.workers w (grind (arith, nat_tests)))))
+      (λ j. seat_of (λ v. Each (λ l. Q (entry v l.op l.reply)) (lines_of v es ns)) load.settings.workers load.parts u.run.replies parts w
+      (grind (arith, nat_tests)) i))
+
+  -- where no other seat's lines ask for it, only this seat does
+  pub only_by : (who : ℕ) (p : Op → Bool) → ((o : Op) → is_at_work o ≡ true → p o ≡ false)
+      → OfSeats (λ w q rs. (w == who) ≡ false → Each (λ l. p l.op ≡ false) (lines_of w es ns)) → OnlyBy who p es
+  only_by who p out parts =
+      run_each (IsBy who p) (λ w o r k i. true_false i (out o k))
+      (map_run (λ w q rs. (w == who) ≡ false
+      → Each (λ l. p l.op ≡ false) (lines_of w es ns)) (λ w q rs. Each (λ l. p l.op ≡ true → w ≡ who) (lines_of w es ns))
+      (λ w q rs l x. whether (w == who) (λ i. each_of (λ (l : Line). p l.op ≡ true → w ≡ who) (λ l j. eqb-true w who i) (lines_of w es ns))
+      (λ i. each_op (λ o. p o ≡ false) (λ o. p o ≡ true → w ≡ who) (λ o k j. true_false j k) (lines_of w es ns) (x i))) parts)
+
+module _ {load : Workload} {es : List NodeEntry} {ns : List ℕ} {w : ℕ} {p : Part} {rs : List Reply} (x : PartAt load es ns w p rs) where
   -- where the lines of a step stand among the seat's
-  pub step_lines : (w : ℕ) (p : Part) (rs : List Reply) (x : PartAt w p rs) (before : List Statement) (l1 : List Line) (r1 : List Reply) (s : Statement)
-      (front : List Line) (r : Reply) (y : Step p.statements x.body rs before l1 r1 s front r)
-      → lines_of w es ns ≡ (x.start ++ l1) ++ (front ++ (y.more ++ x.finish))
-  step_lines w p rs x before l1 r1 s front r y =
+  pub step_lines : {s : Statement} (y : Step p.statements x.body rs s) → lines_of w es ns ≡ (x.start ++ y.first) ++ (y.front ++ (y.more ++ x.finish))
+  step_lines y =
       x.is ∙ ap (λ (z : List Line). x.start ++ (z ++ x.finish)) y.is
-      ∙ ap (λ (z : List Line). x.start ++ z) (append_assoc l1 (front ++ y.more) x.finish
-      ∙ ap (λ (z : List Line). l1 ++ z) (append_assoc front y.more x.finish))
-      ∙ sym (append_assoc x.start l1 (front ++ (y.more ++ x.finish)))
+      ∙ ap (λ (z : List Line). x.start ++ z) (append_assoc y.first (y.front ++ y.more) x.finish
+      ∙ ap (λ (z : List Line). y.first ++ z) (append_assoc y.front y.more x.finish))
+      ∙ sym (append_assoc x.start y.first (y.front ++ (y.more ++ x.finish)))
 
   -- what holds of the lines outside the statements, and of each statement's, holds of the seat's
-  pub seat_each : (P : Op → Type 0) (w : ℕ) (p : Part) (rs : List Reply) (x : PartAt w p rs) → Each (λ l. P l.op) x.start → Each (λ l. P l.op) x.finish
-      → ((before : List Statement) (l1 : List Line) (r1 : List Reply) (s : Statement) (front : List Line) (r : Reply)
-      → Step p.statements x.body rs before l1 r1 s front r → Each (λ l. P l.op) front) → Each (λ l. P l.op) (lines_of w es ns)
-  seat_each P w p rs x a b per =
+  pub seat_each : (P : Op → Type 0) → Each (λ l. P l.op) x.start → Each (λ l. P l.op) x.finish
+      → ((s : Statement) (y : Step p.statements x.body rs s) → Each (λ l. P l.op) y.front) → Each (λ l. P l.op) (lines_of w es ns)
+  seat_each P a b per =
       subst (Each (λ (l : Line). P l.op)) (sym x.is)
       (each_both (λ (l : Line). P l.op) x.start (x.body
       ++ x.finish) a (each_both (λ (l : Line). P l.op) x.body x.finish (statements_each P p.statements x.body rs x.carried per) b))
 
-  module _ (same : length es ≡ length ns) (run : RunOf load es ns) (b : BySeats (load.settings.workers + length load.parts) es) where
-    pub run_parts : are_settled_parts load.settings load.parts ≡ true → AllSeats PartAt load.settings.workers load.parts run.replies
-    run_parts e = parts_at load.parts run.replies run.parts e (λ p i. i)
-
-    pub run_each : (Q : NodeEntry → Type 0) → ((w : ℕ) (o : Op) (r : Reply) → is_at_work o ≡ true → Q (entry w o r))
-        → AllSeats (λ w p rs. Each (λ l. Q (entry w l.op l.reply)) (lines_of w es ns)) load.settings.workers load.parts run.replies → Each Q es
-    run_each Q out parts = entries_each Q (load.settings.workers + length load.parts) es ns same b (λ w i. whether (nat_lt w load.settings.workers)
-        (λ j. each_map (λ (l : Line). is_at_work l.op
-        ≡ true) (λ (l : Line). Q (entry w l.op l.reply)) (λ l k. out w l.op l.reply k) (lines_of w es ns)
-        (worker_each (lines_of w es ns) (run.workers w (grind (arith, nat_tests)))))
-        (λ j. seat_of (λ v. Each (λ l. Q (entry v l.op l.reply)) (lines_of v es ns)) load.settings.workers load.parts run.replies parts w
-        (grind (arith, nat_tests)) i))
-
-    -- where no other seat's lines ask for it, only this seat does
-    pub only_by : (who : ℕ) (p : Op → Bool) → ((o : Op) → is_at_work o ≡ true → p o ≡ false)
-        → AllSeats (λ w q rs. (w == who) ≡ false → Each (λ l. p l.op ≡ false) (lines_of w es ns)) load.settings.workers load.parts run.replies → OnlyBy who p es
-    only_by who p out parts =
-        run_each (λ e. p e.op ≡ true → e.who ≡ who) (λ w o r k i. true_false i (out o k))
-        (map_seats (λ w q rs. (w == who) ≡ false
-        → Each (λ l. p l.op ≡ false) (lines_of w es ns)) (λ w q rs. Each (λ l. p l.op ≡ true → w ≡ who) (lines_of w es ns)) 0
-        (λ w q rs l x. whether (w == who) (λ i. each_of (λ (l : Line). p l.op ≡ true → w ≡ who) (λ l j. eqb-true w who i) (lines_of w es ns))
-        (λ i. each_map (λ (l : Line). p l.op ≡ false) (λ (l : Line). p l.op ≡ true → w ≡ who) (λ l k j. true_false j k) (lines_of w es ns) (x i)))
-        load.settings.workers load.parts run.replies (omega arith) parts)
+  pub seat_within : (P : Op → Type 0) → ((o : Op) → is_outside o ≡ true → P o)
+      → ((s : Statement) (y : Step p.statements x.body rs s) → Each (λ l. P l.op) y.front) → Each (λ l. P l.op) (lines_of w es ns)
+  seat_within P out = seat_each P (each_op (λ o. is_outside o ≡ true) P out x.start x.first) (each_op (λ o. is_outside o ≡ true) P out x.finish x.last)

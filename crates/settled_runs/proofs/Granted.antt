@@ -1,5 +1,5 @@
 -- In a quiet history a call isn't refused for which there is room and all that it needs.
-use Rattle.settled_runs.proofs.Names.{◌≡◌, ℕ, ◌+◌, ◌≤◌, ◌<◌, Bool, true, false, cond, List, [], ◌∷◌, refl, ◌∙◌, arith, length, ◌==◌, ◌&&◌, not, nat_tests, entry, ObjectKind, how_many, Listed, live_object, Task, NewTask, new_task, Op, Reply, Handle, Mtapi, Terms, State, opening, Move, starts_task, apply, after_moves, Allows, after_row, NodeEntry, IsNext, next, after, SameTask, given, on_only, by_moves, objects_of, entries_that, true_false, is_handle, makes_one, HasRoom, live_of, issue, retired, is_full, row, LegalFrom, after_from, zero, suc, ◌++◌, Option, Some, None, sym, ap, subst, ℤ, ◌||◌, nat_lt, is_none, is_some, eq-eqb, holds, Kind, Mask, GroupHandle, any_live, any_listed, Action, new_action, is_job, has_job, has_enabled_job, is_eligible, some_below, Ok, Phase, Open, workers, is_open, phase_is, makes, alters, removes, is_served, Row, unless, gives, never, only, number_of, Legal, IsMade, turns, Legal-front, sorts_keep, closes, NoClose, cut_from, cut_after, AreQuiet, IsOpened, IsServed, GroupIsMade, Asks, IsGranted, has_worker, cond_both, QuietCallsAreGranted, nat_le, QueueHandle, count_listed, with_fields, gone, Queue, is_in, is_unended_in, queues, Queues, is_fresh, handle_of, live, new_queue, AltersObject, makes_of_sort, some_entry, none_first, Every, every_issue, every_change, sort_move, HasAction, makes_queue, puts, IsQueued, both_true, makes_object, FieldsOf, AgesEach, SameFields, kind_move, terms_stay, puts_entry as puts_into, MtapiStatus, whether}
+use Rattle.settled_runs.proofs.Names.{◌≡◌, ℕ, ◌+◌, ◌≤◌, ◌<◌, Bool, true, false, cond, List, [], ◌∷◌, refl, ◌∙◌, arith, length, ◌==◌, ◌&&◌, not, nat_tests, entry, ObjectKind, how_many, Listed, live_object, Task, NewTask, new_task, Op, Reply, Handle, Mtapi, Terms, State, opening, Move, starts_task, apply, after_moves, Allows, after_row, NodeEntry, IsNext, next, after, SameTask, given, on_only, by_moves, objects_of, entries_that, true_false, is_handle, makes_one, HasRoom, live_of, issue, retired, is_full, row, LegalFrom, after_from, zero, suc, ◌++◌, Option, Some, None, sym, ap, subst, ◌||◌, nat_lt, is_none, eq-eqb, holds, GroupHandle, any_live, any_listed, Action, new_action, has_job, has_enabled_job, is_eligible, some_below, Ok, Phase, Open, workers, is_open, phase_is, makes, alters, removes, is_served, Row, unless, gives, never, only, number_of, Legal, IsMade, turns, Legal-front, sorts_keep, closes, NoClose, cut_from, cut_after, IsOpened, IsServed, GroupIsMade, Asks, IsGranted, has_worker, cond_both, QuietCallsAreGranted, nat_le, count_listed, with_fields, gone, Queue, is_in, is_unended_in, queues, Queues, is_fresh, handle_of, live, new_queue, AltersObject, makes_of_sort, some_entry, none_first, Every, every_issue, every_change, sort_move, makes_queue, puts, both_true, makes_object, FieldsOf, AgesEach, SameFields, kind_move, terms_stay, puts_entry as puts_into, MtapiStatus, whether, IsThere, MadeBy}
 use Rattle.settled_runs.proofs.Stays.{made_objects_stay, AskedAs, on_start}
 
 -- How many objects a history made, and room for another
@@ -194,91 +194,57 @@ pub record Serves (s : State) (job cores : ℕ) : Type 0 where
   pub enabled : any_listed (has_enabled_job job) s.actions ≡ true
   pub served : is_served s job cores ≡ true
 
-pub served : (terms : Terms) (L : List NodeEntry) (job cores : ℕ) → Legal terms L → AreQuiet L → (after terms L).terms ≡ terms → IsServed terms L job cores
-    → Serves (after terms L) job cores
-unfolding has_worker
-served terms L job cores legal quiet same x =
-    let s : State = after terms L in
-    let a : Action = new_action job x.kind x.mask.0 in
-    let there : live_object s.actions x.handle ≡ Some a = made_objects_stay terms L (Op.ActionCreate job x.kind x.mask) x.handle legal quiet x.made in
-    let is_worker : x.worker < workers s = subst (λ (t : Terms). x.worker < t.settings.workers) (sym same) x.is_worker in
-    let eligible : is_eligible (workers s) x.worker job cores a ≡ true = let i : nat_lt x.worker (workers s) ≡ true = grind (arith, nat_tests, is_worker) in
-    λ j. eq-eqb job job refl j && i j && x.in_action j && x.in_task j in
-    record {
-      listed = any_found (has_job job) s.actions x.handle a there (eq-eqb job job refl);
-      enabled = any_found (has_enabled_job job) s.actions x.handle a there (eq-eqb job job refl);
-      served = below_found (workers s) x.worker (λ w. any_listed (is_eligible (workers s) w job cores) s.actions) is_worker
-          (any_found (is_eligible (workers s) x.worker job cores) s.actions x.handle a there eligible);
-    }
-
--- The group of a new task
-
-pub group_there : (terms : Terms) (L : List NodeEntry) (group : Option GroupHandle) → Legal terms L → AreQuiet L → GroupIsMade group L
-    → holds (λ g. is_none (live_object (after terms L).groups g)) (number_of group) ≡ false
-group_there terms L None legal quiet x = refl
-group_there terms L (Some g) legal quiet x = ap is_none (made_objects_stay terms L Op.GroupCreate g.0 legal quiet x)
-
 -- The calls
 
-module _ (terms : Terms) (L : List NodeEntry) (who : ℕ) (o : Op) (r : Reply) (x : Asks terms L who o r) where
+module _ {terms : Terms} {L : List NodeEntry} {who : ℕ} {o : Op} {r : Reply} (x : Asks terms L who o r) where
   pub before : Legal terms L
   before = record { fits = x.legal.fits; from = Legal-front (opening terms) L (entry who o r ∷ []) x.legal.from }
 
   pub is_up : not (is_open (after terms L).phase) ≡ false
   is_up = ap not (opened terms L before.from x.opened)
 
-  pub same_terms : (after terms L).terms ≡ terms
+  same_terms : (after terms L).terms ≡ terms
   same_terms = terms_stay (opening terms) L before.from
 
   pub allowed : Allows (row (after terms L) who o r) r
   allowed = (cut_from (opening terms) L [] (entry who o r) x.legal.from).allowed
 
-  pub room : (k : ObjectKind) → GrowsBy k → HasRoom terms k L
+  granted : Passes (row (after terms L) who o r) → IsGranted r
+  granted p = passes (row (after terms L) who o r) r p allowed
+
+  room : (k : ObjectKind) → GrowsBy k → HasRoom terms k L
       → is_full (after terms L).terms.settings.generations ((objects_of k).max (after terms L).terms.settings) ((objects_of k).list (after terms L)) ≡ false
   room k g h =
       subst (λ (t : Terms). is_full t.settings.generations ((objects_of k).max t.settings) ((objects_of k).list (after terms L)) ≡ false) (sym same_terms)
       (has_room k g terms L before.from h terms.settings.generations)
 
-pub action_granted : (terms : Terms) (L : List NodeEntry) (who : ℕ) (r : Reply) (job : ℕ) (kind : Kind) (cores : Mask)
-    → Asks terms L who (Op.ActionCreate job kind cores) r → is_job job ≡ true → HasRoom terms ObjectKind.Action L → IsGranted r
-action_granted terms L who r job kind cores x j h =
-    passes (row (after terms L) who (Op.ActionCreate job kind cores) r) r (
-      is_up terms L who (Op.ActionCreate job kind cores) r x,
-      (ap not j, (room terms L who (Op.ActionCreate job kind cores) r x ObjectKind.Action actions_grow h, passes_only _ _ _)),
-    )
-    (allowed terms L who (Op.ActionCreate job kind cores) r x)
+  low : (priority : ℕ) → priority < terms.settings.priorities → nat_lt priority (after terms L).terms.settings.priorities ≡ true
+  low priority p = let k : priority < (after terms L).terms.settings.priorities = subst (λ (t : Terms). priority < t.settings.priorities) (sym same_terms) p in
+      grind (arith, nat_tests, k)
 
-pub group_granted : (terms : Terms) (L : List NodeEntry) (who : ℕ) (r : Reply) → Asks terms L who Op.GroupCreate r → HasRoom terms ObjectKind.Group L
-    → IsGranted r
-group_granted terms L who r x h =
-    passes (row (after terms L) who Op.GroupCreate r) r
-    (is_up terms L who Op.GroupCreate r x, (room terms L who Op.GroupCreate r x ObjectKind.Group groups_grow h, passes_only _ _ _))
-    (allowed terms L who Op.GroupCreate r x)
+  there : (m : Op) (h : ℕ) → MadeBy m h L → IsThere m h (after terms L)
+  there m h y = made_objects_stay terms L m h before x.quiet y
 
-pub start_granted : (terms : Terms) (L : List NodeEntry) (who : ℕ) (r : Reply) (job : ℕ) (args : List ℤ) (priority : ℕ) (cores : Mask)
-    (group : Option GroupHandle) → Asks terms L who (Op.TaskStart job args priority cores false group) r
-    → priority < terms.settings.priorities → HasRoom terms ObjectKind.Task L → IsServed terms L job cores.0 → GroupIsMade group L → IsGranted r
-start_granted terms L who r job args priority cores group x p h v g =
-    let o : Op = Op.TaskStart job args priority cores false group in
-    let serves : Serves (after terms L) job cores.0 = served terms L job cores.0 (before terms L who o r x) x.quiet (same_terms terms L who o r x) v in
-    let low : priority < (after terms L).terms.settings.priorities =
-    subst (λ (t : Terms). priority < t.settings.priorities) (sym (same_terms terms L who o r x)) p in
-    let in_range : (not (nat_lt priority (after terms L).terms.settings.priorities) || (false && is_some group)) ≡ false =
-    let i : nat_lt priority (after terms L).terms.settings.priorities ≡ true = grind (arith, nat_tests, low) in λ j. not (i j) || false in
-    passes (row (after terms L) who (Op.TaskStart job args priority cores false group) r) r (
-      is_up terms L who o r x,
-      (
-        in_range,
-        (
-          ap not serves.listed,
-          (
-            group_there terms L group (before terms L who o r x) x.quiet g,
-            (ap not serves.enabled, (ap not serves.served, (room terms L who o r x ObjectKind.Task tasks_grow h, passes_only _ _ _))),
-          ),
-        ),
-      ),
-    )
-    (allowed terms L who o r x)
+  served : (job cores : ℕ) → IsServed terms L job cores → Serves (after terms L) job cores
+  unfolding has_worker
+  served job cores y =
+      let s : State = after terms L in
+      let a : Action = new_action job y.kind y.mask.0 in
+      let here : live_object s.actions y.handle ≡ Some a = there (Op.ActionCreate job y.kind y.mask) y.handle y.made in
+      let is_worker : y.worker < workers s = subst (λ (t : Terms). y.worker < t.settings.workers) (sym same_terms) y.is_worker in
+      let eligible : is_eligible (workers s) y.worker job cores a ≡ true = let i : nat_lt y.worker (workers s) ≡ true = grind (arith, nat_tests, is_worker) in
+      λ j. eq-eqb job job refl j && i j && y.in_action j && y.in_task j in
+      record {
+        listed = any_found (has_job job) s.actions y.handle a here (eq-eqb job job refl);
+        enabled = any_found (has_enabled_job job) s.actions y.handle a here (eq-eqb job job refl);
+        served = below_found (workers s) y.worker (λ w. any_listed (is_eligible (workers s) w job cores) s.actions) is_worker
+            (any_found (is_eligible (workers s) y.worker job cores) s.actions y.handle a here eligible);
+      }
+
+  -- the group of a new task
+  group_there : (group : Option GroupHandle) → GroupIsMade group L → holds (λ g. is_none (live_object (after terms L).groups g)) (number_of group) ≡ false
+  group_there None y = refl
+  group_there (Some g) y = ap is_none (there Op.GroupCreate g.0 y)
 
 -- No queue has an id for which none was made
 
@@ -320,36 +286,6 @@ none_found p [] v = refl
 none_found p (r ∷ rs) v = let k = none_found p rs v.1 in
     cond_both r.live ((r.handle, r.fields) ∷ live_of rs) (live_of rs) (λ l. any_live p l ≡ false) (λ i. (λ j. cond (v.0 j) true (k j))) (λ i. k)
 
-pub queue_granted : (terms : Terms) (L : List NodeEntry) (who : ℕ) (r : Reply) (id job priority limit : ℕ) (ordered retain : Bool)
-    → Asks terms L who (Op.QueueCreate id job priority limit ordered retain) r
-    → priority < terms.settings.priorities → (1 ≤ limit) × (limit ≤ 65536) → HasRoom terms ObjectKind.Queue L → HasAction L job
-    → some_entry (λ e. makes_queue id e.op) L ≡ false → IsGranted r
-queue_granted terms L who r id job priority limit ordered retain x p range h v n =
-    let o : Op = Op.QueueCreate id job priority limit ordered retain in
-    let s : State = after terms L in
-    let has : any_listed (has_job job) s.actions ≡ true =
-    any_found (has_job job) s.actions v.handle (new_action job v.kind v.mask.0)
-    (made_objects_stay terms L (Op.ActionCreate job v.kind v.mask) v.handle (before terms L who o r x) x.quiet v.made) (eq-eqb job job refl) in
-    let low : priority < s.terms.settings.priorities = subst (λ (t : Terms). priority < t.settings.priorities) (sym (same_terms terms L who o r x)) p in
-    let in_range : (not (nat_lt priority s.terms.settings.priorities) || not (nat_le 1 limit && nat_le limit 65536)) ≡ false =
-    let i : nat_lt priority s.terms.settings.priorities ≡ true = grind (arith, nat_tests, low) in let a : 1 ≤ limit = range.0 in let b : limit ≤ 65536 =
-    range.1 in let c : nat_le 1 limit ≡ true = grind (arith, nat_tests) in let d : nat_le limit 65536 ≡ true = grind (arith, nat_tests) in
-    λ j. not (i j) || not (c j && d j) in
-    passes (row s who o r) r (
-      is_up terms L who o r x,
-      (
-        in_range,
-        (
-          ap not has,
-          (
-            none_found (λ y. y.id == id) s.queues (differ_along id (opening terms) L (before terms L who o r x).from n tt),
-            (room terms L who o r x ObjectKind.Queue queues_grow h, passes_only _ _ _),
-          ),
-        ),
-      ),
-    )
-    (allowed terms L who o r x)
-
 -- How many tasks a queue was given
 
 -- how many tasks that were ever issued name the queue
@@ -372,42 +308,86 @@ unended_given q (r ∷ rs) = grind (arith, unended_given q rs)
 passes_live : (o : Option Queue) (x : Queue) (v : Row) (w : Queue → Row) → o ≡ Some x → Passes (w x) → Passes (live o v w)
 passes_live o x v w e p = subst (λ (y : Option Queue). Passes (live y v w)) (sym e) p
 
-pub enqueue_granted : (terms : Terms) (L : List NodeEntry) (who : ℕ) (r : Reply) (q : QueueHandle) (job priority : ℕ) (args : List ℤ) (cores : Mask)
-    (group : Option GroupHandle) → Asks terms L who (Op.TaskEnqueue q args cores false group) r
-    → IsQueued L q.0 job priority → HasRoom terms ObjectKind.Task L → IsServed terms L job cores.0 → GroupIsMade group L → IsGranted r
-enqueue_granted terms L who r q job priority args cores group x k h v g =
-    let o : Op = Op.TaskEnqueue q args cores false group in
-    let s : State = after terms L in
-    let legal : Legal terms L = before terms L who o r x in
-    let made : Queue = new_queue k.id job priority k.limit k.ordered k.retain in
-    let serves : Serves s job cores.0 = served terms L job cores.0 legal x.quiet (same_terms terms L who o r x) v in
-    let not_many : (count_listed (is_unended_in q.0) s.tasks == k.limit) ≡ false = let a : count_listed (is_unended_in q.0) s.tasks ≤ given_to q.0 s =
-    unended_given q.0 s.tasks in let b : given_to q.0 s ≤ 0 + entries_that (puts_into q.0) L = gets_along q.0 (opening terms) L legal.from in
-    let c : entries_that (puts_into q.0) L < k.limit = k.few in grind (arith, nat_tests) in
-    passes (row s who o r) r (
-      is_up terms L who o r x,
-      (
-        refl,
-        passes_live (live_object s.queues q.0) made _ _
-            (made_objects_stay terms L (Op.QueueCreate k.id job priority k.limit k.ordered k.retain) q.0 legal x.quiet k.made) (
-              refl,
+pub quiet_calls_are_granted : QuietCallsAreGranted
+quiet_calls_are_granted terms L who r = record {
+  action = λ job kind cores x j h. granted x (is_up x, (ap not j, (room x ObjectKind.Action actions_grow h, passes_only _ _ _)));
+  group = λ x h. granted x (is_up x, (room x ObjectKind.Group groups_grow h, passes_only _ _ _));
+  start = λ job args priority cores group x p h v g.
+      let y : Serves (after terms L) job cores.0 = served x job cores.0 v in
+      granted x (
+        is_up x,
+        (
+          (λ j. not (low x priority p j) || false),
+          (
+            ap not y.listed,
+            (
+              group_there x group g,
               (
-                ap not serves.listed,
+                ap not y.enabled,
                 (
-                  group_there terms L group legal x.quiet g,
-                  (ap not serves.enabled, (ap not serves.served, (not_many, (room terms L who o r x ObjectKind.Task tasks_grow h, passes_only _ _ _)))),
+                  ap not y.served,
+                  (room x ObjectKind.Task tasks_grow h, passes_only _ _ _),
                 ),
               ),
             ),
-      ),
-    )
-    (allowed terms L who o r x)
-
-pub quiet_calls_are_granted : QuietCallsAreGranted
-quiet_calls_are_granted terms L who r = record {
-  action = λ job kind cores x j h. action_granted terms L who r job kind cores x j h;
-  group = λ x h. group_granted terms L who r x h;
-  start = λ job args priority cores group x p h v g. start_granted terms L who r job args priority cores group x p h v g;
-  queue = λ id job priority limit ordered retain x p l h v n. queue_granted terms L who r id job priority limit ordered retain x p l h v n;
-  enqueue = λ q job priority args cores group x k h v g. enqueue_granted terms L who r q job priority args cores group x k h v g;
+          ),
+        ),
+      );
+  queue = λ id job priority limit ordered retain x p range h v n.
+      let has : any_listed (has_job job) (after terms L).actions ≡ true =
+      any_found (has_job job) (after terms L).actions v.handle (new_action job v.kind v.mask.0) (there x (Op.ActionCreate job v.kind v.mask) v.handle v.made)
+      (eq-eqb job job refl) in
+      let in_range : (not (nat_lt priority (after terms L).terms.settings.priorities) || not (nat_le 1 limit && nat_le limit 65536)) ≡ false =
+      let a : 1 ≤ limit = range.0 in let b : limit ≤ 65536 = range.1 in let c : nat_le 1 limit ≡ true = grind (arith, nat_tests) in
+      let d : nat_le limit 65536 ≡ true = grind (arith, nat_tests) in λ j. not (low x priority p j) || not (c j && d j) in
+      granted x (
+        is_up x,
+        (
+          in_range,
+          (
+            ap not has,
+            (
+              none_found (λ y. y.id == id) (after terms L).queues (differ_along id (opening terms) L (before x).from n tt),
+              (room x ObjectKind.Queue queues_grow h, passes_only _ _ _),
+            ),
+          ),
+        ),
+      );
+  enqueue = λ q job priority args cores group x k h v g.
+      let s : State = after terms L in
+      let made : Queue = new_queue k.id job priority k.limit k.ordered k.retain in
+      let y : Serves s job cores.0 = served x job cores.0 v in
+      let not_many : (count_listed (is_unended_in q.0) s.tasks == k.limit) ≡ false =
+      let a : count_listed (is_unended_in q.0) s.tasks ≤ given_to q.0 s = unended_given q.0 s.tasks in
+      let b : given_to q.0 s ≤ 0 + entries_that (puts_into q.0) L = gets_along q.0 (opening terms) L (before x).from in
+      let c : entries_that (puts_into q.0) L < k.limit = k.few in grind (arith, nat_tests) in
+      granted x (
+        is_up x,
+        (
+          refl,
+          passes_live (live_object s.queues q.0) made _ _
+              (there x (Op.QueueCreate k.id job priority k.limit k.ordered k.retain) q.0 k.made) (
+                refl,
+                (
+                  ap not y.listed,
+                  (
+                    group_there x group g,
+                    (
+                      ap not y.enabled,
+                      (
+                        ap not y.served,
+                        (
+                          not_many,
+                          (
+                            room x ObjectKind.Task tasks_grow h,
+                            passes_only _ _ _,
+                          ),
+                        ),
+                      ),
+                    ),
+                  ),
+                ),
+              ),
+        ),
+      );
 }

@@ -45,7 +45,7 @@ pub use Rattle.run_report.specs.{Report.parts_told, Report.run_terms, Summary.no
 pub use Rattle.workload_runs.specs.Calls.{Call, Looking, Once, call_of, group_at, handle_at}
 pub use Rattle.workload_runs.specs.Lines.{Line, Looked, Made, before_it, head_of, in_lines, line, tail_of_main}
 pub use Rattle.workload_runs.specs.{Parts.CallerRan, Parts.MainRan, Parts.PartsRan, RunOf.RunOf, RunOf.WorkerRan, RunOf.is_work}
-pub use Rattle.settled_runs.specs.Granted.{Asks, GroupIsMade, HasAction, HasRoom, IsGranted, IsOpened, IsQueued, IsServed, IsThere, Made as MadeBy, MadeObjectsStay, QuietCallsAreGranted, is_handle, makes_one, makes_queue, puts, puts_into as puts_entry}
+pub use Rattle.settled_runs.specs.Granted.{Asks, CallsAreGranted, GroupIsMade, HasAction, HasRoom, IsGranted, IsOpened, IsQueued, IsServed, IsThere, Made as MadeBy, MadeObjectsStay, QuietCallsAreGranted, is_handle, makes_one, makes_queue, puts, puts_into as puts_entry}
 pub use Rattle.settled_runs.specs.Plain.{Faults, action_in, actions_in, all_statements, no_faults, plain_call_lines, plain_task_line, plain_task_lines, queue_at, queue_in, with_member, with_task}
 pub use Rattle.settled_runs.specs.PlainReplies.{IsPlainTask, PlainRepliesShowPlainReport}
 pub use Rattle.settled_runs.specs.RunGranted.{AllGranted, GrantedTo, PartsGranted, SettledRun, SettledStatementsAreGranted}

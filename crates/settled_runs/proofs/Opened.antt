@@ -1,9 +1,9 @@
 -- In a run of a settled workload the node is open before each statement's entry, there is room for what it asks for, and the ids of queues are new.
-use Rattle.settled_runs.proofs.Names.{nat_tests, Each, ◌≡◌, inl, inr, ℕ, suc, ◌+◌, ◌≤◌, ◌<◌, Bool, true, false, cond, List, [], ◌∷◌, ◌++◌, length, refl, sym, ◌∙◌, ap, subst, arith, append_assoc, ◌==◌, map, eq-eqb, Layout, entry, entries_of, how_many, Deed, Statement, Part, Workload, begins, IsFurther, MainFirst, Op, Reply, opening, NodeEntry, Legal, Legal-prefix, call_of, Line, line, head_of, tail_of_main, in_lines, MainRan, PartsRan, closes, NoClose, BySeats, is_release, true_false, by_seats, run_terms, AreQuiet, handle_of, IsOpened, all_statements, actions_in, SettledRun, is_begin, lines_of, CallersRan, cond_both, has_begin, Option, Some, None, ◌&&◌, nat_le, is_some, list_any, eqb-true, NodeSettings, holds, ObjectKind, Queue, fst_true, snd_true, not_true, some_entry, entries_that, makes_one, HasRoom, makes_queue, queue_in, has_new_id, makes_group, makes_task, has_different_ids, or_parts, objects_of, and_parts, cases_Bool, makes_object as makes, makes_one_action as makes_action, is_settled, leb-true}
-use Rattle.settled_runs.proofs.{Granted.bit, Stays.quiet_front, Along.Placed, Along.placed, Along.Cut, Along.cut, Along.no_end}
-use Rattle.settled_runs.proofs.RunEnds.{ArePlanned, run_planned, all_quiet}
-use Rattle.settled_runs.proofs.Each.{AllSeats, OnlyBy, PartAt, each_behind, each_front, each_map, each_of, is_at_work, made_each, map_seats, only_by, settled_whole, run_parts, seat_each, with_each, is_outside}
-use Rattle.settled_runs.proofs.Counted.{asks, asked, many_append, many_none, only_asks, seat_asks, CallAsks, calls_none, no_bit, statements_ask, IsClass, run_asks, entries_asks}
+use Rattle.settled_runs.proofs.Names.{nat_tests, Each, ◌≡◌, inl, inr, ℕ, suc, ◌+◌, ◌≤◌, ◌<◌, Bool, true, false, cond, List, [], ◌∷◌, ◌++◌, length, refl, sym, ◌∙◌, ap, subst, arith, append_assoc, ◌==◌, map, eq-eqb, Layout, entry, entries_of, how_many, Deed, Statement, Part, Workload, begins, IsFurther, MainFirst, Op, Reply, NodeEntry, Legal, Legal-prefix, call_of, Line, line, head_of, tail_of_main, in_lines, MainRan, PartsRan, closes, NoClose, is_release, true_false, run_terms, AreQuiet, handle_of, IsOpened, all_statements, actions_in, SettledRun, is_begin, lines_of, CallersRan, cond_both, has_begin, Option, Some, None, ◌&&◌, nat_le, is_some, list_any, eqb-true, NodeSettings, holds, ObjectKind, Queue, fst_true, snd_true, not_true, some_entry, entries_that, makes_one, HasRoom, makes_queue, queue_in, has_new_id, makes_group, makes_task, has_different_ids, or_parts, objects_of, and_parts, cases_Bool, makes_object as makes, makes_one_action as makes_action, is_settled, leb-true}
+use Rattle.settled_runs.proofs.{Granted.bit, Stays.quiet_front, RunEnds.all_quiet, RunEnds.planned}
+use Rattle.settled_runs.proofs.Along.{Placed, placed, Cut, cut, no_end, Step}
+use Rattle.settled_runs.proofs.Each.{AllSeats, OnlyBy, PartAt, each_behind, each_front, each_of, is_at_work, map_seats, only_by, settled_whole, run_parts, seat_each, with_each, is_outside, each_op, step_each, ran}
+use Rattle.settled_runs.proofs.Counted.{asks, asked, many_append, many_none, only_asks, seat_asks, CallAsks, calls_none, no_bit, statements_ask, IsClass, run_asks, entries_asks, cut_asks}
 
 -- Which ops close, and which release
 
@@ -58,15 +58,9 @@ pub first_head : (b : Bool) (X : List Line) → (R : List Line) × (head_of b ++
 first_head true X = (X, refl)
 first_head false X = (line Op.Release Reply.Ok 0 ∷ X, refl)
 
-module _ (layout : Layout) (load : Workload) (es : List NodeEntry) (ns : List ℕ) (u : SettledRun layout load es ns) where
-  pub seats_are : BySeats (load.settings.workers + length load.parts) es
-  seats_are = by_seats (opening (run_terms layout load)) es u.legal.from
-
-  pub planned : ArePlanned (actions_in (all_statements load)) es
-  planned = run_planned load es ns u.settled u.same u.run seats_are
-
+module _ {layout : Layout} {load : Workload} {es : List NodeEntry} {ns : List ℕ} (u : SettledRun layout load es ns) where
   pub quiet : AreQuiet es
-  quiet = all_quiet (actions_in (all_statements load)) es planned
+  quiet = all_quiet (actions_in (all_statements load)) es (planned (ran u))
 
   abbrev pub main : ℕ
   main = load.settings.workers
@@ -77,8 +71,7 @@ module _ (layout : Layout) (load : Workload) (es : List NodeEntry) (ns : List �
   pub all_at : AllSeats (PartAt load es ns) main (first_of.part ∷ first_of.others) (first_of.replies ∷ first_of.further)
   all_at =
       subst (AllSeats (PartAt load es ns) main (first_of.part ∷ first_of.others)) first_of.told
-      (subst (λ (ps : List Part). AllSeats (PartAt load es ns) main ps u.run.replies) first_of.are
-      (run_parts load es ns u.same u.run seats_are (settled_whole load u.settled).parts))
+      (subst (λ (ps : List Part). AllSeats (PartAt load es ns) main ps u.run.replies) first_of.are (run_parts (ran u)))
 
   further_are : Each IsFurther first_of.others
   further_are = (subst MainFirst first_of.are u.formed.main).1
@@ -86,40 +79,38 @@ module _ (layout : Layout) (load : Workload) (es : List NodeEntry) (ns : List �
   -- what no statement of a further caller asks for, main alone asks for
   pub only_main : (p : Op → Bool) (q : Deed → Bool) → ((bound : List ℕ) (d : Deed) → CallAsks p (bit (q d)) (call_of bound d))
       → ((o : Op) → is_at_work o ≡ true → p o ≡ false) → p Op.Enter ≡ false
-      → ((w : ℕ) (x : Part) (rs : List Reply) → main < w → PartAt load es ns w x rs × IsFurther x → (b : List Statement) (s : Statement) (rest : List Statement)
-      → x.statements ≡ b ++ s ∷ rest → q s.deed ≡ false) → OnlyBy main p es
+      → ((w : ℕ) (x : Part) (rs : List Reply) → main < w → (y : PartAt load es ns w x rs) → IsFurther x → (s : Statement) → Step x.statements y.body rs s
+      → q s.deed ≡ false) → OnlyBy main p es
   only_main p q calls work enter further =
-      only_by load es ns u.same u.run seats_are main p work
+      only_by (ran u) main p work
       (subst (λ (ps : List Part). AllSeats Others main ps u.run.replies) (sym first_of.are)
       (subst (AllSeats Others main (first_of.part ∷ first_of.others)) (sym first_of.told) (
         (λ i. true_false (eq-eqb main main refl) i),
         map_seats (λ w x rs. PartAt load es ns w x rs
-            × IsFurther x) Others (suc main) (λ w x rs l y i. each w x rs l y) (suc main) first_of.others first_of.further (omega arith)
+            × IsFurther x) Others (suc main) (λ w x rs l y i. each w x rs l y.0 y.1) (suc main) first_of.others first_of.further (omega arith)
             (with_each (PartAt load es ns) IsFurther (suc main) first_of.others first_of.further all_at.1 further_are),
       )))
     where
       Others : ℕ → Part → List Reply → Type 0
       Others w x rs = (w == main) ≡ false → Each (λ l. p l.op ≡ false) (lines_of w es ns)
 
-      each : (w : ℕ) (x : Part) (rs : List Reply) → main < w → PartAt load es ns w x rs × IsFurther x → Each (λ l. p l.op ≡ false) (lines_of w es ns)
-      each w x rs l y =
-          let ends : Each (λ k. p k.op ≡ false) (y.0.start ++ y.0.finish) =
-          each_map (λ (k : Line). k.op ≡ Op.Enter) (λ (k : Line). p k.op ≡ false) (λ k e. ap p e ∙ enter) (y.0.start ++ y.0.finish) (y.0.enters l) in
-          seat_each load es ns (λ o. p o ≡ false) w x rs y.0 (each_front (λ (k : Line). p k.op ≡ false) y.0.start y.0.finish ends)
-          (each_behind (λ (k : Line). p k.op ≡ false) y.0.start y.0.finish ends)
-          (λ b l1 r1 s front r z. made_each (λ o. p o
-          ≡ false) (call_of (map handle_of r1) s.deed) front r
-          (calls_none p (call_of (map handle_of r1) s.deed) (q s.deed) (calls (map handle_of r1) s.deed) (further w x rs l y b s z.rest z.parted)) z.made)
+      each : (w : ℕ) (x : Part) (rs : List Reply) → main < w → PartAt load es ns w x rs → IsFurther x → Each (λ l. p l.op ≡ false) (lines_of w es ns)
+      each w x rs l y i =
+          let ends : Each (λ k. p k.op ≡ false) (y.start ++ y.finish) =
+          each_op (λ o. o ≡ Op.Enter) (λ o. p o ≡ false) (λ o e. ap p e ∙ enter) (y.start ++ y.finish) (y.enters l) in
+          seat_each y (λ o. p o ≡ false) (each_front (λ (k : Line). p k.op ≡ false) y.start y.finish ends)
+          (each_behind (λ (k : Line). p k.op ≡ false) y.start y.finish ends)
+          (λ s z. step_each (λ o. p o ≡ false) z
+          (calls_none p (call_of (map handle_of z.replies) s.deed) (q s.deed) (calls (map handle_of z.replies) s.deed) (further w x rs l y i s z)))
 
   pub releases_main : OnlyBy main is_release es
-  releases_main = only_main is_release is_begin release_calls release_work refl (λ w x rs l y b s rest e. begin_none b s rest (ap begins (sym e) ∙ y.1.begin))
+  releases_main = only_main is_release is_begin release_calls release_work refl (λ w x rs l y i s z. begin_none z.before s z.rest (ap begins (sym z.parted) ∙ i.begin))
 
   -- no statement closes, and main closes twice
   closed_twice : asks closes es ≤ 2
   closed_twice =
       let a : asks closes es ≤ asked closes (lines_of main es ns) =
-      only_asks main closes es ns u.same (only_main closes (λ d. false) (λ bound d. (calls_ask bound d).0) close_work refl
-      (λ w x rs l y b s rest e. refl)) in
+      only_asks main closes es ns u.same (only_main closes (λ d. false) (λ bound d. (calls_ask bound d).0) close_work refl (λ w x rs l y i s z. refl)) in
       let b : asked closes (lines_of main es ns)
       ≡ asked closes (head_of (has_begin first_of.part.statements)) + asked closes (first_of.ran.body ++ tail_of_main) =
       ap (asked closes) first_of.ran.is ∙ many_append (λ l. closes l.op) (head_of (has_begin first_of.part.statements)) (first_of.ran.body
@@ -128,7 +119,7 @@ module _ (layout : Layout) (load : Workload) (es : List NodeEntry) (ns : List �
       many_append (λ l. closes l.op) first_of.ran.body tail_of_main in
       let d : asked closes first_of.ran.body ≤ how_many (λ s. false) first_of.part.statements =
       statements_ask closes (λ d. false) first_of.part.statements first_of.ran.body first_of.replies first_of.ran.carried
-      (λ b l1 r1 s front r z. (calls_ask (map handle_of r1) s.deed).0) in
+      (λ s z. (calls_ask (map handle_of z.replies) s.deed).0) in
       let e : how_many (λ s. false) first_of.part.statements ≡ 0 =
       many_none (λ s. false) first_of.part.statements (each_of (λ s. false ≡ false) (λ s. refl) first_of.part.statements) in
       let f : asked closes (head_of (has_begin first_of.part.statements)) ≡ 0 = none (has_begin first_of.part.statements) in
@@ -138,8 +129,8 @@ module _ (layout : Layout) (load : Workload) (es : List NodeEntry) (ns : List �
       none true = refl
       none false = refl
 
-  module _ (who : ℕ) (A : List Line) (l : Line) (B : List Line) (c : Cut who es ns A l B) where
-    abbrev pub this : NodeEntry
+  module _ {who : ℕ} {A : List Line} {l : Line} {B : List Line} (c : Cut who es ns A l B) where
+    abbrev this : NodeEntry
     this = entry who l.op l.reply
 
     pub legal_here : Legal (run_terms layout load) (c.before ++ this ∷ [])
@@ -154,11 +145,7 @@ module _ (layout : Layout) (load : Workload) (es : List NodeEntry) (ns : List �
 
     -- where two entries behind it close, none before it does
     unclosed : 2 ≤ asks closes c.behind → asks closes c.before ≡ 0
-    unclosed k =
-        let a : asks closes es ≡ asks closes c.before + (bit (closes l.op) + asks closes c.behind) =
-        ap (asks closes) c.is ∙ many_append (λ e. closes e.op) c.before (this ∷ c.behind) in
-        let b : asks closes es ≤ 2 = closed_twice in
-        omega arith
+    unclosed k = let a = cut_asks c closes in let b : asks closes es ≤ 2 = closed_twice in omega (arith, a)
 
     -- main's close stands behind each entry of its statements
     pub main_unclosed : (C : List Line) → B ≡ C ++ tail_of_main → asks closes c.before ≡ 0
@@ -205,8 +192,7 @@ pub is_opened : (who : ℕ) (L : List NodeEntry) (ks : List ℕ) (R : List Line)
     → IsOpened L
 is_opened who L ks R i k =
     let d : Cut who L ks [] (line Op.Initialize Reply.Ok 0) R = cut who L ks [] (line Op.Initialize Reply.Ok 0) R i in
-    let a : asks closes L ≡ asks closes d.before + (0 + asks closes d.behind) =
-    ap (asks closes) d.is ∙ many_append (λ e. closes e.op) d.before (entry who Op.Initialize Reply.Ok ∷ d.behind) in
+    let a : asks closes L ≡ asks closes d.before + (0 + asks closes d.behind) = cut_asks d closes in
     record { before = d.before; who = who; behind = d.behind; is = d.is; unclosed = no_close d.behind (let z : asks closes L ≡ 0 = k in omega arith) }
 
 -- The ops that make objects, and the statements that do
@@ -269,15 +255,14 @@ no_entry : (p : Op → Bool) (L : List NodeEntry) → asks p L ≡ 0 → some_en
 no_entry p [] i = refl
 no_entry p (e ∷ es) i = grind (arith, no_entry p es)
 
-module _ (layout : Layout) (load : Workload) (es : List NodeEntry) (ns : List ℕ) (u : SettledRun layout load es ns) (who : ℕ) (A : List Line) (l : Line)
-    (B : List Line) (c : Cut who es ns A l B) where
+module _ {layout : Layout} {load : Workload} {es : List NodeEntry} {ns : List ℕ} (u : SettledRun layout load es ns) {who : ℕ} {A : List Line} {l : Line}
+    {B : List Line} (c : Cut who es ns A l B) where
   -- fewer stand before it
   fewer_before : (p : Op → Bool) (q : Deed → Bool) (n : ℕ) → IsClass p q → how_many (λ s. q s.deed) (all_statements load) ≤ n → p l.op ≡ true
       → asks p c.before < n
   fewer_before p q n k h m =
-      let a : asks p es ≤ how_many (λ s. q s.deed) (all_statements load) = run_asks p q k load es ns u.same u.run (seats_are layout load es ns u) u.settled in
-      let b : asks p es ≡ asks p c.before + (bit (p l.op) + asks p c.behind) =
-      ap (asks p) c.is ∙ many_append (λ e. p e.op) c.before (entry who l.op l.reply ∷ c.behind) in
+      let a : asks p es ≤ how_many (λ s. q s.deed) (all_statements load) = run_asks k (ran u) in
+      let b : asks p es ≡ asks p c.before + (bit (p l.op) + asks p c.behind) = cut_asks c p in
       let f : bit (p l.op) ≡ 1 = ap bit m in
       omega arith
 

@@ -1,36 +1,29 @@
 -- No seat of a run uses a handle that another seat was given: so what became of a group is told by the lines of its own seat.
-use Rattle.settled_runs.proofs.Names.{Each, ◌≡◌, ℕ, Bool, true, false, List, refl, ◌∙◌, arith, ◌==◌, map, ◌||◌, eq-eqb, Layout, ObjectKind, Sort, Statement, Part, Workload, IsBoundAt, IsStatement, Op, Reply, handle_of, NodeEntry, handle_at, call_of, Line, true_false, run_terms, looks_at, waits_for, SettledRun, looks_at_all, starts_member, deed_spelled, lines_of, append_assoc, sym, ap, [], ◌∷◌, ◌++◌, length, entry, members_behind, members_of, word_row as row, nat_tests}
-use Rattle.settled_runs.proofs.{Opened.seats_are, SeatsGranted.seats, Walk.Seat, Walk.seat_granted}
-use Rattle.settled_runs.proofs.Along.{step_bound, step_statement}
-use Rattle.settled_runs.proofs.Each.{CallEach, OnlyBy, each_map, is_outside, made_each, map_seats, only_by, seat_each, work_outside}
-use Rattle.settled_runs.proofs.Places.{Gave, gave_in, one_seat, tasks_list, Binds, IsListedKind, binds_group, binds_task, bound_gave, groups_list}
+use Rattle.settled_runs.proofs.Names.{Each, ◌≡◌, ℕ, Bool, true, false, List, refl, ◌∙◌, arith, ◌==◌, map, ◌||◌, eq-eqb, Layout, ObjectKind, Sort, Statement, Part, Workload, IsBoundAt, IsStatement, Op, Reply, handle_of, NodeEntry, handle_at, call_of, Line, true_false, looks_at, waits_for, SettledRun, looks_at_all, starts_member, deed_spelled, lines_of, append_assoc, sym, ap, [], ◌∷◌, ◌++◌, length, entry, members_behind, members_of, word_row as row, nat_tests}
+use Rattle.settled_runs.proofs.{SeatsGranted.seats, Walk.Seat, Walk.seat_granted, Along.step_bound, Along.step_statement}
+use Rattle.settled_runs.proofs.Each.{CallEach, OnlyBy, is_outside, only_by, work_outside, map_run, ran, seat_within, step_each}
+use Rattle.settled_runs.proofs.Places.{Gave, gave_in, one_seat, bound_gave, Handed, groups_handed, tasks_handed}
 
 -- where a statement asks for an op of the class only with a handle that its own part bound, only the seat that was given the handle does
-module _ (layout : Layout) (load : Workload) (es : List NodeEntry) (ns : List ℕ) (u : SettledRun layout load es ns) (who h : ℕ) (k : ObjectKind) (t : Sort)
-    (y : Binds k t) (listed : IsListedKind k) (mine : Gave k h (lines_of who es ns)) (p : Op → Bool) (outside : (o : Op) → is_outside o ≡ true → p o ≡ false)
+module _ {layout : Layout} {load : Workload} {es : List NodeEntry} {ns : List ℕ} (u : SettledRun layout load es ns) {k : ObjectKind} {t : Sort} (y : Handed k t)
+    (who : ℕ) {h : ℕ} (mine : Gave k h (lines_of who es ns)) (p : Op → Bool) (outside : (o : Op) → is_outside o ≡ true → p o ≡ false)
     (calls : (before : List Statement) (s : Statement) (bound : List ℕ) → IsStatement before s
     → ((place : ℕ) → IsBoundAt t before place → handle_at bound place ≡ h → ⊥) → CallEach (λ o. p o ≡ false) (call_of bound s.deed)) where
   others : (w : ℕ) (q : Part) (rs : List Reply) → Seat layout load es ns w q rs → (w == who) ≡ false → Each (λ l. p l.op ≡ false) (lines_of w es ns)
   others w q rs x d =
-      seat_each load es ns (λ o. p o ≡ false) w q rs x.at (out x.at.start x.at.first) (out x.at.finish x.at.last)
-      (λ b l1 r1 s front r z. made_each (λ o. p o ≡ false) (call_of (map handle_of r1) s.deed) front r
-      (calls b s (map handle_of r1) (step_statement q.statements x.at.body rs b l1 r1 s front r z x.are)
-      (λ place o e. let v = step_bound q.statements x.at.body rs b l1 r1 s front r z t place o in
-      twice (bound_gave k t y q.statements x.at.body rs x.at.carried (seat_granted layout load es ns u w q rs x) place v.0 h (v.1 ∙ e)))) z.made)
+      seat_within x.at (λ o. p o ≡ false) outside (λ s z. step_each (λ o. p o ≡ false) z (calls z.before s (map handle_of z.replies) (step_statement z x.are)
+      (λ place o e. let v = step_bound z t place o in
+      twice (bound_gave y q.statements x.at.body rs x.at.carried (seat_granted u x) place v.0 h (v.1 ∙ e)))))
     where
-      out : (ls : List Line) → Each (λ l. is_outside l.op ≡ true) ls → Each (λ l. p l.op ≡ false) ls
-      out ls a = each_map (λ (l : Line). is_outside l.op ≡ true) (λ (l : Line). p l.op ≡ false) (λ l e. outside l.op e) ls a
-
       twice : Gave k h x.at.body → ⊥
-      twice g = true_false (eq-eqb w who (one_seat k h listed (run_terms layout load) es ns u.legal w who
-          (gave_in k h (lines_of w es ns) x.at.start x.at.body x.at.finish (x.at.is ∙ sym (append_assoc x.at.start x.at.body x.at.finish)) g) mine)) d
+      twice g = true_false (eq-eqb w who (one_seat y (ran u) w who
+          (gave_in (lines_of w es ns) x.at.start x.at.finish (x.at.is ∙ sym (append_assoc x.at.start x.at.body x.at.finish)) g) mine)) d
 
   one_user : OnlyBy who p es
   one_user =
-      only_by load es ns u.same u.run (seats_are layout load es ns u) who p (λ o i. outside o (work_outside o i))
-      (map_seats (Seat layout load es ns) (λ w q rs. (w == who) ≡ false
-      → Each (λ l. p l.op ≡ false) (lines_of w es ns)) 0 (λ w q rs l x d. others w q rs x d) load.settings.workers load.parts u.run.replies (omega arith)
-      (seats layout load es ns u))
+      only_by (ran u) who p (λ o i. outside o (work_outside o i))
+      (map_run (ran u) (Seat layout load es ns) (λ w q rs. (w == who) ≡ false → Each (λ l. p l.op ≡ false) (lines_of w es ns)) (λ w q rs l x d. others w q rs x d)
+      (seats u))
 
 -- The looks at a task
 
@@ -44,10 +37,9 @@ unfolding row deed_spelled
 looks_call h before s bound e1 e2 = grind (arith, nat_tests)
 
 -- only its own seat looks at a task
-pub one_looks : (layout : Layout) (load : Workload) (es : List NodeEntry) (ns : List ℕ) (u : SettledRun layout load es ns) (who h : ℕ)
+pub one_looks : {layout : Layout} {load : Workload} {es : List NodeEntry} {ns : List ℕ} (u : SettledRun layout load es ns) (who h : ℕ)
     → Gave ObjectKind.Task h (lines_of who es ns) → OnlyBy who (looks_at h) es
-one_looks layout load es ns u who h mine =
-    one_user layout load es ns u who h ObjectKind.Task Sort.Task binds_task tasks_list mine (looks_at h) (looks_outside h)
+one_looks u who h mine = one_user u tasks_handed who mine (looks_at h) (looks_outside h)
     (λ b s bound st a. looks_call h b s bound st (λ place w o e. a place o e))
 
 -- the op puts a task into the group, or looks at the whole of it
@@ -63,10 +55,9 @@ unfolding row deed_spelled
 uses_call h before s bound e1 e2 = grind (arith, nat_tests)
 
 -- only its own seat uses a group
-pub one_uses : (layout : Layout) (load : Workload) (es : List NodeEntry) (ns : List ℕ) (u : SettledRun layout load es ns) (who h : ℕ)
+pub one_uses : {layout : Layout} {load : Workload} {es : List NodeEntry} {ns : List ℕ} (u : SettledRun layout load es ns) (who h : ℕ)
     → Gave ObjectKind.Group h (lines_of who es ns) → OnlyBy who (uses h) es
-one_uses layout load es ns u who h mine =
-    one_user layout load es ns u who h ObjectKind.Group Sort.Group binds_group groups_list mine (uses h) (uses_outside h) (uses_call h)
+one_uses u who h mine = one_user u groups_handed who mine (uses h) (uses_outside h) (uses_call h)
 
 -- Which tasks were put into a group is told by the lines of its own seat
 

@@ -1,7 +1,7 @@
 -- What a run of a settled workload asks for, and how its tasks end.
-use Rattle.settled_runs.proofs.Names.{nat_tests, Each, ◌≡◌, ℕ, ◌+◌, Bool, true, false, List, ◌∷◌, ◌++◌, refl, subst, arith, length, ◌==◌, ◌&&◌, map, list_any, eq-eqb, or_left, NodeSettings, Kind, is_pure, Action, kind_number, Deed, Statement, Part, Workload, Op, Reply, handle_of, NodeEntry, call_of, Line, RunOf, BySeats, both_true, true_false, is_quiet, all_statements, action_in, actions_in, lines_of, is_settled_deed, is_settled, cond, [], Some, sym, ◌∙◌, ap, ℤ, append_assoc, ◌||◌, option_map, find, Layout, TaskEnd, entry, Listed, with_fields, with_enabled, has_job, Task, NewTask, new_task, Terms, State, opening, Move, makes_action, enables, withdraws, makes, alters, removes, apply, task_end, next, Legal, after, IsMade, MakesAction, end_in, some_same, by_moves, sorts_keep, accepted_end, SameTask, Under, Every, every_issue, every_change, every_at, StartedAs, started_as, task_then, cut_from, has_behind, HasObject, by_seats, run_terms, AreQuiet, IsPlain, none_withdrawn, quiet_tasks_end_plainly, answer_of, LegalFrom, after_from, end_at, task_at, plain_end, has_one_kind_a_job, cond-false, cond-true, cond_both, or_right, and_right, not, NoClose, closes, not_true, Made, GoOn, goes_on, makes_object, is_that_handle as is_handle, accepted_by, accepted, EndsOnce, same_kind, SettledTasksEndAsPlanned, ObjectKind}
-use Rattle.settled_runs.proofs.{Along.step_settled, OneFault.one_number}
-use Rattle.settled_runs.proofs.Each.{PartAt, Within, any_left, each_map, is_outside, map_seats, settled_whole, run_each, run_parts, seat_each, within_behind, work_outside}
+use Rattle.settled_runs.proofs.Names.{nat_tests, Each, ◌≡◌, ℕ, ◌+◌, Bool, true, false, List, ◌∷◌, ◌++◌, refl, subst, arith, length, ◌==◌, ◌&&◌, map, list_any, eq-eqb, or_left, NodeSettings, Kind, is_pure, Action, kind_number, Deed, Statement, Part, Workload, Op, Reply, handle_of, NodeEntry, call_of, Line, both_true, true_false, is_quiet, all_statements, action_in, actions_in, lines_of, is_settled_deed, cond, [], Some, sym, ◌∙◌, ap, ℤ, append_assoc, ◌||◌, option_map, find, Layout, TaskEnd, entry, Listed, with_fields, with_enabled, has_job, Task, NewTask, new_task, Terms, State, opening, Move, makes_action, enables, withdraws, makes, alters, removes, apply, task_end, next, after, IsMade, MakesAction, end_in, some_same, by_moves, sorts_keep, accepted_end, SameTask, Under, Every, every_issue, every_change, every_at, StartedAs, started_as, task_then, cut_from, has_behind, HasObject, run_terms, AreQuiet, IsPlain, none_withdrawn, quiet_tasks_end_plainly, answer_of, LegalFrom, after_from, end_at, task_at, plain_end, has_one_kind_a_job, cond-false, cond-true, cond_both, or_right, and_right, not, NoClose, closes, not_true, Made, GoOn, goes_on, makes_object, is_that_handle as is_handle, accepted_by, accepted, EndsOnce, same_kind, SettledTasksEndAsPlanned, ObjectKind, IsNext}
+use Rattle.settled_runs.proofs.{Along.Step, Along.step_settled, OneFault.one_number}
+use Rattle.settled_runs.proofs.Each.{PartAt, Within, any_left, is_outside, settled_whole, run_each, run_parts, within_behind, work_outside, RanSettled, map_run, seat_within}
 
 -- one of these actions has the job and the kind
 abbrev pub is_listed : List Action → ℕ → Kind → Bool
@@ -13,8 +13,11 @@ is_planned actions (Op.ActionCreate job kind cores) = is_pure kind && is_listed 
 is_planned actions (Op.AllLook g last) = not last
 is_planned actions o = is_quiet o
 
+abbrev pub IsPlanned : List Action → NodeEntry → Type 0
+IsPlanned actions e = is_planned actions e.op ≡ true
+
 abbrev pub ArePlanned : List Action → List NodeEntry → Type 0
-ArePlanned actions es = Each (λ e. is_planned actions e.op ≡ true) es
+ArePlanned actions es = Each (IsPlanned actions) es
 
 -- Calls, and what workers and the phases ask for
 
@@ -27,32 +30,24 @@ deed_planned settings known before all actions bound d front r e1 e2 e3 = grind 
 outside_planned : (actions : List Action) (o : Op) → is_outside o ≡ true → is_planned actions o ≡ true
 outside_planned actions o e1 = grind (arith, nat_tests)
 
-seat_planned : (load : Workload) (es : List NodeEntry) (ns : List ℕ) (w : ℕ) (p : Part) (rs : List Reply) → PartAt load es ns w p rs
-    → Each (λ l. is_planned (actions_in (all_statements load)) l.op ≡ true) (lines_of w es ns)
-seat_planned load es ns w p rs x =
-    seat_each load es ns (λ o. is_planned actions o ≡ true) w p rs x (outside x.start x.first) (outside x.finish x.last)
-    (λ b l1 r1 s front r y. deed_planned load.settings (x.known
-    ++ actions_in b) b p.statements actions (map handle_of r1) s.deed front r (within b s y.rest y.parted)
-    (step_settled p.statements x.body rs b l1 r1 s front r y load.settings x.known x.settled) y.made)
-  where
-    actions : List Action
-    actions = actions_in (all_statements load)
+within_step : {all : List Statement} {ls : List Line} {rs : List Reply} {s : Statement} (x : Step all ls rs s) (ys : List Action) → Within (actions_in all) ys
+    → Within (action_in s.deed) ys
+within_step {all} {s} x ys w q i = within_behind x.before (s
+    ∷ x.rest) ys (subst (λ (z : List Statement). Within (actions_in z) ys) x.parted w) q (any_left q (action_in s.deed) (actions_in x.rest) i)
 
-    outside : (ls : List Line) → Each (λ l. is_outside l.op ≡ true) ls → Each (λ l. is_planned actions l.op ≡ true) ls
-    outside ls a = each_map (λ (l : Line). is_outside l.op ≡ true) (λ (l : Line). is_planned actions l.op ≡ true) (λ l e. outside_planned actions l.op e) ls a
+module _ {layout : Layout} {load : Workload} {es : List NodeEntry} {ns : List ℕ} (u : RanSettled layout load es ns) where
+  seat_planned : (w : ℕ) (p : Part) (rs : List Reply) → PartAt load es ns w p rs
+      → Each (λ l. is_planned (actions_in (all_statements load)) l.op ≡ true) (lines_of w es ns)
+  seat_planned w p rs x =
+      seat_within x (λ o. is_planned (actions_in (all_statements load)) o ≡ true) (outside_planned (actions_in (all_statements load)))
+      (λ s y. deed_planned load.settings (x.known ++ actions_in y.before) y.before p.statements (actions_in (all_statements load)) (map handle_of y.replies) s.deed
+      y.front y.reply (within_step y (actions_in (all_statements load)) x.within) (step_settled y load.settings x.known x.settled) y.made)
 
-    within : (b : List Statement) (s : Statement) (rest : List Statement) → p.statements ≡ b ++ s ∷ rest → Within (action_in s.deed) actions
-    within b s rest e q i = within_behind b (s
-        ∷ rest) actions (subst (λ (z : List Statement). Within (actions_in z) actions) e x.within) q (any_left q (action_in s.deed) (actions_in rest) i)
-
-pub run_planned : (load : Workload) (es : List NodeEntry) (ns : List ℕ) → is_settled load ≡ true → length es ≡ length ns → RunOf load es ns
-    → BySeats (load.settings.workers + length load.parts) es → ArePlanned (actions_in (all_statements load)) es
-run_planned load es ns e l run b =
-    run_each load es ns l run b (λ x. is_planned (actions_in (all_statements load)) x.op
-    ≡ true) (λ w o r k. outside_planned (actions_in (all_statements load)) o (work_outside o k))
-    (map_seats (PartAt load es ns) (λ w p rs. Each (λ l. is_planned (actions_in (all_statements load)) l.op ≡ true) (lines_of w es ns)) 0
-    (λ w p rs i x. seat_planned load es ns w p rs x) load.settings.workers load.parts run.replies (omega arith)
-    (run_parts load es ns l run b (settled_whole load e).parts))
+  pub planned : ArePlanned (actions_in (all_statements load)) es
+  planned =
+      run_each u (IsPlanned (actions_in (all_statements load))) (λ w o r k. outside_planned (actions_in (all_statements load)) o (work_outside o k))
+      (map_run u (PartAt load es ns) (λ w p rs. Each (λ l. is_planned (actions_in (all_statements load)) l.op ≡ true) (lines_of w es ns))
+      (λ w p rs i x. seat_planned w p rs x) (run_parts u))
 
 -- What is planned is quiet, and each action is one of those of the workload
 
@@ -138,62 +133,48 @@ accepted_issues o r h e1 = grind (arith, nat_tests)
 
 -- A task that was accepted as this one ends as the kind of its job answers
 
-module _ (layout : Layout) (load : Workload) (es : List NodeEntry) (ns : List ℕ) (settled : is_settled load
-    ≡ true) (legal : Legal (run_terms layout load) es) (l : length es
-    ≡ length ns) (run : RunOf load es ns) (before behind : List NodeEntry) (e : NodeEntry) (h : ℕ)
-    (is : es ≡ before ++ e ∷ behind) (acc : accepted e ≡ Some h) where
+module _ {layout : Layout} {load : Workload} {es : List NodeEntry} {ns : List ℕ} (u : RanSettled layout load es ns) (before behind : List NodeEntry)
+    (e : NodeEntry) (h : ℕ) (is : es ≡ before ++ e ∷ behind) (acc : accepted e ≡ Some h) where
   abbrev actions : List Action
   actions = actions_in (all_statements load)
 
   abbrev terms : Terms
   terms = run_terms layout load
 
-  abbrev s : State
-  s = after terms es
-
-  planned : ArePlanned actions es
-  planned = run_planned load es ns settled l run (by_seats (opening terms) es legal.from)
-
-  pub at_entry : LegalFrom (opening terms) (before ++ e ∷ behind)
-  at_entry = subst (LegalFrom (opening terms)) is legal.from
+  pub next_at : IsNext (after terms before) e
+  next_at = cut_from (opening terms) before behind e (subst (LegalFrom (opening terms)) is u.legal.from)
 
   pub ended_once : EndsOnce terms es h
   ended_once =
-      let last : es ≡ (run.ends.before ++ entry load.settings.workers Op.Close Reply.Ok ∷ run.ends.behind) ++ entry load.settings.workers Op.Final Reply.Ok
-      ∷ [] = run.ends.closes ∙ sym (append_assoc run.ends.before (entry load.settings.workers Op.Close Reply.Ok
-      ∷ run.ends.behind) (entry load.settings.workers Op.Final Reply.Ok ∷ [])) in
-      accepted_end terms es (run.ends.before ++ entry load.settings.workers Op.Close Reply.Ok
-      ∷ run.ends.behind) load.settings.workers legal last before behind e h is acc
+      let last : es ≡ (u.run.ends.before ++ entry load.settings.workers Op.Close Reply.Ok ∷ u.run.ends.behind) ++ entry load.settings.workers Op.Final Reply.Ok
+      ∷ [] = u.run.ends.closes ∙ sym (append_assoc u.run.ends.before (entry load.settings.workers Op.Close Reply.Ok
+      ∷ u.run.ends.behind) (entry load.settings.workers Op.Final Reply.Ok ∷ [])) in
+      accepted_end terms es (u.run.ends.before ++ entry load.settings.workers Op.Close Reply.Ok
+      ∷ u.run.ends.behind) load.settings.workers u.legal last before behind e h is acc
 
-  module _ (n : NewTask) (k : ℕ) (new : HasObject ObjectKind.Task h (SameTask (new_task n k)) (next (after_from (opening terms) before) e)) where
-    pub ends_as_asked : end_at s.tasks h ≡ plain_end actions n
-    unfolding plain_end
-    ends_as_asked =
-        let has : HasObject ObjectKind.Task h (SameTask (new_task n k)) s =
-        subst (λ (M : List NodeEntry). HasObject ObjectKind.Task h (SameTask (new_task n k)) (after terms M)) (sym is)
-        (has_behind ObjectKind.Task h (SameTask (new_task n k)) (task_then (new_task n k)) (opening terms) before behind e new) in
-        let record_of : (t : Task) × (task_at s.tasks h ≡ Some t) × (end_in t.state ≡ Some ended_once.end) =
-        end_task_at s.tasks h ended_once.end ended_once.ended in
-        let same : SameTask (new_task n k) record_of.0 = under_task (SameTask (new_task n k)) s.tasks h record_of.0 has.under record_of.1 in
-        let plain : IsPlain s.actions record_of.0.job record_of.0.args ended_once.end =
-        quiet_tasks_end_plainly terms es h legal (all_quiet actions es planned) record_of.0 ended_once.end record_of.1 record_of.2 in
-        let listed_kind : is_listed actions n.job plain.0 ≡ true = let i : is_listed actions plain.1.action.job plain.1.action.kind ≡ true =
-        every_at (IsListed actions) s.actions plain.1.handle plain.1.action (listed_along actions (opening terms) es planned tt) plain.1.found in
-        subst (λ (j : ℕ). is_listed actions j plain.0
-        ≡ true) (plain.1.of_job ∙ same.job) (subst (λ (x : Kind). is_listed actions plain.1.action.job x ≡ true) plain.1.of_kind i) in
-        ended_once.ended ∙ (ap Some (plain.2 ∙ ap (λ (z : List ℤ). task_end (answer_of plain.0 z)) same.args)
-        ∙ sym (kind_found actions n.job plain.0 n.args (settled_whole load settled).kinds listed_kind))
+  pub ends_as_asked : (n : NewTask) (k : ℕ) → HasObject ObjectKind.Task h (SameTask (new_task n k)) (next (after terms before) e)
+      → end_at (after terms es).tasks h ≡ plain_end actions n
+  unfolding plain_end
+  ends_as_asked n k new =
+      let s : State = after terms es in
+      let has : HasObject ObjectKind.Task h (SameTask (new_task n k)) s =
+      subst (λ (M : List NodeEntry). HasObject ObjectKind.Task h (SameTask (new_task n k)) (after terms M)) (sym is)
+      (has_behind ObjectKind.Task h (SameTask (new_task n k)) (task_then (new_task n k)) (opening terms) before behind e new) in
+      let record_of : (t : Task) × (task_at s.tasks h ≡ Some t) × (end_in t.state ≡ Some ended_once.end) =
+      end_task_at s.tasks h ended_once.end ended_once.ended in
+      let same : SameTask (new_task n k) record_of.0 = under_task (SameTask (new_task n k)) s.tasks h record_of.0 has.under record_of.1 in
+      let plain : IsPlain s.actions record_of.0.job record_of.0.args ended_once.end =
+      quiet_tasks_end_plainly terms es h u.legal (all_quiet actions es (planned u)) record_of.0 ended_once.end record_of.1 record_of.2 in
+      let listed_kind : is_listed actions n.job plain.0 ≡ true = let i : is_listed actions plain.1.action.job plain.1.action.kind ≡ true =
+      every_at (IsListed actions) s.actions plain.1.handle plain.1.action (listed_along actions (opening terms) es (planned u) tt) plain.1.found in
+      subst (λ (j : ℕ). is_listed actions j plain.0
+      ≡ true) (plain.1.of_job ∙ same.job) (subst (λ (x : Kind). is_listed actions plain.1.action.job x ≡ true) plain.1.of_kind i) in
+      ended_once.ended ∙ (ap Some (plain.2 ∙ ap (λ (z : List ℤ). task_end (answer_of plain.0 z)) same.args)
+      ∙ sym (kind_found actions n.job plain.0 n.args (settled_whole load u.settled).kinds listed_kind))
 
 pub settled_tasks_end_as_planned : SettledTasksEndAsPlanned
 settled_tasks_end_as_planned layout load es ns settled legal l run before behind e h is acc =
-    let started : StartedAs (after_from (opening (run_terms layout load)) before) e.op h (next (after_from (opening (run_terms layout load)) before) e) =
-    started_as (after_from (opening (run_terms layout load)) before) e h
-    (cut_from (opening (run_terms layout load)) before behind e (at_entry layout load es ns settled legal l run before behind e h is acc))
-    (accepted_issues e.op e.reply h acc) in
-    record {
-      task = started.0;
-      asked = started.1;
-      ends =
-          ends_as_asked layout load es ns settled legal l run before behind e h is acc started.0
-          (after_from (opening (run_terms layout load)) before).starts started.2;
-    }
+    let u : RanSettled layout load es ns = record { settled = settled; legal = legal; same = l; run = run } in
+    let s : State = after (run_terms layout load) before in
+    let started : StartedAs s e.op h (next s e) = started_as s e h (next_at u before behind e h is acc) (accepted_issues e.op e.reply h acc) in
+    record { task = started.0; asked = started.1; ends = ends_as_asked u before behind e h is acc started.0 s.starts started.2 }

@@ -1,11 +1,11 @@
 -- In a run of a settled workload main and each further caller are given what they ask for.
-use Rattle.settled_runs.proofs.Names.{Each, ◌≡◌, inr, ℕ, ◌≤◌, Bool, true, false, List, ◌∷◌, ◌++◌, Option, Some, None, refl, ◌∙◌, subst, arith, slice_get, option_and_then, option_map, list_all, NodeSettings, Layout, Action, Queue, Deed, Statement, Part, Workload, IsPart, NodeEntry, fst_true, call_of, head_of, tail_of_main, true_false, puts, actions_in, queue_in, queue_at, is_startable, set_up, are_settled_parts, AllGranted, SettledRun, has_begin, task_in, is_settled_deed, keep_limits, [], sym, append-nil, none_some, inl, suc, ◌<◌, length, ap, append_assoc, ◌||◌, not, map, list_any, flat_map, entry, begins, Reply, handle_of, Legal, snd_true, not_true, Line, line, Made, in_lines, is_release, is_released, run_terms, IsOpened, action_in, all_statements, sets_up, is_settled_part, is_settled_further, PartsGranted, SettledStatementsAreGranted, is_begin, lines_of, Carried, CallersRan, sets_up_first, or_left, or_right, some_entry, Op, cond_both, or_parts, enter_behind, MadeBy, nat_tests}
-use Rattle.settled_runs.proofs.{Granted.bit, Counted.CallAsks, Counted.calls_none}
-use Rattle.settled_runs.proofs.Places.{Has, has_more, HasAction, action_map, action_has}
+use Rattle.settled_runs.proofs.Names.{Each, ◌≡◌, inr, ℕ, ◌≤◌, Bool, true, false, List, ◌∷◌, ◌++◌, Option, Some, None, refl, ◌∙◌, subst, arith, slice_get, option_and_then, option_map, list_all, NodeSettings, Layout, Action, Queue, Deed, Statement, Part, Workload, IsPart, NodeEntry, fst_true, call_of, head_of, tail_of_main, true_false, puts, actions_in, queue_in, queue_at, is_startable, set_up, are_settled_parts, AllGranted, SettledRun, has_begin, task_in, is_settled_deed, keep_limits, [], sym, append-nil, none_some, inl, suc, ◌<◌, length, ap, append_assoc, ◌||◌, not, map, list_any, flat_map, entry, begins, Reply, handle_of, Legal, snd_true, not_true, Line, line, Made, in_lines, is_release, is_released, run_terms, action_in, all_statements, sets_up, is_settled_part, is_settled_further, PartsGranted, SettledStatementsAreGranted, is_begin, lines_of, Carried, CallersRan, sets_up_first, or_left, or_right, some_entry, Op, cond_both, or_parts, enter_behind, MadeBy, nat_tests, closes}
+use Rattle.settled_runs.proofs.{Granted.bit, Counted.CallAsks, Counted.calls_none, Counted.asks}
+use Rattle.settled_runs.proofs.Places.{Has, has_more, action_map, action_has}
 use Rattle.settled_runs.proofs.Walk.{puts_outside, sets_all, Seat, seat_granted, MadeAction, Finds}
-use Rattle.settled_runs.proofs.Along.{same_head, same_tail, Cut, cut, cut_split, deed_in, Found, get_at, same_front, step_granted, found}
+use Rattle.settled_runs.proofs.Along.{same_head, same_tail, Cut, cut, cut_split, Found, get_at, same_front, step_granted, found, Step, step_settled}
 use Rattle.settled_runs.proofs.Opened.{main_unclosed, first_head, is_opened, first_of, only_main, all_at, legal_before, further_unclosed, begin_none, release_calls, releases_main}
-use Rattle.settled_runs.proofs.Each.{settled_whole, OnlyBy, PartAt, Parts, main_at, parts_are, work_outside, actions_append, AllSeats, Within, caller_at, made_each, statements_each, within_behind, within_front, each_front, fold_seats}
+use Rattle.settled_runs.proofs.Each.{settled_whole, OnlyBy, Parts, main_at, parts_are, work_outside, actions_append, AllSeats, Within, caller_at, statements_each, within_behind, within_front, fold_seats, IsBy, OfSeats, cut_before, ran, step_each}
 
 -- Further callers put no task into a queue
 
@@ -103,24 +103,23 @@ began : (ss : List Statement) (x : SetUp ss) (M body : List Line) (rs : List Rep
 began ss x M body rs i c g =
     let f : Found ss body rs (length x.before) x.begin =
     found ss body rs c (length x.before) x.begin (ap (λ (z : List Statement). slice_get z (length x.before)) x.is ∙ get_at x.before x.begin x.behind) in
-    let same : f.before ≡ x.before = same_front f.before x.begin f.step.rest x.before x.begin x.behind (sym f.step.parted ∙ x.is) f.early in
-    let carried : Carried Made [] x.before f.first f.replies = subst (λ (z : List Statement). Carried Made [] z f.first f.replies) same f.step.carried in
+    let y : Step ss body rs x.begin = f.step in
+    let same : y.before ≡ x.before = same_front y.before x.begin y.rest x.before x.begin x.behind (sym y.parted ∙ x.is) f.early in
+    let carried : Carried Made [] x.before y.first y.replies = subst (λ (z : List Statement). Carried Made [] z y.first y.replies) same y.carried in
     record {
-      first = f.first;
-      replies = f.replies;
-      release = line Op.Release f.reply 0;
-      rest = f.step.more ++ tail_of_main;
+      first = y.first;
+      replies = y.replies;
+      release = line Op.Release y.reply 0;
+      rest = y.more ++ tail_of_main;
       is = i ∙ (λ j. head_of ((ap has_begin x.is ∙ has_one_begin x.before x.begin x.behind x.starts) j)
-          ++ ((f.step.is ∙ ap (λ (z : List Line). f.first
-          ++ (z ++ f.step.more)) (begin_released x.begin.deed (map handle_of f.replies) f.front f.reply x.starts f.step.made)) j ++ tail_of_main))
-          ∙ ap (λ (z : List Line). opening_line ∷ z) (append_assoc f.first (line Op.Release f.reply 0 ∷ f.step.more) tail_of_main);
+          ++ ((y.is ∙ ap (λ (z : List Line). y.first
+          ++ (z ++ y.more)) (begin_released x.begin.deed (map handle_of y.replies) y.front y.reply x.starts y.made)) j ++ tail_of_main))
+          ∙ ap (λ (z : List Line). opening_line ∷ z) (append_assoc y.first (line Op.Release y.reply 0 ∷ y.more) tail_of_main);
       carried = carried;
-      granted = subst (λ (z : List Statement). AllGranted z f.replies) same
-          (step_granted ss body rs f.before f.first f.replies x.begin f.front f.reply f.step g).0;
-      none = statements_each (λ o. is_release o ≡ false) x.before f.first f.replies carried
-          (λ b l1 r1 s front r y. made_each (λ o. is_release o ≡ false) (call_of (map handle_of r1) s.deed) front r
-          (calls_none is_release (call_of (map handle_of r1) s.deed) (is_begin s.deed) (release_calls (map handle_of r1) s.deed)
-          (begin_none b s y.rest (ap begins (sym y.parted) ∙ x.first))) y.made);
+      granted = subst (λ (z : List Statement). AllGranted z y.replies) same (step_granted y g).0;
+      none = statements_each (λ o. is_release o ≡ false) x.before y.first y.replies carried (λ s z. step_each (λ o. is_release o ≡ false) z
+          (calls_none is_release (call_of (map handle_of z.replies) s.deed) (is_begin s.deed) (release_calls (map handle_of z.replies) s.deed)
+          (begin_none z.before s z.rest (ap begins (sym z.parted) ∙ x.first))));
     }
 
 -- Lines of which one passes go past those of which none does
@@ -142,167 +141,138 @@ some_line who p q f (e ∷ es) (m ∷ ks) n o k = grind (arith, nat_tests, f e, 
 
 -- Main's part
 
-module _ (layout : Layout) (load : Workload) (es : List NodeEntry) (ns : List ℕ) (u : SettledRun layout load es ns) where
+module _ {layout : Layout} {load : Workload} {es : List NodeEntry} {ns : List ℕ} (u : SettledRun layout load es ns) where
   abbrev main : ℕ
   main = load.settings.workers
 
   abbrev part : Part
-  part = (first_of layout load es ns u).part
+  part = (first_of u).part
 
   abbrev others : List Part
-  others = (first_of layout load es ns u).others
+  others = (first_of u).others
 
-  pub settled_parts : Parts load.settings (first_of layout load es ns u).part (first_of layout load es ns u).others
+  settled_parts : Parts load.settings (first_of u).part (first_of u).others
   settled_parts = parts_are load.settings part others
-      (subst (λ (x : List Part). are_settled_parts load.settings x ≡ true) (first_of layout load es ns u).are (settled_whole load u.settled).parts)
+      (subst (λ (x : List Part). are_settled_parts load.settings x ≡ true) (first_of u).are (settled_whole load u.settled).parts)
 
-  pub all_parts : Each IsPart (part ∷ others)
-  all_parts = subst (Each IsPart) (first_of layout load es ns u).are u.formed.parts
+  all_parts : Each IsPart (part ∷ others)
+  all_parts = subst (Each IsPart) (first_of u).are u.formed.parts
 
-  pub all_limits : list_all (λ p. keep_limits p.statements 0 p.statements) (part ∷ others) ≡ true
+  all_limits : list_all (λ p. keep_limits p.statements 0 p.statements) (part ∷ others) ≡ true
   all_limits = subst (λ (x : List Part). list_all (λ p. keep_limits p.statements 0 p.statements) x
-      ≡ true) (first_of layout load es ns u).are (settled_whole load u.settled).limits
+      ≡ true) (first_of u).are (settled_whole load u.settled).limits
 
   puts_main : (h : ℕ) → OnlyBy main (puts h) es
   puts_main h =
-      only_main layout load es ns u (puts h) is_put (puts_calls h) (λ o k. puts_outside h o (work_outside o k)) refl
-      (λ w x rs l y b s rest e. not_put load.settings (y.0.known
-      ++ actions_in b) b x.statements s.deed (y.0.no_set_up l)
-      (deed_in load.settings y.0.known x.statements x.statements [] (sym (append-nil x.statements)) y.0.settled b s rest e))
+      only_main u (puts h) is_put (puts_calls h) (λ o k. puts_outside h o (work_outside o k)) refl
+      (λ w x rs l y i s z. not_put load.settings (y.known ++ actions_in z.before) z.before x.statements s.deed (y.no_set_up l)
+      (step_settled z load.settings y.known y.settled))
 
-  abbrev main_part : PartAt load es ns main part (first_of layout load es ns u).replies
-  main_part = main_at load es ns part (first_of layout load es ns u).replies (first_of layout load es ns u).ran settled_parts.main
-      (all_at layout load es ns u).0.within
-
-  pub main_seat : Seat layout load es ns main part (first_of layout load es ns u).replies
+  main_seat : Seat layout load es ns main part (first_of u).replies
   main_seat = record {
-    at = main_part;
-    finds = record {
-      opened = λ A l B c.
-          let x = first_head (has_begin part.statements) A in
-          is_opened main c.before c.first x.0 (c.done
-          ∙ x.1) (main_unclosed layout load es ns u main (head_of (has_begin part.statements) ++ A) l (B ++ tail_of_main) c B refl);
-      unclosed = λ A l B c. main_unclosed layout load es ns u main (head_of (has_begin part.statements) ++ A) l (B ++ tail_of_main) c B refl;
-      outside = main_part.first;
-      acts = λ A l B c p e. true_false e refl;
-      alone = inr puts_main;
-    };
+    at = main_at load es ns part (first_of u).replies (first_of u).ran settled_parts.main (all_at u).0.within;
+    finds = λ A l B c.
+        let x = first_head (has_begin part.statements) A in
+        let n : asks closes c.before ≡ 0 = main_unclosed u c B refl in
+        record { opened = is_opened main c.before c.first x.0 (c.done ∙ x.1) n; unclosed = n; acts = λ p e. true_false e refl };
+    alone = inr puts_main;
     limits = fst_true _ (list_all (λ p. keep_limits p.statements 0 p.statements) others) all_limits;
     are = all_parts.0.statements;
   }
 
-  pub main_granted : AllGranted part.statements (first_of layout load es ns u).replies
-  main_granted = seat_granted layout load es ns u main part (first_of layout load es ns u).replies main_seat
-
   -- The others
 
-  pub main_began : (x : SetUp part.statements) → Began part.statements x (lines_of main es ns)
-  main_began x = began part.statements x (lines_of main es ns) (first_of layout load es ns u).ran.body (first_of layout load es ns u).replies
-      (first_of layout load es ns u).ran.is (first_of layout load es ns u).ran.carried main_granted
+  module _ (x : SetUp part.statements) where
+    began_main : Began part.statements x (lines_of main es ns)
+    began_main = began part.statements x (lines_of main es ns) (first_of u).ran.body (first_of u).replies (first_of u).ran.is (first_of u).ran.carried
+        (seat_granted u main_seat)
 
-  module _ (x : SetUp part.statements) (who : ℕ) (late : main < who) (looks : ℕ) where
-    abbrev entrance : List Line
-    entrance = line Op.Enter Reply.Ok looks ∷ []
+    module _ (who : ℕ) (late : main < who) (looks : ℕ) where
+      abbrev entrance : List Line
+      entrance = line Op.Enter Reply.Ok looks ∷ []
 
-    module _ (A : List Line) (l : Line) (B : List Line) (c : Cut who es ns (entrance ++ A) l (B ++ [])) where
-      abbrev entered : Cut who c.before c.first [] (line Op.Enter Reply.Ok looks) A
-      entered = cut who c.before c.first [] (line Op.Enter Reply.Ok looks) A c.done
+      module _ (A : List Line) (l : Line) (B : List Line) (c : Cut who es ns (entrance ++ A) l (B ++ [])) where
+        abbrev entered : Cut who c.before c.first [] (line Op.Enter Reply.Ok looks) A
+        entered = cut who c.before c.first [] (line Op.Enter Reply.Ok looks) A c.done
 
-      legal_cut : Legal (run_terms layout load) (entered.before ++ entry who Op.Enter Reply.Ok ∷ entered.behind)
-      legal_cut = subst (Legal (run_terms layout load)) entered.is (legal_before layout load es ns u who (entrance ++ A) l (B ++ []) c)
+        legal_cut : Legal (run_terms layout load) (entered.before ++ entry who Op.Enter Reply.Ok ∷ entered.behind)
+        legal_cut = subst (Legal (run_terms layout load)) entered.is (legal_before u c)
 
-      only_main_released : OnlyBy main is_release entered.before
-      only_main_released =
-          each_front (λ (e : NodeEntry). is_release e.op ≡ true → e.who ≡ main) entered.before (entry who Op.Enter Reply.Ok ∷ entered.behind)
-          (subst (OnlyBy main is_release) entered.is
-          (each_front (λ (e : NodeEntry). is_release e.op ≡ true
-          → e.who ≡ main) c.before (entry who l.op l.reply ∷ c.behind) (subst (OnlyBy main is_release) c.is (releases_main layout load es ns u))))
+        abbrev later : List Line
+        later = lines_of main (entry who Op.Enter Reply.Ok ∷ entered.behind) (looks ∷ entered.rest)
 
-      abbrev later : List Line
-      later = lines_of main (entry who Op.Enter Reply.Ok ∷ entered.behind) (looks ∷ entered.rest)
+        -- main's lines before the caller entered
+        seen : (Z : List Line) × (lines_of main entered.before entered.first ≡ (opening_line ∷ began_main.first) ++ Z)
+        seen = past (λ l. is_release l.op) (opening_line ∷ began_main.first) (lines_of main entered.before entered.first) (later
+            ++ lines_of main (entry who l.op l.reply ∷ c.behind) (l.beside ∷ c.rest)) (began_main.release ∷ began_main.rest) (refl, began_main.none)
+            (some_line main is_release is_released (λ e i. fst_true (is_release e.op) _ i) entered.before entered.first entered.same
+            (cut_before entered (IsBy main is_release) (cut_before c (IsBy main is_release) (releases_main u)))
+            (enter_behind (run_terms layout load) entered.before entered.behind who legal_cut))
+            (sym (append_assoc (lines_of main entered.before entered.first) later _)
+            ∙ ap (λ (z : List Line). z ++ lines_of main (entry who l.op l.reply ∷ c.behind) (l.beside ∷ c.rest)) (sym (cut_split entered main))
+            ∙ sym (cut_split c main) ∙ began_main.is)
 
-      -- main's lines before the caller entered
-      seen : (Z : List Line) × (lines_of main entered.before entered.first ≡ (opening_line ∷ (main_began x).first) ++ Z)
-      seen = past (λ l. is_release l.op) (opening_line ∷ (main_began x).first) (lines_of main entered.before entered.first) (later
-          ++ lines_of main (entry who l.op l.reply ∷ c.behind) (l.beside ∷ c.rest)) ((main_began x).release ∷ (main_began x).rest) (refl, (main_began x).none)
-          (some_line main is_release is_released (λ e i. fst_true (is_release e.op) _ i) entered.before entered.first entered.same only_main_released
-          (enter_behind (run_terms layout load) entered.before entered.behind who legal_cut))
-          (sym (append_assoc (lines_of main entered.before entered.first) later _)
-          ∙ ap (λ (z : List Line). z ++ lines_of main (entry who l.op l.reply ∷ c.behind) (l.beside ∷ c.rest))
-          (sym (cut_split who c.before c.first [] (line Op.Enter Reply.Ok looks) A entered main))
-          ∙ sym (cut_split who es ns (entrance ++ A) l (B ++ []) c main) ∙ (main_began x).is)
+        -- and before the line
+        all_seen : lines_of main c.before c.first ≡ (opening_line ∷ began_main.first) ++ (seen.0 ++ later)
+        all_seen = cut_split entered main ∙ ap (λ (z : List Line). z ++ later) seen.1 ∙ append_assoc (opening_line ∷ began_main.first) seen.0 later
 
-      -- and before the line
-      all_seen : lines_of main c.before c.first ≡ (opening_line ∷ (main_began x).first) ++ (seen.0 ++ later)
-      all_seen = cut_split who c.before c.first [] (line Op.Enter Reply.Ok looks) A entered main ∙ ap (λ (z : List Line). z ++ later) seen.1
-          ∙ append_assoc (opening_line ∷ (main_began x).first) seen.0 later
+        made_late : (p : Action → Bool) → list_any p (actions_in part.statements) ≡ true → MadeAction c.before p
+        made_late p e =
+            action_map (Has began_main.first) (λ o h. MadeBy o h c.before) p (λ o h v.
+            let z : Has (lines_of main c.before c.first) o h =
+            subst (λ (ls : List Line). Has ls o h) (sym all_seen) (has_more (opening_line ∷ []) began_main.first (seen.0 ++ later) o h v) in
+            let d = cut main c.before c.first z.before (line o (Reply.Handle h) z.beside) z.behind z.is in
+            record { before = d.before; who = main; behind = d.behind; is = d.is })
+            (action_has x.before began_main.first began_main.replies p began_main.carried began_main.granted
+            (subst (λ (z : List Action). list_any p z ≡ true) (first_actions part.statements x) e))
 
-      pub opened_late : IsOpened c.before
-      opened_late = is_opened main c.before c.first ((main_began x).first
-          ++ (seen.0 ++ later)) all_seen (further_unclosed layout load es ns u who (entrance ++ A) l (B ++ []) c late)
+        further_finds : Finds (actions_in part.statements) c.before
+        further_finds = record {
+          opened = is_opened main c.before c.first (began_main.first ++ (seen.0 ++ later)) all_seen (further_unclosed u c late);
+          unclosed = further_unclosed u c late;
+          acts = made_late;
+        }
 
-      pub made_late : (p : Action → Bool) → list_any p (actions_in part.statements) ≡ true → MadeAction c.before p
-      made_late p e =
-          let y : HasAction (main_began x).first p =
-          action_has x.before (main_began x).first (main_began x).replies p (main_began x).carried (main_began x).granted
-          (subst (λ (z : List Action). list_any p z ≡ true) (first_actions part.statements x) e) in
-          action_map (Has (main_began x).first) (λ o h. MadeBy o h c.before) p (λ o h v.
-          let z : Has (lines_of main c.before c.first) o h =
-          subst (λ (ls : List Line). Has ls o h) (sym all_seen) (has_more (opening_line ∷ []) (main_began x).first (seen.0 ++ later) o h v) in
-          let d = cut main c.before c.first z.before (line o (Reply.Handle h) z.beside) z.behind z.is in
-          record { before = d.before; who = main; behind = d.behind; is = d.is }) y
+    -- The further callers
 
-    pub further_finds : (all : List Statement) → set_up all ≡ false → Finds layout load es ns who entrance [] all (actions_in part.statements)
-    further_finds all n = record {
-      opened = λ A l B c. opened_late A l B c;
-      unclosed = λ A l B c. further_unclosed layout load es ns u who (entrance ++ A) l (B ++ []) c late;
-      outside = (refl, tt);
-      acts = λ A l B c p e. made_late A l B c p e;
-      alone = inl n;
-    }
+    callers_seats : (first : ℕ) → main < first → (ps : List Part) (rss : List (List Reply)) → CallersRan in_lines (λ who. lines_of who es ns) first ps rss
+        → list_all (is_settled_further load.settings (actions_in part.statements)) ps ≡ true
+        → list_all (λ p. keep_limits p.statements 0 p.statements) ps ≡ true → Each IsPart ps
+        → Within (actions_in (flat_map (λ p. p.statements) ps)) (actions_in (all_statements load)) → AllSeats (Seat layout load es ns) first ps rss
+    unfolding CallersRan
+    callers_seats first late [] rss c e l a w = tt
+    callers_seats first late (p ∷ ps) [] c e l a w = absurd c
+    callers_seats first late (p ∷ ps) (rs ∷ rss) c e l a w =
+        let here : is_settled_further load.settings (actions_in part.statements) p ≡ true =
+        fst_true _ (list_all (is_settled_further load.settings (actions_in part.statements)) ps) e in (
+          record {
+            at = caller_at load es ns (actions_in part.statements) first p rs c.0 here (within_front p.statements (flat_map (λ q. q.statements) ps) _ w);
+            finds = further_finds first late c.0.entered.0;
+            alone = inl (not_true _ (fst_true _ (is_settled_part load.settings (actions_in part.statements) p) here));
+            limits = fst_true _ (list_all (λ y. keep_limits y.statements 0 y.statements) ps) l;
+            are = a.0.statements;
+          },
+          callers_seats (suc first) (omega arith) ps rss c.1 (snd_true (is_settled_further load.settings (actions_in part.statements) p) _ e)
+              (snd_true (keep_limits p.statements 0 p.statements) _ l) a.1 (within_behind p.statements (flat_map (λ q. q.statements) ps) _ w),
+        )
 
-  -- The further callers
-
-  callers_seats : (x : SetUp part.statements) (first : ℕ) → main < first → (ps : List Part) (rss : List (List Reply))
-      → CallersRan in_lines (λ who. lines_of who es ns) first ps rss → list_all (is_settled_further load.settings (actions_in part.statements)) ps ≡ true
-      → list_all (λ p. keep_limits p.statements 0 p.statements) ps ≡ true → Each IsPart ps
-      → Within (actions_in (flat_map (λ p. p.statements) ps)) (actions_in (all_statements load)) → AllSeats (Seat layout load es ns) first ps rss
-  unfolding CallersRan
-  callers_seats x first late [] rss c e l a w = tt
-  callers_seats x first late (p ∷ ps) [] c e l a w = absurd c
-  callers_seats x first late (p ∷ ps) (rs ∷ rss) c e l a w =
-      let here : is_settled_further load.settings (actions_in part.statements) p ≡ true =
-      fst_true _ (list_all (is_settled_further load.settings (actions_in part.statements)) ps) e in (
-        record {
-          at = caller_at load es ns (actions_in part.statements) first p rs c.0 here (within_front p.statements (flat_map (λ q. q.statements) ps) _ w);
-          finds = further_finds x first late c.0.entered.0 p.statements
-              (not_true _ (fst_true _ (is_settled_part load.settings (actions_in part.statements) p) here));
-          limits = fst_true _ (list_all (λ y. keep_limits y.statements 0 y.statements) ps) l;
-          are = a.0.statements;
-        },
-        callers_seats x (suc first) (omega arith) ps rss c.1 (snd_true (is_settled_further load.settings (actions_in part.statements) p) _ e)
-            (snd_true (keep_limits p.statements 0 p.statements) _ l) a.1 (within_behind p.statements (flat_map (λ q. q.statements) ps) _ w),
-      )
-
-  seats_of_parts : AllSeats (Seat layout load es ns) main (part ∷ others) ((first_of layout load es ns u).replies ∷ (first_of layout load es ns u).further)
+  seats_of_parts : AllSeats (Seat layout load es ns) main (part ∷ others) ((first_of u).replies ∷ (first_of u).further)
   seats_of_parts = (main_seat, by others refl)
     where
-      by : (ps : List Part) → others ≡ ps → AllSeats (Seat layout load es ns) (suc main) others (first_of layout load es ns u).further
-      by [] i = subst (λ (z : List Part). AllSeats (Seat layout load es ns) (suc main) z (first_of layout load es ns u).further) (sym i) tt
+      by : (ps : List Part) → others ≡ ps → AllSeats (Seat layout load es ns) (suc main) others (first_of u).further
+      by [] i = subst (λ (z : List Part). AllSeats (Seat layout load es ns) (suc main) z (first_of u).further) (sym i) tt
       by (p ∷ ps) i =
-          callers_seats (set_up_split part.statements (settled_parts.first p ps i)) (suc main) (omega arith) others (first_of layout load es ns u).further
-          (first_of layout load es ns u).callers
+          callers_seats (set_up_split part.statements (settled_parts.first p ps i)) (suc main) (omega arith) others (first_of u).further (first_of u).callers
           settled_parts.further (snd_true (keep_limits part.statements 0 part.statements) _ all_limits) all_parts.1
           (within_behind part.statements (flat_map (λ q. q.statements) others) _
-          (λ q k. subst (λ (z : List Part). list_any q (actions_in (flat_map (λ v. v.statements) z)) ≡ true) (sym (first_of layout load es ns u).are) k))
+          (λ q k. subst (λ (z : List Part). list_any q (actions_in (flat_map (λ v. v.statements) z)) ≡ true) (sym (first_of u).are) k))
 
-  pub seats : AllSeats (Seat layout load es ns) main load.parts u.run.replies
+  pub seats : OfSeats (ran u) (Seat layout load es ns)
   seats =
-      subst (λ (ps : List Part). AllSeats (Seat layout load es ns) main ps u.run.replies) (sym (first_of layout load es ns u).are)
-      (subst (AllSeats (Seat layout load es ns) main (part ∷ others)) (sym (first_of layout load es ns u).told) seats_of_parts)
+      subst (λ (ps : List Part). AllSeats (Seat layout load es ns) main ps u.run.replies) (sym (first_of u).are)
+      (subst (AllSeats (Seat layout load es ns) main (part ∷ others)) (sym (first_of u).told) seats_of_parts)
 
 pub settled_statements_are_granted : SettledStatementsAreGranted
 settled_statements_are_granted layout load es ns u =
-    fold_seats (Seat layout load es ns) (λ w ps rss. PartsGranted ps rss) 0 (λ w rss. tt)
-    (λ w p rs ps rss l x a. (seat_granted layout load es ns u w p rs x, a)) load.settings.workers load.parts u.run.replies (omega arith)
-    (seats layout load es ns u)
+    fold_seats (Seat layout load es ns) (λ w ps rss. PartsGranted ps rss) 0 (λ w rss. tt) (λ w p rs ps rss l x a. (seat_granted u x, a)) load.settings.workers
+    load.parts u.run.replies (omega arith) (seats u)

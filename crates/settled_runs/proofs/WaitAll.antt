@@ -1,12 +1,13 @@
 -- In a run of a settled workload each wait for all tasks of a group is told the fault that the plain report tells of it.
-use Rattle.settled_runs.proofs.Names.{◌≡◌, ℕ, Bool, true, false, cond, List, [], ◌∷◌, ◌++◌, length, Option, Some, None, refl, sym, ◌∙◌, ap, subst, arith, append_assoc, ℤ, ◌==◌, map, option_and_then, IfSome, option_map, option_or, flat_map, eq-eqb, eqb-true, holds, TaskEnd, Mask, Timeout, MtapiStatus, entry, Action, NewTask, fault_of, Queue, Deed, Statement, fields, word_for, values, place_used, AllFit, IsBoundAt, IsStatement, AreStatements, Op, Reply, handle_of, some_same, handle_at, group_at, call_of, Line, line, Made, Looked, true_false, queue_at, Faults, with_member, with_task, no_faults, IsPlainTask, fault_in, members_behind, deed_spelled, Carried, task_in, plain_end, plain_fault, faults_behind, ArePlain, IsPlainReply, inl, inr, or_cases, none_some, Call, Each, ◌⊎◌, ◌+◌, ◌<◌, append-nil, Layout, Workload, Terms, is_pending, verdict, NodeEntry, Legal, after, closes, NoClose, front_stays, run_terms, AreQuiet, all_statements, actions_in, AllGranted, SettledRun, GoOn, IsVerdict, end_at, lines_of, are_settled, have_one_fault_a_group, members_of, word_row as row, Sort, ObjectKind, both_ways}
-use Rattle.settled_runs.proofs.{Walk.Finds, Counted.asks, Counted.many_append, Stays.quiet_front, Stays.quiet_rest, Verdicts.has, Verdicts.quiet_verdicts}
-use Rattle.settled_runs.proofs.{RunEnds.ArePlanned, RunEnds.is_planned, RunEnds.go_on, Opened.planned, Opened.legal_here, Opened.quiet_before, Opened.no_close}
-use Rattle.settled_runs.proofs.Each.{CallEach, made_each, OnlyBy, each_behind, each_front, statements_each, one_look}
-use Rattle.settled_runs.proofs.Places.{at_group, group_front, binds_group, bound_gave, gave_in, groups_list, one_bound}
+use Rattle.settled_runs.proofs.Names.{◌≡◌, ℕ, Bool, true, false, cond, List, [], ◌∷◌, ◌++◌, length, Option, Some, None, refl, sym, ◌∙◌, ap, subst, arith, append_assoc, ℤ, ◌==◌, map, option_and_then, IfSome, option_map, option_or, flat_map, eq-eqb, eqb-true, holds, TaskEnd, Mask, Timeout, MtapiStatus, entry, Action, NewTask, fault_of, Queue, Deed, Statement, fields, word_for, values, place_used, AllFit, IsBoundAt, IsStatement, AreStatements, Op, Reply, handle_of, some_same, handle_at, group_at, call_of, Line, line, Made, Looked, true_false, queue_at, Faults, with_member, with_task, no_faults, IsPlainTask, fault_in, members_behind, deed_spelled, Carried, task_in, plain_end, plain_fault, faults_behind, ArePlain, IsPlainReply, inl, inr, or_cases, none_some, Call, Each, ◌⊎◌, ◌+◌, ◌<◌, append-nil, Layout, Workload, Terms, is_pending, verdict, NodeEntry, Legal, after, closes, NoClose, front_stays, run_terms, AreQuiet, all_statements, actions_in, AllGranted, SettledRun, GoOn, IsVerdict, end_at, members_of, word_row as row, Sort, both_ways, Part, has_one_fault_a_group}
+use Rattle.settled_runs.proofs.{Counted.asks, Counted.cut_asks, Stays.quiet_front, Stays.quiet_rest, Verdicts.has, Verdicts.quiet_verdicts, RunEnds.go_on}
+use Rattle.settled_runs.proofs.{RunEnds.IsPlanned, RunEnds.planned, Opened.legal_here, Opened.quiet_before, Opened.no_close, Places.at_group}
+use Rattle.settled_runs.proofs.Places.{group_front, groups_handed}
+use Rattle.settled_runs.proofs.Each.{CallEach, made_each, statements_each, one_look, IsBy, cut_before, cut_behind, ran, step_each}
 use Rattle.settled_runs.proofs.Owners.{uses, members_in, members_append, unused_lines, one_uses, uses_call, members_lines}
 use Rattle.settled_runs.proofs.OneFault.{has_fault, fault_there, Matches, no_member, more_member, one_status, one_verdict}
-use Rattle.settled_runs.proofs.Along.{Cut, cut, BoundBy, along, step_bound, step_statement, Found, are_front, bound_by, bound_longer, handles_front}
+use Rattle.settled_runs.proofs.Along.{Cut, cut, BoundBy, along, step_bound, step_statement, Found, bound_by, Step, step_before, step_handle, step_longer}
+use Rattle.settled_runs.proofs.Walk.{Seat, cut_here, gave_here, handle, one_handle, put_task}
 
 -- The tasks that were put into a group, along the statements of a part
 
@@ -132,41 +133,14 @@ module _ (actions : List Action) (all : List Statement) (ends : ℕ → Option T
     statement_fits front r st m p = by s.deed refl st.options st.uses m p
       where
         by_queue : (queue : ℕ) (args : List ℤ) (cores : Mask) (detached : Bool) (group : Option ℕ) (q : Option Queue)
-            → IfSome group (IsBoundAt Sort.Group before)
-            → task_in all s.deed ≡ option_map (λ x. record {
-              job = x.job;
-              args = args;
-              priority = x.priority;
-              cores = cores.0;
-              detached = detached;
-              group = group;
-              queue = Some queue;
-            }) q
-            → IsPlainTask actions ends (option_map (λ x. record {
-              job = x.job;
-              args = args;
-              priority = x.priority;
-              cores = cores.0;
-              detached = detached;
-              group = group;
-              queue = Some queue;
-            }) q) r
+            → IfSome group (IsBoundAt Sort.Group before) → task_in all s.deed ≡ option_map (put_task queue args cores detached group) q
+            → IsPlainTask actions ends (option_map (put_task queue args cores detached group) q) r
             → front ≡ line (Op.TaskEnqueue (record { 0 = handle_at bound queue }) args cores detached (option_map (group_at bound) group)) r 0 ∷ []
-            → Fits (members_in h hs front) (with_task actions
-            (option_map (λ x. record {
-              job = x.job;
-              args = args;
-              priority = x.priority;
-              cores = cores.0;
-              detached = detached;
-              group = group;
-              queue = Some queue;
-            }) q) faults place)
+            → Fits (members_in h hs front) (with_task actions (option_map (put_task queue args cores detached group) q) faults place)
         by_queue queue args cores detached group None o i w n = none_some w.1
         by_queue queue args cores detached group (Some x) o i w n =
             asked_fits (Op.TaskEnqueue (record { 0 = handle_at bound queue }) args cores detached (option_map (group_at bound) group)) front r
-            (record { job = x.job; args = args; priority = x.priority; cores = cores.0; detached = detached; group = group; queue = Some queue }) w.0 (i
-            ∙ w.1) (some_same w.1) w.2 w.3 w.4 o n refl
+            (put_task queue args cores detached group x) w.0 (i ∙ w.1) (some_same w.1) w.2 w.3 w.4 o n refl
 
         by : (d : Deed) → s.deed ≡ d → AllFit before (fields (word_for d)) (values d) → IfSome (place_used d) (λ v. IsBoundAt v.0 before v.1)
             → Made (call_of bound d) front r → IsPlainReply actions all ends faults d r
@@ -185,32 +159,31 @@ module _ (actions : List Action) (all : List Statement) (ends : ℕ → Option T
         by (Deed.WaitAll g t) i o v n w = wait_fits g t front r v n
         by _ i o v n w = absurd w
 
-  pub fits_along : (ss : List Statement) (ls : List Line) (rs : List Reply) → Carried Made [] ss ls rs → AreStatements [] ss → (rest : List Statement)
+  fits_along : (ss : List Statement) (ls : List Line) (rs : List Reply) → Carried Made [] ss ls rs → AreStatements [] ss → (rest : List Statement)
       → all ≡ ss ++ rest → handle_at (map handle_of rs) place ≡ h
       → ((other : ℕ) → BoundBy Sort.Group ss other → handle_at (map handle_of rs) other ≡ h → other ≡ place)
       → ArePlain actions all ends no_faults ss rs → Fits (members_in h [] ls) (faults_after actions all no_faults ss place)
   fits_along ss ls rs c a rest within own only p =
       along ss ls rs (λ b l r. Fits (members_in h [] l) (faults_after actions all no_faults b place))
-      (λ b l1 r1 s front r x i.
-      subst (λ (y : List ℕ). Fits y (faults_after actions all no_faults (b ++ s ∷ []) place)) (sym (members_append h [] l1 front))
-      (subst (λ (y : Faults). Fits (members_in h (members_in h [] l1) front) (y place)) (sym (after_both actions all no_faults b (s ∷ [])))
-      (statement_fits b (x.rest ++ rest) s (map handle_of r1) (within ∙ ap (λ (z : List Statement). z ++ rest) x.parted ∙ append_assoc b (s ∷ x.rest) rest)
-      (λ g o. let v = step_bound ss ls rs b l1 r1 s front r x Sort.Group g o in
-      both_ways (handle_at (map handle_of r1) g == h) (place == g)
-      (λ e. eq-eqb place g (sym (only g v.0 (v.1 ∙ eqb-true (handle_at (map handle_of r1) g) h e))))
-      (λ e. eq-eqb (handle_at (map handle_of r1) g) h (sym v.1 ∙ ap (handle_at (map handle_of rs)) (sym (eqb-true place g e)) ∙ own)))
-      (faults_after actions all no_faults b) (members_in h [] l1) i front r (step_statement ss ls rs b l1 r1 s front r x a) x.made
-      (plain_at actions all ends no_faults b s x.rest r1 r x.others x.many
-      (subst (λ (z : List Statement). ArePlain actions all ends no_faults z (r1 ++ r ∷ x.others)) x.parted
+      (λ s x i.
+      subst (λ (y : List ℕ). Fits y (faults_after actions all no_faults (x.before ++ s ∷ []) place)) (sym (members_append h [] x.first x.front))
+      (subst (λ (y : Faults). Fits (members_in h (members_in h [] x.first) x.front) (y place)) (sym (after_both actions all no_faults x.before (s ∷ [])))
+      (statement_fits x.before (x.rest ++ rest) s (map handle_of x.replies)
+      (within ∙ ap (λ (z : List Statement). z ++ rest) x.parted ∙ append_assoc x.before (s ∷ x.rest) rest)
+      (λ g o. let v = step_bound x Sort.Group g o in
+      both_ways (handle_at (map handle_of x.replies) g == h) (place == g)
+      (λ e. eq-eqb place g (sym (only g v.0 (v.1 ∙ eqb-true (handle_at (map handle_of x.replies) g) h e))))
+      (λ e. eq-eqb (handle_at (map handle_of x.replies) g) h (sym v.1 ∙ ap (handle_at (map handle_of rs)) (sym (eqb-true place g e)) ∙ own)))
+      (faults_after actions all no_faults x.before) (members_in h [] x.first) i x.front x.reply (step_statement x a) x.made
+      (plain_at actions all ends no_faults x.before s x.rest x.replies x.reply x.others x.many
+      (subst (λ (z : List Statement). ArePlain actions all ends no_faults z (x.replies ++ x.reply ∷ x.others)) x.parted
       (subst (λ (z : List Reply). ArePlain actions all ends no_faults ss z) x.told p)))))) c (fit_none actions all F place)
 
 -- The wait for all of them
 
-module _ (layout : Layout) (load : Workload) (es : List NodeEntry) (ns : List ℕ) (u : SettledRun layout load es ns) (who : ℕ) (start finish : List Line)
-    (all : List Statement) (known : List Action) (f : Finds layout load es ns who start finish all known)
-    (whole : are_settled load.settings known all [] all ≡ true) (one : have_one_fault_a_group (faults_of (actions_in (all_statements load)) all) ≡ true)
-    (before : List Statement) (l1 : List Line) (r1 : List Reply) (c1 : Carried Made [] before l1 r1) (g1 : AllGranted before r1) (are : AreStatements [] before)
-    (more : List Statement) (split : all ≡ before ++ more) (place : ℕ) (bound : IsBoundAt Sort.Group before place) where
+module _ {layout : Layout} {load : Workload} {es : List NodeEntry} {ns : List ℕ} (u : SettledRun layout load es ns) {w : ℕ} {p : Part} {rs : List Reply}
+    (x : Seat layout load es ns w p rs) {s : Statement} (y : Step p.statements x.at.body rs s) (g : AllGranted y.before y.replies) (place : ℕ)
+    (bound : IsBoundAt Sort.Group y.before place) (one : has_one_fault_a_group (actions_in (all_statements load)) p ≡ true) where
   abbrev terms : Terms
   terms = run_terms layout load
 
@@ -220,88 +193,66 @@ module _ (layout : Layout) (load : Workload) (es : List NodeEntry) (ns : List �
   abbrev ends : ℕ → Option TaskEnd
   ends j = end_at (after terms es).tasks j
 
-  abbrev fault_told : ℕ → Option MtapiStatus
-  fault_told j = option_and_then fault_of (ends j)
+  abbrev told_fault : Option MtapiStatus
+  told_fault = faults_after actions p.statements no_faults y.before place
 
   abbrev h : ℕ
-  h = handle_at (map handle_of r1) place
+  h = handle u x y g place
 
-  module _ (X : List Line) (at1 : lines_of who es ns ≡ (start ++ l1) ++ X) (p1 : ArePlain actions all ends no_faults before r1) where
-    module _ (n : ℕ) (r : Reply) (B : List Line) (at : lines_of who es ns
-        ≡ (start ++ l1) ++ line (Op.AllLook (record { 0 = h }) false) r n ∷ (B ++ finish)) where
-      pub group_told : is_pending r ≡ false → r ≡ verdict (faults_after actions all no_faults before place)
-      group_told decides =
-          let b : BoundBy Sort.Group before place = bound_by Sort.Group before place bound in
-          let here : Found before l1 r1 place b.statement = at_group before l1 r1 c1 g1 place b in
-          let made_line : Line = line Op.GroupCreate (Reply.Handle h) 0 in
-          let lines_are : l1 ≡ here.first ++ made_line ∷ here.step.more =
-          here.step.is ∙ ap (λ (z : List Line). here.first ++ (z ++ here.step.more)) (group_front before l1 r1 c1 g1 place b) in
-          let only : (other : ℕ) → BoundBy Sort.Group before other → handle_at (map handle_of r1) other ≡ h → other ≡ place =
-          λ other y e. one_bound ObjectKind.Group Sort.Group binds_group groups_list terms es ns u.legal who start before l1 r1 X at1 c1 g1 other place y b
-          e in
-          let early : (g : ℕ) → BoundBy Sort.Group here.before g → handle_at (map handle_of here.replies) g ≡ h → ⊥ = λ g y e. let l : g < length here.before =
-          y.early in let n : length here.replies ≡ length here.before = here.step.many in let m : length here.before ≡ place = here.early in
-          let same : g ≡ place = only g (subst (λ (z : List Statement). BoundBy Sort.Group z g) (sym here.step.parted)
-          (bound_longer Sort.Group here.before (b.statement ∷ here.step.rest) g y)) (ap (λ (z : List Reply). handle_at (map handle_of z) g) here.step.told
-          ∙ handles_front here.replies (here.reply ∷ here.step.others) g (omega arith) ∙ e) in absurd (omega arith) in
-          let first_unused : Each (λ l. uses h l.op ≡ false) here.first =
-          statements_each (λ o. uses h o ≡ false) here.before here.first here.replies here.step.carried
-          (λ pre k1 q1 t front r z. made_each (λ o. uses h o
-          ≡ false) (call_of (map handle_of q1) t.deed) front r
-          (uses_call h pre t (map handle_of q1) (step_statement here.before here.first here.replies pre k1 q1 t front r z
-          (are_front [] here.before (b.statement ∷ here.step.rest) (subst (AreStatements []) here.step.parted are))) (λ g o e. let v =
-          step_bound here.before here.first here.replies pre k1 q1 t front r z Sort.Group g o in early g v.0 (v.1 ∙ e))) z.made) in
-          let fits : Fit actions all fault_told place (members_in h [] here.step.more) (faults_after actions all no_faults before place) =
-          subst (λ (x : List ℕ). Fit actions all fault_told place x (faults_after actions all no_faults before place)) (ap (members_in h []) lines_are
-          ∙ members_append h [] here.first (made_line ∷ here.step.more)
-          ∙ ap (λ (x : List ℕ). members_in h x here.step.more) (unused_lines h [] here.first first_unused))
-          (fits_along actions all ends place h before l1 r1 c1 are more split refl only p1) in
-          let look : Line = line (Op.AllLook (record { 0 = h }) false) r n in
-          let e1 : NodeEntry = entry who (Op.AllLook (record { 0 = h }) false) r in
-          let e0 : NodeEntry = entry who Op.GroupCreate (Reply.Handle h) in
-          let c : Cut who es ns (start ++ l1) look (B ++ finish) = cut who es ns (start ++ l1) look (B ++ finish) at in
-          let inner : lines_of who c.before c.first ≡ (start ++ here.first) ++ made_line ∷ here.step.more =
-          c.done ∙ ap (λ (z : List Line). start ++ z) lines_are ∙ sym (append_assoc start here.first (made_line ∷ here.step.more)) in
-          let d : Cut who c.before c.first (start ++ here.first) made_line here.step.more =
-          cut who c.before c.first (start ++ here.first) made_line here.step.more inner in
-          let legal : Legal terms (d.before ++ e0 ∷ (d.behind ++ e1 ∷ [])) =
-          subst (Legal terms) (ap (λ (z : List NodeEntry). z ++ e1 ∷ []) d.is
-          ∙ append_assoc d.before (e0 ∷ d.behind) (e1 ∷ [])) (legal_here layout load es ns u who (start ++ l1) look (B ++ finish) c) in
-          let quiet : AreQuiet (d.before ++ e0 ∷ d.behind) = subst AreQuiet d.is (quiet_before layout load es ns u who (start ++ l1) look (B ++ finish) c) in
-          let quiet_behind : AreQuiet d.behind = (quiet_rest d.before (e0 ∷ d.behind) quiet).1 in
-          let by_who : NodeEntry → Type 0 = λ e. uses h e.op ≡ true → e.who ≡ who in
-          let mine : OnlyBy who (uses h) d.behind =
-          (each_behind by_who d.before (e0 ∷ d.behind)
-          (subst (OnlyBy who (uses h)) d.is (each_front by_who c.before (e1
-          ∷ c.behind) (subst (OnlyBy who (uses h)) c.is
-          (one_uses layout load es ns u who h (gave_in ObjectKind.Group h (lines_of who es ns) start l1 X at1
-          (bound_gave ObjectKind.Group Sort.Group binds_group before l1 r1 c1 g1 place b h refl))))))).1 in
-          let same : length d.behind ≡ length d.rest = d.alike c.same in
-          let members : members_of h [] d.behind ≡ members_in h [] here.step.more =
-          members_lines who h [] d.behind d.rest same mine ∙ ap (members_in h []) d.left in
-          let unclosed : NoClose d.behind = let a : asks closes c.before ≡ 0 = f.unclosed l1 look B c in
-          let x : asks closes c.before ≡ asks closes d.before + (0 + asks closes d.behind) =
-          ap (asks closes) d.is ∙ many_append (λ e. closes e.op) d.before (e0 ∷ d.behind) in no_close d.behind (omega arith) in
-          let is_one : NodeEntry → Type 0 = λ e. is_planned actions e.op ≡ true in
-          let going : GoOn h d.behind = go_on actions h d.behind
-          (each_behind is_one d.before (e0 ∷ d.behind)
-          (subst (ArePlanned actions) d.is (each_front is_one c.before (e1 ∷ c.behind) (subst (ArePlanned actions) c.is (planned layout load es ns u))))).1
-          unclosed in
-          let told : (r ≡ Reply.Pending) ⊎ IsVerdict (after terms (d.before ++ e0 ∷ d.behind)) (members_of h [] d.behind) r =
-          quiet_verdicts terms d.before d.behind who who (record { 0 = h }) r legal (quiet_front d.before (e0 ∷ d.behind) quiet) quiet_behind going in
-          let parted_here : es ≡ (d.before ++ e0 ∷ d.behind) ++ ((e1 ∷ c.behind) ++ []) =
-          c.is ∙ ap (λ (z : List NodeEntry). z ++ e1 ∷ c.behind) d.is
-          ∙ ap (λ (z : List NodeEntry). (d.before ++ e0 ∷ d.behind) ++ z) (sym (append-nil (e1 ∷ c.behind))) in
-          let stays : (j : ℕ) (e : TaskEnd) → end_at (after terms (d.before ++ e0 ∷ d.behind)).tasks j ≡ Some e → ends j ≡ Some e =
-          λ j e i. ap (λ (L : List NodeEntry). end_at (after terms L).tasks j) (parted_here
-          ∙ ap (λ (z : List NodeEntry). (d.before ++ e0 ∷ d.behind) ++ z) (append-nil (e1 ∷ c.behind)))
-          ∙ front_stays terms es (d.before ++ e0 ∷ d.behind) (e1 ∷ c.behind) [] j e u.legal parted_here i in
-          elim told as (λ z. r ≡ verdict (faults_after actions all no_faults before place)) [
-            | inl i ↦ true_false (ap is_pending i) decides
-            | inr v ↦ one_verdict fault_told (after terms (d.before ++ e0 ∷ d.behind)) (members_of h [] d.behind) r
-                (faults_after actions all no_faults before place) v
-                (λ j k. let x = v.ended j k in ap (option_and_then fault_of) (x.1 ∙ sym (stays j x.0 x.1)))
-                (subst (λ (x : List ℕ). Fit actions all fault_told place x (faults_after actions all no_faults before place)) (sym members) fits).matches
-                (λ j k x y m o p q. one_status place x y (faults_of actions all) one (fits.among j x (subst (λ (z : List ℕ). has z j ≡ true) members m) p)
-                (fits.among k y (subst (λ (z : List ℕ). has z k ≡ true) members o) q))
-          ]
+  pub group_told : ArePlain actions p.statements ends no_faults y.before y.replies
+      → Looked false (λ last. Op.AllLook (record { 0 = h }) last) Timeout.Infinite y.front y.reply → y.reply ≡ verdict told_fault
+  group_told plain m =
+      let b : BoundBy Sort.Group y.before place = bound_by Sort.Group y.before place bound in
+      let here : Found y.before y.first y.replies place b.statement = at_group y.before y.first y.replies y.carried g place b in
+      let z : Step y.before y.first y.replies b.statement = here.step in
+      let made_line : Line = line Op.GroupCreate (Reply.Handle h) 0 in
+      let lines_are : y.first ≡ z.first ++ made_line ∷ z.more =
+      z.is ∙ ap (λ (q : List Line). z.first ++ (q ++ z.more)) (group_front y.before y.first y.replies y.carried g place b) in
+      let only : (other : ℕ) → BoundBy Sort.Group y.before other → handle u x y g other ≡ h → other ≡ place =
+      λ other v e. one_handle u x y g groups_handed other place v b e in
+      let first_unused : Each (λ l. uses h l.op ≡ false) z.first =
+      statements_each (λ o. uses h o ≡ false) z.before z.first z.replies z.carried (λ t v. step_each (λ o. uses h o ≡ false) v
+      (uses_call h v.before t (map handle_of v.replies) (step_statement v (step_before z (step_before y x.are))) (λ n o e. let k = step_bound v Sort.Group n o in
+      let i : n < length z.before = k.0.early in let j : length z.before ≡ place = here.early in
+      let same : n ≡ place = only n (step_longer z Sort.Group n k.0) (step_handle z n i ∙ k.1 ∙ e) in absurd (omega arith)))) in
+      let fits : Fit actions p.statements (λ j. option_and_then fault_of (ends j)) place (members_in h [] z.more) told_fault =
+      subst (λ (q : List ℕ). Fit actions p.statements (λ j. option_and_then fault_of (ends j)) place q told_fault) (ap (members_in h []) lines_are
+      ∙ members_append h [] z.first (made_line ∷ z.more) ∙ ap (λ (q : List ℕ). members_in h q z.more) (unused_lines h [] z.first first_unused))
+      (fits_along actions p.statements ends place h y.before y.first y.replies y.carried (step_before y x.are) (s ∷ y.rest) y.parted refl only plain) in
+      let look : Line = line (Op.AllLook (record { 0 = h }) false) y.reply m.beside in
+      let e1 : NodeEntry = entry w look.op y.reply in
+      let e0 : NodeEntry = entry w Op.GroupCreate (Reply.Handle h) in
+      let c : Cut w es ns (x.at.start ++ y.first) look (y.more ++ x.at.finish) =
+      cut_here u x y g look (one_look (λ last. Op.AllLook (record { 0 = h }) last) Timeout.Infinite y.front y.reply m
+      ∙ ap (λ (q : Bool). line (Op.AllLook (record { 0 = h }) q) y.reply m.beside ∷ []) m.within) in
+      let d : Cut w c.before c.first (x.at.start ++ z.first) made_line z.more =
+      cut w c.before c.first (x.at.start ++ z.first) made_line z.more
+      (c.done ∙ ap (λ (q : List Line). x.at.start ++ q) lines_are ∙ sym (append_assoc x.at.start z.first (made_line ∷ z.more))) in
+      let legal : Legal terms (d.before ++ e0 ∷ (d.behind ++ e1 ∷ [])) =
+      subst (Legal terms) (ap (λ (q : List NodeEntry). q ++ e1 ∷ []) d.is ∙ append_assoc d.before (e0 ∷ d.behind) (e1 ∷ [])) (legal_here u c) in
+      let quiet : AreQuiet (d.before ++ e0 ∷ d.behind) = subst AreQuiet d.is (quiet_before u c) in
+      let members : members_of h [] d.behind ≡ members_in h [] z.more =
+      members_lines w h [] d.behind d.rest (d.alike c.same) (cut_behind d (IsBy w (uses h)) (cut_before c (IsBy w (uses h))
+      (one_uses u w h (gave_here u x y g groups_handed place b)))) ∙ ap (members_in h []) d.left in
+      let unclosed : NoClose d.behind = let a : asks closes c.before ≡ 0 = (x.finds y.first look y.more c).unclosed in
+      let v : asks closes c.before ≡ asks closes d.before + (0 + asks closes d.behind) = cut_asks d closes in no_close d.behind (omega arith) in
+      let going : GoOn h d.behind =
+      go_on actions h d.behind (cut_behind d (IsPlanned actions) (cut_before c (IsPlanned actions) (planned (ran u)))) unclosed in
+      let told : (y.reply ≡ Reply.Pending) ⊎ IsVerdict (after terms (d.before ++ e0 ∷ d.behind)) (members_of h [] d.behind) y.reply =
+      quiet_verdicts terms d.before d.behind w w (record { 0 = h }) y.reply legal (quiet_front d.before (e0 ∷ d.behind) quiet)
+      (quiet_rest d.before (e0 ∷ d.behind) quiet).1 going in
+      let parted_here : es ≡ (d.before ++ e0 ∷ d.behind) ++ ((e1 ∷ c.behind) ++ []) =
+      c.is ∙ ap (λ (q : List NodeEntry). q ++ e1 ∷ c.behind) d.is
+      ∙ ap (λ (q : List NodeEntry). (d.before ++ e0 ∷ d.behind) ++ q) (sym (append-nil (e1 ∷ c.behind))) in
+      let stays : (j : ℕ) (e : TaskEnd) → end_at (after terms (d.before ++ e0 ∷ d.behind)).tasks j ≡ Some e → ends j ≡ Some e =
+      λ j e i. ap (λ (L : List NodeEntry). end_at (after terms L).tasks j) (parted_here
+      ∙ ap (λ (q : List NodeEntry). (d.before ++ e0 ∷ d.behind) ++ q) (append-nil (e1 ∷ c.behind)))
+      ∙ front_stays terms es (d.before ++ e0 ∷ d.behind) (e1 ∷ c.behind) [] j e u.legal parted_here i in
+      elim told as (λ q. y.reply ≡ verdict told_fault) [
+        | inl i ↦ true_false (ap is_pending i) m.decides
+        | inr v ↦ one_verdict (λ j. option_and_then fault_of (ends j)) (after terms (d.before ++ e0 ∷ d.behind)) (members_of h [] d.behind) y.reply told_fault v
+            (λ j k. let q = v.ended j k in ap (option_and_then fault_of) (q.1 ∙ sym (stays j q.0 q.1)))
+            (subst (λ (q : List ℕ). Fit actions p.statements (λ j. option_and_then fault_of (ends j)) place q told_fault) (sym members) fits).matches
+            (λ j k a o t i q r. one_status place a o (faults_of actions p.statements) one (fits.among j a (subst (λ (l : List ℕ). has l j ≡ true) members t) q)
+            (fits.among k o (subst (λ (l : List ℕ). has l k ≡ true) members i) r))
+      ]

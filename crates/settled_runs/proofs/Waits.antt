@@ -1,7 +1,6 @@
 -- In a quiet history a task that its own caller alone looks at stays until it has ended and told its end.
 use Rattle.settled_runs.proofs.Names.{◌≡◌, ◌⊎◌, ℕ, Bool, true, false, List, [], ◌∷◌, ◌++◌, Option, Some, None, refl, sym, ap, subst, arith, ◌==◌, ◌&&◌, ◌||◌, not, is_some, eq-eqb, nat_tests, holds, TaskEnd, Failed, entry, Listed, live_object, with_fields, gone, Task, NewTask, TaskState, Ended, new_task, with_notes, with_waiter, ended, is_member, Op, Reply, Phase, State, opening, is_open, is_up, tasks, Move, starts_task, notes, is_fresh, apply, after_moves, Row, unless, gives, Allows, live, after_row, NodeEntry, IsNext, next, after, IsMade, NotesTask, TakesEnded, Legal-front, Legal-rest, AllGives, given, on_live, fst_true, by_moves, true_false, at_issue_here, FoundAs, found_changed, cut_from, cut_after, fresh_unlisted, is_quiet, AreQuiet, starts_alone, looks_at, AreLeft, QuietLooksAreAnswered, IsCalm, calm_next, calm_along, calm_opening, none_impure, row, LegalFrom, after_from, DeletesGroup, FreesMembers, Notes, is_other, Kind, ObjectKind, MtapiStatus, looks_row, makes_object, eqb-true, is_that_handle as is_given, TaskHandle, moves_of, whether}
 use Rattle.settled_runs.proofs.{Stays.quiet_rest, Stays.quiet_front, Granted.before, Granted.is_up as open_now, Granted.allowed, Stays.AskedAs, Stays.on_start}
-use Rattle.settled_runs.proofs.{Granted.is_up as open_now}
 use Rattle.history_law.proofs.TaskSteps as step
 use Rattle.history_law.proofs.TaskSteps.{Step, tasks_go, found_steps}
 
@@ -163,7 +162,7 @@ quiet_looks_are_answered terms L who t r x y =
     let o : Op = Op.TaskLook t false in
     let s : State = after terms L in
     let L0 : LegalFrom (opening terms) (y.before ++ entry y.starter y.op (Reply.Handle t.0) ∷ y.behind) =
-    subst (LegalFrom (opening terms)) y.is (before terms L who o r x).from in
+    subst (LegalFrom (opening terms)) y.is (before x).from in
     let first : State = after_from (opening terms) y.before in
     let quiet : AreQuiet (y.before ++ entry y.starter y.op (Reply.Handle t.0) ∷ y.behind) = subst AreQuiet y.is x.quiet in
     let behind : AreQuiet (entry y.starter y.op (Reply.Handle t.0) ∷ y.behind) =
@@ -189,5 +188,5 @@ quiet_looks_are_answered terms L who t r x y =
     (live (live_object s.tasks t.0) (gives tasks.invalid [])
     (λ z. unless (z.notes.detached || is_some z.notes.group) (Reply.Mtapi MtapiStatus.ErrParameter)
     (unless (is_other who z.notes.waiter) (Reply.Mtapi MtapiStatus.ErrWaitPending) (looks_row who t.0 false z.state)))) r
-    (open_up s.phase (open_now terms L who o r x)) (allowed terms L who o r x)))) in
+    (open_up s.phase (open_now x)) (allowed x)))) in
     told who t.0 own.0.state r looked

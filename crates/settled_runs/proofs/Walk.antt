@@ -1,11 +1,11 @@
 -- In a run of a settled workload each statement that makes an object is given its handle.
-use Rattle.settled_runs.proofs.Names.{◌≡◌, ℕ, zero, suc, ◌+◌, ◌≤◌, Bool, true, false, List, [], ◌∷◌, Option, Some, refl, ◌∙◌, ap, subst, arith, ◌==◌, not, nat_lt, map, slice_get, eq-eqb, eqb-true, nat_tests, holds, how_many, Queue, Deed, Statement, fields, word_for, values, AllFit, IsBoundAt, IsStatement, AreStatements, Op, Reply, handle_of, some_same, fst_true, snd_true, handle_at, call_of, Line, Made, true_false, puts, queue_in, puts_into, deed_spelled, Carried, keep_limits, not_true, Each, ◌⊎◌, inl, inr, ◌<◌, ◌++◌, None, sym, ℤ, ◌&&◌, option_and_then, IfSome, option_map, list_any, append-nil, Mask, Layout, entry, Action, new_action, has_job, has_enabled_job, is_eligible, some_below, Workload, Terms, NodeEntry, both_true, group_at, line, closes, entries_that, run_terms, Part, IsOpened, HasAction, IsServed, GroupIsMade, Asks, IsGranted, IsQueued, actions_in, queue_at, serves, is_startable, sets_up, set_up, GrantedTo, AllGranted, SettledRun, lines_of, task_in, is_settled_deed, cond_both, or_left, or_right, none_some, GroupHandle, word_row as row, in_mask, MadeBy, puts_entry, Sort, ObjectKind, ltb-true, le-leb}
-use Rattle.settled_runs.proofs.Each.{is_outside, OnlyBy, PartAt, each_front, each_map, step_lines}
-use Rattle.settled_runs.proofs.Granted.{bit, action_granted, group_granted, start_granted, queue_granted, enqueue_granted}
+use Rattle.settled_runs.proofs.Names.{CallsAreGranted, ◌≡◌, ℕ, zero, suc, ◌+◌, ◌≤◌, Bool, true, false, List, [], ◌∷◌, Option, Some, refl, ◌∙◌, ap, subst, arith, not, nat_lt, map, slice_get, eq-eqb, eqb-true, nat_tests, holds, how_many, Queue, Deed, Statement, fields, word_for, values, AllFit, IsBoundAt, IsStatement, AreStatements, Op, Reply, handle_of, some_same, fst_true, snd_true, handle_at, call_of, Line, Made, true_false, puts, queue_in, puts_into, deed_spelled, Carried, keep_limits, not_true, ◌⊎◌, inl, inr, ◌<◌, ◌++◌, None, sym, ℤ, ◌&&◌, option_and_then, IfSome, option_map, list_any, append-nil, Mask, Layout, Action, new_action, has_job, has_enabled_job, is_eligible, some_below, Workload, NodeEntry, both_true, group_at, line, closes, entries_that, run_terms, Part, IsOpened, HasAction, IsServed, GroupIsMade, Asks, IsGranted, IsQueued, actions_in, queue_at, serves, is_startable, sets_up, set_up, GrantedTo, AllGranted, SettledRun, lines_of, task_in, is_settled_deed, cond_both, or_left, or_right, none_some, GroupHandle, word_row as row, in_mask, MadeBy, puts_entry, Sort, ObjectKind, ltb-true, le-leb, NewTask}
+use Rattle.settled_runs.proofs.Granted.{bit, quiet_calls_are_granted}
+use Rattle.settled_runs.proofs.Each.{is_outside, OnlyBy, PartAt, step_lines, IsBy, cut_before, ran}
 use Rattle.settled_runs.proofs.Opened.{legal_here, quiet_before, new_id, room, rooms}
-use Rattle.settled_runs.proofs.Counted.{asked, CallAsks, statements_ask, asks, many_append, many_none, only_asks, entries_asks}
-use Rattle.settled_runs.proofs.Along.{Cut, cut, BoundBy, step_bound, step_statement, get_front, bound_by, along, are_front, granted_more, step_settled}
-use Rattle.settled_runs.proofs.Places.{Has, has_more, group_has, HasQueue, queue_has, ActionOf, action_map, action_has, either, queues_list, binds_queue, one_bound}
+use Rattle.settled_runs.proofs.Counted.{asked, CallAsks, statements_ask, asks, many_append, only_asks, entries_asks, outside_none}
+use Rattle.settled_runs.proofs.Along.{Cut, cut, BoundBy, step_bound, step_statement, bound_by, along, granted_more, step_settled, Step, step_before, step_found}
+use Rattle.settled_runs.proofs.Places.{Has, has_more, HasQueue, queue_has, ActionOf, action_map, action_has, either, one_bound, Gave, Handed, at_group, bound_gave, gave_in, group_front, queues_handed, step_has}
 
 -- How many tasks a part puts into one of its queues
 
@@ -16,13 +16,12 @@ module _ (h place : ℕ) where
   unfolding row deed_spelled
   puts_call before s bound e1 e2 = grind (arith, nat_tests)
 
-  pub puts_carried : (all : List Statement) (ls : List Line) (rs : List Reply) → Carried Made [] all ls rs → AreStatements [] all
+  puts_carried : (all : List Statement) (ls : List Line) (rs : List Reply) → Carried Made [] all ls rs → AreStatements [] all
       → ((other : ℕ) → BoundBy Sort.Queue all other → handle_at (map handle_of rs) other ≡ h → other ≡ place)
       → asked (puts h) ls ≤ how_many (λ s. puts_into place s.deed) all
   puts_carried all ls rs c a only =
-      statements_ask (puts h) (puts_into place) all ls rs c
-      (λ b l1 r1 s front r x. puts_call b s (map handle_of r1) (step_statement all ls rs b l1 r1 s front r x a) (λ queue o e. let y =
-      step_bound all ls rs b l1 r1 s front r x Sort.Queue queue o in only queue y.0 (y.1 ∙ e)))
+      statements_ask (puts h) (puts_into place) all ls rs c (λ s x. puts_call x.before s (map handle_of x.replies) (step_statement x a) (λ queue o e. let y =
+      step_bound x Sort.Queue queue o in only queue y.0 (y.1 ∙ e)))
 
 pub puts_outside : (h : ℕ) (o : Op) → is_outside o ≡ true → puts h o ≡ false
 puts_outside h o e1 = grind (arith, nat_tests)
@@ -57,24 +56,25 @@ limit_at all place s x e f q = subst (λ (n : ℕ). how_many (λ e. puts_into n 
 abbrev pub MadeAction : List NodeEntry → (Action → Bool) → Type 0
 MadeAction L p = ActionOf (λ o h. MadeBy o h L) p
 
--- what a seat's part finds of the others: the node is open and was never closed, and these actions were made, before each of its lines;
--- and no other seat puts tasks into queues, or this one doesn't
-pub record Finds (layout : Layout) (load : Workload) (es : List NodeEntry) (ns : List ℕ) (who : ℕ) (start finish : List Line) (all : List Statement)
-    (known : List Action) : Type 0 where
-  pub opened : (A : List Line) (l : Line) (B : List Line) (c : Cut who es ns (start ++ A) l (B ++ finish)) → IsOpened c.before
-  pub unclosed : (A : List Line) (l : Line) (B : List Line) (c : Cut who es ns (start ++ A) l (B ++ finish)) → asks closes c.before ≡ 0
-  pub outside : Each (λ l. is_outside l.op ≡ true) start
-  pub acts : (A : List Line) (l : Line) (B : List Line) (c : Cut who es ns (start ++ A) l (B ++ finish)) (p : Action → Bool) → list_any p known ≡ true
-      → MadeAction c.before p
-  pub alone : (set_up all ≡ false) ⊎ ((h : ℕ) → OnlyBy who (puts h) es)
+-- what a seat's part finds of the others before each of its lines: the node is open and was never closed, and these actions were made
+pub record Finds (known : List Action) (L : List NodeEntry) : Type 0 where
+  pub opened : IsOpened L
+  pub unclosed : asks closes L ≡ 0
+  pub acts : (p : Action → Bool) → list_any p known ≡ true → MadeAction L p
 
--- what a line of the part before it made
-pub made_before : (es : List NodeEntry) (ns : List ℕ) (who : ℕ) (start l1 : List Line) (l : Line) (B : List Line) (c : Cut who es ns (start ++ l1) l B) (p : Op)
-    (h : ℕ) → Has l1 p h → MadeBy p h c.before
-made_before es ns who start l1 l B c p h x =
-    let y : Has (start ++ l1) p h = subst (λ (z : List Line). Has z p h) (ap (λ (z : List Line). start ++ z) (append-nil l1)) (has_more start l1 [] p h x) in
-    let d : Cut who c.before c.first y.before (line p (Reply.Handle h) y.beside) y.behind =
-    cut who c.before c.first y.before (line p (Reply.Handle h) y.beside) y.behind (c.done ∙ y.is) in
+-- a seat that runs a part of the workload: no other seat puts tasks into queues, or this one doesn't
+pub record Seat (layout : Layout) (load : Workload) (es : List NodeEntry) (ns : List ℕ) (w : ℕ) (p : Part) (rs : List Reply) : Type 0 where
+  pub at : PartAt load es ns w p rs
+  pub finds : (A : List Line) (l : Line) (B : List Line) (c : Cut w es ns (at.start ++ A) l (B ++ at.finish)) → Finds at.known c.before
+  pub alone : (set_up p.statements ≡ false) ⊎ ((h : ℕ) → OnlyBy w (puts h) es)
+  pub limits : keep_limits p.statements 0 p.statements ≡ true
+  pub are : AreStatements [] p.statements
+
+-- what one of the lines before another made
+pub made_before : {who : ℕ} {es : List NodeEntry} {ns : List ℕ} {A : List Line} {l : Line} {B : List Line} (c : Cut who es ns A l B) (o : Op) (h : ℕ)
+    → Has A o h → MadeBy o h c.before
+made_before {who} c o h x =
+    let d = cut who c.before c.first x.before (line o (Reply.Handle h) x.beside) x.behind (c.done ∙ x.is) in
     record { before = d.before; who = who; behind = d.behind; is = d.is }
 
 some_worker : (n : ℕ) (p : ℕ → Bool) → some_below n p ≡ true → (w : ℕ) × (w < n) × (p w ≡ true)
@@ -95,236 +95,198 @@ sets_all (t ∷ all) (suc place) s x e q = or_right (sets_up t.deed) _ (sets_all
 
 -- One statement
 
-module _ (layout : Layout) (load : Workload) (es : List NodeEntry) (ns : List ℕ) (u : SettledRun layout load es ns) (who : ℕ) (start finish : List Line)
-    (all : List Statement) (known : List Action) (f : Finds layout load es ns who start finish all known) where
-  abbrev terms : Terms
-  terms = run_terms layout load
+three_true : (a b c : Bool) → (not a && b && c) ≡ true → (a ≡ false) × (b ≡ true) × (c ≡ true)
+three_true a b c e = grind (arith, nat_tests)
 
-  module _ (before : List Statement) (l1 : List Line) (r1 : List Reply) (c1 : Carried Made [] before l1 r1) (g1 : AllGranted before r1) (s : Statement)
-      (more : List Statement) (split : all ≡ before ++ s ∷ more) (st : IsStatement before s)
-      (ok : is_settled_deed load.settings (known ++ actions_in before) before all s.deed ≡ true) (limits : keep_limits all 0 all
-      ≡ true) (are : AreStatements [] before) where
-    module _ (o : Op) (r : Reply) (n : ℕ) (B : List Line) (c : Cut who es ns (start ++ l1) (line o r n) (B ++ finish)) where
-      asking : Asks terms c.before who o r
-      asking = record {
-        legal = legal_here layout load es ns u who (start ++ l1) (line o r n) (B ++ finish) c;
-        quiet = quiet_before layout load es ns u who (start ++ l1) (line o r n) (B ++ finish) c;
-        opened = f.opened l1 (line o r n) B c;
-      }
+-- the task that an enqueue asks for
+abbrev pub put_task : ℕ → List ℤ → Mask → Bool → Option ℕ → Queue → NewTask
+put_task queue args cores detached group x =
+    record { job = x.job; args = args; priority = x.priority; cores = cores.0; detached = detached; group = group; queue = Some queue }
 
-      made : (p : Op) (h : ℕ) → Has l1 p h → MadeBy p h c.before
-      made p h x =
-          made_before es ns who start l1 (line o r n) (B ++ finish) c p h x
+module _ {layout : Layout} {load : Workload} {es : List NodeEntry} {ns : List ℕ} (u : SettledRun layout load es ns) {w : ℕ} {p : Part} {rs : List Reply}
+    (x : Seat layout load es ns w p rs) {s : Statement} (y : Step p.statements x.at.body rs s) (g : AllGranted y.before y.replies) where
+  -- the handle that a place stands for
+  abbrev pub handle : ℕ → ℕ
+  handle place = handle_at (map handle_of y.replies) place
 
-      action_made : (p : Action → Bool) → list_any p (known ++ actions_in before) ≡ true → MadeAction c.before p
-      action_made p e = elim (either p known (actions_in before) e) as (λ z. MadeAction c.before p) [
-        | inl i ↦ f.acts l1 (line o r n) B c p i
-        | inr i ↦
-            action_map (Has l1) (λ v h. MadeBy v h c.before) p made (action_has before l1 r1 p c1 g1 i)
-      ]
+  pub settled_here : is_settled_deed load.settings (x.at.known ++ actions_in y.before) y.before p.statements s.deed ≡ true
+  settled_here = step_settled y load.settings x.at.known x.at.settled
 
-      has_action : (job : ℕ) → list_any (has_job job) (known ++ actions_in before) ≡ true → HasAction c.before job
-      has_action job e =
-          let x : MadeAction c.before (has_job job) = action_made (has_job job) e in
-          let same : x.job ≡ job = eqb-true x.job job x.passes in
-          record {
-            kind = x.kind;
-            mask = x.mask;
-            handle = x.handle;
-            made = subst (λ (j : ℕ). MadeBy (Op.ActionCreate j x.kind x.mask) x.handle c.before) same x.made;
-          }
+  pub one_handle : {k : ObjectKind} {t : Sort} (z : Handed k t) (a b : ℕ) → BoundBy t y.before a → BoundBy t y.before b → handle a ≡ handle b → a ≡ b
+  one_handle z a b = one_bound z (ran u) w x.at.start y.before y.first y.replies (y.front ++ (y.more ++ x.at.finish)) (step_lines x.at y) y.carried g a b
 
-      is_served : (job cores : ℕ) → serves load.settings.workers (known ++ actions_in before) job cores ≡ true → IsServed terms c.before job cores
-      is_served job cores e =
-          let w = some_worker load.settings.workers (λ v. list_any (is_eligible load.settings.workers v job cores) (known ++ actions_in before)) e in
-          let x : MadeAction c.before (is_eligible load.settings.workers w.0 job cores) = action_made (is_eligible load.settings.workers w.0 job cores) w.2 in
-          let a : (has_enabled_job job (new_action x.job x.kind x.mask.0) && nat_lt w.0 load.settings.workers && in_mask w.0 x.mask.0) ≡ true =
-          fst_true _ (in_mask w.0 cores) x.passes in
-          let b : (has_enabled_job job (new_action x.job x.kind x.mask.0) && nat_lt w.0 load.settings.workers) ≡ true = fst_true _ (in_mask w.0 x.mask.0) a in
-          let same : x.job ≡ job = eqb-true x.job job (fst_true _ (nat_lt w.0 load.settings.workers) b) in
-          record {
-            kind = x.kind;
-            mask = x.mask;
-            handle = x.handle;
-            made = subst (λ (j : ℕ). MadeBy (Op.ActionCreate j x.kind x.mask) x.handle c.before) same x.made;
-            worker = w.0;
-            is_worker = w.1;
-            in_action = snd_true _ (in_mask w.0 x.mask.0) a;
-            in_task = snd_true _ (in_mask w.0 cores) x.passes;
-          }
+  pub gave_here : {k : ObjectKind} {t : Sort} (z : Handed k t) (place : ℕ) → BoundBy t y.before place → Gave k (handle place) (lines_of w es ns)
+  gave_here z place b = gave_in (lines_of w es ns) x.at.start (y.front ++ (y.more ++ x.at.finish)) (step_lines x.at y)
+      (bound_gave z y.before y.first y.replies y.carried g place b (handle place) refl)
 
-      group_made : (group : Option ℕ) → IfSome group (IsBoundAt Sort.Group before) → GroupIsMade (option_map (group_at (map handle_of r1)) group) c.before
-      group_made None i = tt
-      group_made (Some g) i =
-          let b : BoundBy Sort.Group before g = bound_by Sort.Group before g i in
-          made Op.GroupCreate (handle_at (map handle_of r1) g) (group_has before l1 r1 c1 g1 g b)
+  -- the queue of a place is as its statement made it
+  queue_found : (queue : ℕ) (b : BoundBy Sort.Queue y.before queue) (q : Queue) → queue_at p.statements queue ≡ Some q → queue_in b.statement.deed ≡ Some q
+  queue_found queue b q e = sym (ap (option_and_then (λ z. queue_in z.deed)) (step_found y Sort.Queue queue b)) ∙ e
 
-    module _ (o : Op) (r : Reply) (n : ℕ) (B : List Line) (at : lines_of who es ns ≡ (start ++ l1) ++ line o r n ∷ (B ++ finish)) where
-      abbrev c : Cut who es ns (start ++ l1) (line o r n) (B ++ finish)
-      c = cut who es ns (start ++ l1) (line o r n) (B ++ finish) at
+  pub queue_here : (queue : ℕ) → IsBoundAt Sort.Queue y.before queue → (q : Queue) → queue_at p.statements queue ≡ Some q → HasQueue y.first (handle queue) q
+  queue_here queue i q e = let b : BoundBy Sort.Queue y.before queue = bound_by Sort.Queue y.before queue i in
+      queue_has y.before y.first y.replies y.carried g queue b.statement q b.found (queue_found queue b q e)
 
-      few_puts : (queue : ℕ) (b : BoundBy Sort.Queue before queue) (x : Queue) → queue_in b.statement.deed ≡ Some x
-          → how_many (λ e. puts_into queue e.deed) all ≡ how_many (λ e. puts_into queue e.deed) before + (1 + how_many (λ e. puts_into queue e.deed) more)
-          → entries_that (puts_entry (handle_at (map handle_of r1) queue)) c.before < x.limit
-      few_puts queue b x q parts = by f.alone
-        where
-          found : slice_get all queue ≡ Some b.statement
-          found = ap (λ (z : List Statement). slice_get z queue) split ∙ get_front before (s ∷ more) queue b.early ∙ b.found
+  -- where its statement has one line
+  pub cut_here : (l : Line) → y.front ≡ l ∷ [] → Cut w es ns (x.at.start ++ y.first) l (y.more ++ x.at.finish)
+  cut_here l e = cut w es ns (x.at.start ++ y.first) l (y.more ++ x.at.finish) (step_lines x.at y
+      ∙ ap (λ (z : List Line). (x.at.start ++ y.first) ++ (z ++ (y.more ++ x.at.finish))) e)
 
-          in_part : asked (puts (handle_at (map handle_of r1) queue)) l1 ≤ how_many (λ e. puts_into queue e.deed) before
-          in_part = puts_carried (handle_at (map handle_of r1) queue) queue before l1 r1 c1 are
-              (λ other y e. one_bound ObjectKind.Queue Sort.Queue binds_queue queues_list terms es ns u.legal who start before l1 r1 (line o r n
-              ∷ (B ++ finish)) at c1 g1 other queue y b e)
+  pub asking : (A : List Line) (l : Line) (B : List Line) (c : Cut w es ns (x.at.start ++ A) l (B ++ x.at.finish))
+      → Asks (run_terms layout load) c.before w l.op l.reply
+  asking A l B c = record { legal = legal_here u c; quiet = quiet_before u c; opened = (x.finds A l B c).opened }
 
-          by : (set_up all ≡ false) ⊎ ((k : ℕ) → OnlyBy who (puts k) es) → entries_that (puts_entry (handle_at (map handle_of r1) queue)) c.before < x.limit
-          by (inl i) = true_false (sets_all all queue b.statement x found q) i
-          by (inr k) = few (handle_at (map handle_of r1) queue) in_part (k (handle_at (map handle_of r1) queue))
-            where
-              few : (j : ℕ) → asked (puts j) l1 ≤ how_many (λ e. puts_into queue e.deed) before → OnlyBy who (puts j) es
-                  → entries_that (puts_entry j) c.before < x.limit
-              few j i k2 =
-                  let a : asks (puts j) c.before ≤ asked (puts j) (lines_of who c.before c.first) =
-                  only_asks who (puts j) c.before c.first c.same
-                  (each_front (λ (e : NodeEntry). puts j e.op ≡ true
-                  → e.who ≡ who) c.before (entry who o r ∷ c.behind) (subst (OnlyBy who (puts j)) c.is k2)) in
-                  let d : asked (puts j) (lines_of who c.before c.first) ≡ asked (puts j) start + asked (puts j) l1 =
-                  ap (asked (puts j)) c.done ∙ many_append (λ l. puts j l.op) start l1 in
-                  let z : asked (puts j) start ≡ 0 = many_none (λ l. puts j l.op) start
-                  (each_map (λ (l : Line). is_outside l.op ≡ true) (λ (l : Line). puts j l.op ≡ false) (λ l e. puts_outside j l.op e) start f.outside) in
-                  let t : entries_that (puts_entry j) c.before ≤ asks (puts j) c.before =
-                  entries_asks (puts j) (puts_entry j) (λ e i. fst_true (puts j e.op) _ i) c.before in
-                  let p : how_many (λ e0. puts_into queue e0.deed) all ≤ x.limit = limit_at all queue b.statement x limits found q in
-                  let p2 : how_many (λ e0. puts_into queue e0.deed) all
-                  ≡ how_many (λ e0. puts_into queue e0.deed) before + (1 + how_many (λ e0. puts_into queue e0.deed) more) = parts in
-                  let p3 : asked (puts j) l1 ≤ how_many (λ e0. puts_into queue e0.deed) before = i in
-                  omega arith
+  module _ {l : Line} (c : Cut w es ns (x.at.start ++ y.first) l (y.more ++ x.at.finish)) where
+    pub made_here : (o : Op) (h : ℕ) → Has y.first o h → MadeBy o h c.before
+    made_here o h v = made_before c o h (subst (λ (z : List Line). Has z o h) (ap (λ (z : List Line). x.at.start ++ z) (append-nil y.first))
+        (has_more x.at.start y.first [] o h v))
 
-      is_queued : (queue : ℕ) → IsBoundAt Sort.Queue before queue → (x : Queue) → queue_at all queue ≡ Some x
-          → how_many (λ e. puts_into queue e.deed) all ≡ how_many (λ e. puts_into queue e.deed) before + (1 + how_many (λ e. puts_into queue e.deed) more)
-          → IsQueued c.before (handle_at (map handle_of r1) queue) x.job x.priority
-      is_queued queue i x e parts =
-          let b : BoundBy Sort.Queue before queue = bound_by Sort.Queue before queue i in
-          let q : queue_in b.statement.deed ≡ Some x =
-          sym (ap (option_and_then (λ z. queue_in z.deed)) (ap (λ (z : List Statement). slice_get z queue) split ∙ get_front before (s ∷ more) queue b.early
-          ∙ b.found)) ∙ e in
-          let y : HasQueue before l1 r1 c1 g1 queue x = queue_has before l1 r1 c1 g1 queue b.statement x b.found q in
-          subst (λ (z : Queue). IsQueued c.before (handle_at (map handle_of r1) queue) z.job z.priority) y.same (record {
-            id = y.id;
-            limit = y.limit;
-            ordered = y.ordered;
-            retain = y.retain;
-            made = made o r n B c (Op.QueueCreate y.id y.job y.priority y.limit y.ordered y.retain) (handle_at (map handle_of r1) queue) y.made;
-            few = (let k : entries_that (puts_entry (handle_at (map handle_of r1) queue)) c.before < x.limit = few_puts queue b x q parts in
-                subst (λ (m : ℕ). entries_that (puts_entry (handle_at (map handle_of r1) queue)) c.before < m) (sym (ap (λ (z : Queue). z.limit) y.same)) k);
-          })
+    action_made : (q : Action → Bool) → list_any q (x.at.known ++ actions_in y.before) ≡ true → MadeAction c.before q
+    action_made q e = elim (either q x.at.known (actions_in y.before) e) as (λ z. MadeAction c.before q) [
+      | inl i ↦ (x.finds y.first l y.more c).acts q i
+      | inr i ↦
+          action_map (Has y.first) (λ v h. MadeBy v h c.before) q made_here (action_has y.before y.first y.replies q y.carried g i)
+    ]
 
-    tests : (d : Bool) (priority job cores : ℕ)
-        → (not d && nat_lt priority load.settings.priorities && serves load.settings.workers (known ++ actions_in before) job cores) ≡ true
-        → (d ≡ false) × (nat_lt priority load.settings.priorities ≡ true) × (serves load.settings.workers (known ++ actions_in before) job cores ≡ true)
-    tests d priority job cores e =
-        let a : (not d && nat_lt priority load.settings.priorities) ≡ true =
-        fst_true _ (serves load.settings.workers (known ++ actions_in before) job cores) e in (
-          not_true d (fst_true _ (nat_lt priority load.settings.priorities) a),
-          snd_true (not d) _ a,
-          snd_true (not d
-              && nat_lt priority load.settings.priorities) _ e,
-        )
+    has_action : (job : ℕ) → list_any (has_job job) (x.at.known ++ actions_in y.before) ≡ true → HasAction c.before job
+    has_action job e =
+        let v : MadeAction c.before (has_job job) = action_made (has_job job) e in
+        let same : v.job ≡ job = eqb-true v.job job v.passes in
+        record {
+          kind = v.kind;
+          mask = v.mask;
+          handle = v.handle;
+          made = subst (λ (j : ℕ). MadeBy (Op.ActionCreate j v.kind v.mask) v.handle c.before) same v.made;
+        }
 
-    -- the statement is given what it asks for
-    pub given : (front : List Line) (r : Reply) (B : List Line) → lines_of who es ns ≡ (start ++ l1) ++ (front ++ (B ++ finish))
-        → Made (call_of (map handle_of r1) s.deed) front r → GrantedTo s.deed r
-    unfolding is_settled_deed task_in row deed_spelled
-    given front r B at m = by s.deed ok st.options (λ q. ap (how_many (λ e. puts_into q e.deed)) split
-        ∙ many_append (λ e. puts_into q e.deed) before (s ∷ more)) m
+    is_served : (job cores : ℕ) → serves load.settings.workers (x.at.known ++ actions_in y.before) job cores ≡ true
+        → IsServed (run_terms layout load) c.before job cores
+    is_served job cores e =
+        let n = some_worker load.settings.workers (λ v. list_any (is_eligible load.settings.workers v job cores) (x.at.known ++ actions_in y.before)) e in
+        let v : MadeAction c.before (is_eligible load.settings.workers n.0 job cores) = action_made (is_eligible load.settings.workers n.0 job cores) n.2 in
+        let a : (has_enabled_job job (new_action v.job v.kind v.mask.0) && nat_lt n.0 load.settings.workers && in_mask n.0 v.mask.0) ≡ true =
+        fst_true _ (in_mask n.0 cores) v.passes in
+        let b : (has_enabled_job job (new_action v.job v.kind v.mask.0) && nat_lt n.0 load.settings.workers) ≡ true = fst_true _ (in_mask n.0 v.mask.0) a in
+        let same : v.job ≡ job = eqb-true v.job job (fst_true _ (nat_lt n.0 load.settings.workers) b) in
+        record {
+          kind = v.kind;
+          mask = v.mask;
+          handle = v.handle;
+          made = subst (λ (j : ℕ). MadeBy (Op.ActionCreate j v.kind v.mask) v.handle c.before) same v.made;
+          worker = n.0;
+          is_worker = n.1;
+          in_action = snd_true _ (in_mask n.0 v.mask.0) a;
+          in_task = snd_true _ (in_mask n.0 cores) v.passes;
+        }
+
+    group_made : (group : Option ℕ) → IfSome group (IsBoundAt Sort.Group y.before)
+        → GroupIsMade (option_map (group_at (map handle_of y.replies)) group) c.before
+    group_made None i = tt
+    group_made (Some n) i =
+        let b : BoundBy Sort.Group y.before n = bound_by Sort.Group y.before n i in
+        made_here Op.GroupCreate (handle n) (step_has (at_group y.before y.first y.replies y.carried g n b).step Op.GroupCreate (handle n)
+        (group_front y.before y.first y.replies y.carried g n b))
+
+    few_puts : (queue : ℕ) → IsBoundAt Sort.Queue y.before queue → (q : Queue) → queue_at p.statements queue ≡ Some q → puts_into queue s.deed ≡ true
+        → entries_that (puts_entry (handle queue)) c.before < q.limit
+    few_puts queue i q e k = by x.alone
       where
-        at_line : (o : Op) → front ≡ line o r 0 ∷ [] → lines_of who es ns ≡ (start ++ l1) ++ line o r 0 ∷ (B ++ finish)
-        at_line o e = at ∙ ap (λ (z : List Line). (start ++ l1) ++ (z ++ (B ++ finish))) e
+        b : BoundBy Sort.Queue y.before queue
+        b = bound_by Sort.Queue y.before queue i
 
-        group_of : Option ℕ → Option GroupHandle
-        group_of group = option_map (group_at (map handle_of r1)) group
+        by : (set_up p.statements ≡ false) ⊎ ((h : ℕ) → OnlyBy w (puts h) es) → entries_that (puts_entry (handle queue)) c.before < q.limit
+        by (inl n) = true_false (sets_all p.statements queue b.statement q (step_found y Sort.Queue queue b) (queue_found queue b q e)) n
+        by (inr only) = few (handle queue) (puts_carried (handle queue) queue y.before y.first y.replies y.carried (step_before y x.are)
+            (λ other z n. one_handle queues_handed other queue z b n)) (only (handle queue))
+          where
+            few : (j : ℕ) → asked (puts j) y.first ≤ how_many (λ z. puts_into queue z.deed) y.before → OnlyBy w (puts j) es
+                → entries_that (puts_entry j) c.before < q.limit
+            few j n o =
+                let a : asks (puts j) c.before ≤ asked (puts j) (lines_of w c.before c.first) =
+                only_asks w (puts j) c.before c.first c.same (cut_before c (IsBy w (puts j)) o) in
+                let d : asked (puts j) (lines_of w c.before c.first) ≡ asked (puts j) x.at.start + asked (puts j) y.first =
+                ap (asked (puts j)) c.done ∙ many_append (λ z. puts j z.op) x.at.start y.first in
+                let m : asked (puts j) x.at.start ≡ 0 = outside_none (puts j) (puts_outside j) x.at.start x.at.first in
+                let t : entries_that (puts_entry j) c.before ≤ asks (puts j) c.before =
+                entries_asks (puts j) (puts_entry j) (λ z v. fst_true (puts j z.op) _ v) c.before in
+                let v : how_many (λ z. puts_into queue z.deed) p.statements ≤ q.limit =
+                limit_at p.statements queue b.statement q x.limits (step_found y Sort.Queue queue b) (queue_found queue b q e) in
+                let z : how_many (λ z. puts_into queue z.deed) p.statements
+                ≡ how_many (λ z. puts_into queue z.deed) y.before + (bit (puts_into queue s.deed) + how_many (λ z. puts_into queue z.deed) y.rest) =
+                ap (how_many (λ z. puts_into queue z.deed)) y.parted ∙ many_append (λ z. puts_into queue z.deed) y.before (s ∷ y.rest) in
+                let one : bit (puts_into queue s.deed) ≡ 1 = ap bit k in
+                let f : asked (puts j) y.first ≤ how_many (λ z. puts_into queue z.deed) y.before = n in
+                omega arith
 
-        by_queue : (queue : ℕ) (args : List ℤ) (cores : Mask) (detached : Bool) (group : Option ℕ) → (q : Option Queue) → queue_at all queue ≡ q
-            → is_startable load.settings (known ++ actions_in before)
-            (option_map (λ x. record {
-              job = x.job;
-              args = args;
-              priority = x.priority;
-              cores = cores.0;
-              detached = detached;
-              group = group;
-              queue = Some queue;
-            }) q) ≡ true
-            → AllFit before (fields (word_for (Deed.Enqueue queue args cores detached group))) (values (Deed.Enqueue queue args cores detached group))
-            → how_many (λ e. puts_into queue e.deed) all
-            ≡ how_many (λ e. puts_into queue e.deed) before + (bit (queue == queue) + how_many (λ e. puts_into queue e.deed) more)
-            → Made (call_of (map handle_of r1) (Deed.Enqueue queue args cores detached group)) front r → IsGranted r
-        by_queue queue args cores detached group None e k o p n = true_false k refl
-        by_queue queue args cores detached group (Some x) e k o p n =
-            let t = tests detached x.priority x.job cores.0 k in
-            let v : Op = Op.TaskEnqueue (record { 0 = handle_at (map handle_of r1) queue }) args cores false (group_of group) in
-            let h = at_line v (n.0 ∙ ap (λ (b : Bool). line
-            (Op.TaskEnqueue (record { 0 = handle_at (map handle_of r1) queue }) args cores b (group_of group)) r 0 ∷ []) t.0) in
-            let one : bit (queue == queue) ≡ 1 = ap bit (eq-eqb queue queue refl) in
-            let parts : how_many (λ y. puts_into queue y.deed) all
-            ≡ how_many (λ y. puts_into queue y.deed) before + (1 + how_many (λ y. puts_into queue y.deed) more) =
-            (let z : how_many (λ y. puts_into queue y.deed) all
-            ≡ how_many (λ y. puts_into queue y.deed) before + (bit (queue == queue) + how_many (λ y. puts_into queue y.deed) more) = p in omega arith) in
-            enqueue_granted terms (c v r 0 B h).before who r (record { 0 = handle_at (map handle_of r1) queue }) x.job x.priority args cores (group_of group)
-            (asking v r 0 B (c v r 0 B h)) (is_queued v r 0 B h queue o.0 x e parts)
-            (room layout load es ns u who (start ++ l1) (line v r 0) (B ++ finish) (c v r 0 B h) ObjectKind.Task (rooms load u.settled).3 refl)
-            (is_served v r 0 B (c v r 0 B h) x.job cores.0 t.2) (group_made v r 0 B (c v r 0 B h) group o.1.1.1.1.0)
+    is_queued : (queue : ℕ) → IsBoundAt Sort.Queue y.before queue → (q : Queue) → queue_at p.statements queue ≡ Some q → puts_into queue s.deed ≡ true
+        → IsQueued c.before (handle queue) q.job q.priority
+    is_queued queue i q e k =
+        let v : HasQueue y.first (handle queue) q = queue_here queue i q e in
+        subst (λ (z : Queue). IsQueued c.before (handle queue) z.job z.priority) v.same (record {
+          id = v.id;
+          limit = v.limit;
+          ordered = v.ordered;
+          retain = v.retain;
+          made = made_here (Op.QueueCreate v.id v.job v.priority v.limit v.ordered v.retain) (handle queue) v.made;
+          few = subst (λ (m : ℕ). entries_that (puts_entry (handle queue)) c.before < m) (sym (ap (λ (z : Queue). z.limit) v.same)) (few_puts queue i q e k);
+        })
 
-        by : (d : Deed) → is_settled_deed load.settings (known ++ actions_in before) before all d ≡ true → AllFit before (fields (word_for d)) (values d)
-            → ((queue : ℕ) → how_many (λ e. puts_into queue e.deed) all
-            ≡ how_many (λ e. puts_into queue e.deed) before + (bit (puts_into queue d) + how_many (λ e. puts_into queue e.deed) more))
-            → Made (call_of (map handle_of r1) d) front r → GrantedTo d r
-        by (Deed.Action job kind cores) e o p n =
-            let v : Op = Op.ActionCreate job kind cores in
-            let h = at_line v n.0 in
-            action_granted terms (c v r 0 B h).before who r job kind cores (asking v r 0 B (c v r 0 B h))
-            (both_true _ _ (le-leb 1 job o.0.0) (le-leb job 65535 o.0.1))
-            (room layout load es ns u who (start ++ l1) (line v r 0) (B ++ finish) (c v r 0 B h) ObjectKind.Action (rooms load u.settled).0 refl)
-        by Deed.Group e o p n = let h = at_line Op.GroupCreate n.0 in
-            group_granted terms (c Op.GroupCreate r 0 B h).before who r (asking Op.GroupCreate r 0 B (c Op.GroupCreate r 0 B h))
-            (room layout load es ns u who (start ++ l1) (line Op.GroupCreate r 0) (B
-            ++ finish) (c Op.GroupCreate r 0 B h) ObjectKind.Group (rooms load u.settled).1 refl)
-        by (Deed.Queue id job priority limit ordered retain) e o p n =
-            let v : Op = Op.QueueCreate id job priority limit ordered retain in
-            let h = at_line v n.0 in
-            queue_granted terms (c v r 0 B h).before who r id job priority limit ordered retain (asking v r 0 B (c v r 0 B h))
-            (ltb-true priority load.settings.priorities (fst_true _ (list_any (has_job job) (known ++ actions_in before)) e)) o.1.1.1.0
-            (room layout load es ns u who (start ++ l1) (line v r 0) (B ++ finish) (c v r 0 B h) ObjectKind.Queue (rooms load u.settled).2 refl)
-            (has_action v r 0 B (c v r 0 B h) job (snd_true (nat_lt priority load.settings.priorities) _ e))
-            (new_id layout load es ns u who (start ++ l1) (line v r 0) (B ++ finish) (c v r 0 B h) id (eq-eqb id id refl))
-        by (Deed.Start job args priority cores detached group) e o p n =
-            let t = tests detached priority job cores.0 e in
-            let v : Op = Op.TaskStart job args priority cores false (group_of group) in
-            let h = at_line v (n.0 ∙ ap (λ (b : Bool). line (Op.TaskStart job args priority cores b (group_of group)) r 0 ∷ []) t.0) in
-            start_granted terms (c v r 0 B h).before who r job args priority cores (group_of group) (asking v r 0 B (c v r 0 B h))
-            (ltb-true priority load.settings.priorities t.1)
-            (room layout load es ns u who (start ++ l1) (line v r 0) (B ++ finish) (c v r 0 B h) ObjectKind.Task (rooms load u.settled).3 refl)
-            (is_served v r 0 B (c v r 0 B h) job cores.0 t.2) (group_made v r 0 B (c v r 0 B h) group o.1.1.1.1.1.0)
-        by (Deed.Enqueue queue args cores detached group) e o p n = by_queue queue args cores detached group (queue_at all queue) refl e o (p queue) n
-        by Deed.Begin e o p n = tt
-        by (Deed.Wait place timeout) e o p n = tt
-        by (Deed.WaitAll place timeout) e o p n = tt
-        by _ e o p n = true_false e refl
+    calls : CallsAreGranted (run_terms layout load) c.before w l.reply
+    calls = quiet_calls_are_granted (run_terms layout load) c.before w l.reply
 
--- a seat that runs a part of the workload
-pub record Seat (layout : Layout) (load : Workload) (es : List NodeEntry) (ns : List ℕ) (w : ℕ) (p : Part) (rs : List Reply) : Type 0 where
-  pub at : PartAt load es ns w p rs
-  pub finds : Finds layout load es ns w at.start at.finish p.statements at.known
-  pub limits : keep_limits p.statements 0 p.statements ≡ true
-  pub are : AreStatements [] p.statements
+  -- the statement is given what it asks for
+  given : GrantedTo s.deed y.reply
+  unfolding is_settled_deed task_in row deed_spelled
+  given = by s.deed refl settled_here (step_statement y x.are).options y.made
+    where
+      group_of : Option ℕ → Option GroupHandle
+      group_of group = option_map (group_at (map handle_of y.replies)) group
 
-pub seat_granted : (layout : Layout) (load : Workload) (es : List NodeEntry) (ns : List ℕ) (u : SettledRun layout load es ns) (w : ℕ) (p : Part)
-    (rs : List Reply) → Seat layout load es ns w p rs → AllGranted p.statements rs
-seat_granted layout load es ns u w p rs x =
-    along p.statements x.at.body rs (λ b l r. AllGranted b r)
-    (λ b l1 r1 s front r y g.
-    granted_more b r1 s r g y.many
-    (given layout load es ns u w x.at.start x.at.finish p.statements x.at.known x.finds b l1 r1 y.carried g s y.rest y.parted
-    (step_statement p.statements x.at.body rs b l1 r1 s front r y x.are)
-    (step_settled p.statements x.at.body rs b l1 r1 s front r y load.settings x.at.known x.at.settled) x.limits
-    (are_front [] b (s ∷ y.rest) (subst (AreStatements []) y.parted x.are)) front r y.more (step_lines load es ns w p rs x.at b l1 r1 s front r y) y.made))
-    x.at.carried tt
+      by_queue : (queue : ℕ) (args : List ℤ) (cores : Mask) (detached : Bool) (group : Option ℕ) → (q : Option Queue) → queue_at p.statements queue ≡ q
+          → is_startable load.settings (x.at.known ++ actions_in y.before) (option_map (put_task queue args cores detached group) q) ≡ true
+          → AllFit y.before (fields (word_for (Deed.Enqueue queue args cores detached group))) (values (Deed.Enqueue queue args cores detached group))
+          → puts_into queue s.deed ≡ true → Made (call_of (map handle_of y.replies) (Deed.Enqueue queue args cores detached group)) y.front y.reply
+          → IsGranted y.reply
+      by_queue queue args cores detached group None e k o i n = true_false k refl
+      by_queue queue args cores detached group (Some q) e k o i n =
+          let t = three_true detached (nat_lt q.priority load.settings.priorities) _ k in
+          let v : Op = Op.TaskEnqueue (record { 0 = handle queue }) args cores false (group_of group) in
+          let c = cut_here (line v y.reply 0) (n.0
+          ∙ ap (λ (b : Bool). line (Op.TaskEnqueue (record { 0 = handle queue }) args cores b (group_of group)) y.reply 0 ∷ []) t.0) in
+          (calls c).enqueue (record { 0 = handle queue }) q.job q.priority args cores (group_of group) (asking y.first (line v y.reply 0) y.more c)
+          (is_queued c queue o.0 q e i) (room u c ObjectKind.Task (rooms load u.settled).3 refl) (is_served c q.job cores.0 t.2) (group_made c group o.1.1.1.1.0)
+
+      by : (d : Deed) → s.deed ≡ d → is_settled_deed load.settings (x.at.known ++ actions_in y.before) y.before p.statements d ≡ true
+          → AllFit y.before (fields (word_for d)) (values d) → Made (call_of (map handle_of y.replies) d) y.front y.reply → GrantedTo d y.reply
+      by (Deed.Action job kind cores) i e o n =
+          let v : Op = Op.ActionCreate job kind cores in
+          let c = cut_here (line v y.reply 0) n.0 in
+          (calls c).action job kind cores (asking y.first (line v y.reply 0) y.more c) (both_true _ _ (le-leb 1 job o.0.0) (le-leb job 65535 o.0.1))
+          (room u c ObjectKind.Action (rooms load u.settled).0 refl)
+      by Deed.Group i e o n = let c = cut_here (line Op.GroupCreate y.reply 0) n.0 in
+          (calls c).group (asking y.first (line Op.GroupCreate y.reply 0) y.more c) (room u c ObjectKind.Group (rooms load u.settled).1 refl)
+      by (Deed.Queue id job priority limit ordered retain) i e o n =
+          let v : Op = Op.QueueCreate id job priority limit ordered retain in
+          let c = cut_here (line v y.reply 0) n.0 in
+          (calls c).queue id job priority limit ordered retain (asking y.first (line v y.reply 0) y.more c)
+          (ltb-true priority load.settings.priorities (fst_true _ (list_any (has_job job) (x.at.known ++ actions_in y.before)) e)) o.1.1.1.0
+          (room u c ObjectKind.Queue (rooms load u.settled).2 refl) (has_action c job (snd_true (nat_lt priority load.settings.priorities) _ e))
+          (new_id u c id (eq-eqb id id refl))
+      by (Deed.Start job args priority cores detached group) i e o n =
+          let t = three_true detached (nat_lt priority load.settings.priorities) _ e in
+          let v : Op = Op.TaskStart job args priority cores false (group_of group) in
+          let c = cut_here (line v y.reply 0) (n.0 ∙ ap (λ (b : Bool). line (Op.TaskStart job args priority cores b (group_of group)) y.reply 0 ∷ []) t.0) in
+          (calls c).start job args priority cores (group_of group) (asking y.first (line v y.reply 0) y.more c)
+          (ltb-true priority load.settings.priorities t.1) (room u c ObjectKind.Task (rooms load u.settled).3 refl) (is_served c job cores.0 t.2)
+          (group_made c group o.1.1.1.1.1.0)
+      by (Deed.Enqueue queue args cores detached group) i e o n =
+          by_queue queue args cores detached group (queue_at p.statements queue) refl e o (ap (puts_into queue) i ∙ eq-eqb queue queue refl) n
+      by Deed.Begin i e o n = tt
+      by (Deed.Wait place timeout) i e o n = tt
+      by (Deed.WaitAll place timeout) i e o n = tt
+      by _ i e o n = true_false e refl
+
+pub seat_granted : {layout : Layout} {load : Workload} {es : List NodeEntry} {ns : List ℕ} (u : SettledRun layout load es ns) {w : ℕ} {p : Part}
+    {rs : List Reply} → Seat layout load es ns w p rs → AllGranted p.statements rs
+seat_granted u {p} {rs} x =
+    along p.statements x.at.body rs (λ b l r. AllGranted b r) (λ s y g. granted_more y.before y.replies s y.reply g y.many (given u x y g)) x.at.carried tt
