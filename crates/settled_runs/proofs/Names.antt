@@ -55,7 +55,7 @@ pub use Rattle.settled_runs.specs.Settled.{are_settled_parts, both, fault_in, ha
 pub use Rattle.settled_runs.specs.Verdicts.{GoOn, IsVerdict, QuietVerdicts, fault_at, goes_on, looks_at_all, members_behind, starts_member, with_new}
 pub use Rattle.settled_runs.specs.{PlainSummary.SettledSummariesArePlain, PlainSummary.with_plain_task, RunEnds.SettledTasksEndAsPlanned}
 pub use Rattle.settled_runs.specs.{Waits.AreLeft, Waits.QuietLooksAreAnswered, Waits.looks_at, Waits.starts_alone, Worked.WorkedSettled, Worked.WorkedUnsettled}
-pub use Rattle.std.proofs.Common.{Bool, List, None, Option, Some, [], ap, append_assoc, arith, cond, false, inl, inr, length, refl, subst, suc, sym, true, zero, ℕ, ℤ, ◌++◌, ◌+◌, ◌<◌, ◌∙◌, ◌∷◌, ◌≡◌, ◌≤◌, ◌⊎◌}
+pub use Rattle.std.proofs.Common.{Bool, List, None, Option, Some, [], ap, append_assoc, arith, cond, false, inl, inr, length, refl, rules, subst, suc, sym, true, zero, ℕ, ℤ, ◌++◌, ◌+◌, ◌<◌, ◌∙◌, ◌∷◌, ◌≡◌, ◌≤◌, ◌⊎◌}
 pub use Rattle.std.proofs.lemmas.Bool.{and_parts, and_right, cases_Bool, cases_eq, cases_order, cond-false, cond-true, cond_both, eq-eqb, eqb-true, false_from_ne_true, le-leb, leb-true, ltb-true, or_cases, or_from, or_left, or_parts, or_right}
 pub use Rattle.std.proofs.lemmas.List.{append-nil, get_or_append_left, get_or_at, length-append, length-map, length_push, map-append, map_push}
 pub use Rattle.std.proofs.{lemmas.Bool.Decides.nat_tests, lemmas.List.Folds.list_any-append, lemmas.Option.slice_get_cases}
