@@ -1,5 +1,5 @@
 -- The worked reports, computed.
-use Rattle.run_report.proofs.Names.{refl, digits, live_of, issue, change, listed, issued_at, retired, is_full, may_issue, has_worker, end_each, is_ready, can_take, has_better, after_from, has_begin, decided, further_told, end_at, shown_of, task_lines_of, task_name, call_lines_of, report, totals_text, with_parts}
+use Rattle.run_report.proofs.Names.{rules, digits, live_of, issue, change, listed, issued_at, retired, is_full, may_issue, has_worker, end_each, is_ready, can_take, has_better, after_from, has_begin, decided, further_told, end_at, shown_of, task_lines_of, task_name, call_lines_of, report, totals_text, with_parts}
 use Rattle.action_fn.specs.Answers.{fits, answer_of}
 use Rattle.mtapi_machine.specs.Worked.{one_task}
 use Rattle.workload_file.specs.Deeds.{is_begin}
@@ -11,19 +11,19 @@ unfoldable use Rattle.run_report.specs.Summary.{with_tasks}
 pub worked_reports : WorkedReports
 unfolding digits report one_task after_from live_of issue change listed issued_at retired is_full may_issue fits answer_of has_worker end_each is_ready can_take
     has_better is_begin has_begin decided further_told end_at numbers_text end_text shown_of task_lines_of task_name call_lines_of
-worked_reports = record { sum = refl; full = refl; cancelled = refl; locks_shown = refl; handed_out_shown = refl }
+worked_reports = search rules
 
 worked_shown : WorkedShown
 unfolding digits numbers_text end_text shown_of task_lines_of task_name call_lines_of
-worked_shown = record { mtapi_status = refl; mrapi_status = refl; number = refl; given = refl; handle = refl; ok = refl; tasks = refl; refused = refl }
+worked_shown = search rules
 
 worked_ends : WorkedEnds
 unfolding digits numbers_text end_text shown_of task_lines_of totals_text with_parts with_tasks
-worked_ends = record { told = refl; further = refl; counted = refl; written = refl }
+worked_ends = search rules
 
 worked_replies : WorkedReplies
 unfolding is_begin has_begin decided further_told
-worked_replies = record { begins = refl; releases = refl }
+worked_replies = search rules
 
 pub worked_lines : WorkedLines
 worked_lines = record { shown = worked_shown; ends = worked_ends; replies = worked_replies }

@@ -16,16 +16,8 @@ ends_among ks p e v = record v {
 }
 
 among_more : (h k : ℕ) (ks : List ℕ) → among h (ks ++ k ∷ []) ≡ (among h ks || (k == h))
-among_more h k [] = by (k == h)
-  where
-    by : (b : Bool) → (b || false) ≡ b
-    by true = refl
-    by false = refl
-among_more h k (x ∷ ks) = by (x == h) (among_more h k ks)
-  where
-    by : (b : Bool) → among h (ks ++ k ∷ []) ≡ (among h ks || (k == h)) → (b || among h (ks ++ k ∷ [])) ≡ ((b || among h ks) || (k == h))
-    by true e = refl
-    by false e = e
+among_more h k [] = grind (arith, nat_tests)
+among_more h k (x ∷ ks) = grind (arith, nat_tests, among_more h k ks)
 
 -- none of them yet
 pub ends_none : (p : Unstarted → Bool) (e : TaskEnd) (v : Seen) → SameAs v (ends_among [] p e v)
@@ -96,17 +88,7 @@ ends_all p e v ks e1 = grind (arith, nat_tests)
 -- the handles are the keys of what hasn't begun
 keys_cover : {X : Type 0} (es : List (ℕ × X)) (h : ℕ) → is_some (lookup (nat_eq h) es) ≡ true → among h (keys_of es) ≡ true
 keys_cover [] h e = absurd (cc)
-keys_cover (x ∷ es) h e = by (nat_eq h x.0) refl e (keys_cover es h)
-  where
-    or_true : (b : Bool) → (b || true) ≡ true
-    or_true true = refl
-    or_true false = refl
-
-    by : (b : Bool) → nat_eq h x.0 ≡ b → is_some (cond b (Some x.1) (lookup (nat_eq h) es)) ≡ true
-        → (is_some (lookup (nat_eq h) es) ≡ true → among h (keys_of es) ≡ true)
-        → ((x.0 == h) || among h (keys_of es)) ≡ true
-    by true is found more = λ i. (at_key h x.0 is i) || among h (keys_of es)
-    by false is found more = ap (λ b. (x.0 == h) || b) (more found) ∙ or_true (x.0 == h)
+keys_cover (x ∷ es) h e = grind (arith, nat_tests, at_key h x.0, keys_cover es h)
 
 pub ends_keys : (p : Unstarted → Bool) (e : TaskEnd) (v : Seen) (es : List (ℕ × Unstarted)) (all : List ℕ) (i : ℕ) (new : Seen) → length all ≤ i
     → all ≡ keys_of es → ((h : ℕ) → v.unstarted h ≡ lookup (nat_eq h) es)

@@ -45,35 +45,21 @@ changes_nothing _ = true
 nothing_of : (o : Op) (r : Reply) → changes_nothing o ≡ true → change_of o r ≡ Nothing
 nothing_of o r e1 = grind (arith, nat_tests)
 
-no_made : (a : Action) (o : Op) → changes_nothing o ≡ true → MakesAction a o → ⊥
-no_made a o e1 e2 = grind (arith, nat_tests)
+-- so it makes none of the moves that do
+pub record ChangesNothing (o : Op) : Type 0 where
+  made : (a : Action) → MakesAction a o → ⊥
+  enabled : (h : ℕ) → EnablesAction h o → ⊥
+  withdrawn : (h : ℕ) (f : Listed Action → Listed Action) → WithdrawsAction h f o → ⊥
+  started : (t : NewTask) → StartsTask t o → ⊥
+  run : is_pick o ≡ true → ⊥
+  ended : (h : ℕ) → EndsTask h o → ⊥
+  ends : ends_many o ≡ true → ⊥
+  queue_made : makes_of_sort Queues o ≡ true → ⊥
+  queue_altered : (h : ℕ) (f : Queue → Queue) → AltersObject Queues h f o → ⊥
+  queue_gone : (h : ℕ) → RemovesObject Queues h o → ⊥
 
-no_enabled : (h : ℕ) (o : Op) → changes_nothing o ≡ true → EnablesAction h o → ⊥
-no_enabled h o e1 e2 = grind (arith, nat_tests)
-
-no_withdrawn : (h : ℕ) (f : Listed Action → Listed Action) (o : Op) → changes_nothing o ≡ true → WithdrawsAction h f o → ⊥
-no_withdrawn h f o e1 e2 = grind (arith, nat_tests)
-
-no_started : (t : NewTask) (o : Op) → changes_nothing o ≡ true → StartsTask t o → ⊥
-no_started t o e1 e2 = grind (arith, nat_tests)
-
-no_run : (o : Op) → changes_nothing o ≡ true → is_pick o ≡ true → ⊥
-no_run o e1 e2 = grind (arith, nat_tests)
-
-no_ended : (h : ℕ) (o : Op) → changes_nothing o ≡ true → EndsTask h o → ⊥
-no_ended h o e1 e2 = grind (arith, nat_tests)
-
-none_end : (o : Op) → changes_nothing o ≡ true → ends_many o ≡ true → ⊥
-none_end o e1 e2 = grind (arith, nat_tests)
-
-no_queue_made : (o : Op) → changes_nothing o ≡ true → makes_of_sort Queues o ≡ true → ⊥
-no_queue_made o e1 e2 = grind (arith, nat_tests)
-
-no_queue_altered : (h : ℕ) (f : Queue → Queue) (o : Op) → changes_nothing o ≡ true → AltersObject Queues h f o → ⊥
-no_queue_altered h f o e1 e2 = grind (arith, nat_tests)
-
-no_queue_gone : (h : ℕ) (o : Op) → changes_nothing o ≡ true → RemovesObject Queues h o → ⊥
-no_queue_gone h o e1 e2 = grind (arith, nat_tests)
+none_of : (o : Op) → changes_nothing o ≡ true → ChangesNothing o
+none_of o e1 = grind (arith, nat_tests)
 
 -- what is there
 there : {T : Type 0} (o : Option T) → is_some o ≡ true → (t : T) × (o ≡ Some t)
@@ -91,38 +77,21 @@ module _ (n : ℕ) (v : Seen) where
   quiet_move o p s x e i = (sound_move n o s x e i.0, by x e)
     where
       by : (x : Move) → IsMade s o x → Follows v (apply x s)
-      by (phase_is h) e = follows_same v s _ i.1 refl refl refl
-      by released e = follows_same v s _ i.1 refl refl refl
-      by (stops w) e = follows_same v s _ i.1 refl refl refl
-      by (makes_action h a) e = absurd (no_made a o p e.by)
-      by (enables h) e = absurd (no_enabled h o p e.by)
-      by (withdraws h f c) e = absurd (no_withdrawn h f o p e.by)
-      by (starts_task h t) e = absurd (no_started t o p e.by)
-      by (runs_task h w k) e = absurd (no_run o p e.by)
-      by (ends_task h x) e = absurd (no_ended h o p e.by)
-      by (ends_waiting q x) e = absurd (none_end o p e.by)
+      by (makes_action h a) e = absurd ((none_of o p).made a e.by)
+      by (enables h) e = absurd ((none_of o p).enabled h e.by)
+      by (withdraws h f c) e = absurd ((none_of o p).withdrawn h f e.by)
+      by (starts_task h t) e = absurd ((none_of o p).started t e.by)
+      by (runs_task h w k) e = absurd ((none_of o p).run e.by)
+      by (ends_task h x) e = absurd ((none_of o p).ended h e.by)
+      by (ends_waiting q x) e = absurd ((none_of o p).ends e.by)
       by (notes h f) e = let t = there (live_object s.tasks h) e.may in follows_notes v s h f t.0 i.1 i.0.once t.1
       by (leaves h) e = let t = found (λ u. not (is_unended u)) (live_object s.tasks h) e.may in follows_leaves v s h t.0 i.1 i.0.once t.1.0 t.1.1
       by (frees_members g) e = follows_frees v s g i.1
       by (lets_members_go g) e = follows_lets_go v s g i.1
-      by (makes Queues h x) e = absurd (no_queue_made o p e.by)
-      by (alters Queues h f) e = absurd (no_queue_altered h f o p e.by)
-      by (removes Queues h) e = absurd (no_queue_gone h o p e.by)
-      by (makes Groups h x) e = follows_same v s _ i.1 refl refl refl
-      by (makes Mutexes h x) e = follows_same v s _ i.1 refl refl refl
-      by (makes Sems h x) e = follows_same v s _ i.1 refl refl refl
-      by (makes Rwls h x) e = follows_same v s _ i.1 refl refl refl
-      by (makes Segments h x) e = follows_same v s _ i.1 refl refl refl
-      by (alters Groups h f) e = follows_same v s _ i.1 refl refl refl
-      by (alters Mutexes h f) e = follows_same v s _ i.1 refl refl refl
-      by (alters Sems h f) e = follows_same v s _ i.1 refl refl refl
-      by (alters Rwls h f) e = follows_same v s _ i.1 refl refl refl
-      by (alters Segments h f) e = follows_same v s _ i.1 refl refl refl
-      by (removes Groups h) e = follows_same v s _ i.1 refl refl refl
-      by (removes Mutexes h) e = follows_same v s _ i.1 refl refl refl
-      by (removes Sems h) e = follows_same v s _ i.1 refl refl refl
-      by (removes Rwls h) e = follows_same v s _ i.1 refl refl refl
-      by (removes Segments h) e = follows_same v s _ i.1 refl refl refl
+      by (makes Queues h x) e = absurd ((none_of o p).queue_made e.by)
+      by (alters Queues h f) e = absurd ((none_of o p).queue_altered h f e.by)
+      by (removes Queues h) e = absurd ((none_of o p).queue_gone h e.by)
+      by _ e = follows_same v s _ i.1 refl refl refl
 
 -- a refusal changes nothing of what is seen
 refused : (o : Op) (x : MtapiStatus) → change_of o (Mtapi x) ≡ Nothing

@@ -15,23 +15,12 @@ decided_lines : (who : ℕ) (es : List NodeEntry) (ns : List ℕ) → length es 
 unfolding decided lines_of decided_in
 decided_lines who [] ns l = refl
 decided_lines who (e ∷ es) [] l = absurd (omega arith)
-decided_lines who (e ∷ es) (n ∷ ns) l = by (e.who == who) (decided_lines who es ns (omega arith))
-  where
-    by : (b : Bool) → decided who es ≡ decided_in (lines_of who es ns)
-        → cond (b && not (is_pending e.reply)) (e.reply ∷ decided who es) (decided who es)
-        ≡ decided_in (cond b (line e.op e.reply n ∷ lines_of who es ns) (lines_of who es ns))
-    by true k = ap (λ d. cond (not (is_pending e.reply)) (e.reply ∷ d) d) k
-    by false k = k
+decided_lines who (e ∷ es) (n ∷ ns) l = grind (arith, nat_tests, decided_lines who es ns (omega arith))
 
 decided_append : (a b : List Line) → decided_in (a ++ b) ≡ decided_in a ++ decided_in b
 unfolding decided_in
 decided_append [] b = refl
-decided_append (l ∷ ls) b = by (not (is_pending l.reply)) (decided_append ls b)
-  where
-    by : (c : Bool) → decided_in (ls ++ b) ≡ decided_in ls ++ decided_in b
-        → cond c (l.reply ∷ decided_in (ls ++ b)) (decided_in (ls ++ b)) ≡ cond c (l.reply ∷ decided_in ls) (decided_in ls) ++ decided_in b
-    by true k = ap (λ x. l.reply ∷ x) k
-    by false k = k
+decided_append (l ∷ ls) b = grind (arith, nat_tests, decided_append ls b)
 
 one_reply : (o : Op) (r : Reply) (n : ℕ) → is_pending r ≡ false → decided_in (line o r n ∷ []) ≡ r ∷ []
 unfolding decided_in

@@ -8,13 +8,7 @@ decided_none who = refl
 decided_more : (who : ℕ) (L : List NodeEntry) (e : NodeEntry) → decided who (L ++ e ∷ []) ≡ decided who L ++ cond (decides who e) (e.reply ∷ []) []
 unfolding decided
 decided_more who [] e = refl
-decided_more who (x ∷ L) e = by (decides who x) (decided_more who L e)
-  where
-    by : (b : Bool) → decided who (L ++ e ∷ []) ≡ decided who L ++ cond (decides who e) (e.reply ∷ []) []
-        → cond b (x.reply ∷ decided who (L ++ e ∷ [])) (decided who (L ++ e ∷ []))
-        ≡ cond b (x.reply ∷ decided who L) (decided who L) ++ cond (decides who e) (e.reply ∷ []) []
-    by true more = ap (λ l. x.reply ∷ l) more
-    by false more = more
+decided_more who (x ∷ L) e = grind (arith, nat_tests, decided_more who L e)
 
 pub decided_next : (who i : ℕ) (L : List NodeEntry) (e : NodeEntry) (old new : List Reply) → i < length L → e ≡ get_or L i e → old ≡ decided who (take i L)
     → new ≡ old ++ cond (decides who e) (e.reply ∷ []) [] → new ≡ decided who (take (i + 1) L)

@@ -25,12 +25,7 @@ once_issue last h t l e1 e2 = grind (arith, nat_tests, same_number, none_listed,
 listed_ends : (k : ℕ) (p : Task → Bool) (e : TaskEnd) (n : ℕ) (l : List (Listed Task)) → listed k (end_each p e n l) ≡ listed k l
 unfolding listed end_each
 listed_ends k p e n [] = refl
-listed_ends k p e n (r ∷ rs) = by (r.live && p r.fields) (listed_ends k p e n rs) (listed_ends k p e (n + 1) rs)
-  where
-    by : (b : Bool) → listed k (end_each p e n rs) ≡ listed k rs → listed k (end_each p e (n + 1) rs) ≡ listed k rs
-        → listed k (cond b (ended e n r ∷ end_each p e (n + 1) rs) (r ∷ end_each p e n rs)) ≡ cond (r.handle == k) 1 0 + listed k rs
-    by true same more = ap (λ m. cond (r.handle == k) 1 0 + m) more
-    by false same more = ap (λ m. cond (r.handle == k) 1 0 + m) same
+listed_ends k p e n (r ∷ rs) = grind (arith, nat_tests, listed_ends k p e n rs, listed_ends k p e (n + 1) rs)
 
 once_ends : (p : Task → Bool) (e : TaskEnd) (n : ℕ) (l : List (Listed Task)) → Once l → Once (end_each p e n l)
 once_ends p e n l one k = subst (λ (m : ℕ). m ≤ 1) (sym (listed_ends k p e n l)) (one k)
@@ -39,11 +34,7 @@ listed_all : (k : ℕ) (p : Task → Bool) (f : Listed Task → Listed Task) →
     → listed k (change_all p f l) ≡ listed k l
 unfolding listed change_all
 listed_all k p f keeps [] = refl
-listed_all k p f keeps (r ∷ rs) = by (r.live && p r.fields) (listed_all k p f keeps rs)
-  where
-    by : (b : Bool) → listed k (change_all p f rs) ≡ listed k rs → listed k (cond b (f r) r ∷ change_all p f rs) ≡ cond (r.handle == k) 1 0 + listed k rs
-    by true more = λ i. cond (keeps r i == k) 1 0 + more i
-    by false more = ap (λ m. cond (r.handle == k) 1 0 + m) more
+listed_all k p f keeps (r ∷ rs) = grind (arith, nat_tests, keeps r, listed_all k p f keeps rs)
 
 once_all : (p : Task → Bool) (f : Listed Task → Listed Task) (l : List (Listed Task)) → ((r : Listed Task) → (f r).handle ≡ r.handle) → Once l
     → Once (change_all p f l)
@@ -75,26 +66,7 @@ module _ (n : ℕ) where
       with_queues s _ i (Distinct-issue h x s.queues i.distinct (unlisted h s.queues (omega (arith, none_listed _ h s.queues (snd_true _ _ e.may))))) refl refl
   sound_move o s (alters Queues h f) e i = with_queues s _ i (Distinct-update h f s.queues i.distinct) refl refl
   sound_move o s (removes Queues h) e i = with_queues s _ i (Distinct-retire h s.queues i.distinct) refl refl
-  sound_move o s (makes Groups h x) e i = as_before s _ i refl refl refl
-  sound_move o s (makes Mutexes h x) e i = as_before s _ i refl refl refl
-  sound_move o s (makes Sems h x) e i = as_before s _ i refl refl refl
-  sound_move o s (makes Rwls h x) e i = as_before s _ i refl refl refl
-  sound_move o s (makes Segments h x) e i = as_before s _ i refl refl refl
-  sound_move o s (alters Groups h f) e i = as_before s _ i refl refl refl
-  sound_move o s (alters Mutexes h f) e i = as_before s _ i refl refl refl
-  sound_move o s (alters Sems h f) e i = as_before s _ i refl refl refl
-  sound_move o s (alters Rwls h f) e i = as_before s _ i refl refl refl
-  sound_move o s (alters Segments h f) e i = as_before s _ i refl refl refl
-  sound_move o s (removes Groups h) e i = as_before s _ i refl refl refl
-  sound_move o s (removes Mutexes h) e i = as_before s _ i refl refl refl
-  sound_move o s (removes Sems h) e i = as_before s _ i refl refl refl
-  sound_move o s (removes Rwls h) e i = as_before s _ i refl refl refl
-  sound_move o s (removes Segments h) e i = as_before s _ i refl refl refl
-  sound_move o s (makes_action h a) e i = as_before s _ i refl refl refl
-  sound_move o s (enables h) e i = as_before s _ i refl refl refl
-  sound_move o s (phase_is p) e i = as_before s _ i refl refl refl
-  sound_move o s released e i = as_before s _ i refl refl refl
-  sound_move o s (stops w) e i = as_before s _ i refl refl refl
+  sound_move o s _ e i = as_before s _ i refl refl refl
 
   pub sound_next : (s : State) (e : NodeEntry) → Sound n s → Sound n (next s e)
   sound_next s e i = by_moves (Sound n) s e (sound_move e.op) i

@@ -5,10 +5,6 @@ use Rattle.workload_file.specs.Formed.{WellFormed, part_lines, line_if_any}
 use Rattle.run_report.proofs.History.{ends_by_entries}
 use Rattle.run_report.proofs.Parts.{rest_of, first_with}
 
--- the first part's statements, and those of the others
-pub statements_more : (p : Part) (ps : List Part) → 1 ≤ length ps → p ≡ get_or ps 0 p → statements_in ps ≡ length p.statements + statements_in (rest_of ps)
-statements_more p ps h is = ap statements_in (first_with ps p h is)
-
 -- what the other parts add to what the first added
 pub further_with : (by : ℕ → Option TaskEnd) (t u : Totals) (who : ℕ) (es : List NodeEntry) (p : Part) (ps : List Part) → 1 ≤ length ps → p ≡ get_or ps 0 p
     → u ≡ with_tasks by t p.statements (reported who 1 es p).replies

@@ -148,12 +148,7 @@ named : (all : List Statement) (h n : ℕ) (ss : List Statement) (rs : List Repl
 unfolding place_from task_name
 named all h n [] rs left = refl
 named all h n (s ∷ ss) [] left = refl
-named all h n (s ∷ ss) (r ∷ rs) left = by (makes h s r) (named all h (n + 1) ss rs (drop_next all n s ss left))
-  where
-    by : (b : Bool) → name_at all (place_from (n + 1) ss rs h) ≡ task_name ss rs h
-        → name_at all (cond b (Some n) (place_from (n + 1) ss rs h)) ≡ cond b (name_text s.name) (task_name ss rs h)
-    by true more = ap name_of (get_dropped all n s ss left)
-    by false more = more
+named all h n (s ∷ ss) (r ∷ rs) left = grind (arith, nat_tests, named all h (n + 1) ss rs (drop_next all n s ss left), get_dropped all n s ss left)
 
 pub on_ok : {T E : Type 0} (r : Result T E) (P Q : Type 0) → (P → Q) → OnOk r P → OnOk r Q
 on_ok r P Q e1 e2 = grind (arith, nat_tests)

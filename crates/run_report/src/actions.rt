@@ -17,6 +17,7 @@ fn has_both(a: Mask, b: Mask, core: u32) -> bool
 }
 
 // Whether some core below this number is in both masks.
+#[tactic(auto, using(crate::proofs::LiveActions::below_next))]
 fn share_core(cores: u32, a: Mask, b: Mask) -> bool
     requires { cores ≤ 64 }
     ensures { some_below cores (λ w. in_mask w a.0 && in_mask w b.0) ≡ result }
@@ -46,6 +47,7 @@ fn some_can_run(workers: u32, job: u32, cores: Mask, actions: &[LiveAction]) -> 
 
 /// Whether some worker has an eligible action for a task of this job on these cores. It walks the actions, and the workers at those
 /// of the job that are enabled.
+#[tactic(auto, using(crate::proofs::LiveActions::worker_by_actions))]
 pub fn has_worker(workers: u32, job: u32, cores: Mask, actions: &[LiveAction]) -> bool
     requires { workers ≤ 64 }
     ensures { has_worker workers job cores.0 (pairs actions.now) ≡ result }
@@ -53,6 +55,7 @@ pub fn has_worker(workers: u32, job: u32, cores: Mask, actions: &[LiveAction]) -
     some_can_run(workers, job, cores, actions)
 }
 
+#[tactic(auto, using(crate::proofs::LiveActions::place_first, crate::proofs::LiveActions::place_here, crate::proofs::LiveActions::place_later, crate::proofs::LiveActions::place_nowhere))]
 fn place_of(actions: &[LiveAction], handle: u64) -> Option<usize>
     ensures { place_of handle actions.now ≡ result }
 {
@@ -65,6 +68,7 @@ fn place_of(actions: &[LiveAction], handle: u64) -> Option<usize>
 }
 
 /// Enables or disables the action of this handle, where it is there.
+#[tactic(auto, using(crate::proofs::LiveActions::place_below, crate::proofs::LiveActions::place_set, crate::proofs::LiveActions::place_none_set))]
 pub fn set_enabled(actions: &mut Vec<LiveAction>, handle: u64, enabled: bool)
     ensures { pairs actions.new.items ≡ with_action handle (with_enabled enabled) (pairs actions.old.items) }
 {
@@ -74,6 +78,7 @@ pub fn set_enabled(actions: &mut Vec<LiveAction>, handle: u64, enabled: bool)
 }
 
 /// Takes the action of this handle out, where it is there.
+#[tactic(auto, using(crate::proofs::LiveActions::place_below, crate::proofs::LiveActions::place_out, crate::proofs::LiveActions::place_none_out))]
 pub fn take_out(actions: &mut Vec<LiveAction>, handle: u64)
     ensures { pairs actions.new.items ≡ without_action handle (pairs actions.old.items) }
 {

@@ -148,6 +148,7 @@ fn places_shown(
 }
 
 /// The lines of the calls of these statements, one at most for each reply.
+#[tactic(auto, using(crate::proofs::Zips::on_ok))]
 pub fn push_call_lines(
     alloc: Global,
     out: &mut Vec<u8>,

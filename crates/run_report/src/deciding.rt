@@ -38,6 +38,7 @@ fn push_if_decides<'a>(
 }
 
 /// The replies that decide the calls of this seat, in order.
+#[tactic(auto, using(crate::proofs::Seats::decided_none))]
 pub fn decided(alloc: Global, who: u32, entries: &[Entry]) -> Result<Vec<&Reply>, AllocError>
     ensures { IfOk result (λ replies. nows replies.items ≡ decided who entries.now) }
 {

@@ -98,6 +98,7 @@ fn note_change(
 }
 
 // Notes each end that an entry names, up to the first entry that may end other tasks. Whether there is none.
+#[tactic(auto, using(crate::proofs::NamedEnds::named_none))]
 fn note_named_ends(
     alloc: Global,
     ended: &mut HashMap<u64, ShortEnd>,

@@ -47,7 +47,7 @@ fn push_part(
 }
 
 /// The lines of the parts of further callers, from this seat on.
-#[tactic(auto, unfolding(crate::specs::Replies::further_told))]
+#[tactic(auto, using(crate::proofs::Parts::two_pieces, crate::proofs::Parts::further_more), unfolding(crate::specs::Replies::further_told))]
 fn push_further(
     alloc: Global,
     page: &mut Page,
@@ -70,6 +70,7 @@ fn push_further(
 }
 
 /// The lines of all parts. Main has this seat.
+#[tactic(auto, using(crate::proofs::Parts::two_pieces, crate::proofs::Parts::all_more))]
 fn push_all(
     alloc: Global,
     page: &mut Page,
@@ -111,6 +112,7 @@ fn joined(page: Page) -> Result<Vec<u8>, AllocError>
 }
 
 /// The text of a workload with these entries, whatever they are.
+#[tactic(auto, using(crate::proofs::Parts::text_is))]
 pub fn text_by_entries(
     alloc: Global,
     load: &Workload,

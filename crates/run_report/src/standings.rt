@@ -136,6 +136,7 @@ fn handles_of(alloc: Global, unstarted: &HashMap<u64, Unstarted>) -> Result<Vec<
 }
 
 // Ends every task that passes. It walks the tasks that haven't begun, and no other.
+#[tactic(auto, using(crate::proofs::EndLoop::ends_none, crate::proofs::EndLoop::ends_next))]
 fn end_where(
     alloc: Global,
     table: &mut Standings,
@@ -250,6 +251,7 @@ fn fail_left(
 }
 
 // What an entry changes in how far tasks have come.
+#[tactic(auto, using(crate::proofs::LiveActions::pairs_more))]
 fn note(
     alloc: Global,
     table: &mut Standings,

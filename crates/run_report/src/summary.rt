@@ -46,7 +46,7 @@ fn with_part(
 }
 
 /// With the tasks of the parts of further callers, from this seat on.
-#[tactic(auto, unfolding(crate::specs::Replies::further_told, crate::specs::Summary::with_parts))]
+#[tactic(auto, using(crate::proofs::Summaries::further_with), unfolding(crate::specs::Replies::further_told, crate::specs::Summary::with_parts))]
 fn with_further(
     alloc: Global,
     totals: Totals,
@@ -70,7 +70,7 @@ fn with_further(
 }
 
 /// The totals of all parts. Main has this seat.
-#[tactic(auto, unfolding(crate::specs::Summary::with_parts))]
+#[tactic(auto, using(crate::proofs::Summaries::all_with, crate::proofs::Summaries::part_is), unfolding(crate::specs::Summary::with_parts))]
 fn all_totals(
     alloc: Global,
     main: u32,
@@ -100,6 +100,7 @@ fn all_totals(
 }
 
 /// The totals of a workload with these entries, whatever they are.
+#[tactic(auto, using(crate::proofs::Summaries::totals_are))]
 fn totals_by_entries(
     alloc: Global,
     load: &Workload,
@@ -132,7 +133,7 @@ fn sum_text(alloc: Global, totals: &Totals) -> Result<String, AllocError>
 }
 
 /// The line of totals.
-#[tactic(auto, unfolding(crate::specs::Summary::totals_text))]
+#[tactic(auto, using(crate::proofs::Summaries::line_is), unfolding(crate::specs::Summary::totals_text))]
 pub fn line_of(alloc: Global, totals: &Totals) -> Result<Vec<u8>, AllocError>
     ensures { IfOk result (λ text. text.items ≡ totals_text totals.now) }
 {
@@ -152,6 +153,7 @@ pub fn line_of(alloc: Global, totals: &Totals) -> Result<Vec<u8>, AllocError>
 /// Writes the summary of a run of this workload that left this journal: one line, with its tasks
 /// counted by how they ended, and the sum of all numbers of those that completed. It fails for want
 /// of memory alone.
+#[tactic(auto, using(crate::proofs::Parts::legal_same, crate::proofs::Summaries::few_statements, crate::proofs::Summaries::summary_is))]
 pub fn summary_of(alloc: Global, load: &Workload, journal: &Journal) -> Result<Vec<u8>, AllocError>
     requires formed { WellFormed load.now }
     requires settings { journal.now.settings ≡ load.now.settings }

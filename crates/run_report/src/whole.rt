@@ -13,6 +13,7 @@ use workload_file::Workload;
 
 /// Writes the report of a run of this workload, by the entries of its journal: what became of each
 /// task, and then what the calls answered. It fails for want of memory alone.
+#[tactic(auto, using(crate::proofs::Parts::report_is))]
 pub fn report_of_entries(
     alloc: Global,
     layout: Layout,
@@ -28,6 +29,7 @@ pub fn report_of_entries(
 
 /// Writes the report of a run of this workload that left this journal: what became of each task,
 /// and then what the calls answered. It fails for want of memory alone.
+#[tactic(auto, using(crate::proofs::Parts::legal_same))]
 pub fn report_of(alloc: Global, load: &Workload, journal: &Journal) -> Result<Vec<u8>, AllocError>
     requires settings { journal.now.settings ≡ load.now.settings }
     requires callers { journal.now.callers ≡ length load.now.parts }

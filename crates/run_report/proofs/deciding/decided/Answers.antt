@@ -1,9 +1,6 @@
-use Rattle.run_report.proofs.Names.{◌∙◌, ap, nows}
-use Rattle.run_report.proofs.Seats.{decided_none, decided_next}
+use Rattle.run_report.proofs.Names.{nows}
+use Rattle.run_report.proofs.Seats.{decided_next}
 use Rattle.run_report.proofs.deciding.decided.Goals as goal
-
-pub loop-entry-init : goal.loop-entry-init
-loop-entry-init c = ap nows c.new-replies.ensures.items ∙ decided_none c.args.who
 
 pub loop-entry-preserved : goal.loop-entry-preserved
 loop-entry-preserved c =

@@ -1,10 +1,7 @@
 use Rattle.run_report.proofs.Names.{refl, nat_eq, get}
 use Rattle.run_report.specs.Changes.{change_of}
-use Rattle.run_report.proofs.NamedEnds.{named_none, named_next}
+use Rattle.run_report.proofs.NamedEnds.{named_next}
 use Rattle.run_report.proofs.ends.note_named_ends.Goals as goal
-
-pub loop-entry-init : goal.loop-entry-init
-loop-entry-init c = λ workers. named_none workers (get nat_eq c.args.ended.now) c.requires
 
 pub loop-entry-preserved : goal.loop-entry-preserved
 loop-entry-preserved c =
