@@ -1,5 +1,5 @@
 -- Where a line of a seat stands among the entries of a run, and one walk along the statements of a part, with their lines and replies.
-use Rattle.settled_runs.proofs.Names.{◌≡◌, ◌⊎◌, inl, inr, ℕ, Bool, true, false, cond, List, [], ◌∷◌, ◌++◌, length, refl, sym, ◌∙◌, ap, arith, ◌==◌, eqb-true, entry, NodeEntry, Line, line, lines_of, IfSome, map, slice_get, append-nil, append_assoc, suc, zero, Option, Some, ◌<◌, subst, Made, Sort, Action, AreStatements, IsBoundAt, IsStatement, NodeSettings, Reply, Statement, call_of, handle_at, fst_true, snd_true, handle_of, some_same, AllGranted, GrantedTo, actions_in, Carried, binds, are_settled, is_settled_deed, ◌+◌, length-append, length_push, map_push, map-append, get_or_at, get_or_append_left, length-map, slice_get_cases}
+use Rattle.settled_runs.proofs.Names.{nat_tests, ◌≡◌, ◌⊎◌, inl, inr, ℕ, Bool, true, false, cond, List, [], ◌∷◌, ◌++◌, length, refl, sym, ◌∙◌, ap, arith, ◌==◌, eqb-true, entry, NodeEntry, Line, line, lines_of, IfSome, map, slice_get, append-nil, append_assoc, suc, zero, Option, Some, ◌<◌, subst, Made, Sort, Action, AreStatements, IsBoundAt, IsStatement, NodeSettings, Reply, Statement, call_of, handle_at, fst_true, snd_true, handle_of, some_same, AllGranted, GrantedTo, actions_in, Carried, binds, are_settled, is_settled_deed, ◌+◌, length-append, length_push, map_push, map-append, get_or_at, get_or_append_left, length-map, slice_get_cases}
 
 pub same_head : {X : Type 0} (x y : X) (xs ys : List X) → x ∷ xs ≡ y ∷ ys → x ≡ y
 same_head x y xs ys e = cc
@@ -130,11 +130,7 @@ get_last : {X : Type 0} (xs : List X) (x y : X) (n : ℕ) → slice_get (xs ++ x
 get_last [] x y zero e = inr (some_same e, refl)
 get_last [] x y (suc n) e = inl e
 get_last (z ∷ xs) x y zero e = inl e
-get_last (z ∷ xs) x y (suc n) e = elim (get_last xs x y n e) as (λ k. (slice_get xs n ≡ Some y) ⊎ ((x ≡ y) × (suc (length xs) ≡ suc n))) [
-  | inl k ↦
-      inl k
-  | inr k ↦ inr (k.0, ap suc k.1)
-]
+get_last (z ∷ xs) x y (suc n) e = grind (arith, nat_tests, get_last xs x y n)
 
 -- the handle that a reply binds is that of its place
 bound_here : (rs : List Reply) (r : Reply) (qs : List Reply) (n : ℕ) → length rs ≡ n → handle_at (map handle_of (rs ++ r ∷ qs)) n ≡ handle_of r

@@ -123,11 +123,7 @@ module _ {p : Op → Bool} {q : Deed → Bool} (k : IsClass p q) {layout : Layou
 
   none_later : (n : ℕ) (L : List NodeEntry) → BySeats n L → Each (λ e. later n e ≡ false) L
   none_later n [] b = tt
-  none_later n (e ∷ es) b = (
-    let a : nat_le n e.who ≡ false = (let c : e.who < n = b.0 in grind (arith, nat_tests)) in
-        ap (λ (c : Bool). c && p e.op) a,
-    none_later n es b.1,
-  )
+  none_later n (e ∷ es) b = (grind (arith, nat_tests, b.0), none_later n es b.1)
 
   seats_ask : (first : ℕ) (ps : List Part) (rss : List (List Reply)) → AllSeats (PartAt load es ns) first ps rss → BySeats (first + length ps) es
       → how_many (later first) es ≤ how_many (λ s. q s.deed) (flat_map (λ x. x.statements) ps)

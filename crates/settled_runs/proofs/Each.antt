@@ -127,14 +127,7 @@ pub own_each : (who : ℕ) (p : Op → Bool) (Q : NodeEntry → Type 0) (L : Lis
 unfolding lines_of
 own_each who p Q [] ks n o f k = tt
 own_each who p Q (e ∷ es) [] n o f k = absurd (omega arith)
-own_each who p Q (e ∷ es) (m ∷ ks) n o f k = by (e.who == who) refl (p e.op) refl k (own_each who p Q es ks (omega arith) o.1 f)
-  where
-    by : (b : Bool) → (e.who == who) ≡ b → (c : Bool) → p e.op ≡ c
-        → Each (λ l. Q (entry who l.op l.reply)) (cond b (line e.op e.reply m ∷ lines_of who es ks) (lines_of who es ks))
-        → (Each (λ l. Q (entry who l.op l.reply)) (lines_of who es ks) → Each Q es) → Q e × Each Q es
-    by true i c j x r = (subst (λ (w : ℕ). Q (entry w e.op e.reply)) (sym (eqb-true e.who who i)) x.0, r x.1)
-    by false i true j x r = true_false (eq-eqb e.who who (o.0 j)) i
-    by false i false j x r = (f e j, r x)
+own_each who p Q (e ∷ es) (m ∷ ks) n o f k = grind (arith, nat_tests, o.0, f e, own_each who p Q es ks (omega arith) o.1 f)
 
 -- The seats of parts
 

@@ -308,31 +308,17 @@ unended_given q (r ∷ rs) = grind (arith, unended_given q rs)
 passes_live : (o : Option Queue) (x : Queue) (v : Row) (w : Queue → Row) → o ≡ Some x → Passes (w x) → Passes (live o v w)
 passes_live o x v w e p = subst (λ (y : Option Queue). Passes (live y v w)) (sym e) p
 
+met : {A B : Type 0} → A → B → A × B
+met a b = (a, b)
+
 pub quiet_calls_are_granted : QuietCallsAreGranted
 quiet_calls_are_granted terms L who r = record {
-  action = λ job kind cores x j h. granted x (is_up x, (ap not j, (room x ObjectKind.Action actions_grow h, passes_only _ _ _)));
-  group = λ x h. granted x (is_up x, (room x ObjectKind.Group groups_grow h, passes_only _ _ _));
+  action = λ job kind cores x j h. granted x (met (is_up x) (met (ap not j) (met (room x ObjectKind.Action actions_grow h) (passes_only _ _ _))));
+  group = λ x h. granted x (met (is_up x) (met (room x ObjectKind.Group groups_grow h) (passes_only _ _ _)));
   start = λ job args priority cores group x p h v g.
       let y : Serves (after terms L) job cores.0 = served x job cores.0 v in
-      granted x (
-        is_up x,
-        (
-          (λ j. not (low x priority p j) || false),
-          (
-            ap not y.listed,
-            (
-              group_there x group g,
-              (
-                ap not y.enabled,
-                (
-                  ap not y.served,
-                  (room x ObjectKind.Task tasks_grow h, passes_only _ _ _),
-                ),
-              ),
-            ),
-          ),
-        ),
-      );
+      granted x (met (is_up x) (met (λ j. not (low x priority p j) || false) (met (ap not y.listed) (met (group_there x group g) (met (ap not y.enabled)
+      (met (ap not y.served) (met (room x ObjectKind.Task tasks_grow h) (passes_only _ _ _))))))));
   queue = λ id job priority limit ordered retain x p range h v n.
       let has : any_listed (has_job job) (after terms L).actions ≡ true =
       any_found (has_job job) (after terms L).actions v.handle (new_action job v.kind v.mask.0) (there x (Op.ActionCreate job v.kind v.mask) v.handle v.made)
@@ -340,54 +326,17 @@ quiet_calls_are_granted terms L who r = record {
       let in_range : (not (nat_lt priority (after terms L).terms.settings.priorities) || not (nat_le 1 limit && nat_le limit 65536)) ≡ false =
       let a : 1 ≤ limit = range.0 in let b : limit ≤ 65536 = range.1 in let c : nat_le 1 limit ≡ true = grind (arith, nat_tests) in
       let d : nat_le limit 65536 ≡ true = grind (arith, nat_tests) in λ j. not (low x priority p j) || not (c j && d j) in
-      granted x (
-        is_up x,
-        (
-          in_range,
-          (
-            ap not has,
-            (
-              none_found (λ y. y.id == id) (after terms L).queues (differ_along id (opening terms) L (before x).from n tt),
-              (room x ObjectKind.Queue queues_grow h, passes_only _ _ _),
-            ),
-          ),
-        ),
-      );
+      granted x (met (is_up x) (met in_range (met (ap not has)
+      (met (none_found (λ y. y.id == id) (after terms L).queues (differ_along id (opening terms) L (before x).from n tt))
+      (met (room x ObjectKind.Queue queues_grow h) (passes_only _ _ _))))));
   enqueue = λ q job priority args cores group x k h v g.
       let s : State = after terms L in
-      let made : Queue = new_queue k.id job priority k.limit k.ordered k.retain in
       let y : Serves s job cores.0 = served x job cores.0 v in
       let not_many : (count_listed (is_unended_in q.0) s.tasks == k.limit) ≡ false =
       let a : count_listed (is_unended_in q.0) s.tasks ≤ given_to q.0 s = unended_given q.0 s.tasks in
       let b : given_to q.0 s ≤ 0 + entries_that (puts_into q.0) L = gets_along q.0 (opening terms) L (before x).from in
       let c : entries_that (puts_into q.0) L < k.limit = k.few in grind (arith, nat_tests) in
-      granted x (
-        is_up x,
-        (
-          refl,
-          passes_live (live_object s.queues q.0) made _ _
-              (there x (Op.QueueCreate k.id job priority k.limit k.ordered k.retain) q.0 k.made) (
-                refl,
-                (
-                  ap not y.listed,
-                  (
-                    group_there x group g,
-                    (
-                      ap not y.enabled,
-                      (
-                        ap not y.served,
-                        (
-                          not_many,
-                          (
-                            room x ObjectKind.Task tasks_grow h,
-                            passes_only _ _ _,
-                          ),
-                        ),
-                      ),
-                    ),
-                  ),
-                ),
-              ),
-        ),
-      );
+      granted x (met (is_up x) (met refl (passes_live (live_object s.queues q.0) (new_queue k.id job priority k.limit k.ordered k.retain) _ _
+      (there x (Op.QueueCreate k.id job priority k.limit k.ordered k.retain) q.0 k.made) (met refl (met (ap not y.listed) (met (group_there x group g)
+      (met (ap not y.enabled) (met (ap not y.served) (met not_many (met (room x ObjectKind.Task tasks_grow h) (passes_only _ _ _)))))))))));
 }

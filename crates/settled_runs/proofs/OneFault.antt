@@ -33,22 +33,7 @@ module _ {X : Type 0} (key number : X → ℕ) where
       → has_number g c xs ≡ true → has_number g d xs ≡ true → c ≡ d
   one_number F step g c d [] e a b = true_false a refl
   one_number F step g c d (x ∷ xs) e a b =
-      by (or_cases _ (has_number g c xs) a) (or_cases _ (has_number g d xs) b)
-      (one_number F step g c d xs (snd_true (agree (key x) (number x) xs) _ (sym (step x xs) ∙ e)))
-    where
-      same : (z : ℕ) → ((key x == g) && (number x == z)) ≡ true → number x ≡ z
-      same z i = eqb-true (number x) z (snd_true (key x == g) _ i)
-
-      others : (y z : ℕ) → ((key x == g) && (number x == y)) ≡ true → has_number g z xs ≡ true → y ≡ z
-      others y z i f = sym (same y i) ∙ alike g (number x) z xs
-          (subst (λ (n : ℕ). agree n (number x) xs ≡ true) (eqb-true (key x) g (fst_true _ _ i)) (fst_true _ (F xs) (sym (step x xs) ∙ e))) f
-
-      by : (((key x == g) && (number x == c)) ≡ true) ⊎ (has_number g c xs ≡ true) → (((key x == g) && (number x == d)) ≡ true) ⊎ (has_number g d xs ≡ true)
-          → (has_number g c xs ≡ true → has_number g d xs ≡ true → c ≡ d) → c ≡ d
-      by (inl i) (inl j) k = sym (same c i) ∙ same d j
-      by (inl i) (inr j) k = others c d i j
-      by (inr i) (inl j) k = sym (others d c j i)
-      by (inr i) (inr j) k = k i j
+      grind (arith, nat_tests, step x xs, one_number F step g c d xs, alike g (number x) c xs, alike g (number x) d xs)
 
 -- the group has a fault of this status
 abbrev pub has_fault : List (ℕ × MtapiStatus) → ℕ → MtapiStatus → Bool

@@ -30,10 +30,8 @@ no_close (e ∷ es) k = (no_bit (closes e.op) (omega arith), no_close es (omega 
 
 -- an entry of the seat stands in no list without any
 none_of_seat : (who : ℕ) (X Y : List NodeEntry) (e : NodeEntry) → e.who ≡ who → entries_of who (X ++ e ∷ Y) ≡ [] → ⊥
-none_of_seat who [] Y e w i = let z : e ∷ entries_of who Y ≡ [] =
-    sym (ap (λ (b : Bool). cond b (e ∷ entries_of who Y) (entries_of who Y)) (eq-eqb e.who who w)) ∙ i in cc
-none_of_seat who (x ∷ X) Y e w i = cond_both (x.who == who) (x ∷ entries_of who (X ++ e ∷ Y)) (entries_of who (X ++ e ∷ Y)) (λ l. l ≡ []
-    → ⊥) (λ j k. cc) (λ j k. none_of_seat who X Y e w k) i
+none_of_seat who [] Y e w i = grind (arith, nat_tests)
+none_of_seat who (x ∷ X) Y e w i = grind (arith, nat_tests, none_of_seat who X Y e w)
 
 -- Main's part, and the others
 
@@ -218,38 +216,22 @@ pub rooms : (load : Workload) → is_settled load ≡ true
     → Room load.settings (all_statements load) ObjectKind.Action × Room load.settings (all_statements load) ObjectKind.Group
     × Room load.settings (all_statements load) ObjectKind.Queue × Room load.settings (all_statements load) ObjectKind.Task
 rooms load settled =
-    let ss : List Statement = all_statements load in
-    let a = and_parts (nat_le (how_many (λ s. makes_action s.deed) ss) load.settings.actions
-    && nat_le (how_many (λ s. makes_group s.deed) ss) load.settings.groups
-    && nat_le (how_many (λ s. is_some (queue_in s.deed)) ss) load.settings.queues) _ (settled_whole load settled).room in
-    let b = and_parts (nat_le (how_many (λ s. makes_action s.deed) ss) load.settings.actions
-    && nat_le (how_many (λ s. makes_group s.deed) ss) load.settings.groups) _ a.0 in
-    let c = and_parts (nat_le (how_many (λ s. makes_action s.deed) ss) load.settings.actions) _ b.0 in (
-      record { q = makes_action; calls = λ bound d. (calls_ask bound d).1; few = leb-true _ _ c.0 },
-      record { q = makes_group; calls = λ bound d. (calls_ask bound d).2; few = leb-true _ _ c.1 },
-      record { q = λ d. is_some (queue_in d); calls = λ bound d. (calls_ask bound d).3; few = leb-true _ _ b.1 },
-      record { q = makes_task; calls = λ bound d. (calls_ask bound d).4; few = leb-true _ _ a.1 },
+    let r = (settled_whole load settled).room in (
+      record { q = makes_action; calls = λ bound d. (calls_ask bound d).1; few = grind (arith, nat_tests, r) },
+      record { q = makes_group; calls = λ bound d. (calls_ask bound d).2; few = grind (arith, nat_tests, r) },
+      record { q = λ d. is_some (queue_in d); calls = λ bound d. (calls_ask bound d).3; few = grind (arith, nat_tests, r) },
+      record { q = makes_task; calls = λ bound d. (calls_ask bound d).4; few = grind (arith, nat_tests, r) },
     )
+
+none_id : (id : ℕ) (ss : List Statement) → list_any (λ s. has_id id s.deed) ss ≡ false → how_many (λ s. has_id id s.deed) ss ≡ 0
+none_id id [] e = refl
+none_id id (s ∷ ss) e = grind (arith, nat_tests, none_id id ss)
 
 -- no two statements make queues of one id
 one_id : (id : ℕ) (ss : List Statement) → has_different_ids ss ≡ true → how_many (λ s. has_id id s.deed) ss ≤ 1
 unfolding has_different_ids
 one_id id [] e = omega arith
-one_id id (s ∷ ss) e = by (queue_in s.deed) (fst_true (has_new_id (queue_in s.deed) ss) _ e) (one_id id ss (snd_true (has_new_id (queue_in s.deed) ss) _ e))
-  where
-    none : (ts : List Statement) → list_any (λ s. has_id id s.deed) ts ≡ false → Each (λ s. has_id id s.deed ≡ false) ts
-    none [] i = tt
-    none (t ∷ ts) i = let x = or_parts (has_id id t.deed) _ i in (x.0, none ts x.1)
-
-    by : (q : Option Queue) → has_new_id q ss ≡ true → how_many (λ z. has_id id z.deed) ss ≤ 1
-        → bit (holds (λ y. y.id == id) q) + how_many (λ z. has_id id z.deed) ss ≤ 1
-    by None i k = omega arith
-    by (Some x) i k = elim (cases_Bool (x.id == id)) as (λ z. bit (x.id == id) + how_many (λ z. has_id id z.deed) ss ≤ 1) [
-      | inl j ↦ (let n : how_many (λ z. has_id id z.deed) ss ≡ 0 =
-          many_none (λ z. has_id id z.deed) ss (none ss (subst (λ (n : ℕ). list_any (λ z. has_id n z.deed) ss ≡ false) (eqb-true x.id id j) (not_true _ i))) in
-          let b : bit (x.id == id) ≡ 1 = ap bit j in omega arith)
-      | inr j ↦ (let b : bit (x.id == id) ≡ 0 = ap bit j in omega arith)
-    ]
+one_id id (s ∷ ss) e = grind (arith, nat_tests, one_id id ss, none_id id ss)
 
 no_entry : (p : Op → Bool) (L : List NodeEntry) → asks p L ≡ 0 → some_entry (λ e. p e.op) L ≡ false
 no_entry p [] i = refl

@@ -125,11 +125,7 @@ action_has ss ls rs p c a =
         behind = [];
         is = ap (λ (z : List Line). l1 ++ z) (m.0 ∙ ap (λ (x : Reply). line (Op.ActionCreate job kind mask) x 0 ∷ []) g.1);
       };
-      passes = elim (or_cases (p (new_action job kind mask.0)) false e) as (λ z. p (new_action job kind mask.0) ≡ true) [
-        | inl i ↦ i
-        | inr i ↦
-            true_false i refl
-      ];
+      passes = grind (arith, nat_tests, e);
     }
     here bound l1 front r _ m g e = true_false e refl
 

@@ -33,16 +33,7 @@ module _ (actions : List Action) (all : List Statement) (ends : ℕ → Option T
   call_shown : (faults : Faults) (name : ℕ → List ℕ) (s : Statement) (d : Deed) (r : Reply) → IsPlainReply actions all ends faults d r
       → call_line part name s.line (shown_of d) r ≡ plain_call_line part faults s d
   unfolding IsPlainReply shown_of plain_call_line
-  call_shown faults name s (Deed.Start job args priority cores detached group) r p = refl
-  call_shown faults name s (Deed.Enqueue queue args cores detached group) r p = refl
-  call_shown faults name s Deed.Begin r p = refl
-  call_shown faults name s (Deed.Action job kind cores) r p = unrefused s.line r p
-  call_shown faults name s (Deed.Wait place timeout) r p = unrefused s.line r p
-  call_shown faults name s Deed.Group r p = unrefused s.line r p
-  call_shown faults name s (Deed.Queue id job priority limit ordered retain) r p = unrefused s.line r p
-  call_shown faults name s (Deed.WaitAll group timeout) r p =
-      append-nil (marked_line 33 part s.line (status_of r)) ∙ ap (marked_line 33 part s.line) (ap status_of p ∙ tells (faults group))
-  call_shown faults name s _ r p = absurd p
+  call_shown faults name s d r e1 = grind (arith, nat_tests, unrefused, tells, append-nil)
 
 module _ (actions : List Action) (ends : ℕ → Option TaskEnd) where
   calls_shown : (p : Part) (name : ℕ → List ℕ) (faults : Faults) (ss : List Statement) (rs : List Reply) → ArePlain actions p.statements ends faults ss rs

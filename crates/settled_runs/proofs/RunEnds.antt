@@ -61,11 +61,7 @@ all_quiet actions (e ∷ es) a = (planned_quiet actions e.op a.0, all_quiet acti
 -- and so a history goes on in which nobody closes
 pub go_on : (actions : List Action) (g : ℕ) (L : List NodeEntry) → ArePlanned actions L → NoClose L → GoOn g L
 go_on actions g [] a c = tt
-go_on actions g (e ∷ es) a c = (by e.op a.0 c.0, go_on actions g es a.1 c.1)
-  where
-    by : (o : Op) → is_planned actions o ≡ true → closes o ≡ false → goes_on g o ≡ true
-    by (Op.AllLook x last) i j = ap not (and_right (x.0 == g) last (not_true last i))
-    by _ i j = ap not j
+go_on actions g (e ∷ es) a c = grind (arith, nat_tests, go_on actions g es)
 
 abbrev IsListed : List Action → Action → Type 0
 IsListed actions a = is_listed actions a.job a.kind ≡ true
@@ -125,8 +121,7 @@ end_task_at (r ∷ rs) h end e = cond_both (r.handle == h) (end_in r.fields.stat
 under_task : (F : Task → Type 0) (l : List (Listed Task)) (h : ℕ) (t : Task) → Under h F l → task_at l h ≡ Some t → F t
 unfolding task_at
 under_task F [] h t u e = absurd (cc)
-under_task F (r ∷ rs) h t u e = cond_both (r.handle == h) (Some r.fields) (task_at rs h) (λ o. o ≡ Some t
-    → F t) (λ j d. subst F (some_same d) (u.0 j)) (λ j d. under_task F rs h t u.1 d) e
+under_task F (r ∷ rs) h t u e = grind (arith, nat_tests, u.0, under_task F rs h t u.1)
 
 accepted_issues : (o : Op) (r : Reply) (h : ℕ) → accepted_by o r ≡ Some h → (makes_object ObjectKind.Task o && is_handle h r) ≡ true
 accepted_issues o r h e1 = grind (arith, nat_tests)

@@ -23,14 +23,7 @@ puts_calls h bound d = grind (arith, nat_tests)
 not_put : (settings : NodeSettings) (known : List Action) (before all : List Statement) (d : Deed) → set_up all ≡ false
     → is_settled_deed settings known before all d ≡ true → is_put d ≡ false
 unfolding is_settled_deed task_in
-not_put settings known before all (Deed.Enqueue queue args cores detached group) n e = by_queue (slice_get all queue) refl (queue_at all queue) refl _ e
-  where
-    by_queue : (o : Option Statement) → slice_get all queue ≡ o → (q : Option Queue) → option_and_then (λ z. queue_in z.deed) o ≡ q → (f : Queue → _)
-        → is_startable settings known (option_map f q) ≡ true → true ≡ false
-    by_queue o i None j f k = true_false k refl
-    by_queue None i (Some x) j f k = none_some j
-    by_queue (Some z) i (Some x) j f k = true_false (sets_all all queue z x i j) n
-not_put settings known before all _ n e = refl
+not_put settings known before all d n e = grind (arith, nat_tests, sets_all all)
 
 -- Statements that set up before they begin
 
@@ -57,11 +50,7 @@ set_up_split (s ∷ ss) e = cond_both (is_begin s.deed) (not (set_up ss)) (sets_
 -- the actions of the statements are those before `begin`
 no_actions : (ss : List Statement) → set_up ss ≡ false → actions_in ss ≡ []
 no_actions [] e = refl
-no_actions (s ∷ ss) e = let x = or_parts (sets_up s.deed) (set_up ss) e in by s.deed x.0 (no_actions ss x.1)
-  where
-    by : (d : Deed) → sets_up d ≡ false → actions_in ss ≡ [] → action_in d ++ actions_in ss ≡ []
-    by (Deed.Action job kind cores) i k = true_false refl i
-    by _ i k = k
+no_actions (s ∷ ss) e = grind (arith, nat_tests, no_actions ss)
 
 begin_acts : (d : Deed) → is_begin d ≡ true → action_in d ≡ []
 unfolding is_begin

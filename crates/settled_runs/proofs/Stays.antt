@@ -1,5 +1,5 @@
 -- In a quiet history what was made stays as it was made.
-use Rattle.settled_runs.proofs.Names.{arith, nat_tests, ◌≡◌, ℕ, true, List, [], ◌∷◌, ◌++◌, Some, refl, sym, ◌∙◌, ap, subst, is_some, entry, live_object, Action, new_action, Group, new_group, Queue, Op, Handle, State, opening, Move, Groups, Queues, makes_action, enables, withdraws, makes, alters, removes, apply, after_moves, new_queue, NodeEntry, IsNext, next, after, IsMade, EnablesAction, AltersObject, RemovesObject, on_only, by_moves, sorts_keep, live_listed, true_false, at_issue_here, at_issue_other, cut_from, cut_after, fresh_unlisted, fresh_apart, is_quiet, AreQuiet, none_withdrawn, IsThere, MadeObjectsStay, row, LegalFrom, after_from, ObjectKind, live_stays, NewTask, asked_for, asked_of, is_detached_member, false, Option, Reply, MtapiStatus, Mtapi, Row, gives, live, queues, OfEachReply, said, says_only, second_false, makes_object, tasks, is_fresh, starts_task, Allows, moves_of, handle_of}
+use Rattle.settled_runs.proofs.Names.{Bool, arith, nat_tests, ◌≡◌, ℕ, true, List, [], ◌∷◌, ◌++◌, Some, refl, sym, ◌∙◌, ap, subst, is_some, entry, live_object, Action, new_action, Group, new_group, Queue, Op, Handle, State, opening, Move, Groups, Queues, makes_action, enables, withdraws, makes, alters, removes, apply, after_moves, new_queue, NodeEntry, IsNext, next, after, IsMade, EnablesAction, AltersObject, RemovesObject, on_only, by_moves, sorts_keep, live_listed, true_false, at_issue_here, at_issue_other, cut_from, cut_after, fresh_unlisted, fresh_apart, is_quiet, AreQuiet, none_withdrawn, IsThere, MadeObjectsStay, row, LegalFrom, after_from, ObjectKind, live_stays, NewTask, asked_for, asked_of, is_detached_member, false, Option, Reply, MtapiStatus, Mtapi, Row, gives, live, queues, OfEachReply, said, says_only, second_false, makes_object, tasks, is_fresh, starts_task, Allows, moves_of, handle_of}
 use Rattle.settled_runs.proofs.ByHandle.{granted, refuses_only}
 
 -- The entry that makes it
@@ -42,63 +42,28 @@ module _ (K : Reply → List Move → Type 0) (s : State) (who : ℕ) (r : Reply
   says_queue : (x : Option Queue) (w : Queue → Row) → ((y : Queue) → x ≡ Some y → OfEachReply K (w y)) → OfEachReply K (live x (gives queues.invalid []) w)
   says_queue x w e1 = grind (arith, nat_tests)
 
+  -- past a refusal
+  past : {c : Bool} {x : MtapiStatus} {B : Type 0} → (c ≡ false → B) → K (Mtapi x) [] × (c ≡ false → B)
+  past {x} f = (refused x, f)
+
   pub on_start : (o : Op) → makes_object ObjectKind.Task o ≡ true
       → ((h : ℕ) (n : NewTask) → AskedAs s n o → is_fresh tasks s h ≡ true → K (Handle h) (starts_task h n ∷ [])) → Allows (row s who o r) r
       → K r (moves_of (row s who o r))
   on_start (Op.TaskStart job args priority cores detached group) z k a =
-      said K (row s who (Op.TaskStart job args priority cores detached group) r) r (
-        refused _,
-        λ c0. (
-          refused _,
-          λ c1. (
-            refused _,
-            λ c2. (
-              refused _,
-              λ c3. (
-                refused _,
-                λ c4. (
-                  refused _,
-                  λ c5.
-                      (refused _, λ c6. says_only K _ _ _ (k (handle_of r) (asked_for job args priority cores detached group) (refl, second_false _ _ c1))),
-                ),
-              ),
-            ),
-          ),
-        ),
-      ) a
+      said K (row s who (Op.TaskStart job args priority cores detached group) r) r
+      (past (λ c0. past (λ c1. past (λ c2. past (λ c3. past (λ c4. past (λ c5. past (λ c6.
+      says_only K _ _ _ (k (handle_of r) (asked_for job args priority cores detached group) (refl, second_false _ _ c1)))))))))) a
   on_start (Op.TaskEnqueue q args cores detached group) z k a =
-      said K (row s who (Op.TaskEnqueue q args cores detached group) r) r (
-        refused _,
-        λ c. (
-          refused _,
-          λ d. says_queue (live_object s.queues q.0) _ (λ x e. (
-            refused _,
-            λ c0. (
-              refused _,
-              λ c1. (
-                refused _,
-                λ c2. (
-                  refused _,
-                  λ c3. (
-                    refused _,
-                    λ c4. (
-                      refused _,
-                      λ c5.
-                          (refused _, λ c6. says_only K _ _ _ (k (handle_of r) (asked_of q.0 x args cores detached group) (x, e, refl, d))),
-                    ),
-                  ),
-                ),
-              ),
-            ),
-          )),
-        ),
-      ) a
+      said K (row s who (Op.TaskEnqueue q args cores detached group) r) r
+      (past (λ c. past (λ d. says_queue (live_object s.queues q.0) _ (λ x e. past (λ c0. past (λ c1. past (λ c2. past (λ c3. past (λ c4. past (λ c5. past (λ c6.
+      says_only K _ _ _ (k (handle_of r) (asked_of q.0 x args cores detached group) (x, e, refl, d))))))))))))) a
   on_start _ z k a = true_false z refl
 
 -- The entries behind it
 
-no_enabling : (j : ℕ) (o : Op) → is_quiet o ≡ true → EnablesAction j o → ⊥
-no_enabling j o e1 e2 = grind (arith, nat_tests)
+quiet_keeps : (o : Op) → is_quiet o ≡ true → ((j : ℕ) → EnablesAction j o → ⊥) × ((j : ℕ) (f : Queue → Queue) → AltersObject Queues j f o → ⊥)
+    × ((j : ℕ) → RemovesObject Queues j o → ⊥) × ((j : ℕ) (f : Group → Group) → AltersObject Groups j f o → ⊥) × ((j : ℕ) → RemovesObject Groups j o → ⊥)
+quiet_keeps o e1 = grind (arith, nat_tests)
 
 abbrev Same : ℕ → Action → State → Type 0
 Same h x s = live_object s.actions h ≡ Some x
@@ -106,31 +71,19 @@ Same h x s = live_object s.actions h ≡ Some x
 action_stays : (h : ℕ) (x : Action) (o : Op) → is_quiet o ≡ true → (s : State) (m : Move) → IsMade s o m → Same h x s → Same h x (apply m s)
 action_stays h x o q s (makes_action j a) e v =
     at_issue_other j h a s.actions (fresh_apart ObjectKind.Action s h j (live_listed h s.actions (ap is_some v)) e.may) ∙ v
-action_stays h x o q s (enables j) e v = absurd (no_enabling j o q e.by)
+action_stays h x o q s (enables j) e v = absurd ((quiet_keeps o q).0 j e.by)
 action_stays h x o q s (withdraws j f c) e v = absurd (none_withdrawn j f o q e.by)
 action_stays h x o q s (makes k j y) e v = sorts_keep (Same h x) (λ t g u n c r z p. p) k _ s v
 action_stays h x o q s (alters k j f) e v = sorts_keep (Same h x) (λ t g u n c r z p. p) k _ s v
 action_stays h x o q s (removes k j) e v = sorts_keep (Same h x) (λ t g u n c r z p. p) k _ s v
 action_stays h x o q s _ e v = v
 
-no_queue_alters : (j : ℕ) (f : Queue → Queue) (o : Op) → is_quiet o ≡ true → AltersObject Queues j f o → ⊥
-no_queue_alters j f o e1 e2 = grind (arith, nat_tests)
-
-no_queue_goes : (j : ℕ) (o : Op) → is_quiet o ≡ true → RemovesObject Queues j o → ⊥
-no_queue_goes j o e1 e2 = grind (arith, nat_tests)
-
-no_group_alters : (j : ℕ) (f : Group → Group) (o : Op) → AltersObject Groups j f o → ⊥
-no_group_alters j f _ b = b
-
-no_group_goes : (j : ℕ) (o : Op) → is_quiet o ≡ true → RemovesObject Groups j o → ⊥
-no_group_goes j o e1 e2 = grind (arith, nat_tests)
-
 pub there_next : (s : State) (e : NodeEntry) (o : Op) (h : ℕ) → is_quiet e.op ≡ true → IsThere o h s → IsThere o h (next s e)
 there_next s e (Op.ActionCreate job k cores) h q v =
     by_moves (Same h (new_action job k cores.0)) s e (λ t m i u. action_stays h (new_action job k cores.0) e.op q t m i u) v
 there_next s e (Op.QueueCreate id job priority limit ordered retain) h q v =
-    live_stays Queues s e h (λ j f z. no_queue_alters j f e.op q z) (λ j z. no_queue_goes j e.op q z) (live_listed h s.queues (ap is_some v)) ∙ v
-there_next s e Op.GroupCreate h q v = live_stays Groups s e h (λ j f z. no_group_alters j f e.op z) (λ j z. no_group_goes j e.op q z)
+    live_stays Queues s e h (quiet_keeps e.op q).1 (quiet_keeps e.op q).2 (live_listed h s.queues (ap is_some v)) ∙ v
+there_next s e Op.GroupCreate h q v = live_stays Groups s e h (quiet_keeps e.op q).3 (quiet_keeps e.op q).4
     (live_listed h s.groups (ap is_some v)) ∙ v
 there_next s e _ h q v = tt
 

@@ -9,9 +9,6 @@ use Rattle.settled_runs.proofs.Waits.{notes_stay, notes_tasks, noting, open_up, 
 
 -- The first fault of the endings
 
-or_none : {A : Type 0} (x y : Option A) → option_or x y ≡ None → (x ≡ None) × (y ≡ None)
-or_none x y e1 = grind (arith, nat_tests)
-
 or_some : {A : Type 0} (x y : Option A) (c : A) → option_or x y ≡ Some c → (x ≡ Some c) ⊎ (y ≡ Some c)
 or_some x y c e1 = grind (arith, nat_tests)
 
@@ -28,18 +25,11 @@ joined_some x y z c (inr i) e = elim (or_some y x c (sym i ∙ e)) as (λ k. (x 
 
 insert_is : (e : Ending) (es : List Ending) → Joined (fault_of e.end) (first_fault es) (first_fault (insert e es))
 insert_is e [] = inl refl
-insert_is e (f ∷ fs) = cond_both (nat_lt e.number f.number) (e ∷ f ∷ fs) (f
-    ∷ insert e fs) (λ l. Joined (fault_of e.end) (first_fault (f ∷ fs)) (first_fault l)) (λ i. inl refl) (λ i. by (fault_of f.end) (insert_is e fs))
-  where
-    by : (x : Option MtapiStatus) → Joined (fault_of e.end) (first_fault fs) (first_fault (insert e fs))
-        → Joined (fault_of e.end) (option_or x (first_fault fs)) (option_or x (first_fault (insert e fs)))
-    by None k = k
-    by (Some d) k = inr refl
+insert_is e (f ∷ fs) = grind (arith, nat_tests, insert_is e fs)
 
 ended_is : (h : ℕ) (x : TaskState) (es : List Ending)
     → Joined (option_and_then fault_of (end_in x)) (first_fault es) (first_fault (insert_ended h (end_of x) es))
-ended_is h (Ended d n) es = insert_is (record { task = h; end = d; number = n }) es
-ended_is h _ es = inl refl
+ended_is h x es = grind (arith, nat_tests, insert_is)
 
 -- what a live member that has ended has to do with them
 pub record IsFaulty (g : ℕ) (l : List (Listed Task)) (c : MtapiStatus) : Type 0 where
@@ -68,16 +58,8 @@ none_faulty : (g : ℕ) (l : List (Listed Task)) (h : ℕ) (t : Task) → first_
     → option_and_then fault_of (end_in t.state) ≡ None
 unfolding live_of
 none_faulty g [] h t n e i = absurd (cc)
-none_faulty g (r ∷ rs) h t n e i = by (one_more g r rs) (λ k m. none_faulty g rs h t k (sym (at_past r rs h m) ∙ e) i)
-  where
-    same : r.live ≡ true → (r.handle == h) ≡ true → r.fields ≡ t
-    same a b = some_same (sym (at_here r rs h a b) ∙ e)
-
-    by : Joins g r rs ⊎ Passes g r rs → (first_fault (endings g (live_of rs)) ≡ None → (r.live && (r.handle == h)) ≡ false
-        → option_and_then fault_of (end_in t.state) ≡ None) → option_and_then fault_of (end_in t.state) ≡ None
-    by (inl x) k = let z = joined_none _ _ _ (ended_is r.handle r.fields.state (endings g (live_of rs))) (sym (ap first_fault x.is) ∙ n) in
-        at_head r h (λ a b. subst (λ (y : Task). option_and_then fault_of (end_in y.state) ≡ None) (same a b) z.0) (k z.1)
-    by (inr x) k = at_head r h (λ a b. true_false (ap (is_member g) (same a b) ∙ i) (x.other a)) (k (sym (ap first_fault x.is) ∙ n))
+none_faulty g (r ∷ rs) h t n e i =
+    grind (arith, nat_tests, none_faulty g rs h t, one_more g r rs, ended_is r.handle r.fields.state (endings g (live_of rs)), joined_none)
 
 -- and a fault is that of a live member
 one_faulty : (g : ℕ) (l : List (Listed Task)) (c : MtapiStatus) → OnceIn l → first_fault (endings g (live_of l)) ≡ Some c → IsFaulty g l c
@@ -119,12 +101,7 @@ abbrev pub Named : State → Type 0
 Named s = Every (IsNamed s.groups) s.tasks
 
 live_group : (made : List (Listed Group)) (o : Option ℕ) (g : ℕ) → all_live made o ≡ true → holds (λ h. h == g) o ≡ true → 1 ≤ listed g made
-live_group made None g a e = true_false e refl
-live_group made (Some x) g a e = subst (λ (n : ℕ). 1 ≤ listed n made) (eqb-true x g e) (live_listed x made (by_live (live_object made x) (not_true _ a)))
-  where
-    by_live : (o : Option Group) → is_none o ≡ false → is_some o ≡ true
-    by_live None e = true_false refl e
-    by_live (Some y) e = refl
+live_group made o g a e = grind (arith, nat_tests, live_listed)
 
 noted_member : (g : ℕ) (a b : Option ℕ) → (b ≡ a) ⊎ (b ≡ None) → holds (λ h. h == g) b ≡ true → holds (λ h. h == g) a ≡ true
 noted_member g a b e1 e2 = grind (arith, nat_tests)
@@ -420,9 +397,7 @@ new_group_fine s w h v a =
 out_at : (g : ℕ) (hs : List ℕ) (l : List (Listed Task)) (h : ℕ) (t : Task) → Out g hs l → live_object l h ≡ Some t → is_member g t ≡ true → has hs h ≡ true
 unfolding live_of Out
 out_at g hs [] h t v e i = absurd (cc)
-out_at g hs (r ∷ rs) h t v e i = at_head r h
-    (λ a b. subst (λ (n : ℕ). has hs n ≡ true) (eqb-true r.handle h b) (v.0 a (ap (is_member g) (some_same (sym (at_here r rs h a b) ∙ e)) ∙ i)))
-    (λ n. out_at g hs rs h t v.1 (sym (at_past r rs h n) ∙ e) i)
+out_at g hs (r ∷ rs) h t v e i = grind (arith, nat_tests, v.0, out_at g hs rs h t v.1)
 
 has_ended : (x : TaskState) → is_none (end_of x) ≡ false → (end : TaskEnd) × (end_in x ≡ Some end)
 has_ended (Ended d n) e = (d, refl)

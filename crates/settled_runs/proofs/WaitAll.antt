@@ -1,5 +1,5 @@
 -- In a run of a settled workload each wait for all tasks of a group is told the fault that the plain report tells of it.
-use Rattle.settled_runs.proofs.Names.{◌≡◌, ℕ, Bool, true, false, cond, List, [], ◌∷◌, ◌++◌, length, Option, Some, None, refl, sym, ◌∙◌, ap, subst, arith, append_assoc, ℤ, ◌==◌, map, option_and_then, IfSome, option_map, option_or, flat_map, eq-eqb, eqb-true, holds, TaskEnd, Mask, Timeout, MtapiStatus, entry, Action, NewTask, fault_of, Queue, Deed, Statement, fields, word_for, values, place_used, AllFit, IsBoundAt, IsStatement, AreStatements, Op, Reply, handle_of, some_same, handle_at, group_at, call_of, Line, line, Made, Looked, true_false, queue_at, Faults, with_member, with_task, no_faults, IsPlainTask, fault_in, members_behind, deed_spelled, Carried, task_in, plain_end, plain_fault, faults_behind, ArePlain, IsPlainReply, inl, inr, or_cases, none_some, Call, Each, ◌⊎◌, ◌+◌, ◌<◌, append-nil, Layout, Workload, Terms, is_pending, verdict, NodeEntry, Legal, after, closes, NoClose, front_stays, run_terms, AreQuiet, all_statements, actions_in, AllGranted, SettledRun, GoOn, IsVerdict, end_at, members_of, word_row as row, Sort, both_ways, Part, has_one_fault_a_group}
+use Rattle.settled_runs.proofs.Names.{nat_tests, ◌≡◌, ℕ, Bool, true, false, cond, List, [], ◌∷◌, ◌++◌, length, Option, Some, None, refl, sym, ◌∙◌, ap, subst, arith, append_assoc, ℤ, ◌==◌, map, option_and_then, IfSome, option_map, option_or, flat_map, eq-eqb, eqb-true, holds, TaskEnd, Mask, Timeout, MtapiStatus, entry, Action, NewTask, fault_of, Queue, Deed, Statement, fields, word_for, values, place_used, AllFit, IsBoundAt, IsStatement, AreStatements, Op, Reply, handle_of, some_same, handle_at, group_at, call_of, Line, line, Made, Looked, true_false, queue_at, Faults, with_member, with_task, no_faults, IsPlainTask, fault_in, members_behind, deed_spelled, Carried, task_in, plain_end, plain_fault, faults_behind, ArePlain, IsPlainReply, inl, inr, or_cases, none_some, Call, Each, ◌⊎◌, ◌+◌, ◌<◌, append-nil, Layout, Workload, Terms, is_pending, verdict, NodeEntry, Legal, after, closes, NoClose, front_stays, run_terms, AreQuiet, all_statements, actions_in, AllGranted, SettledRun, GoOn, IsVerdict, end_at, members_of, word_row as row, Sort, both_ways, Part, has_one_fault_a_group}
 use Rattle.settled_runs.proofs.{Counted.asks, Counted.cut_asks, Stays.quiet_front, Stays.quiet_rest, Verdicts.has, Verdicts.quiet_verdicts, RunEnds.go_on}
 use Rattle.settled_runs.proofs.{RunEnds.IsPlanned, RunEnds.planned, Opened.legal_here, Opened.quiet_before, Opened.no_close, Places.at_group}
 use Rattle.settled_runs.proofs.Places.{group_front, groups_handed}
@@ -67,12 +67,7 @@ module _ (actions : List Action) (all : List Statement) (ends : ℕ → Option T
       → ((c : MtapiStatus) → x ≡ Some c → has_fault (faults_of actions all) place c ≡ true) → Fits hs fault → Fits (j ∷ hs) (option_or fault x)
   more_fits j x hs fault e there f = record {
     matches = more_member F j x hs fault e f.matches;
-    among =
-        λ k c i y. elim (or_cases (j == k) (has hs k) i) as (λ z. has_fault (faults_of actions all) place c ≡ true) [
-          | inl m ↦
-              there c (sym e ∙ ap F (eqb-true j k m) ∙ y)
-          | inr m ↦ f.among k c m y
-        ];
+    among = λ k c i y. grind (arith, nat_tests, or_cases (j == k) (has hs k) i, there c, f.among k c, e, y);
   }
 
   module _ (before rest : List Statement) (s : Statement) (bound : List ℕ) (within : all ≡ before ++ s ∷ rest) (same : (g : ℕ) → IsBoundAt Sort.Group before g

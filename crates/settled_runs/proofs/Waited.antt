@@ -30,9 +30,6 @@ record StartedBy (ls : List Line) (h : ℕ) : Type 0 where
   alone : starts_alone op ≡ true
   has : Has ls op h
 
-no_group : (group : Option ℕ) (bound : List ℕ) → is_none group ≡ true → is_none (option_map (group_at bound) group) ≡ true
-no_group group bound e1 = grind (arith, nat_tests)
-
 module _ (settings : NodeSettings) (known : List Action) (all bf : List Statement) (bound : List ℕ) (ls first front more : List Line) (is : ls
     ≡ first ++ (front ++ more)) (r : Reply) (h : ℕ) (told : r ≡ Reply.Handle h) where
   started_by : (d : Deed) → is_settled_deed settings (known ++ actions_in bf) bf all d ≡ true → is_alone (task_in all d) ≡ true → binds Sort.Task d ≡ true

@@ -151,8 +151,9 @@ open_up p e1 = grind (arith, nat_tests)
 pub passed : (c : Bool) (x : Reply) (w : Row) (r : Reply) → c ≡ false → Allows (unless c x w) r → Allows w r
 passed c x w r e1 e2 = grind (arith, nat_tests)
 
-found_live : {T : Type 0} (o : Option T) (t : T) (v : Row) (f : T → Row) (r : Reply) → o ≡ Some t → Allows (live o v f) r → Allows (f t) r
-found_live o t v f r e1 e2 = grind (arith, nat_tests)
+looked_at : (s : State) (w : ℕ) (t : TaskHandle) (r : Reply) (x : Task) → not (is_up s.phase) ≡ false → live_object s.tasks t.0 ≡ Some x → IsOwn w x.notes
+    → Allows (row s w (Op.TaskLook t false) r) r → Allows (looks_row w t.0 false x.state) r
+looked_at s w t r x e1 e2 e3 e4 = grind (arith, nat_tests, e3.kept, e3.alone, e3.waiter)
 
 told : (w h : ℕ) (x : TaskState) (r : Reply) → Allows (looks_row w h false x) r → (r ≡ Reply.Pending) ⊎ ((end : TaskEnd) × (r ≡ Reply.Ended end))
 told w h x r e1 = grind (arith, nat_tests)
@@ -177,16 +178,4 @@ quiet_looks_are_answered terms L who t r x y =
     (started_own who t.0 first y.starter y.op step y.alone) in
     let own : Own who t.0 s = subst (λ (M : List NodeEntry). Own who t.0 (after terms M)) (sym y.is)
     (subst (Own who t.0) (sym (cut_after (opening terms) y.before y.behind (entry y.starter y.op (Reply.Handle t.0)))) there) in
-    let looked : Allows (looks_row who t.0 false own.0.state) r =
-    passed (is_other who own.0.notes.waiter) (Reply.Mtapi MtapiStatus.ErrWaitPending) (looks_row who t.0 false own.0.state) r own.2.waiter
-    (passed (own.0.notes.detached || is_some own.0.notes.group) (Reply.Mtapi MtapiStatus.ErrParameter)
-    (unless (is_other who own.0.notes.waiter) (Reply.Mtapi MtapiStatus.ErrWaitPending) (looks_row who t.0 false own.0.state)) r (λ i. own.2.kept i
-    || is_some (own.2.alone i)) (found_live (live_object s.tasks t.0) own.0 (gives tasks.invalid [])
-    (λ z. unless (z.notes.detached || is_some z.notes.group) (Reply.Mtapi MtapiStatus.ErrParameter)
-    (unless (is_other who z.notes.waiter) (Reply.Mtapi MtapiStatus.ErrWaitPending) (looks_row who t.0 false z.state))) r own.1
-    (passed (not (is_up s.phase)) (Reply.Mtapi MtapiStatus.ErrNodeNotinit)
-    (live (live_object s.tasks t.0) (gives tasks.invalid [])
-    (λ z. unless (z.notes.detached || is_some z.notes.group) (Reply.Mtapi MtapiStatus.ErrParameter)
-    (unless (is_other who z.notes.waiter) (Reply.Mtapi MtapiStatus.ErrWaitPending) (looks_row who t.0 false z.state)))) r
-    (open_up s.phase (open_now x)) (allowed x)))) in
-    told who t.0 own.0.state r looked
+    told who t.0 own.0.state r (looked_at s who t r own.0 (open_up s.phase (open_now x)) own.1 own.2 (allowed x))

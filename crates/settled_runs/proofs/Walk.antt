@@ -32,17 +32,7 @@ limit_from : (all : List Statement) (offset : ℕ) (ss : List Statement) (k : �
     → slice_get ss k ≡ Some s → queue_in s.deed ≡ Some x → how_many (λ e. puts_into (offset + k) e.deed) all ≤ x.limit
 unfolding keep_limits
 limit_from all offset [] k s x e f q = absurd (cc)
-limit_from all offset (t ∷ ss) zero s x e f q =
-    let here : not (holds (λ y. nat_lt y.limit (how_many (λ e. puts_into offset e.deed) all)) (queue_in t.deed)) ≡ true =
-    fst_true _ (keep_limits all (offset + 1) ss) e in
-    let low : not (nat_lt x.limit (how_many (λ e. puts_into offset e.deed) all)) ≡ true =
-    subst (λ (o : Option Queue). not (holds (λ y. nat_lt y.limit (how_many (λ e. puts_into offset e.deed) all)) o)
-    ≡ true) (ap (λ (z : Statement). queue_in z.deed) (some_same f) ∙ q) here in
-    let most : how_many (λ e. puts_into offset e.deed) all ≤ x.limit = at_most x.limit _ low in
-    subst (λ (n : ℕ). how_many (λ e. puts_into n e.deed) all ≤ x.limit) (let z : offset ≡ offset + 0 = omega arith in z) most
-  where
-    at_most : (n m : ℕ) → not (nat_lt n m) ≡ true → m ≤ n
-    at_most n m i = let j : nat_lt n m ≡ false = not_true _ i in grind (arith, nat_tests)
+limit_from all offset (t ∷ ss) zero s x e f q = grind (arith, nat_tests)
 limit_from all offset (t ∷ ss) (suc k) s x e f q =
     subst (λ (n : ℕ). how_many (λ e. puts_into n e.deed) all ≤ x.limit) (let z : (offset + 1) + k ≡ offset + suc k = omega arith in z)
     (limit_from all (offset + 1) ss k s x (snd_true _ (keep_limits all (offset + 1) ss) e) f q)
@@ -86,12 +76,8 @@ some_worker (suc n) p e = cond_both (p n) true (some_below n p) (λ z. z ≡ tru
 -- a statement that makes a queue sets up
 pub sets_all : (all : List Statement) (place : ℕ) (s : Statement) (x : Queue) → slice_get all place ≡ Some s → queue_in s.deed ≡ Some x → set_up all ≡ true
 sets_all [] place s x e q = absurd (cc)
-sets_all (t ∷ all) zero s x e q = or_left _ _ (by t.deed (ap (λ (z : Statement). queue_in z.deed) (some_same e) ∙ q))
-  where
-    by : (d : Deed) → queue_in d ≡ Some x → sets_up d ≡ true
-    by (Deed.Queue id job priority limit ordered retain) f = refl
-    by _ f = none_some f
-sets_all (t ∷ all) (suc place) s x e q = or_right (sets_up t.deed) _ (sets_all all place s x e q)
+sets_all (t ∷ all) zero s x e q = grind (arith, nat_tests)
+sets_all (t ∷ all) (suc place) s x e q = grind (arith, nat_tests, sets_all all place s x)
 
 -- One statement
 
