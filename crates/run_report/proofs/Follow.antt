@@ -72,17 +72,7 @@ put_none h k l g e1 = grind (arith, nat_tests, first_at, first-none, same_number
 pub follows_starts : (v : Seen) (s : State) (h : ℕ) (t : NewTask) → Follows v s → listed h s.tasks ≡ 0
     → Follows (record v { unstarted = put h (Some (unstarted_of (new_task t s.starts))) v.unstarted })
     (record s { tasks = issue h (new_task t s.starts) s.tasks; starts = s.starts + 1 })
-follows_starts v s h t f none = record {
-  ends = λ k. f.ends k ∙ ends_first s.tasks k ∙ sym (put_none h k s.tasks end_read none) ∙ sym (first-issued end_read k h (new_task t s.starts) s.tasks none)
-      ∙ sym (ends_first _ k);
-  unstarted = λ k.
-      (λ i. cond (h == k) (Some (unstarted_of (new_task t s.starts))) (f.unstarted k i))
-      ∙ (λ i. cond (h == k) (Some (unstarted_of (new_task t s.starts))) (unstarted_first s.tasks k i))
-      ∙ sym (first-issued unstarted_in k h (new_task t s.starts) s.tasks none)
-      ∙ sym (unstarted_first _ k);
-  actions = f.actions;
-  queues = f.queues;
-}
+follows_starts v s h t f none = grind (arith, nat_tests, ends_first, unstarted_first, first-issued, put_none, end_read, unstarted_in)
 
 unstarted_open : (x : TaskState) → scheduled x ≡ true → end_in x ≡ None
 unstarted_open x e1 = grind (arith, nat_tests)
@@ -162,10 +152,7 @@ mapped b x y = grind (arith, nat_tests)
 
 pub follows_queue_made : (v : Seen) (s : State) (h : ℕ) (x : Queue) → Follows v s → listed h s.queues ≡ 0
     → Follows (record v { queues = put h (Some (queue_of x)) v.queues }) (record s { queues = issue h x s.queues })
-follows_queue_made v s h x f none = follows_queues v s _ _ f (λ k.
-    (λ i. cond (h == k) (Some (queue_of x)) (f.queues k i))
-    ∙ mapped (h == k) (Some x) (live_object s.queues k)
-    ∙ ap (option_map queue_of) (sym (at-issue h k x s.queues (unlisted h s.queues (omega (arith, none))))))
+follows_queue_made v s h x f none = grind (arith, nat_tests, follows_queues, mapped, queue_of, at-issue, unlisted)
 
 pub follows_queue_changed : (v : Seen) (s : State) (h : ℕ) (on : Bool) (x : Queue) → Follows v s → live_object s.queues h ≡ Some x
     → Follows (record v { queues = put h (option_map (opened on) (v.queues h)) v.queues }) (record s { queues = update h (queues.opened on) s.queues })

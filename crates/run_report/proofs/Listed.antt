@@ -1,6 +1,5 @@
 -- What each change of a list of tasks does to what is read of the task of a handle.
-use Rattle.run_report.proofs.Names.{◌≡◌, ℕ, ◌+◌, ◌≤◌, Bool, true, false, ◌&&◌, cond, List, [], ◌∷◌, Option, Some, None, refl, sym, ◌∙◌, ap, arith, ◌==◌, nat_tests, TaskEnd, holds, Listed, live_of, live_object, issue, change, change_all, listed, Task, is_unstarted, ended, end_each, end_in, end_at, Unstarted, unstarted_of, unstarted_in, unstarted_at}
-use Rattle.handle_pool.specs.Issued.{lookup}
+use Rattle.run_report.proofs.Names.{◌≡◌, ℕ, ◌+◌, ◌≤◌, Bool, true, false, ◌&&◌, cond, List, [], ◌∷◌, Option, Some, None, refl, arith, ◌==◌, nat_tests, TaskEnd, holds, Listed, live_of, live_object, issue, change, change_all, listed, Task, is_unstarted, ended, end_each, end_in, end_at, Unstarted, unstarted_of, unstarted_in, unstarted_at}
 
 -- what is read of the first task that is listed under this handle
 unfoldable pub first_at : {X : Type 0} → (Listed Task → Option X) → List (Listed Task) → ℕ → Option X

@@ -1,5 +1,5 @@
 -- Live actions by their places, and the workers that can take a task.
-use Rattle.run_report.proofs.Names.{◌≡◌, ℕ, zero, suc, ◌+◌, ◌<◌, ◌≤◌, ◌⊎◌, inl, inr, Bool, true, false, cond, List, [], ◌∷◌, ◌++◌, length, get_or, set, drop, length-drop, Option, Some, None, refl, sym, ◌∙◌, ap, arith, ◌==◌, ◌&&◌, ◌||◌, nat_lt, option_map, list_any, remove, nat_tests, drop_more, nil_from_length, in_mask, any_live, Action, has_enabled_job, is_eligible, some_below, has_worker, action_of, pairs, with_action, without_action, can_run, place_of}
+use Rattle.run_report.proofs.Names.{◌≡◌, ℕ, zero, suc, ◌+◌, ◌<◌, ◌≤◌, Bool, true, false, cond, List, [], ◌∷◌, ◌++◌, length, get_or, set, drop, length-drop, Option, Some, None, refl, sym, ◌∙◌, ap, arith, ◌==◌, ◌&&◌, nat_lt, option_map, list_any, remove, nat_tests, drop_more, nil_from_length, in_mask, any_live, Action, has_enabled_job, is_eligible, some_below, has_worker, action_of, pairs, with_action, without_action, can_run, place_of}
 use Rattle.run_report.specs.declared.changes.LiveAction.{LiveAction}
 
 -- Workers

@@ -1,5 +1,5 @@
 -- After each entry that may come next, what is seen is what stands in the state.
-use Rattle.run_report.proofs.Names.{arith, nat_tests, ◌≡◌, ℕ, ℤ, ◌≤◌, Bool, true, false, ◌&&◌, cond, List, [], ◌∷◌, Option, Some, refl, sym, ◌∙◌, ap, subst, not, option_map, is_some, TaskEnd, Cancelled, Failed, holds, Listed, live_of, live_object, change, with_fields, gone, listed, Action, new_action, with_enabled, Queue, is_shut_in, is_in, Task, NewTask, is_unstarted, is_unended, scheduled, watch_end, cancel_requested, Op, Reply, State, workers, end_tasks, Move, Groups, Queues, Mutexes, Sems, Rwls, Segments, phase_is, released, stops, makes_action, enables, withdraws, starts_task, runs_task, ends_task, ends_waiting, notes, leaves, frees_members, lets_members_go, alters, removes, is_fresh, apply, after_moves, is_ready, picks, task_end, NodeEntry, IsNext, next, fst_true, snd_true, IsKeptBy, by_moves, EndEffect, Nothing, change_of, Seen, Follows, unstarted_of, unstarted_in, unstarted_at, queue_of, queue_at, ends_where, with_end, withdrawn, is_left, is_of, is_shut, enqueued, with_open, with_change}
+use Rattle.run_report.proofs.Names.{arith, nat_tests, ◌≡◌, ℕ, ℤ, ◌≤◌, Bool, true, false, ◌&&◌, cond, List, [], ◌∷◌, Option, Some, refl, sym, ◌∙◌, ap, subst, not, option_map, is_some, TaskEnd, Cancelled, Failed, holds, Listed, live_of, live_object, change, with_fields, gone, listed, Action, new_action, with_enabled, Queue, is_shut_in, is_in, Task, NewTask, is_unstarted, is_unended, scheduled, watch_end, cancel_requested, Op, Reply, State, workers, end_tasks, Move, Queues, makes_action, enables, withdraws, starts_task, runs_task, ends_task, ends_waiting, notes, leaves, frees_members, lets_members_go, alters, removes, is_fresh, apply, after_moves, is_ready, task_end, NodeEntry, IsNext, next, fst_true, snd_true, IsKeptBy, by_moves, EndEffect, Nothing, change_of, Seen, Follows, unstarted_of, unstarted_in, unstarted_at, queue_of, queue_at, ends_where, with_end, withdrawn, is_left, is_of, is_shut, enqueued, with_open, with_change}
 use Rattle.mtapi_values.specs.declared.statuses.MrapiStatus.{MrapiStatus}
 use Rattle.mtapi_values.specs.declared.statuses.MtapiStatus.{MtapiStatus}
 use Rattle.mtapi_values.specs.declared.statuses.MtapiStatus.TheVariants as m

@@ -1,5 +1,5 @@
 -- The report of a run reads for each statement the reply to which its own call came.
-use Rattle.run_report.proofs.Names.{nat_tests, ◌≡◌, ℕ, suc, ◌+◌, Bool, true, false, not, cond, List, [], ◌∷◌, ◌++◌, length, Option, refl, sym, ◌∙◌, ap, arith, take, drop, ◌==◌, ◌&&◌, map, append-nil, Statement, Part, Op, Reply, handle_of, NodeEntry, has_begin, Carried, MainRan, CallerRan, CallersRan, PartsRan, Told, decided, calls_before, further_told, all_told}
+use Rattle.run_report.proofs.Names.{nat_tests, ◌≡◌, ℕ, suc, ◌+◌, Bool, false, not, cond, List, [], ◌∷◌, ◌++◌, length, Option, refl, sym, ◌∙◌, ap, arith, take, drop, map, append-nil, Statement, Part, Op, Reply, handle_of, NodeEntry, has_begin, Carried, MainRan, CallerRan, CallersRan, PartsRan, Told, decided, calls_before, further_told, all_told}
 use Rattle.mtapi_machine.specs.Kept.{is_pending}
 use Rattle.workload_runs.specs.Calls.{Call, call_of}
 use Rattle.workload_runs.specs.Lines.{Line, line, lines_of, before_it, Made, head_of, tail_of_main, in_lines}

@@ -1,5 +1,5 @@
 -- The replies of a seat, one more entry on.
-use Rattle.run_report.proofs.Names.{arith, nat_tests, ◌≡◌, ℕ, ◌+◌, ◌<◌, Bool, true, false, cond, List, [], ◌∷◌, ◌++◌, refl, ap, length, get_or, take, take_at_read, Reply, NodeEntry, decides, decided}
+use Rattle.run_report.proofs.Names.{arith, nat_tests, ◌≡◌, ℕ, ◌+◌, ◌<◌, cond, List, [], ◌∷◌, ◌++◌, refl, length, get_or, take, take_at_read, Reply, NodeEntry, decides, decided}
 
 pub decided_none : (who : ℕ) → [] ≡ decided who []
 unfolding decided

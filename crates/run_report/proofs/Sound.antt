@@ -1,5 +1,5 @@
 -- What holds after every history: no task's handle is listed twice, no live queue stands twice, and the workers are so many.
-use Rattle.run_report.proofs.Names.{nat_tests, ◌≡◌, ℕ, ◌+◌, ◌≤◌, Bool, true, false, ◌&&◌, cond, List, [], ◌∷◌, refl, sym, ap, subst, arith, ◌==◌, eqb-true, TaskEnd, Listed, live_of, change, change_all, issue, with_fields, gone, listed, may_issue, Distinct, listed-change, listed-issue, Distinct-issue, Distinct-update, Distinct-retire, Task, Running, with_state, with_notes, ended, end_each, freed, let_go, State, workers, is_open, Queues, starts_task, runs_task, ends_task, ends_waiting, withdraws, notes, leaves, frees_members, lets_members_go, alters, removes, makes_action, enables, phase_is, released, stops, Groups, Mutexes, Sems, Rwls, Segments, NodeEntry, next, fst_true, snd_true, IsKept, by_moves}
+use Rattle.run_report.proofs.Names.{nat_tests, ◌≡◌, ℕ, ◌+◌, ◌≤◌, Bool, true, List, [], ◌∷◌, refl, sym, subst, arith, ◌==◌, eqb-true, TaskEnd, Listed, live_of, change, change_all, issue, with_fields, gone, listed, may_issue, Distinct, listed-change, listed-issue, Distinct-issue, Distinct-update, Distinct-retire, Task, Running, with_state, with_notes, ended, end_each, freed, let_go, State, workers, is_open, Queues, starts_task, runs_task, ends_task, ends_waiting, withdraws, notes, leaves, frees_members, lets_members_go, alters, removes, NodeEntry, next, fst_true, snd_true, IsKept, by_moves}
 use Rattle.mtapi_machine.specs.Moves.{makes}
 use Rattle.run_report.proofs.Listed.{unlisted, same_number}
 

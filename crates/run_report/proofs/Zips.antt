@@ -1,9 +1,7 @@
 -- Statements with their replies, one after another.
-use Rattle.run_report.proofs.Names.{nat_tests, zero, suc, Some, None, Result, ◌≡◌, ℕ, ◌+◌, ◌<◌, ◌≤◌, Bool, true, false, cond, List, [], ◌∷◌, ◌++◌, Option, refl, sym, ◌∙◌, ap, arith, length, get_or, take, drop, append_assoc, length-drop, nows, map-append, length-map, get_or-map, drop-map, drop_more, append-nil, nil_from_length, drop-drop, slice_get, OnOk, TaskEnd, Statement, Reply, list_any, take-map, or_parts, first_of_two, place_if, is_found, place_from, name_of, name_at, names_by, is_given, shows_given, ShowsNames, shown_of, is_task, task_line, task_lines_of, task_name, call_line, call_lines_of}
+use Rattle.run_report.proofs.Names.{nat_tests, zero, suc, Some, None, Result, ◌≡◌, ℕ, ◌+◌, ◌<◌, ◌≤◌, Bool, false, cond, List, [], ◌∷◌, ◌++◌, Option, refl, sym, ◌∙◌, ap, arith, length, get_or, take, drop, append_assoc, length-drop, nows, map-append, length-map, get_or-map, drop-map, drop_more, append-nil, nil_from_length, drop-drop, slice_get, OnOk, TaskEnd, Statement, Reply, list_any, take-map, or_parts, first_of_two, place_if, is_found, place_from, name_at, names_by, is_given, shows_given, ShowsNames, shown_of, is_task, task_line, task_lines_of, task_name, call_line, call_lines_of}
 use denote.Ref.{Bor}
-use Rattle.workload_file.specs.Reading.{name_text}
 use Rattle.run_report.specs.declared.sorts.Shown.{Shown}
-use Rattle.run_report.specs.declared.sorts.Shown.TheVariants as shows
 use Rattle.run_report.specs.Calls.{makes}
 
 -- the replies behind references, one by one
@@ -48,26 +46,26 @@ unfolding task_lines_of
 no_task_lines part by [] = refl
 no_task_lines part by (s ∷ ss) = refl
 
-pub task_lines-next : (part : List ℕ) (by : ℕ
+pub task_lines_next : (part : List ℕ) (by : ℕ
     → Option TaskEnd) (ss : List Statement) (rs : List Reply) (i : ℕ) (s : Statement) (r : Reply) (out new whole : List ℕ)
     → i < length ss → s ≡ get_or ss i s → i < length rs → r ≡ get_or rs i r
     → out ++ task_lines_of part by (drop i ss) (drop i rs) ≡ whole → new ≡ out ++ cond (is_task (shown_of s.deed)) (task_line part by s r) []
     → new ++ task_lines_of part by (drop (i + 1) ss) (drop (i + 1) rs) ≡ whole
 unfolding task_lines_of
-task_lines-next part by ss rs i s r out new whole l at m got so made =
+task_lines_next part by ss rs i s r out new whole l at m got so made =
     grows out new (cond (is_task (shown_of s.deed)) (task_line part by s r) []) (task_lines_of part by (drop (i + 1) ss) (drop (i + 1) rs)) whole
     (task_lines_of part by (drop i ss) (drop i rs))
     so (both_more (task_lines_of part by) ss rs i s r l at m got) made
 
-pub task_lines-past_replies : (part : List ℕ) (by : ℕ → Option TaskEnd) (ss : List Statement) (rs : List Reply) (i : ℕ) (out whole : List ℕ)
+pub task_lines_past_replies : (part : List ℕ) (by : ℕ → Option TaskEnd) (ss : List Statement) (rs : List Reply) (i : ℕ) (out whole : List ℕ)
     → length rs ≤ i → out ++ task_lines_of part by (drop i ss) (drop i rs) ≡ whole → out ≡ whole
-task_lines-past_replies part by ss rs i out whole past so =
+task_lines_past_replies part by ss rs i out whole past so =
     ends out whole _ so (ap (λ l. task_lines_of part by (drop i ss) l) (nothing_left rs i past) ∙ no_task_lines part by (drop i ss))
 
-pub task_lines-past : (part : List ℕ) (by : ℕ → Option TaskEnd) (ss : List Statement) (rs : List Reply) (i : ℕ) (out whole : List ℕ)
+pub task_lines_past : (part : List ℕ) (by : ℕ → Option TaskEnd) (ss : List Statement) (rs : List Reply) (i : ℕ) (out whole : List ℕ)
     → length ss ≤ i → out ++ task_lines_of part by (drop i ss) (drop i rs) ≡ whole → out ≡ whole
 unfolding task_lines_of
-task_lines-past part by ss rs i out whole past so = ends out whole _ so (ap (λ l. task_lines_of part by l (drop i rs)) (nothing_left ss i past))
+task_lines_past part by ss rs i out whole past so = ends out whole _ so (ap (λ l. task_lines_of part by l (drop i rs)) (nothing_left ss i past))
 
 -- Lines of calls
 
@@ -76,25 +74,25 @@ unfolding call_lines_of
 no_call_lines part name [] = refl
 no_call_lines part name (s ∷ ss) = refl
 
-pub call_lines-next : (part : List ℕ) (name : ℕ → List ℕ) (ss : List Statement) (rs : List Reply) (i : ℕ) (s : Statement) (r : Reply) (out new whole : List ℕ)
+pub call_lines_next : (part : List ℕ) (name : ℕ → List ℕ) (ss : List Statement) (rs : List Reply) (i : ℕ) (s : Statement) (r : Reply) (out new whole : List ℕ)
     → i < length ss → s ≡ get_or ss i s → i < length rs → r ≡ get_or rs i r
     → out ++ call_lines_of part name (drop i ss) (drop i rs) ≡ whole → new ≡ out ++ call_line part name s.line (shown_of s.deed) r
     → new ++ call_lines_of part name (drop (i + 1) ss) (drop (i + 1) rs) ≡ whole
 unfolding call_lines_of
-call_lines-next part name ss rs i s r out new whole l at m got so made =
+call_lines_next part name ss rs i s r out new whole l at m got so made =
     grows out new (call_line part name s.line (shown_of s.deed) r) (call_lines_of part name (drop (i + 1) ss) (drop (i + 1) rs)) whole
     (call_lines_of part name (drop i ss) (drop i rs))
     so (both_more (call_lines_of part name) ss rs i s r l at m got) made
 
-pub call_lines-past_replies : (part : List ℕ) (name : ℕ → List ℕ) (ss : List Statement) (rs : List Reply) (i : ℕ) (out whole : List ℕ)
+pub call_lines_past_replies : (part : List ℕ) (name : ℕ → List ℕ) (ss : List Statement) (rs : List Reply) (i : ℕ) (out whole : List ℕ)
     → length rs ≤ i → out ++ call_lines_of part name (drop i ss) (drop i rs) ≡ whole → out ≡ whole
-call_lines-past_replies part name ss rs i out whole past so =
+call_lines_past_replies part name ss rs i out whole past so =
     ends out whole _ so (ap (λ l. call_lines_of part name (drop i ss) l) (nothing_left rs i past) ∙ no_call_lines part name (drop i ss))
 
-pub call_lines-past : (part : List ℕ) (name : ℕ → List ℕ) (ss : List Statement) (rs : List Reply) (i : ℕ) (out whole : List ℕ)
+pub call_lines_past : (part : List ℕ) (name : ℕ → List ℕ) (ss : List Statement) (rs : List Reply) (i : ℕ) (out whole : List ℕ)
     → length ss ≤ i → out ++ call_lines_of part name (drop i ss) (drop i rs) ≡ whole → out ≡ whole
 unfolding call_lines_of
-call_lines-past part name ss rs i out whole past so = ends out whole _ so (ap (λ l. call_lines_of part name l (drop i rs)) (nothing_left ss i past))
+call_lines_past part name ss rs i out whole past so = ends out whole _ so (ap (λ l. call_lines_of part name l (drop i rs)) (nothing_left ss i past))
 
 -- The places of tasks
 
@@ -111,26 +109,26 @@ place_step : (n h : ℕ) (found : Option ℕ) (b : Bool) (old rest : Option ℕ)
     → first_of_two (first_of_two old (place_if n h found)) rest ≡ first_of_two old (cond b (Some n) rest)
 place_step n h found b old rest e1 = grind (arith, nat_tests)
 
-pub place-next : (ss : List Statement) (rs : List Reply) (h i : ℕ) (s : Statement) (r : Reply) (old new whole found : Option ℕ)
+pub place_next : (ss : List Statement) (rs : List Reply) (h i : ℕ) (s : Statement) (r : Reply) (old new whole found : Option ℕ)
     → i < length ss → s ≡ get_or ss i s → i < length rs → r ≡ get_or rs i r
     → first_of_two old (place_from i (drop i ss) (drop i rs) h) ≡ whole → new ≡ first_of_two old (place_if i h found) → makes h s r ≡ is_found h found
     → first_of_two new (place_from (i + 1) (drop (i + 1) ss) (drop (i + 1) rs) h) ≡ whole
 unfolding place_from
-place-next ss rs h i s r old new whole found l at m got so made is =
+place_next ss rs h i s r old new whole found l at m got so made is =
     let rest : Option ℕ = place_from (i + 1) (drop (i + 1) ss) (drop (i + 1) rs) h in
     ap (λ x. first_of_two x rest) made
     ∙ place_step i h found (makes h s r) old rest is
     ∙ ap (first_of_two old) (sym (both_more (λ a b. place_from i a b h) ss rs i s r l at m got))
     ∙ so
 
-pub place-past_replies : (ss : List Statement) (rs : List Reply) (h i : ℕ) (old whole : Option ℕ) → length rs ≤ i
+pub place_past_replies : (ss : List Statement) (rs : List Reply) (h i : ℕ) (old whole : Option ℕ) → length rs ≤ i
     → first_of_two old (place_from i (drop i ss) (drop i rs) h) ≡ whole → old ≡ whole
-place-past_replies ss rs h i old whole e1 e2 = grind (arith, nat_tests, first_none, first_of_two, place_from, nothing_left, no_place)
+place_past_replies ss rs h i old whole e1 e2 = grind (arith, nat_tests, first_none, first_of_two, place_from, nothing_left, no_place)
 
-pub place-past : (ss : List Statement) (rs : List Reply) (h i : ℕ) (old whole : Option ℕ) → length ss ≤ i
+pub place_past : (ss : List Statement) (rs : List Reply) (h i : ℕ) (old whole : Option ℕ) → length ss ≤ i
     → first_of_two old (place_from i (drop i ss) (drop i rs) h) ≡ whole → old ≡ whole
 unfolding place_from
-place-past ss rs h i old whole e1 e2 = grind (arith, nat_tests, first_none, first_of_two, place_from, nothing_left)
+place_past ss rs h i old whole e1 e2 = grind (arith, nat_tests, first_none, first_of_two, place_from, nothing_left)
 
 -- The names of tasks
 

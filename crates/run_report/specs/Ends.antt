@@ -2,7 +2,7 @@
 use Rattle.std.specs.Prelude.{◌≡◌, ℕ, true, false, Bool, Option, Some}
 use Rattle.mtapi_values.specs.declared.ends.TaskEnd.{TaskEnd}
 use Rattle.run_report.specs.declared.changes.EndEffect.{EndEffect}
-use Rattle.run_report.specs.declared.changes.EndEffect.TheVariants.{Nothing, MakesAction, EnablesAction, DisablesAction, DeletesAction, StartsTask, EnqueuesTask, BeginsTask, EndsTask, CancelsTask, MakesQueue, EnablesQueue, DisablesQueue, DeletesQueue, Closes}
+use Rattle.run_report.specs.declared.changes.EndEffect.TheVariants.{DisablesAction, DeletesAction, EndsTask, CancelsTask, MakesQueue, DisablesQueue, DeletesQueue}
 use Rattle.run_report.specs.Seen.{Seen, put}
 
 -- where no queue is disabled, the change ends no task but one that it names, and disables none

@@ -1,15 +1,15 @@
 use Rattle.run_report.proofs.Names.{nat_eq, get, nows}
-use Rattle.run_report.proofs.Zips.{nows_past, nows_room, nows_at, task_lines-next, task_lines-past_replies, task_lines-past}
+use Rattle.run_report.proofs.Zips.{nows_past, nows_room, nows_at, task_lines_next, task_lines_past_replies, task_lines_past}
 use Rattle.run_report.proofs.task_lines.push_task_lines.Goals as goal
 
 pub returns-in_default : goal.returns-in_default
 returns-in_default c =
-    task_lines-past_replies c.args.part.now (get nat_eq c.args.ended.now) c.args.statements.now (nows c.args.replies.now) c.loop-i.i c.loop-i.out.items _
+    task_lines_past_replies c.args.part.now (get nat_eq c.args.ended.now) c.args.statements.now (nows c.args.replies.now) c.loop-i.i c.loop-i.out.items _
     (nows_past c.args.replies.now c.loop-i.i c.in_default.ensures.lookup.3) c.loop-i.invariant
 
 pub loop-i-preserved : goal.loop-i-preserved
 loop-i-preserved c =
-    task_lines-next c.args.part.now (get nat_eq c.args.ended.now) c.args.statements.now
+    task_lines_next c.args.part.now (get nat_eq c.args.ended.now) c.args.statements.now
     (nows c.args.replies.now) c.loop-i.i c.index-statements-i.result c.in-Some.reply.now.now
     c.loop-i.out.items c.push_if_task.new.out.items _
     c.loop-i-test.true c.index-statements-i.is (nows_room c.args.replies.now c.loop-i.i c.in-Some.ensures.lookup.3.0)
@@ -17,5 +17,5 @@ loop-i-preserved c =
     c.in_ok-push_if_task.ensures
 
 pub returns : goal.returns
-returns c = task_lines-past c.args.part.now (get nat_eq c.args.ended.now) c.args.statements.now
+returns c = task_lines_past c.args.part.now (get nat_eq c.args.ended.now) c.args.statements.now
     (nows c.args.replies.now) c.loop-i.i c.loop-i.out.items _ c.loop-i-test.false c.loop-i.invariant
