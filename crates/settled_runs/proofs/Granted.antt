@@ -95,22 +95,15 @@ pub tasks_grow : GrowsBy ObjectKind.Task
 tasks_grow = tasks_made any (λ x y i. refl) (makes_object ObjectKind.Task) starts_some
 
 pub actions_grow : GrowsBy ObjectKind.Action
-actions_grow s who (Op.ActionCreate job k cores) r a =
-    given (Grows ObjectKind.Action s (Op.ActionCreate job k cores)) (row s who (Op.ActionCreate job k cores) r) r
-    (refused ObjectKind.Action s (Op.ActionCreate job k cores))
-    (λ c0 c1 c2. on_only (Grows ObjectKind.Action s (Op.ActionCreate job k cores)) _ _ _ (λ m. more _ _ s.actions)) a
+actions_grow s who (Op.ActionCreate job k cores) r a = grind (arith, nat_tests, more {T = Action})
 actions_grow s who o r a = none_more ObjectKind.Action s who o r refl
 
 pub groups_grow : GrowsBy ObjectKind.Group
-groups_grow s who Op.GroupCreate r a = given (Grows ObjectKind.Group s Op.GroupCreate) (row s who Op.GroupCreate r) r
-    (refused ObjectKind.Group s Op.GroupCreate) (λ c0 c1. on_only (Grows ObjectKind.Group s Op.GroupCreate) _ _ _ (λ m. more _ _ s.groups)) a
+groups_grow s who Op.GroupCreate r a = grind (arith, nat_tests, more)
 groups_grow s who o r a = none_more ObjectKind.Group s who o r refl
 
 pub queues_grow : GrowsBy ObjectKind.Queue
-queues_grow s who (Op.QueueCreate id job priority limit ordered retain) r a =
-    given (Grows ObjectKind.Queue s (Op.QueueCreate id job priority limit ordered retain)) (row s who (Op.QueueCreate id job priority limit ordered retain) r) r
-    (refused ObjectKind.Queue s (Op.QueueCreate id job priority limit ordered retain))
-    (λ c0 c1 c2 c3 c4. on_only (Grows ObjectKind.Queue s (Op.QueueCreate id job priority limit ordered retain)) _ _ _ (λ m. more _ _ s.queues)) a
+queues_grow s who (Op.QueueCreate id job priority limit ordered retain) r a = grind (arith, nat_tests, more {T = Queue})
 queues_grow s who o r a = none_more ObjectKind.Queue s who o r refl
 
 -- what grows by an entry that passes and by no other grows by so many
@@ -265,11 +258,7 @@ differ_move id o z s x e v =
 
 differ_next : (id : ℕ) (s : State) (who : ℕ) (o : Op) (r : Reply) → makes_queue id o ≡ false → Allows (row s who o r) r → Differ id s
     → Differ id (after_row s (row s who o r))
-differ_next id s who (Op.QueueCreate other job priority limit ordered retain) r n a v =
-    given (λ x ms. Differ id (after_moves ms s)) (row s who (Op.QueueCreate other job priority limit ordered retain) r) r (λ x. v)
-    (λ c0 c1 c2 c3 c4. on_only (λ x ms. Differ id (after_moves ms s)) (is_fresh queues s (handle_of r)) (Handle (handle_of r))
-    (makes Queues (handle_of r) (new_queue other job priority limit ordered retain)
-    ∷ []) (λ i. every_issue (Differs id) (handle_of r) (new_queue other job priority limit ordered retain) s.queues n v)) a
+differ_next id s who (Op.QueueCreate other job priority limit ordered retain) r n a v = grind (arith, nat_tests, every_issue (Differs id))
 differ_next id s who o r n a v = by_moves (Differ id) s (entry who o r) (λ t x i u. differ_move id o refl t x i u) v
 
 differ_along : (id : ℕ) (s : State) (L : List NodeEntry) → LegalFrom s L → some_entry (λ e. makes_queue id e.op) L ≡ false → Differ id s

@@ -15,9 +15,7 @@ module _ (actions : List Action) (all : List Statement) (ends : ℕ → Option T
   tasks_shown faults [] rs p = refl
   tasks_shown faults (s ∷ ss) [] p = absurd p
   tasks_shown faults (s ∷ ss) (r ∷ rs) p =
-      let a = task_shown faults s s.deed r p.0 in
-      let b = tasks_shown (faults_behind actions all faults s.deed) ss rs p.1 in
-      λ i. a i ++ b i
+      grind (arith, nat_tests, task_shown faults s s.deed r p.0, tasks_shown (faults_behind actions all faults s.deed) ss rs p.1)
 
   -- Lines of calls
 
@@ -41,10 +39,12 @@ module _ (actions : List Action) (ends : ℕ → Option TaskEnd) where
   unfolding ArePlain call_lines_of plain_calls_from
   calls_shown p name faults [] rs a = refl
   calls_shown p name faults (s ∷ ss) [] a = absurd a
-  calls_shown p name faults (s ∷ ss) (r ∷ rs) a =
-      let b = call_shown actions p.statements ends p.name faults name s s.deed r a.0 in
-      let c = calls_shown p name (faults_behind actions p.statements faults s.deed) ss rs a.1 in
-      λ i. b i ++ c i
+  calls_shown p name faults (s ∷ ss) (r ∷ rs) a = grind (
+    arith,
+    nat_tests,
+    call_shown actions p.statements ends p.name faults name s s.deed r a.0,
+    calls_shown p name (faults_behind actions p.statements faults s.deed) ss rs a.1,
+  )
 
   -- where each part's lines are the plain ones, all are
   all_parts : (f : Told → List ℕ) (g : Part → List ℕ)

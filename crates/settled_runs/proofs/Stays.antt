@@ -5,26 +5,10 @@ use Rattle.settled_runs.proofs.ByHandle.{granted, refuses_only}
 -- The entry that makes it
 
 pub made_there : (s : State) (o : Op) (who h : ℕ) → IsNext s (entry who o (Handle h)) → IsThere o h (next s (entry who o (Handle h)))
-made_there s (Op.ActionCreate job k cores) who h n =
-    granted (λ ms. IsThere (Op.ActionCreate job k cores) h (after_moves ms s)) (row s who (Op.ActionCreate job k cores) (Handle h)) h
-    (refl, (refl, (refl, refuses_only _ _ _)))
-    (λ c0 c1 c2. on_only (λ x ms. Handle h ≡ x
-    → IsThere (Op.ActionCreate job k cores) h (after_moves ms s)) _ (Handle h) (makes_action h (new_action job k cores.0) ∷ [])
-    (λ e i. at_issue_here h (new_action job k cores.0) s.actions (fresh_unlisted ObjectKind.Action s h e))) n.allowed
+made_there s (Op.ActionCreate job k cores) who h n = grind (arith, nat_tests, n.allowed, at_issue_here, fresh_unlisted ObjectKind.Action s h)
 made_there s (Op.QueueCreate id job priority limit ordered retain) who h n =
-    granted (λ ms. IsThere (Op.QueueCreate id job priority limit ordered retain) h (after_moves ms s))
-    (row s who (Op.QueueCreate id job priority limit ordered retain) (Handle h)) h
-    (refl, (refl, (refl, (refl, (refl, refuses_only _ _ _)))))
-    (λ c0 c1 c2 c3 c4. on_only (λ x ms. Handle h ≡ x
-    → IsThere (Op.QueueCreate id job priority limit ordered retain) h (after_moves ms s)) _ (Handle h)
-    (makes Queues h (new_queue id job priority limit ordered retain) ∷ [])
-    (λ e i. at_issue_here h (new_queue id job priority limit ordered retain) s.queues (fresh_unlisted ObjectKind.Queue s h e))) n.allowed
-made_there s Op.GroupCreate who h n =
-    granted (λ ms. IsThere Op.GroupCreate h (after_moves ms s)) (row s who Op.GroupCreate (Handle h)) h
-    (refl, (refl, refuses_only _ _ _))
-    (λ c0 c1. on_only (λ x ms. Handle h ≡ x
-    → IsThere Op.GroupCreate h (after_moves ms s)) _ (Handle h) (makes Groups h new_group
-    ∷ []) (λ e i. at_issue_here h new_group s.groups (fresh_unlisted ObjectKind.Group s h e))) n.allowed
+    grind (arith, nat_tests, n.allowed, at_issue_here, fresh_unlisted ObjectKind.Queue s h)
+made_there s Op.GroupCreate who h n = grind (arith, nat_tests, n.allowed, at_issue_here, fresh_unlisted ObjectKind.Group s h)
 made_there s _ who h n = tt
 
 -- The task that an entry starts
