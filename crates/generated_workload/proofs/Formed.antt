@@ -1,5 +1,6 @@
 -- The generated workload is well formed.
-use Rattle.generated_workload.proofs.Names.{AllFit, fields, generated_settings, ◌≡◌, ℕ, ℤ, zero, suc, pos, ◌+◌, ◌%◌, ◌^◌, ◌≤◌, ◌<◌, Bool, true, false, cond, ◌||◌, eqb, List, [], ◌∷◌, ◌++◌, length, map, append_assoc, Result, Ok, Err, refl, sym, ap, subst, ◌∙◌, arith, rules, inl, inr, IfOk, FitsSigned, AllByRecursion, list_all, list_any, is_ascii_digit, decimal, le-leb, and_parts, and_from, cases_Bool, decimal_injective, length-decimal-le, digits_decimal, append-nil, map-append, length-map, length-append, own, Statement, is_called, IsBoundAt, IsNew, IsStatement, AreStatements, begins, statement_lines, Rise, WellFormed, push_statement, begins_push, any_push, Below, below_push, rise_push, binding, first_statements, task_deed, task_name, task_statement, last_statement}
+use Rattle.std.proofs.lemmas.Bool.Decides.{nat_tests}
+use Rattle.generated_workload.proofs.Names.{AllFit, fields, generated_settings, ◌≡◌, ℕ, ℤ, zero, suc, pos, ◌+◌, ◌%◌, ◌^◌, ◌≤◌, ◌<◌, Bool, true, false, cond, eqb, List, [], ◌∷◌, ◌++◌, length, map, append_assoc, Result, Ok, Err, refl, sym, ap, subst, ◌∙◌, arith, rules, inl, inr, IfOk, FitsSigned, AllByRecursion, list_all, list_any, is_ascii_digit, decimal, le-leb, and_parts, and_from, cases_Bool, decimal_injective, length-decimal-le, digits_decimal, append-nil, map-append, length-map, length-append, own, Statement, is_called, IsBoundAt, IsNew, IsStatement, AreStatements, begins, statement_lines, Rise, WellFormed, push_statement, begins_push, any_push, Below, below_push, rise_push, binding, first_statements, task_deed, task_name, task_statement, last_statement}
 use Rattle.std.specs.declared.alloc.AllocError.{AllocError}
 use Rattle.std.specs.Int.{w64}
 use Rattle.std.specs.Str.{bytes_eq}
@@ -9,18 +10,13 @@ use Rattle.workload_file.specs.declared.workload.Workload.{Workload}
 use Rattle.workload_file.specs.declared.table.Word.TheVariants as word
 use Rattle.workload_file.specs.Deeds.{is_begin, deed_spelled, binds, setting_values}
 use Rattle.workload_file.specs.Table.{row}
-use Rattle.workload_file.specs.Values.{is_name, is_name_byte, is_letter}
+use Rattle.workload_file.specs.Values.{is_name, is_name_byte}
 use Rattle.generated_workload.specs.Generated.{start, tasks, generated}
 
 -- ---- names
 
 digit_name : (b : ℕ) → is_ascii_digit b ≡ true → is_name_byte b ≡ true
-digit_name b h = or_first (is_letter b) (is_ascii_digit b) (eqb b 95) h
-  where
-    or_first : (x y z : Bool) → y ≡ true → (x || y || z) ≡ true
-    or_first true y z e = refl
-    or_first false true z e = refl
-    or_first false false z e = absurd (cc)
+digit_name b h = grind (arith, nat_tests)
 
 digits_name : (ds : List ℕ) → list_all is_ascii_digit ds ≡ true → list_all is_name_byte ds ≡ true
 digits_name [] h = refl

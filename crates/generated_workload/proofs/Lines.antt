@@ -1,5 +1,6 @@
 -- Lines of words: that they are read, and how long they are.
-use Rattle.generated_workload.proofs.Names.{◌≡◌, ℕ, ◌+◌, ◌^◌, ◌≤◌, ◌<◌, List, [], ◌∷◌, ◌++◌, length, true, Some, Ok, refl, sym, subst, ◌∙◌, arith, list_all, join_with_byte, is_ascii_digit, decimal, and_parts, and_from, le-leb, leb-true, lt-ltb, ne_eqb, digits_decimal, led, own, within_written, Reading, line_text, bind_ok, ok_is, IsRead, states, is_inner, is_word, words_again, line_printable, led_length, change_of}
+use Rattle.std.proofs.lemmas.Bool.Decides.{nat_tests}
+use Rattle.generated_workload.proofs.Names.{◌≡◌, ℕ, ◌+◌, ◌^◌, ◌≤◌, ◌<◌, List, [], ◌∷◌, ◌++◌, length, true, Some, Ok, refl, sym, subst, ◌∙◌, arith, list_all, join_with_byte, is_ascii_digit, decimal, and_parts, and_from, le-leb, lt-ltb, digits_decimal, led, own, within_written, Reading, line_text, bind_ok, ok_is, IsRead, states, is_inner, is_word, words_again, line_printable, led_length, change_of}
 use Rattle.std.proofs.Common.{length-append}
 use Rattle.workload_file.specs.Reading.{with_change, line_adds, lines_add}
 use Rattle.workload_file.specs.Values.{number, number_within}
@@ -9,11 +10,7 @@ use Rattle.workload_file.specs.declared.table.Word.{Word}
 -- ---- numbers in words
 
 digit_inner : (b : ℕ) → is_ascii_digit b ≡ true → is_inner b ≡ true
-digit_inner b h =
-    let both = and_parts _ _ h in
-    let low = leb-true 48 b both.0 in
-    let high = leb-true b 57 both.1 in
-    and_from _ _ (and_from _ _ (le-leb 32 b (omega arith)) (le-leb b 126 (omega arith))) (rw (ne_eqb b 32 (λ (e : b ≡ 32). omega arith)) refl)
+digit_inner b h = grind (arith, nat_tests)
 
 digits_inner : (ds : List ℕ) → list_all is_ascii_digit ds ≡ true → list_all is_inner ds ≡ true
 digits_inner [] h = refl

@@ -1,5 +1,6 @@
 -- The lines of the generated text that start a task, and the wait for all of them.
-use Rattle.generated_workload.proofs.Names.{◌≡◌, ℕ, ℤ, suc, pos, ◌+◌, ◌%◌, ◌^◌, ◌≤◌, ◌<◌, Bool, true, false, cond, eqb, List, [], ◌∷◌, ◌++◌, length, Some, None, Ok, refl, ap, ◌∙◌, arith, codes, nat_le, position, list_all, list_any, position_or_len, decimal, and_from, or_parts, lt-ltb, le-ltb, lt-leb, length-decimal-le, list_of, list_text, list_written, Reading, Statement, bound_at, is_called, change_of, line_text, IsRead, is_inner, is_word, all_append, binding, first_statements, task_name, task_statement, last_statement, start_words, task_words, last_line, LineEffect}
+use Rattle.std.proofs.lemmas.Bool.Decides.{nat_tests}
+use Rattle.generated_workload.proofs.Names.{◌≡◌, ℕ, ℤ, suc, pos, ◌+◌, ◌%◌, ◌^◌, ◌≤◌, ◌<◌, Bool, true, false, cond, eqb, List, [], ◌∷◌, ◌++◌, length, Some, None, Ok, refl, ap, ◌∙◌, arith, codes, nat_le, position, list_all, list_any, position_or_len, decimal, and_from, lt-ltb, le-ltb, lt-leb, length-decimal-le, list_of, list_text, list_written, Reading, Statement, bound_at, is_called, change_of, line_text, IsRead, is_inner, is_word, all_append, binding, first_statements, task_name, task_statement, last_statement, start_words, task_words, last_line, LineEffect}
 use Rattle.std.proofs.Common.{length-append}
 use Rattle.workload_file.specs.declared.table.Word.TheVariants as word
 use Rattle.workload_file.specs.declared.table.Sort.TheVariants as sort
@@ -20,10 +21,7 @@ use Rattle.generated_workload.proofs.Heads.{Good, state}
 
 nowhere : {X : Type 0} (p : X → Bool) (xs : List X) → list_any p xs ≡ false → position_or_len p xs ≡ length xs
 nowhere p [] h = refl
-nowhere p (x ∷ xs) h =
-    let both = or_parts (p x) (list_any p xs) h in
-    let rest = nowhere p xs both.1 in
-    rw both.0 (omega (arith, rest))
+nowhere p (x ∷ xs) h = grind (arith, nat_tests, nowhere p xs)
 
 no_position : {X : Type 0} (p : X → Bool) (xs : List X) → list_any p xs ≡ false → position p xs ≡ None
 no_position p xs h = rw (nowhere p xs h, le-ltb (length xs) (length xs) (omega arith)) refl

@@ -19,6 +19,7 @@ fn binding(line: u64, name: Name, deed: Deed) -> Statement
 }
 
 /// The name of a task: t and its number. The list that the text is put into keeps its memory from task to task.
+#[tactic(auto, using(crate::proofs::Formed::is_task_name))]
 fn task_name(alloc: Global, text: &mut Vec<u8>, i: u32) -> Result<Name, AllocError>
     requires { i < 19000 }
     ensures { IfOk result (λ name. name ≡ task_name i) }
@@ -104,6 +105,7 @@ fn first_statements(alloc: Global) -> Result<StatementList, AllocError>
 }
 
 /// Appends n tasks.
+#[tactic(auto, using(crate::proofs::Formed::one_more))]
 fn push_tasks(alloc: Global, list: &mut StatementList, n: u32) -> Result<(), AllocError>
     requires { n ≤ 19000 }
     ensures { OnOk result (list.new ≡ list.old ++ tasks n) }

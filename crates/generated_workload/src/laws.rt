@@ -6,6 +6,7 @@ ghost use Rattle.generated_workload.specs.Text.{generated_text};
 
 /// The text of the generated workload gives that workload, and is no longer than a workload may be: 1,048,576 bytes. The row is the
 /// text of 3 tasks with 4 workers.
+#[tactic(auto, using(crate::proofs::Read::text_read, crate::proofs::Read::text_row))]
 pub fn law_generated_text()
     ensures read { (n w : ℕ) → 1 ≤ n → n ≤ 19000 → 1 ≤ w → w ≤ 16
         → workload_of (generated_text n w) ≡ Ok (generated n w) }
