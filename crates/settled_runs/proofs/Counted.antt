@@ -1,6 +1,6 @@
 -- How many entries of a run ask for an op of some class: the statements bound it.
 use Rattle.settled_runs.proofs.Names.{Each, ◌≡◌, ℕ, suc, ◌+◌, ◌≤◌, ◌<◌, Bool, true, false, List, [], ◌∷◌, ◌++◌, length, refl, ◌∙◌, ap, subst, arith, ◌==◌, ◌&&◌, ◌||◌, nat_le, map, flat_map, nat_tests, eq-eqb, both_true, snd_true, how_many, Deed, Statement, Part, Workload, Op, Reply, handle_of, NodeEntry, Call, Once, Looking, call_of, Line, Made, entries_that, BySeats, true_false, lines_of, Carried, all_statements, Layout, entry}
-use Rattle.settled_runs.proofs.{Along.Step, Along.along, Along.Cut, Granted.bit, Granted.bit_within}
+use Rattle.settled_runs.proofs.{Along.Step, Along.along, Along.Cut, Granted.bit}
 use Rattle.settled_runs.proofs.Each.{AllSeats, CallEach, OnlyBy, PartAt, each_map, each_of, is_outside, run_each, run_parts, work_outside, RanSettled, each_op, map_run, seats_are}
 
 -- How many pass
@@ -21,8 +21,7 @@ module _ {X : Type 0} where
 
   pub many_within : (p q : X → Bool) (xs : List X) → Each (λ x. p x ≡ true → q x ≡ true) xs → how_many p xs ≤ how_many q xs
   many_within p q [] a = omega arith
-  many_within p q (x ∷ xs) a = let k : how_many p xs ≤ how_many q xs = many_within p q xs a.1 in let b : bit (p x) ≤ bit (q x) = bit_within (p x) (q x) a.0 in
-      omega arith
+  many_within p q (x ∷ xs) a = grind (arith, a.0, many_within p q xs a.1)
 
 pub entries_are : (p : NodeEntry → Bool) (es : List NodeEntry) → entries_that p es ≡ how_many p es
 entries_are p es = grind (arith, nat_tests)

@@ -101,8 +101,7 @@ entries_each Q n (e ∷ es) (m ∷ ns) l b k = (
   (subst (λ (c : Bool). Each (λ x. Q (entry e.who x.op x.reply)) (cond c (line e.op e.reply m ∷ lines_of e.who es ns) (lines_of e.who es ns)))
       (eq-eqb e.who e.who refl) (k e.who b.0)).0,
   entries_each Q n es ns (omega arith) b.1
-      (λ w i. cond_both (e.who == w) (line e.op e.reply m ∷ lines_of w es ns) (lines_of w es ns) (λ z. Each (λ x. Q (entry w x.op x.reply)) z
-      → Each (λ x. Q (entry w x.op x.reply)) (lines_of w es ns)) (λ j p. p.1) (λ j p. p) (k w i)),
+      (λ w i. grind (arith, nat_tests, k w i)),
 )
 
 -- only this seat asks for such an op

@@ -7,9 +7,6 @@ use Rattle.settled_runs.proofs.Stays.{made_objects_stay, AskedAs, on_start}
 abbrev pub bit : Bool → ℕ
 bit b = cond b 1 0
 
-pub bit_within : (a b : Bool) → (a ≡ true → b ≡ true) → bit a ≤ bit b
-bit_within a b f = grind (arith, f)
-
 -- how many objects pass that were ever issued
 module _ {T : Type 0} (p : T → Bool) where
   abbrev pub issued : List (Listed T) → ℕ
@@ -51,9 +48,6 @@ none_made k p f s e z =
     (λ t m i. kind_move k t e.op (λ l. issued p l ≡ made_of k p s) (λ h x b j v. true_false b z) (λ l a v. issued_ages p (SameFields k) f _ l a ∙ v) m i) refl
 
 -- the reply makes at most one more
-abbrev Grows : ObjectKind → State → Op → Reply → List Move → Type 0
-Grows k s o r ms = made_of k any (after_moves ms s) ≤ made_of k any s + bit (makes_object k o && is_handle r)
-
 abbrev pub GrowsBy : ObjectKind → Type 0
 GrowsBy k = (s : State) (who : ℕ) (o : Op) (r : Reply) → Allows (row s who o r) r
     → made_of k any (after_row s (row s who o r)) ≤ made_of k any s + bit (makes_object k o && is_handle r)
@@ -65,9 +59,6 @@ none_more k s who o r z = let n : made_of k any (next s (entry who o r)) ≡ mad
 more : {T : Type 0} (h : ℕ) (x : T) (l : List (Listed T)) → issued any (issue h x l) ≤ issued any l + 1
 more h x l = let e : issued any (issue h x l) ≡ issued any l + 1 = issued_more any h x l in omega arith
 
-refused : (k : ObjectKind) (s : State) (o : Op) (r : Reply) → Grows k s o r []
-refused k s o r = omega arith
-
 -- and so it is of the tasks that pass, where the ops that start one are among these
 module _ (p : Task → Bool) (same : (x y : Task) → SameTask x y → p y ≡ p x) (b : Op → Bool) (by : (s : State) (n : NewTask) (k : ℕ) (o : Op) → AskedAs s n o
     → p (new_task n k) ≡ true → b o ≡ true) where
@@ -75,12 +66,7 @@ module _ (p : Task → Bool) (same : (x y : Task) → SameTask x y → p y ≡ p
   Gets s o r ms = made_of ObjectKind.Task p (after_moves ms s) ≤ made_of ObjectKind.Task p s + bit (b o && is_handle r)
 
   one_gets : (s : State) (o : Op) (h : ℕ) (n : NewTask) → AskedAs s n o → Gets s o (Handle h) (starts_task h n ∷ [])
-  one_gets s o h n i =
-      let a : bit (p (new_task n s.starts)) ≤ bit (b o && true) =
-      bit_within (p (new_task n s.starts)) (b o && true) (λ j. both_true (b o) true (by s n s.starts o i j) refl) in
-      let e : made_of ObjectKind.Task p (apply (starts_task h n) s) ≡ made_of ObjectKind.Task p s + bit (p (new_task n s.starts)) =
-      issued_more p h (new_task n s.starts) s.tasks in
-      omega arith
+  one_gets s o h n i = grind (arith, nat_tests, by s n s.starts o i, issued_more p h (new_task n s.starts) s.tasks)
 
   pub tasks_made : (s : State) (who : ℕ) (o : Op) (r : Reply) → Allows (row s who o r) r
       → made_of ObjectKind.Task p (after_row s (row s who o r)) ≤ made_of ObjectKind.Task p s + bit (b o && is_handle r)
@@ -272,8 +258,7 @@ differ_along id s (e ∷ es) l n v =
 none_found : {T : Type 0} (p : T → Bool) (l : List (Listed T)) → Every (λ x. p x ≡ false) l → any_listed p l ≡ false
 unfolding live_of
 none_found p [] v = refl
-none_found p (r ∷ rs) v = let k = none_found p rs v.1 in
-    cond_both r.live ((r.handle, r.fields) ∷ live_of rs) (live_of rs) (λ l. any_live p l ≡ false) (λ i. (λ j. cond (v.0 j) true (k j))) (λ i. k)
+none_found p (r ∷ rs) v = grind (arith, nat_tests, v.0, none_found p rs v.1)
 
 -- How many tasks a queue was given
 

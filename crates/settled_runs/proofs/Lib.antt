@@ -1,7 +1,6 @@
 mod Names
 pub mod Computed
 pub mod PlainReplies
-pub mod ByHandle
 pub mod Stays
 pub mod Granted
 pub mod Waits

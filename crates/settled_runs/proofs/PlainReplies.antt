@@ -19,19 +19,10 @@ module _ (actions : List Action) (all : List Statement) (ends : ℕ → Option T
 
   -- Lines of calls
 
-  no_status : (r : Reply) → is_status r ≡ false → status_of r ≡ None
-  no_status r e1 = grind (arith, nat_tests)
-
-  tells : (fault : Option MtapiStatus) → status_of (verdict fault) ≡ option_map mtapi_name fault
-  tells fault = grind (arith, nat_tests)
-
-  unrefused : (line : ℕ) (r : Reply) → is_status r ≡ false → marked_line 33 part line (status_of r) ++ [] ≡ []
-  unrefused line r e = append-nil (marked_line 33 part line (status_of r)) ∙ ap (marked_line 33 part line) (no_status r e)
-
   call_shown : (faults : Faults) (name : ℕ → List ℕ) (s : Statement) (d : Deed) (r : Reply) → IsPlainReply actions all ends faults d r
       → call_line part name s.line (shown_of d) r ≡ plain_call_line part faults s d
   unfolding IsPlainReply shown_of plain_call_line
-  call_shown faults name s d r e1 = grind (arith, nat_tests, unrefused, tells, append-nil)
+  call_shown faults name s d r e1 = grind (arith, nat_tests, append-nil)
 
 module _ (actions : List Action) (ends : ℕ → Option TaskEnd) where
   calls_shown : (p : Part) (name : ℕ → List ℕ) (faults : Faults) (ss : List Statement) (rs : List Reply) → ArePlain actions p.statements ends faults ss rs

@@ -4,7 +4,6 @@ use Rattle.settled_runs.proofs.{Stays.there_next, Stays.made_there, Granted.any_
 use Rattle.history_law.proofs.TaskSteps as step
 use Rattle.history_law.proofs.TaskSteps.{Step, Steps, tasks_go, step_handle, step_alive, every_steps}
 use Rattle.mtapi_machine.specs.Laws.{IsBy, may}
-use Rattle.settled_runs.proofs.ByHandle.{granted, refuses_only}
 use Rattle.settled_runs.proofs.Waits.{notes_stay, notes_tasks, noting, open_up, legal_behind, none_noted}
 
 -- The first fault of the endings
@@ -310,29 +309,7 @@ pub record Tells (g : ℕ) (hs : List ℕ) (s : State) (r : Reply) (ms : List Mo
 looked : (g : GroupHandle) (hs : List ℕ) (s : State) (w : ℕ) (r : Reply) → is_open s.phase ≡ true → live_object s.groups g.0 ≡ Some new_group
     → Allows (row s w (Op.AllLook g false) r) r → Holds g.0 hs s
     → Tells g.0 hs s r (moves_of (row s w (Op.AllLook g false) r))
-looked g hs s w r o e a v =
-    passed_by (not (is_up s.phase)) (Reply.Mtapi MtapiStatus.ErrNodeNotinit) (live (live_object s.groups g.0) (gives groups.invalid []) (λ x. body))
-    (open_up s.phase (ap not o))
-    (subst (λ (y : Option Group). Q (live y (gives groups.invalid []) (λ x. body))) (sym e)
-    (cond_both (any_listed (is_unended_member g.0) s.tasks) _ _ Q
-    (λ d k. record { left = subst (λ (b : Bool). Members g.0 (cond b hs []) s.tasks) (sym (ap is_pending k)) v; said = inl k })
-    (λ d k. record {
-      left = subst (λ (b : Bool). Members g.0 (cond b hs []) (apply (frees_members g.0) s).tasks)
-          (sym (ap is_pending k ∙ verdict_decides (first_fault (endings g.0 (live_of s.tasks)))))
-          (record { into = λ h b. true_false b refl; out = none_left g.0 s.tasks d });
-      said = inr (d, k);
-    }))) a
-  where
-    Q : Row → Type 0
-    Q z = Allows z r → Tells g.0 hs s r (moves_of z)
-
-    body : Row
-    body = cond (any_listed (is_unended_member g.0) s.tasks) (gives Reply.Pending [])
-        (gives (verdict (first_fault (endings g.0 (live_of s.tasks)))) (frees_members g.0 ∷ []))
-
-    passed_by : (c : Bool) (x : Reply) (z : Row) → c ≡ false → Q z → Q (unless c x z)
-    passed_by true x z i q = true_false refl i
-    passed_by false x z i q = q
+looked g hs s w r o e a v = grind (arith, nat_tests, verdict_decides, none_left g.0 s.tasks, open_up s.phase)
 
 -- An entry
 
@@ -384,13 +361,7 @@ no_members g groups (r ∷ rs) n v = ((λ a b. let k : 1 ≤ listed g groups = v
 new_group_fine : (s : State) (w h : ℕ) → Named s → Allows (row s w Op.GroupCreate (Reply.Handle h)) (Reply.Handle h)
     → (is_open (after_row s (row s w Op.GroupCreate (Reply.Handle h))).phase ≡ true)
     × Members h [] (after_row s (row s w Op.GroupCreate (Reply.Handle h))).tasks
-new_group_fine s w h v a =
-    granted (λ ms. (is_open (after_moves ms s).phase ≡ true) × Members h [] (after_moves ms s).tasks) (row s w Op.GroupCreate (Reply.Handle h)) h
-    (refl, (refl, refuses_only _ _ _))
-    (λ c0 c1. on_only (λ x ms. Reply.Handle h ≡ x
-    → (is_open (after_moves ms s).phase ≡ true)
-    × Members h [] (after_moves ms s).tasks) (is_fresh groups s h) (Reply.Handle h) (makes Groups h new_group ∷ [])
-    (λ e i. (not_false _ c0, record { into = λ k b. true_false b refl; out = no_members h s.groups s.tasks (fresh_unlisted ObjectKind.Group s h e) v }))) a
+new_group_fine s w h v a = grind (arith, nat_tests, no_members h s.groups s.tasks, fresh_unlisted ObjectKind.Group s h)
 
 -- The verdict
 

@@ -107,17 +107,10 @@ on_looks who h s w t false _ v = waits who h s w t Reply.Pending (Some w) v (no_
 pub none_noted : (K : Reply → List Move → Type 0) (s : State) (w : ℕ) (o : Op) (r : Reply) → IsCalm s → notes_tasks o ≡ true
     → ((t : TaskHandle) (last : Bool) → o ≡ Op.TaskLook t last → ⊥) → ((x : Reply) → K x []) → Allows (row s w o r) r → K r (moves_of (row s w o r))
 none_noted K s w (Op.TaskLook t last) r c n u z a = absurd (u t last refl)
-none_noted K s w (Op.Asked t) r c n u z a =
-    given K (row s w (Op.Asked t) r) r z (λ d. on_live K (live_object s.tasks t.0) _ _ (z _) (λ x e f. absurd (none_impure s w t.0 Kind.Watch x c refl e f))) a
-none_noted K s w (Op.TallyLock t) r c n u z a =
-    given K (row s w (Op.TallyLock t) r) r z
-    (λ d. on_live K (live_object s.tasks t.0) _ _ (z _) (λ x e f. absurd (none_impure s w t.0 Kind.Tally x c refl e f))) a
-none_noted K s w (Op.TallyRead t) r c n u z a =
-    given K (row s w (Op.TallyRead t) r) r z
-    (λ d. on_live K (live_object s.tasks t.0) _ _ (z _) (λ x e f. absurd (none_impure s w t.0 Kind.Tally x c refl e f))) a
-none_noted K s w (Op.TallyWrite t value) r c n u z a =
-    given K (row s w (Op.TallyWrite t value) r) r z
-    (λ d. on_live K (live_object s.tasks t.0) _ _ (z _) (λ x e f. absurd (none_impure s w t.0 Kind.Tally x c refl e f))) a
+none_noted K s w (Op.Asked t) r c n u z a = grind (arith, nat_tests, z, none_impure s w t.0 Kind.Watch)
+none_noted K s w (Op.TallyLock t) r c n u z a = grind (arith, nat_tests, z, none_impure s w t.0 Kind.Tally)
+none_noted K s w (Op.TallyRead t) r c n u z a = grind (arith, nat_tests, z, none_impure s w t.0 Kind.Tally)
+none_noted K s w (Op.TallyWrite t value) r c n u z a = grind (arith, nat_tests, z, none_impure s w t.0 Kind.Tally)
 none_noted K s w _ r c n u z a = true_false n refl
 
 noted : (who h : ℕ) (s : State) (w : ℕ) (o : Op) (r : Reply) → IsCalm s → notes_tasks o ≡ true → (looks_at h o ≡ true → (w ≡ who) × (r ≡ Reply.Pending))
