@@ -18,12 +18,6 @@ pub release_calls : (bound : List ℕ) (d : Deed) → CallAsks is_release (bit (
 unfolding is_begin
 release_calls bound d = grind (arith, nat_tests)
 
-close_work : (o : Op) → is_at_work o ≡ true → closes o ≡ false
-close_work o e1 = grind (arith, nat_tests)
-
-release_work : (o : Op) → is_at_work o ≡ true → is_release o ≡ false
-release_work o e1 = grind (arith, nat_tests)
-
 pub no_close : (L : List NodeEntry) → asks closes L ≡ 0 → NoClose L
 no_close [] k = tt
 no_close (e ∷ es) k = (no_bit (closes e.op) (omega arith), no_close es (omega arith))
@@ -102,13 +96,13 @@ module _ {layout : Layout} {load : Workload} {es : List NodeEntry} {ns : List �
           (calls_none p (call_of (map handle_of z.replies) s.deed) (q s.deed) (calls (map handle_of z.replies) s.deed) (further w x rs l y i s z)))
 
   pub releases_main : OnlyBy main is_release es
-  releases_main = only_main is_release is_begin release_calls release_work refl (λ w x rs l y i s z. begin_none z.before s z.rest (ap begins (sym z.parted) ∙ i.begin))
+  releases_main = only_main is_release is_begin release_calls (λ o i. grind (arith, nat_tests, i)) refl (λ w x rs l y i s z. begin_none z.before s z.rest (ap begins (sym z.parted) ∙ i.begin))
 
   -- no statement closes, and main closes twice
   closed_twice : asks closes es ≤ 2
   closed_twice =
       let a : asks closes es ≤ asked closes (lines_of main es ns) =
-      only_asks main closes es ns u.same (only_main closes (λ d. false) (λ bound d. (calls_ask bound d).0) close_work refl (λ w x rs l y i s z. refl)) in
+      only_asks main closes es ns u.same (only_main closes (λ d. false) (λ bound d. (calls_ask bound d).0) (λ o i. grind (arith, nat_tests, i)) refl (λ w x rs l y i s z. refl)) in
       let b : asked closes (lines_of main es ns)
       ≡ asked closes (head_of (has_begin first_of.part.statements)) + asked closes (first_of.ran.body ++ tail_of_main) =
       ap (asked closes) first_of.ran.is ∙ many_append (λ l. closes l.op) (head_of (has_begin first_of.part.statements)) (first_of.ran.body

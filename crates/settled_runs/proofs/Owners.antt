@@ -46,9 +46,6 @@ one_looks u who h mine = one_user u tasks_handed who mine (looks_at h) (looks_ou
 abbrev pub uses : ℕ → Op → Bool
 uses g o = starts_member g o || looks_at_all g o
 
-uses_outside : (h : ℕ) (o : Op) → is_outside o ≡ true → uses h o ≡ false
-uses_outside h o e1 = grind (arith, nat_tests)
-
 pub uses_call : (h : ℕ) (before : List Statement) (s : Statement) (bound : List ℕ) → IsStatement before s
     → ((place : ℕ) → IsBoundAt Sort.Group before place → handle_at bound place ≡ h → ⊥) → CallEach (λ o. uses h o ≡ false) (call_of bound s.deed)
 unfolding row deed_spelled
@@ -57,7 +54,7 @@ uses_call h before s bound e1 e2 = grind (arith, nat_tests)
 -- only its own seat uses a group
 pub one_uses : {layout : Layout} {load : Workload} {es : List NodeEntry} {ns : List ℕ} (u : SettledRun layout load es ns) (who h : ℕ)
     → Gave ObjectKind.Group h (lines_of who es ns) → OnlyBy who (uses h) es
-one_uses u who h mine = one_user u groups_handed who mine (uses h) (uses_outside h) (uses_call h)
+one_uses u who h mine = one_user u groups_handed who mine (uses h) (λ o i. grind (arith, nat_tests, i)) (uses_call h)
 
 -- Which tasks were put into a group is told by the lines of its own seat
 

@@ -123,9 +123,6 @@ unfolding task_at
 under_task F [] h t u e = absurd (cc)
 under_task F (r ∷ rs) h t u e = grind (arith, nat_tests, u.0, under_task F rs h t u.1)
 
-accepted_issues : (o : Op) (r : Reply) (h : ℕ) → accepted_by o r ≡ Some h → (makes_object ObjectKind.Task o && is_handle h r) ≡ true
-accepted_issues o r h e1 = grind (arith, nat_tests)
-
 -- A task that was accepted as this one ends as the kind of its job answers
 
 module _ {layout : Layout} {load : Workload} {es : List NodeEntry} {ns : List ℕ} (u : RanSettled layout load es ns) (before behind : List NodeEntry)
@@ -171,5 +168,5 @@ pub settled_tasks_end_as_planned : SettledTasksEndAsPlanned
 settled_tasks_end_as_planned layout load es ns settled legal l run before behind e h is acc =
     let u : RanSettled layout load es ns = record { settled = settled; legal = legal; same = l; run = run } in
     let s : State = after (run_terms layout load) before in
-    let started : StartedAs s e.op h (next s e) = started_as s e h (next_at u before behind e h is acc) (accepted_issues e.op e.reply h acc) in
+    let started : StartedAs s e.op h (next s e) = started_as s e h (next_at u before behind e h is acc) (grind (arith, nat_tests, acc)) in
     record { task = started.0; asked = started.1; ends = ends_as_asked u before behind e h is acc started.0 s.starts started.2 }

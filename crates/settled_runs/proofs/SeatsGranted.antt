@@ -13,9 +13,6 @@ abbrev is_put : Deed → Bool
 is_put (Deed.Enqueue queue args cores detached group) = true
 is_put _ = false
 
-most : (b : Bool) → bit b ≤ 1
-most b = grind arith
-
 puts_calls : (h : ℕ) (bound : List ℕ) (d : Deed) → CallAsks (puts h) (bit (is_put d)) (call_of bound d)
 puts_calls h bound d = grind (arith, nat_tests)
 

@@ -235,13 +235,10 @@ member_start : (g : ℕ) (s : State) (n : NewTask) (o : Op) → starts_member g 
     → (n.detached ≡ false) × (holds (λ x. x == g) n.group ≡ true)
 member_start g s n o e1 e2 = grind (arith, nat_tests)
 
-member_starts : (g : ℕ) (o : Op) → starts_member g o ≡ true → makes_object ObjectKind.Task o ≡ true
-member_starts g o e1 = grind (arith, nat_tests)
-
 put_or_not : (g : ℕ) (hs : List ℕ) (s : State) (w : ℕ) (o : Op) (r : Reply) → starts_member g o ≡ true → Allows (row s w o r) r → Holds g hs s
     → Holds g (with_new r hs) (after_row s (row s w o r))
 put_or_not g hs s w o r z a v =
-    on_start (λ x ms. Holds g (with_new x hs) (after_moves ms s)) s w r (λ c. v) o (member_starts g o z) (λ h n b f. let m = member_start g s n o z b in
+    on_start (λ x ms. Holds g (with_new x hs) (after_moves ms s)) s w r (λ c. v) o (grind (arith, nat_tests, z)) (λ h n b f. let m = member_start g s n o z b in
     more_members g hs h n s m.0 m.1 f v) a
 
 -- What is noted of tasks
@@ -336,9 +333,6 @@ members_next g hs s e i q c k v =
     (λ z. whether (notes_tasks e.op) (λ n. noted g hs s e.who e.op e.reply c n i.allowed v.members)
     (λ n. by_moves (λ t. Members g hs t.tasks) s e (λ t x y u. members_move g hs e.op q n z l t x y u) v.members)))
 
-unclosed : (g : ℕ) (o : Op) → goes_on g o ≡ true → closes o ≡ false
-unclosed g o e1 = grind (arith, nat_tests)
-
 fine_along : (g : ℕ) (hs : List ℕ) (s : State) (L : List NodeEntry) → LegalFrom s L → AreQuiet L → IsCalm s → GoOn g L → Fine g hs s
     → Fine g (members_of g hs L) (after_from s L)
 unfolding LegalFrom after_from members_of
@@ -346,7 +340,7 @@ fine_along g hs s [] l q c k v = v
 fine_along g hs s (e ∷ es) l q c k v =
     fine_along g (members_behind g hs e) (next s e) es l.1 q.1 (calm_next s e l.0 q.0 c) k.1
     (record {
-      up = by_moves (λ t. is_open t.phase ≡ true) s e (λ t x y u. open_move e.op (unclosed g e.op k.0) t x y u) v.up;
+      up = by_moves (λ t. is_open t.phase ≡ true) s e (λ t x y u. open_move e.op (grind (arith, nat_tests, k.0)) t x y u) v.up;
       group = there_next s e Op.GroupCreate g q.0 v.group;
       members = members_next g hs s e l.0 q.0 c k.0 v;
     })

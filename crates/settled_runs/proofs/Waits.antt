@@ -29,13 +29,10 @@ new_own who h n s b e = (
 own_start : (s : State) (n : NewTask) (o : Op) → starts_alone o ≡ true → AskedAs s n o → (n.detached ≡ false) × (n.group ≡ None)
 own_start s n o e1 e2 = grind (arith, nat_tests)
 
-alone_starts : (o : Op) → starts_alone o ≡ true → makes_object ObjectKind.Task o ≡ true
-alone_starts o e1 = grind (arith, nat_tests)
-
 started_own : (who h : ℕ) (s : State) (w : ℕ) (o : Op) → IsNext s (entry w o (Reply.Handle h)) → starts_alone o ≡ true
     → Own who h (next s (entry w o (Reply.Handle h)))
 started_own who h s w o n a =
-    on_start (λ x ms. is_given h x ≡ true → Own who h (after_moves ms s)) s w (Reply.Handle h) (λ c i. true_false i refl) o (alone_starts o a)
+    on_start (λ x ms. is_given h x ≡ true → Own who h (after_moves ms s)) s w (Reply.Handle h) (λ c i. true_false i refl) o (grind (arith, nat_tests, a))
     (λ k m b f i. subst (λ (j : ℕ). Own who j (apply (starts_task k m) s)) (eqb-true k h i) (new_own who k m s (own_start s m o a b) f)) n.allowed
     (eq-eqb h h refl)
 
