@@ -74,11 +74,8 @@ module _ (p : Task → Bool) (same : (x y : Task) → SameTask x y → p y ≡ p
       (λ z. let n : made_of ObjectKind.Task p (next s (entry who o r)) ≡ made_of ObjectKind.Task p s = none_made ObjectKind.Task p same s (entry who o r) z in
       omega arith)
 
-starts_some : (s : State) (n : NewTask) (k : ℕ) (o : Op) → AskedAs s n o → any (new_task n k) ≡ true → makes_object ObjectKind.Task o ≡ true
-starts_some s n k o e1 e2 = grind (arith, nat_tests)
-
 pub tasks_grow : GrowsBy ObjectKind.Task
-tasks_grow = tasks_made any (λ x y i. refl) (makes_object ObjectKind.Task) starts_some
+tasks_grow = tasks_made any (λ x y i. refl) (makes_object ObjectKind.Task) (λ s n k o e i. grind (arith, nat_tests, e))
 
 pub actions_grow : GrowsBy ObjectKind.Action
 actions_grow s who (Op.ActionCreate job k cores) r a = grind (arith, nat_tests, more {T = Action})
@@ -127,11 +124,8 @@ passes_only b h ms = grind (arith, nat_tests)
 
 -- The phase
 
-phase_turns : (p : Phase) (o : Op) → closes o ≡ false → turns p o ≡ true → is_open p ≡ true
-phase_turns p o e1 e2 = grind (arith, nat_tests)
-
 pub open_move : (o : Op) → closes o ≡ false → (s : State) (x : Move) → IsMade s o x → is_open s.phase ≡ true → is_open (apply x s).phase ≡ true
-open_move o c s (phase_is p) e v = phase_turns p o c e.by
+open_move o c s (phase_is p) e v = grind (arith, nat_tests, e.by)
 open_move o c s (makes k h x) e v = sorts_keep (λ t. is_open t.phase ≡ true) (λ t g q n d r z p. p) k _ s v
 open_move o c s (alters k h f) e v = sorts_keep (λ t. is_open t.phase ≡ true) (λ t g q n d r z p. p) k _ s v
 open_move o c s (removes k h) e v = sorts_keep (λ t. is_open t.phase ≡ true) (λ t g q n d r z p. p) k _ s v
@@ -230,16 +224,13 @@ module _ {terms : Terms} {L : List NodeEntry} {who : ℕ} {o : Op} {r : Reply} (
 abbrev Differs : ℕ → Queue → Type 0
 Differs id q = (q.id == id) ≡ false
 
-altered_id : (id h : ℕ) (f : Queue → Queue) (o : Op) → AltersObject Queues h f o → (x : Queue) → Differs id x → Differs id (f x)
-altered_id id h f o e1 x e2 = grind (arith, nat_tests)
-
 abbrev Differ : ℕ → State → Type 0
 Differ id s = Every (Differs id) s.queues
 
 differ_move : (id : ℕ) (o : Op) → makes_of_sort Queues o ≡ false → (s : State) (x : Move) → IsMade s o x → Differ id s → Differ id (apply x s)
 differ_move id o z s x e v =
     sort_move Queues s o (Every (Differs id)) (λ j y i w. true_false i.by z)
-    (λ j f b w. every_change (Differs id) j (with_fields f) _ (λ r c d. altered_id id j f o b r.fields d) w)
+    (λ j f b w. every_change (Differs id) j (with_fields f) _ (λ r c d. grind (arith, nat_tests, b, d)) w)
     (λ j b w. every_change (Differs id) j gone _ (λ r c d. d) w) x e v
 
 differ_next : (id : ℕ) (s : State) (who : ℕ) (o : Op) (r : Reply) → makes_queue id o ≡ false → Allows (row s who o r) r → Differ id s
@@ -269,11 +260,8 @@ given_to q s = made_of ObjectKind.Task (is_in q) s
 in_same : (q : ℕ) (x y : Task) → SameTask x y → is_in q y ≡ is_in q x
 in_same q x y i = ap (holds (λ h. h == q)) i.queue
 
-puts_some : (q : ℕ) (s : State) (n : NewTask) (k : ℕ) (o : Op) → AskedAs s n o → is_in q (new_task n k) ≡ true → puts q o ≡ true
-puts_some q s n k o e1 e2 = grind (arith, nat_tests)
-
 gets_along : (q : ℕ) (s : State) (L : List NodeEntry) → LegalFrom s L → given_to q (after_from s L) ≤ given_to q s + entries_that (puts_into q) L
-gets_along q = grown_along (given_to q) (puts_into q) (λ s e i. tasks_made (is_in q) (in_same q) (puts q) (puts_some q) s e.who e.op e.reply i.allowed)
+gets_along q = grown_along (given_to q) (puts_into q) (λ s e i. tasks_made (is_in q) (in_same q) (puts q) (λ s n k o e i. grind (arith, nat_tests, e, i)) s e.who e.op e.reply i.allowed)
 
 unended_given : (q : ℕ) (l : List (Listed Task)) → count_listed (is_unended_in q) l ≤ issued (is_in q) l
 unended_given q [] = omega arith

@@ -39,9 +39,6 @@ pub record MainOf (f : ℕ → List Line) (main : ℕ) (ps : List Part) (rss : L
   pub ran : MainRan in_lines part.statements (f main) replies
   pub callers : CallersRan in_lines f (suc main) others further
 
-pub main_of : (f : ℕ → List Line) (main : ℕ) (ps : List Part) (rss : List (List Reply)) → PartsRan in_lines f main ps rss → MainOf f main ps rss
-main_of f main ps rss e1 = grind (arith, nat_tests)
-
 pub begin_none : (before : List Statement) (s : Statement) (rest : List Statement) → begins (before ++ s ∷ rest) ≡ 0 → is_begin s.deed ≡ false
 begin_none [] s rest e = no_bit (is_begin s.deed) (omega arith)
 begin_none (t ∷ before) s rest e = begin_none before s rest (omega arith)
@@ -58,7 +55,7 @@ module _ {layout : Layout} {load : Workload} {es : List NodeEntry} {ns : List �
   main = load.settings.workers
 
   pub first_of : MainOf (λ who. lines_of who es ns) main load.parts u.run.replies
-  first_of = main_of (λ who. lines_of who es ns) main load.parts u.run.replies u.run.parts
+  first_of = grind (arith, nat_tests, u.run.parts)
 
   pub all_at : AllSeats (PartAt load es ns) main (first_of.part ∷ first_of.others) (first_of.replies ∷ first_of.further)
   all_at =
@@ -189,14 +186,8 @@ is_opened who L ks R i k =
 
 -- The ops that make objects, and the statements that do
 
-makes_outside : (k : ObjectKind) (o : Op) → is_outside o ≡ true → makes k o ≡ false
-makes_outside k o e1 = grind (arith, nat_tests)
-
 abbrev has_id : ℕ → Deed → Bool
 has_id id d = holds (λ y. y.id == id) (queue_in d)
-
-ids_class : (id : ℕ) → IsClass (makes_queue id) (has_id id)
-ids_class id = grind (arith, nat_tests)
 
 -- What a settled workload has room for
 
@@ -245,11 +236,11 @@ module _ {layout : Layout} {load : Workload} {es : List NodeEntry} {ns : List �
   pub room : (k : ObjectKind) → Room load.settings (all_statements load) k → makes k l.op ≡ true → HasRoom (run_terms layout load) k c.before
   room k x m =
       let a : asks (makes k) c.before < (objects_of k).max load.settings =
-      fewer_before (makes k) x.q ((objects_of k).max load.settings) (record { calls = x.calls; outside = makes_outside k }) x.few m in
+      fewer_before (makes k) x.q ((objects_of k).max load.settings) (record { calls = x.calls; outside = λ o i. grind (arith, nat_tests, i) }) x.few m in
       let b : entries_that (makes_one k) c.before ≤ asks (makes k) c.before =
       entries_asks (makes k) (makes_one k) (λ e i. fst_true (makes k e.op) _ i) c.before in
       omega arith
 
   pub new_id : (id : ℕ) → makes_queue id l.op ≡ true → some_entry (λ e. makes_queue id e.op) c.before ≡ false
   new_id id m = no_entry (makes_queue id) c.before (let a : asks (makes_queue id) c.before < 1 =
-      fewer_before (makes_queue id) (has_id id) 1 (ids_class id) (one_id id (all_statements load) (settled_whole load u.settled).ids) m in omega arith)
+      fewer_before (makes_queue id) (has_id id) 1 (grind (arith, nat_tests)) (one_id id (all_statements load) (settled_whole load u.settled).ids) m in omega arith)

@@ -66,15 +66,12 @@ go_on actions g (e ∷ es) a c = grind (arith, nat_tests, go_on actions g es)
 abbrev IsListed : List Action → Action → Type 0
 IsListed actions a = is_listed actions a.job a.kind ≡ true
 
-made_listed : (actions : List Action) (a : Action) (o : Op) → is_planned actions o ≡ true → MakesAction a o → IsListed actions a
-made_listed actions a o e1 e2 = grind (arith, nat_tests)
-
 abbrev AreListed : List Action → State → Type 0
 AreListed actions s = Every (IsListed actions) s.actions
 
 listed_move : (actions : List Action) (o : Op) → is_planned actions o ≡ true → (s : State) (x : Move) → IsMade s o x → AreListed actions s
     → AreListed actions (apply x s)
-listed_move actions o p s (makes_action h a) e v = every_issue (IsListed actions) h a s.actions (made_listed actions a o p e.by) v
+listed_move actions o p s (makes_action h a) e v = every_issue (IsListed actions) h a s.actions (grind (arith, nat_tests, e.by, p)) v
 listed_move actions o p s (enables h) e v = every_change (IsListed actions) h (with_fields (with_enabled true)) s.actions (λ r d y. y) v
 listed_move actions o p s (withdraws h f c) e v = absurd (none_withdrawn h f o (planned_quiet actions o p) e.by)
 listed_move actions o p s (makes k h y) e v = sorts_keep (AreListed actions) (λ t a u c d r z w. w) k _ s v

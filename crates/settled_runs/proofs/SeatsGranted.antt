@@ -13,9 +13,6 @@ abbrev is_put : Deed → Bool
 is_put (Deed.Enqueue queue args cores detached group) = true
 is_put _ = false
 
-puts_calls : (h : ℕ) (bound : List ℕ) (d : Deed) → CallAsks (puts h) (bit (is_put d)) (call_of bound d)
-puts_calls h bound d = grind (arith, nat_tests)
-
 -- where a part sets nothing up, it puts no task into a queue
 not_put : (settings : NodeSettings) (known : List Action) (before all : List Statement) (d : Deed) → set_up all ≡ false
     → is_settled_deed settings known before all d ≡ true → is_put d ≡ false
@@ -150,7 +147,7 @@ module _ {layout : Layout} {load : Workload} {es : List NodeEntry} {ns : List �
 
   puts_main : (h : ℕ) → OnlyBy main (puts h) es
   puts_main h =
-      only_main u (puts h) is_put (puts_calls h) (λ o k. puts_outside h o (work_outside o k)) refl
+      only_main u (puts h) is_put (λ bound d. grind (arith, nat_tests)) (λ o k. puts_outside h o (work_outside o k)) refl
       (λ w x rs l y i s z. not_put load.settings (y.known ++ actions_in z.before) z.before x.statements s.deed (y.no_set_up l)
       (step_settled z load.settings y.known y.settled))
 

@@ -15,9 +15,6 @@ or_some x y c e1 = grind (arith, nat_tests)
 abbrev Joined : Option MtapiStatus → Option MtapiStatus → Option MtapiStatus → Type 0
 Joined x y z = (z ≡ option_or x y) ⊎ (z ≡ option_or y x)
 
-joined_none : (x y z : Option MtapiStatus) → Joined x y z → z ≡ None → (x ≡ None) × (y ≡ None)
-joined_none x y z e1 e2 = grind (arith, nat_tests)
-
 joined_some : (x y z : Option MtapiStatus) (c : MtapiStatus) → Joined x y z → z ≡ Some c → (x ≡ Some c) ⊎ (y ≡ Some c)
 joined_some x y z c (inl i) e = or_some x y c (sym i ∙ e)
 joined_some x y z c (inr i) e = elim (or_some y x c (sym i ∙ e)) as (λ k. (x ≡ Some c) ⊎ (y ≡ Some c)) [ inl k ↦ inr k | inr k ↦ inl k ]
@@ -58,7 +55,7 @@ none_faulty : (g : ℕ) (l : List (Listed Task)) (h : ℕ) (t : Task) → first_
 unfolding live_of
 none_faulty g [] h t n e i = absurd (cc)
 none_faulty g (r ∷ rs) h t n e i =
-    grind (arith, nat_tests, none_faulty g rs h t, one_more g r rs, ended_is r.handle r.fields.state (endings g (live_of rs)), joined_none)
+    grind (arith, nat_tests, none_faulty g rs h t, one_more g r rs, ended_is r.handle r.fields.state (endings g (live_of rs)))
 
 -- and a fault is that of a live member
 one_faulty : (g : ℕ) (l : List (Listed Task)) (c : MtapiStatus) → OnceIn l → first_fault (endings g (live_of l)) ≡ Some c → IsFaulty g l c
@@ -288,9 +285,6 @@ noted g hs s w o r c n a v = none_noted (Kept g hs s) s w o r c n (λ t last e. 
 
 -- A look at the whole group
 
-verdict_decides : (o : Option MtapiStatus) → is_pending (verdict o) ≡ false
-verdict_decides o = grind (arith, nat_tests)
-
 -- the members that have all ended are freed
 none_left : (g : ℕ) (l : List (Listed Task)) → any_listed (is_unended_member g) l ≡ false
     → Out g [] (change_all (λ t. is_member g t && not (is_unended t)) freed l)
@@ -306,7 +300,7 @@ pub record Tells (g : ℕ) (hs : List ℕ) (s : State) (r : Reply) (ms : List Mo
 looked : (g : GroupHandle) (hs : List ℕ) (s : State) (w : ℕ) (r : Reply) → is_open s.phase ≡ true → live_object s.groups g.0 ≡ Some new_group
     → Allows (row s w (Op.AllLook g false) r) r → Holds g.0 hs s
     → Tells g.0 hs s r (moves_of (row s w (Op.AllLook g false) r))
-looked g hs s w r o e a v = grind (arith, nat_tests, verdict_decides, none_left g.0 s.tasks, open_up s.phase)
+looked g hs s w r o e a v = grind (arith, nat_tests, none_left g.0 s.tasks, open_up s.phase)
 
 -- An entry
 

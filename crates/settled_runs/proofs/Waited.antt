@@ -15,9 +15,6 @@ pending_none : (h : ℕ) (ls : List Line) → Each (λ l. looks_at h l.op ≡ fa
 pending_none h ls a = each_map (λ (l : Line). looks_at h l.op ≡ false) (λ (l : Line). looks_at h l.op ≡ true
     → l.reply ≡ Reply.Pending) (λ l e t. true_false t e) ls a
 
-pending_before : (h : ℕ) (o : Op) (first : Option ℕ) → ArePending h (before_it o first)
-pending_before h o first = grind (arith, nat_tests)
-
 abbrev IsLeftTo : ℕ → ℕ → NodeEntry → Type 0
 IsLeftTo who h e = looks_at h e.op ≡ true → (e.who ≡ who) × (e.reply ≡ Reply.Pending)
 
@@ -76,7 +73,7 @@ module _ {layout : Layout} {load : Workload} {es : List NodeEntry} {ns : List �
       let pending_lines : ArePending h (lines_of w c.before c.first) =
       subst (ArePending h) (sym c.done) (each_both pends x.at.start (y.first
       ++ kept) (pending_none h x.at.start (each_op (λ o. is_outside o ≡ true) (λ o. looks_at h o ≡ false) (looks_outside h) x.at.start x.at.first))
-      (each_both pends y.first kept (pending_none h y.first unlooked) (pending_before h look.op m.first))) in
+      (each_both pends y.first kept (pending_none h y.first unlooked) (grind (arith, nat_tests)))) in
       let left : Each (IsLeftTo w h) c.before =
       own_each w (looks_at h) (IsLeftTo w h) c.before c.first c.same
       (cut_before c (IsBy w (looks_at h)) (one_looks u w h (gave_here u x y g tasks_handed place b))) (λ e k t. true_false t k)

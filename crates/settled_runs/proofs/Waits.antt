@@ -53,9 +53,6 @@ noting j o e1 e2 = grind (arith, nat_tests)
 pub taking : (j : ℕ) (o : Op) → is_quiet o ≡ true → TakesEnded j o → notes_tasks o ≡ true
 taking j o e1 e2 = grind (arith, nat_tests)
 
-pub no_deletion : (j : ℕ) (o : Op) → is_quiet o ≡ true → DeletesGroup j o → ⊥
-no_deletion j o e1 e2 = grind (arith, nat_tests)
-
 -- what is noted of a task that isn't detached stays, where the op notes nothing and doesn't free it
 pub notes_stay : (N : Notes → Type 0) → ((n : Notes) → N n → n.detached ≡ false) → (h : ℕ) (o : Op) → is_quiet o ≡ true → notes_tasks o ≡ false
     → ((j : ℕ) (t : Task) → FreesMembers j o → N t.notes → is_member j t ≡ true → ⊥)
@@ -73,7 +70,7 @@ notes_stay N kept h o q n free s x e v =
     by r _ _ (step.noted j f b i l) e a own = true_false (noting j o q e.by) n
     by r _ _ (step.goes j b i l) e a own = true_false (taking j o q e.by) n
     by r _ _ (step.freed_of g b d) e a own = absurd (free g r.fields e.by own (fst_true (is_member g r.fields) _ d))
-    by r _ _ (step.let_go_of g b d) e a own = absurd (no_deletion g o q e.by)
+    by r _ _ (step.let_go_of g b d) e a own = absurd (grind (arith, nat_tests, e.by, q))
     by r _ _ _ e a own = (a, own)
 
 -- a look, by its reply
