@@ -1,5 +1,5 @@
 -- What holds of each line of a seat, and of each entry of a run.
-use Rattle.settled_runs.proofs.Names.{Each, list_any, list_all, flat_map, ap, append_assoc, arith, cond, refl, suc, sym, ◌∙◌, Bool, List, Option, [], false, length, true, ℕ, ◌++◌, ◌+◌, ◌<◌, ◌∷◌, ◌≡◌, ◌≤◌, subst, append-nil, eq-eqb, eqb-true, or_left, or_right, list_any-append, nat_lt, not, ◌==◌, nat_tests, Made, line, Line, before_it, head_of, in_lines, tail_of_main, Action, BySeats, Call, Looking, Once, CallerRan, MainRan, PartsRan, NodeEntry, NodeSettings, Op, Part, Reply, RunOf, WorkerRan, is_work, Statement, Workload, entry, fst_true, not_true, snd_true, true_false, has_room, are_settled_parts, has_one_fault_a_group, is_settled_further, is_settled_part, set_up, action_in, actions_in, all_statements, lines_of, CallersRan, Carried, has_begin, all_work, are_settled, has_different_ids, has_one_kind_a_job, is_settled, keep_limits, sets_up_first, inl, inr, cases_eq, cond_both, Timeout, Looked, whether, Layout, Legal, SettledRun, by_seats, call_of, handle_of, map, opening, run_terms}
+use Rattle.settled_runs.proofs.Names.{Each, list_any, list_all, flat_map, ap, append_assoc, arith, cond, refl, suc, sym, ◌∙◌, Bool, List, Option, [], false, length, true, ℕ, ◌++◌, ◌+◌, ◌<◌, ◌∷◌, ◌≡◌, ◌≤◌, subst, append-nil, eq-eqb, eqb-true, or_left, or_right, list_any-append, nat_lt, not, ◌==◌, nat_tests, Made, line, Line, before_it, head_of, in_lines, tail_of_main, Action, BySeats, Call, Looking, Once, CallerRan, MainRan, PartsRan, NodeEntry, NodeSettings, Op, Part, Reply, RunOf, WorkerRan, is_work, Statement, Workload, entry, fst_true, not_true, snd_true, true_false, has_room, are_settled_parts, has_one_fault_a_group, is_settled_further, is_settled_part, set_up, action_in, actions_in, all_statements, lines_of, CallersRan, Carried, has_begin, all_work, are_settled, has_different_ids, has_one_kind_a_job, is_settled, keep_limits, sets_up_first, inl, inr, cases_eq, Timeout, Looked, whether, Layout, Legal, SettledRun, by_seats, call_of, handle_of, map, opening, run_terms}
 use Rattle.settled_runs.proofs.Along.{Cut, Step, along}
 
 module _ {X : Type 0} (P : X → Type 0) where

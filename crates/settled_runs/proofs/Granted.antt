@@ -1,5 +1,5 @@
 -- In a quiet history a call isn't refused for which there is room and all that it needs.
-use Rattle.settled_runs.proofs.Names.{◌≡◌, ℕ, ◌+◌, ◌≤◌, ◌<◌, Bool, true, false, cond, List, [], ◌∷◌, refl, ◌∙◌, arith, length, ◌==◌, ◌&&◌, not, nat_tests, entry, ObjectKind, how_many, Listed, live_object, Task, NewTask, new_task, Op, Reply, Handle, Mtapi, Terms, State, opening, Move, starts_task, apply, after_moves, Allows, after_row, NodeEntry, IsNext, next, after, SameTask, given, on_only, by_moves, objects_of, entries_that, true_false, is_handle, makes_one, HasRoom, live_of, issue, retired, is_full, row, LegalFrom, after_from, zero, suc, ◌++◌, Option, Some, None, sym, ap, subst, ◌||◌, nat_lt, is_none, eq-eqb, holds, GroupHandle, any_live, any_listed, Action, new_action, has_job, has_enabled_job, is_eligible, some_below, Ok, Phase, Open, workers, is_open, phase_is, makes, alters, removes, is_served, Row, unless, gives, never, only, number_of, Legal, IsMade, turns, Legal-front, sorts_keep, closes, NoClose, cut_from, cut_after, IsOpened, IsServed, GroupIsMade, Asks, IsGranted, has_worker, cond_both, QuietCallsAreGranted, nat_le, count_listed, with_fields, gone, Queue, is_in, is_unended_in, queues, Queues, is_fresh, handle_of, live, new_queue, AltersObject, makes_of_sort, some_entry, none_first, Every, every_issue, every_change, sort_move, makes_queue, puts, both_true, makes_object, FieldsOf, AgesEach, SameFields, kind_move, terms_stay, puts_entry as puts_into, MtapiStatus, whether, IsThere, MadeBy}
+use Rattle.settled_runs.proofs.Names.{◌≡◌, ℕ, ◌+◌, ◌≤◌, ◌<◌, Bool, true, false, cond, List, [], ◌∷◌, refl, ◌∙◌, arith, length, ◌==◌, ◌&&◌, not, nat_tests, entry, ObjectKind, how_many, Listed, live_object, Task, NewTask, new_task, Op, Reply, Handle, Mtapi, Terms, State, opening, Move, starts_task, apply, after_moves, Allows, after_row, NodeEntry, IsNext, next, after, SameTask, by_moves, objects_of, entries_that, true_false, is_handle, makes_one, HasRoom, live_of, issue, retired, is_full, row, LegalFrom, after_from, zero, suc, ◌++◌, Option, Some, None, sym, ap, subst, ◌||◌, nat_lt, is_none, eq-eqb, holds, GroupHandle, any_listed, Action, new_action, has_job, has_enabled_job, is_eligible, some_below, Ok, Open, workers, is_open, phase_is, makes, alters, removes, is_served, Row, unless, gives, never, only, number_of, Legal, IsMade, Legal-front, sorts_keep, closes, NoClose, cut_from, cut_after, IsOpened, IsServed, GroupIsMade, Asks, IsGranted, has_worker, QuietCallsAreGranted, nat_le, count_listed, with_fields, gone, Queue, is_in, is_unended_in, Queues, live, new_queue, makes_of_sort, some_entry, none_first, Every, every_issue, every_change, sort_move, makes_queue, puts, makes_object, FieldsOf, AgesEach, SameFields, kind_move, terms_stay, puts_entry as puts_into, MtapiStatus, whether, IsThere, MadeBy}
 use Rattle.settled_runs.proofs.Stays.{made_objects_stay, AskedAs, on_start}
 
 -- How many objects a history made, and room for another

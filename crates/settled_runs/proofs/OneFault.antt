@@ -1,5 +1,5 @@
 -- Where the faults of each group of a part have one status, the one that is told as its members are put into it is the one of a verdict.
-use Rattle.settled_runs.proofs.Names.{◌≡◌, ℕ, Bool, true, List, [], ◌∷◌, ◌++◌, Option, Some, refl, sym, ◌∙◌, subst, ◌==◌, ◌&&◌, ◌||◌, not, list_any, list_all, flat_map, eqb-true, list_any-append, MtapiStatus, mtapi_number, Action, NewTask, fst_true, snd_true, Statement, true_false, both, fault_in, task_in, plain_fault, have_one_fault_a_group, ap, ◌⊎◌, inl, inr, or_left, or_right, or_cases, None, option_or, verdict, State, Reply, fault_at, IsVerdict, none_some, find, mtapi_all, some_same, arith, nat_tests}
+use Rattle.settled_runs.proofs.Names.{◌≡◌, ℕ, Bool, true, List, [], ◌∷◌, ◌++◌, Option, Some, refl, sym, ◌∙◌, subst, ◌==◌, ◌&&◌, ◌||◌, not, list_any, list_all, flat_map, list_any-append, MtapiStatus, mtapi_number, Action, NewTask, Statement, true_false, both, fault_in, task_in, plain_fault, have_one_fault_a_group, ap, or_left, or_right, None, option_or, verdict, State, Reply, fault_at, IsVerdict, none_some, find, mtapi_all, some_same, arith, nat_tests}
 use Rattle.settled_runs.proofs.Verdicts.{has}
 
 -- Statuses that are compared by number

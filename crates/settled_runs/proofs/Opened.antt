@@ -1,8 +1,8 @@
 -- In a run of a settled workload the node is open before each statement's entry, there is room for what it asks for, and the ids of queues are new.
-use Rattle.settled_runs.proofs.Names.{nat_tests, Each, ◌≡◌, inl, inr, ℕ, suc, ◌+◌, ◌≤◌, ◌<◌, Bool, true, false, cond, List, [], ◌∷◌, ◌++◌, length, refl, sym, ◌∙◌, ap, subst, arith, append_assoc, ◌==◌, map, eq-eqb, Layout, entry, entries_of, how_many, Deed, Statement, Part, Workload, begins, IsFurther, MainFirst, Op, Reply, NodeEntry, Legal, Legal-prefix, call_of, Line, line, head_of, tail_of_main, in_lines, MainRan, PartsRan, closes, NoClose, is_release, true_false, run_terms, AreQuiet, handle_of, IsOpened, all_statements, actions_in, SettledRun, is_begin, lines_of, CallersRan, cond_both, has_begin, Option, Some, None, ◌&&◌, nat_le, is_some, list_any, eqb-true, NodeSettings, holds, ObjectKind, Queue, fst_true, snd_true, not_true, some_entry, entries_that, makes_one, HasRoom, makes_queue, queue_in, has_new_id, makes_group, makes_task, has_different_ids, or_parts, objects_of, and_parts, cases_Bool, makes_object as makes, makes_one_action as makes_action, is_settled, leb-true}
+use Rattle.settled_runs.proofs.Names.{nat_tests, Each, ◌≡◌, inl, inr, ℕ, suc, ◌+◌, ◌≤◌, ◌<◌, Bool, true, false, List, [], ◌∷◌, ◌++◌, refl, sym, ◌∙◌, ap, subst, arith, append_assoc, ◌==◌, map, eq-eqb, Layout, entry, entries_of, how_many, Deed, Statement, Part, Workload, begins, IsFurther, MainFirst, Op, Reply, NodeEntry, Legal, Legal-prefix, call_of, Line, line, head_of, tail_of_main, in_lines, MainRan, closes, NoClose, is_release, true_false, run_terms, AreQuiet, handle_of, IsOpened, all_statements, actions_in, SettledRun, is_begin, lines_of, CallersRan, has_begin, is_some, list_any, NodeSettings, holds, ObjectKind, fst_true, some_entry, entries_that, makes_one, HasRoom, makes_queue, queue_in, makes_group, makes_task, has_different_ids, objects_of, makes_object as makes, makes_one_action as makes_action, is_settled}
 use Rattle.settled_runs.proofs.{Granted.bit, Stays.quiet_front, RunEnds.all_quiet, RunEnds.planned}
 use Rattle.settled_runs.proofs.Along.{Placed, placed, Cut, cut, no_end, Step}
-use Rattle.settled_runs.proofs.Each.{AllSeats, OnlyBy, PartAt, each_behind, each_front, each_of, is_at_work, map_seats, only_by, settled_whole, run_parts, seat_each, with_each, is_outside, each_op, step_each, ran}
+use Rattle.settled_runs.proofs.Each.{AllSeats, OnlyBy, PartAt, each_behind, each_front, each_of, is_at_work, map_seats, only_by, settled_whole, run_parts, seat_each, with_each, each_op, step_each, ran}
 use Rattle.settled_runs.proofs.Counted.{asks, asked, many_append, many_none, only_asks, seat_asks, CallAsks, calls_none, no_bit, statements_ask, IsClass, run_asks, entries_asks, cut_asks}
 
 -- Which ops close, and which release

@@ -1,5 +1,5 @@
 -- The lines of the statements of a part, found by the places of the statements: no two statements of a run are given one handle of one kind of object.
-use Rattle.settled_runs.proofs.Names.{nat_tests, ◌≡◌, ℕ, Bool, true, false, List, [], ◌∷◌, ◌++◌, Some, refl, sym, ◌∙◌, ap, subst, append_assoc, inl, inr, ◌⊎◌, map, slice_get, list_any, append-nil, list_any-append, Kind, Mask, Action, new_action, Queue, Deed, Statement, Op, Reply, handle_of, new_queue, some_same, handle_at, call_of, Line, line, Made, true_false, GrantedTo, AllGranted, action_in, actions_in, queue_in, binds, Carried, or_cases, none_some, ◌≤◌, arith, length, ◌<◌, is_some, eq-eqb, Sort, ObjectKind, entry, State, opening, NodeEntry, IsNext, next, both_true, issues, times, live_listed, started_as, issues_fresh, fresh_unlisted, LegalFrom, lines_of, cases_order, false_from_ne_true, Each, cut_from, listed, after_from, makes_object as makes, listed_next, Layout, Workload, run_terms}
+use Rattle.settled_runs.proofs.Names.{nat_tests, ◌≡◌, ℕ, Bool, true, false, List, [], ◌∷◌, ◌++◌, Some, refl, sym, ◌∙◌, ap, subst, append_assoc, inl, inr, ◌⊎◌, map, slice_get, list_any, append-nil, list_any-append, Kind, Mask, Action, new_action, Queue, Deed, Statement, Op, Reply, handle_of, new_queue, some_same, handle_at, call_of, Line, line, Made, true_false, GrantedTo, AllGranted, action_in, actions_in, queue_in, binds, Carried, or_cases, none_some, ◌≤◌, arith, length, ◌<◌, is_some, eq-eqb, Sort, ObjectKind, entry, State, opening, NodeEntry, IsNext, next, both_true, issues, times, live_listed, started_as, issues_fresh, fresh_unlisted, LegalFrom, lines_of, cases_order, false_from_ne_true, Each, cut_from, after_from, makes_object as makes, listed_next, Layout, Workload, run_terms}
 use Rattle.settled_runs.proofs.{Stays.made_there, Waits.legal_behind, Each.actions_append, Each.each_behind, Each.RanSettled}
 use Rattle.settled_runs.proofs.Along.{placed, Cut, cut, BoundBy, Found, along, found_bound, found_granted, step_granted, found, Step, step_handle, step_shorter}
 

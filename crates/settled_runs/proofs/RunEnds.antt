@@ -1,5 +1,5 @@
 -- What a run of a settled workload asks for, and how its tasks end.
-use Rattle.settled_runs.proofs.Names.{nat_tests, Each, ◌≡◌, ℕ, ◌+◌, Bool, true, false, List, ◌∷◌, ◌++◌, refl, subst, arith, length, ◌==◌, ◌&&◌, map, list_any, eq-eqb, or_left, NodeSettings, Kind, is_pure, Action, kind_number, Deed, Statement, Part, Workload, Op, Reply, handle_of, NodeEntry, call_of, Line, both_true, true_false, is_quiet, all_statements, action_in, actions_in, lines_of, is_settled_deed, cond, [], Some, sym, ◌∙◌, ap, ℤ, append_assoc, ◌||◌, option_map, find, Layout, TaskEnd, entry, Listed, with_fields, with_enabled, has_job, Task, NewTask, new_task, Terms, State, opening, Move, makes_action, enables, withdraws, makes, alters, removes, apply, task_end, next, after, IsMade, MakesAction, end_in, some_same, by_moves, sorts_keep, accepted_end, SameTask, Under, Every, every_issue, every_change, every_at, StartedAs, started_as, task_then, cut_from, has_behind, HasObject, run_terms, AreQuiet, IsPlain, none_withdrawn, quiet_tasks_end_plainly, answer_of, LegalFrom, after_from, end_at, task_at, plain_end, has_one_kind_a_job, cond-false, cond-true, cond_both, or_right, and_right, not, NoClose, closes, not_true, Made, GoOn, goes_on, makes_object, is_that_handle as is_handle, accepted_by, accepted, EndsOnce, same_kind, SettledTasksEndAsPlanned, ObjectKind, IsNext}
+use Rattle.settled_runs.proofs.Names.{nat_tests, Each, ◌≡◌, ℕ, Bool, true, List, ◌∷◌, ◌++◌, refl, subst, arith, ◌==◌, ◌&&◌, map, list_any, eq-eqb, or_left, NodeSettings, Kind, is_pure, Action, kind_number, Deed, Statement, Part, Workload, Op, Reply, handle_of, NodeEntry, call_of, Line, both_true, true_false, is_quiet, all_statements, action_in, actions_in, lines_of, is_settled_deed, cond, [], Some, sym, ◌∙◌, ap, ℤ, append_assoc, ◌||◌, option_map, find, Layout, TaskEnd, entry, Listed, with_fields, with_enabled, has_job, Task, NewTask, new_task, Terms, State, opening, Move, makes_action, enables, withdraws, makes, alters, removes, apply, task_end, next, after, IsMade, end_in, by_moves, sorts_keep, accepted_end, SameTask, Under, Every, every_issue, every_change, every_at, StartedAs, started_as, task_then, cut_from, has_behind, HasObject, run_terms, AreQuiet, IsPlain, none_withdrawn, quiet_tasks_end_plainly, answer_of, LegalFrom, after_from, end_at, task_at, plain_end, has_one_kind_a_job, cond-false, cond-true, cond_both, or_right, not, NoClose, Made, GoOn, accepted, EndsOnce, same_kind, SettledTasksEndAsPlanned, ObjectKind, IsNext}
 use Rattle.settled_runs.proofs.{Along.Step, Along.step_settled, OneFault.one_number}
 use Rattle.settled_runs.proofs.Each.{PartAt, Within, any_left, is_outside, settled_whole, run_each, run_parts, within_behind, work_outside, RanSettled, map_run, seat_within}
 

@@ -1,6 +1,6 @@
 -- In a run of a settled workload main and each further caller are given what they ask for.
-use Rattle.settled_runs.proofs.Names.{Each, ◌≡◌, inr, ℕ, ◌≤◌, Bool, true, false, List, ◌∷◌, ◌++◌, Option, Some, None, refl, ◌∙◌, subst, arith, slice_get, option_and_then, option_map, list_all, NodeSettings, Layout, Action, Queue, Deed, Statement, Part, Workload, IsPart, NodeEntry, fst_true, call_of, head_of, tail_of_main, true_false, puts, actions_in, queue_in, queue_at, is_startable, set_up, are_settled_parts, AllGranted, SettledRun, has_begin, task_in, is_settled_deed, keep_limits, [], sym, append-nil, none_some, inl, suc, ◌<◌, length, ap, append_assoc, ◌||◌, not, map, list_any, flat_map, entry, begins, Reply, handle_of, Legal, snd_true, not_true, Line, line, Made, in_lines, is_release, is_released, run_terms, action_in, all_statements, sets_up, is_settled_part, is_settled_further, PartsGranted, SettledStatementsAreGranted, is_begin, lines_of, Carried, CallersRan, sets_up_first, or_left, or_right, some_entry, Op, cond_both, or_parts, enter_behind, MadeBy, nat_tests, closes}
-use Rattle.settled_runs.proofs.{Granted.bit, Counted.CallAsks, Counted.calls_none, Counted.asks}
+use Rattle.settled_runs.proofs.Names.{Each, ◌≡◌, inr, ℕ, Bool, true, false, List, ◌∷◌, ◌++◌, refl, ◌∙◌, subst, arith, slice_get, list_all, NodeSettings, Layout, Action, Deed, Statement, Part, Workload, IsPart, NodeEntry, fst_true, call_of, head_of, tail_of_main, true_false, puts, actions_in, set_up, are_settled_parts, AllGranted, SettledRun, has_begin, task_in, is_settled_deed, keep_limits, [], sym, append-nil, inl, suc, ◌<◌, length, ap, append_assoc, ◌||◌, not, map, list_any, flat_map, entry, begins, Reply, handle_of, Legal, snd_true, not_true, Line, line, Made, in_lines, is_release, is_released, run_terms, action_in, all_statements, is_settled_part, is_settled_further, PartsGranted, SettledStatementsAreGranted, is_begin, lines_of, Carried, CallersRan, sets_up_first, or_left, or_right, some_entry, Op, cond_both, enter_behind, MadeBy, nat_tests, closes}
+use Rattle.settled_runs.proofs.{Granted.bit, Counted.calls_none, Counted.asks}
 use Rattle.settled_runs.proofs.Places.{Has, has_more, action_map, action_has}
 use Rattle.settled_runs.proofs.Walk.{puts_outside, sets_all, Seat, seat_granted, MadeAction, Finds}
 use Rattle.settled_runs.proofs.Along.{same_head, same_tail, Cut, cut, cut_split, Found, get_at, same_front, step_granted, found, Step, step_settled}

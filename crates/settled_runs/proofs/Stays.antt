@@ -1,5 +1,5 @@
 -- In a quiet history what was made stays as it was made.
-use Rattle.settled_runs.proofs.Names.{Bool, arith, nat_tests, ◌≡◌, ℕ, true, List, [], ◌∷◌, ◌++◌, Some, refl, sym, ◌∙◌, ap, subst, is_some, entry, live_object, Action, new_action, Group, new_group, Queue, Op, Handle, State, opening, Move, Groups, Queues, makes_action, enables, withdraws, makes, alters, removes, apply, after_moves, new_queue, NodeEntry, IsNext, next, after, IsMade, EnablesAction, AltersObject, RemovesObject, on_only, by_moves, sorts_keep, live_listed, true_false, at_issue_here, at_issue_other, cut_from, cut_after, fresh_unlisted, fresh_apart, is_quiet, AreQuiet, none_withdrawn, IsThere, MadeObjectsStay, row, LegalFrom, after_from, ObjectKind, live_stays, NewTask, asked_for, asked_of, is_detached_member, false, Option, Reply, MtapiStatus, Mtapi, Row, gives, live, queues, OfEachReply, said, says_only, second_false, makes_object, tasks, is_fresh, starts_task, Allows, moves_of, handle_of}
+use Rattle.settled_runs.proofs.Names.{Bool, arith, nat_tests, ◌≡◌, ℕ, true, List, [], ◌∷◌, ◌++◌, Some, refl, sym, ◌∙◌, ap, subst, is_some, entry, live_object, Action, new_action, Group, Queue, Op, Handle, State, opening, Move, Groups, Queues, makes_action, enables, withdraws, makes, alters, removes, apply, NodeEntry, IsNext, next, after, IsMade, EnablesAction, AltersObject, RemovesObject, by_moves, sorts_keep, live_listed, true_false, at_issue_here, at_issue_other, cut_from, cut_after, fresh_unlisted, fresh_apart, is_quiet, AreQuiet, none_withdrawn, IsThere, MadeObjectsStay, row, LegalFrom, after_from, ObjectKind, live_stays, NewTask, asked_for, asked_of, is_detached_member, false, Option, Reply, MtapiStatus, Mtapi, Row, gives, live, queues, OfEachReply, said, says_only, second_false, makes_object, tasks, is_fresh, starts_task, Allows, moves_of, handle_of}
 
 -- The entry that makes it
 

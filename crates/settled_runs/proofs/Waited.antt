@@ -1,5 +1,5 @@
 -- In a run of a settled workload each wait for a task is told its end.
-use Rattle.settled_runs.proofs.Names.{arith, nat_tests, Each, ◌≡◌, ◌⊎◌, inl, inr, ℕ, Bool, true, false, List, [], ◌∷◌, ◌++◌, Option, refl, sym, ◌∙◌, ap, subst, is_none, map, slice_get, option_and_then, option_map, list_any, NodeSettings, Layout, TaskEnd, entry, Action, Deed, Statement, Workload, IsBoundAt, Op, Reply, handle_of, is_status, is_pending, NodeEntry, group_at, call_of, Line, line, before_it, Made, true_false, run_terms, starts_alone, looks_at, AreLeft, actions_in, is_alone, waits_for, AllGranted, SettledRun, binds, lines_of, task_in, is_settled_deed, or_parts, list_any-append, ObjectKind, Sort, MadeBy, Looked, Part, Timeout, append_assoc}
+use Rattle.settled_runs.proofs.Names.{arith, nat_tests, Each, ◌≡◌, ◌⊎◌, inl, inr, ℕ, Bool, true, false, List, [], ◌∷◌, ◌++◌, Option, refl, sym, ◌∙◌, ap, subst, map, slice_get, option_and_then, list_any, NodeSettings, Layout, TaskEnd, entry, Action, Deed, Statement, Workload, IsBoundAt, Op, Reply, handle_of, is_status, is_pending, NodeEntry, call_of, Line, line, before_it, Made, true_false, run_terms, starts_alone, looks_at, AreLeft, actions_in, is_alone, waits_for, AllGranted, SettledRun, binds, lines_of, task_in, is_settled_deed, or_parts, list_any-append, ObjectKind, Sort, MadeBy, Looked, Part, Timeout, append_assoc}
 use Rattle.settled_runs.proofs.{Waits.quiet_looks_are_answered, Owners.one_looks, Owners.looks_call, Owners.looks_outside}
 use Rattle.settled_runs.proofs.Walk.{made_before, Seat, asking, gave_here, handle, one_handle}
 use Rattle.settled_runs.proofs.Each.{each_behind, each_both, each_map, is_outside, own_each, statements_each, IsBy, cut_before, each_op, step_each, step_lines}

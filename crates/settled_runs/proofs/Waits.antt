@@ -1,5 +1,5 @@
 -- In a quiet history a task that its own caller alone looks at stays until it has ended and told its end.
-use Rattle.settled_runs.proofs.Names.{◌≡◌, ◌⊎◌, ℕ, Bool, true, false, List, [], ◌∷◌, ◌++◌, Option, Some, None, refl, sym, ap, subst, arith, ◌==◌, ◌&&◌, ◌||◌, not, is_some, eq-eqb, nat_tests, holds, TaskEnd, Failed, entry, Listed, live_object, with_fields, gone, Task, NewTask, TaskState, Ended, new_task, with_notes, with_waiter, ended, is_member, Op, Reply, Phase, State, opening, is_open, is_up, tasks, Move, starts_task, notes, is_fresh, apply, after_moves, Row, unless, gives, Allows, live, after_row, NodeEntry, IsNext, next, after, IsMade, NotesTask, TakesEnded, Legal-front, Legal-rest, AllGives, given, on_live, fst_true, by_moves, true_false, at_issue_here, FoundAs, found_changed, cut_from, cut_after, fresh_unlisted, is_quiet, AreQuiet, starts_alone, looks_at, AreLeft, QuietLooksAreAnswered, IsCalm, calm_next, calm_along, calm_opening, none_impure, row, LegalFrom, after_from, DeletesGroup, FreesMembers, Notes, is_other, Kind, ObjectKind, MtapiStatus, looks_row, makes_object, eqb-true, is_that_handle as is_given, TaskHandle, moves_of, whether}
+use Rattle.settled_runs.proofs.Names.{◌≡◌, ◌⊎◌, ℕ, Bool, true, false, List, [], ◌∷◌, ◌++◌, Option, Some, None, refl, sym, ap, subst, arith, ◌==◌, ◌&&◌, not, eq-eqb, nat_tests, holds, TaskEnd, Failed, entry, Listed, live_object, with_fields, gone, Task, NewTask, TaskState, Ended, new_task, with_notes, with_waiter, ended, is_member, Op, Reply, Phase, State, opening, is_open, is_up, tasks, Move, starts_task, notes, is_fresh, apply, after_moves, Row, unless, Allows, after_row, NodeEntry, IsNext, next, after, IsMade, NotesTask, TakesEnded, Legal-front, Legal-rest, AllGives, given, on_live, fst_true, by_moves, true_false, at_issue_here, FoundAs, found_changed, cut_from, cut_after, fresh_unlisted, is_quiet, AreQuiet, starts_alone, looks_at, AreLeft, QuietLooksAreAnswered, IsCalm, calm_next, calm_along, calm_opening, none_impure, row, LegalFrom, after_from, FreesMembers, Notes, is_other, Kind, ObjectKind, MtapiStatus, looks_row, eqb-true, is_that_handle as is_given, TaskHandle, moves_of, whether}
 use Rattle.settled_runs.proofs.{Stays.quiet_rest, Stays.quiet_front, Granted.before, Granted.is_up as open_now, Granted.allowed, Stays.AskedAs, Stays.on_start}
 use Rattle.history_law.proofs.TaskSteps as step
 use Rattle.history_law.proofs.TaskSteps.{Step, tasks_go, found_steps}

@@ -1,5 +1,5 @@
 -- In a run of a settled workload each statement that makes an object is given its handle.
-use Rattle.settled_runs.proofs.Names.{CallsAreGranted, ◌≡◌, ℕ, zero, suc, ◌+◌, ◌≤◌, Bool, true, false, List, [], ◌∷◌, Option, Some, refl, ◌∙◌, ap, subst, arith, not, nat_lt, map, slice_get, eq-eqb, eqb-true, nat_tests, holds, how_many, Queue, Deed, Statement, fields, word_for, values, AllFit, IsBoundAt, IsStatement, AreStatements, Op, Reply, handle_of, some_same, fst_true, snd_true, handle_at, call_of, Line, Made, true_false, puts, queue_in, puts_into, deed_spelled, Carried, keep_limits, not_true, ◌⊎◌, inl, inr, ◌<◌, ◌++◌, None, sym, ℤ, ◌&&◌, option_and_then, IfSome, option_map, list_any, append-nil, Mask, Layout, Action, new_action, has_job, has_enabled_job, is_eligible, some_below, Workload, NodeEntry, both_true, group_at, line, closes, entries_that, run_terms, Part, IsOpened, HasAction, IsServed, GroupIsMade, Asks, IsGranted, IsQueued, actions_in, queue_at, serves, is_startable, sets_up, set_up, GrantedTo, AllGranted, SettledRun, lines_of, task_in, is_settled_deed, cond_both, or_left, or_right, none_some, GroupHandle, word_row as row, in_mask, MadeBy, puts_entry, Sort, ObjectKind, ltb-true, le-leb, NewTask}
+use Rattle.settled_runs.proofs.Names.{CallsAreGranted, ◌≡◌, ℕ, zero, suc, ◌+◌, ◌≤◌, Bool, true, false, List, [], ◌∷◌, Option, Some, refl, ◌∙◌, ap, subst, arith, not, nat_lt, map, slice_get, eq-eqb, eqb-true, nat_tests, how_many, Queue, Deed, Statement, fields, word_for, values, AllFit, IsBoundAt, IsStatement, AreStatements, Op, Reply, handle_of, fst_true, snd_true, handle_at, call_of, Line, Made, true_false, puts, queue_in, puts_into, deed_spelled, Carried, keep_limits, ◌⊎◌, inl, inr, ◌<◌, ◌++◌, None, sym, ℤ, ◌&&◌, option_and_then, IfSome, option_map, list_any, append-nil, Mask, Layout, Action, new_action, has_job, has_enabled_job, is_eligible, some_below, Workload, NodeEntry, both_true, group_at, line, closes, entries_that, run_terms, Part, IsOpened, HasAction, IsServed, GroupIsMade, Asks, IsGranted, IsQueued, actions_in, queue_at, serves, is_startable, set_up, GrantedTo, AllGranted, SettledRun, lines_of, task_in, is_settled_deed, cond_both, GroupHandle, word_row as row, in_mask, MadeBy, puts_entry, Sort, ObjectKind, ltb-true, le-leb, NewTask}
 use Rattle.settled_runs.proofs.Granted.{bit, quiet_calls_are_granted}
 use Rattle.settled_runs.proofs.Each.{is_outside, OnlyBy, PartAt, step_lines, IsBy, cut_before, ran}
 use Rattle.settled_runs.proofs.Opened.{legal_here, quiet_before, new_id, room, rooms}
