@@ -85,6 +85,8 @@ place_later h i xs d whole e1 e2 e3 = grind (arith, nat_tests, further_suc, plac
 pub place_nowhere : (h i : ℕ) (xs : List LiveAction) (whole : Option ℕ) → length xs ≤ i → further i (place_of h (drop i xs)) ≡ whole → whole ≡ None
 place_nowhere h i xs whole past so = sym so ∙ ap (λ ys. further i (place_of h ys)) (nil_from_length (drop i xs) (omega (arith, length-drop i xs)))
 
+pub ruleset place_found = (place_first, place_here, place_later, place_nowhere)
+
 none_zero : (o : Option ℕ) → option_map suc o ≡ Some 0 → ⊥
 none_zero o e1 = grind (arith, nat_tests)
 

@@ -55,7 +55,7 @@ pub fn has_worker(workers: u32, job: u32, cores: Mask, actions: &[LiveAction]) -
     some_can_run(workers, job, cores, actions)
 }
 
-#[tactic(auto, using(crate::proofs::LiveActions::place_first, crate::proofs::LiveActions::place_here, crate::proofs::LiveActions::place_later, crate::proofs::LiveActions::place_nowhere))]
+#[tactic(auto, using(crate::proofs::LiveActions::place_found))]
 fn place_of(actions: &[LiveAction], handle: u64) -> Option<usize>
     ensures { place_of handle actions.now ≡ result }
 {
