@@ -89,7 +89,8 @@ module _ (p : Op → Bool) where
 
   -- where each statement of a class asks for it once at most, and no other does
   pub statements_ask : (q : Deed → Bool) (all : List Statement) (ls : List Line) (rs : List Reply) → Carried Made [] all ls rs
-      → ((s : Statement) (x : Step all ls rs s) → CallAsks p (bit (q s.deed)) (call_of (map handle_of x.replies) s.deed)) → asked p ls ≤ how_many (λ s. q s.deed) all
+      → ((s : Statement) (x : Step all ls rs s) → CallAsks p (bit (q s.deed)) (call_of (map handle_of x.replies) s.deed))
+      → asked p ls ≤ how_many (λ s. q s.deed) all
   statements_ask q all ls rs c per =
       along all ls rs (λ b l r. asked p l ≤ how_many (λ s. q s.deed) b) (λ s x i.
       let j : asked p x.front ≤ bit (q s.deed) = made_asks (call_of (map handle_of x.replies) s.deed) (bit (q s.deed)) x.front x.reply (per s x) x.made in

@@ -261,7 +261,8 @@ in_same : (q : ℕ) (x y : Task) → SameTask x y → is_in q y ≡ is_in q x
 in_same q x y i = ap (holds (λ h. h == q)) i.queue
 
 gets_along : (q : ℕ) (s : State) (L : List NodeEntry) → LegalFrom s L → given_to q (after_from s L) ≤ given_to q s + entries_that (puts_into q) L
-gets_along q = grown_along (given_to q) (puts_into q) (λ s e i. tasks_made (is_in q) (in_same q) (puts q) (λ s n k o e i. grind (arith, nat_tests, e, i)) s e.who e.op e.reply i.allowed)
+gets_along q = grown_along (given_to q) (puts_into q)
+    (λ s e i. tasks_made (is_in q) (in_same q) (puts q) (λ s n k o e i. grind (arith, nat_tests, e, i)) s e.who e.op e.reply i.allowed)
 
 unended_given : (q : ℕ) (l : List (Listed Task)) → count_listed (is_unended_in q) l ≤ issued (is_in q) l
 unended_given q [] = omega arith

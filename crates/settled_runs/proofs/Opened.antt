@@ -93,13 +93,15 @@ module _ {layout : Layout} {load : Workload} {es : List NodeEntry} {ns : List �
           (calls_none p (call_of (map handle_of z.replies) s.deed) (q s.deed) (calls (map handle_of z.replies) s.deed) (further w x rs l y i s z)))
 
   pub releases_main : OnlyBy main is_release es
-  releases_main = only_main is_release is_begin release_calls (λ o i. grind (arith, nat_tests, i)) refl (λ w x rs l y i s z. begin_none z.before s z.rest (ap begins (sym z.parted) ∙ i.begin))
+  releases_main = only_main is_release is_begin release_calls (λ o i. grind (arith, nat_tests, i)) refl
+      (λ w x rs l y i s z. begin_none z.before s z.rest (ap begins (sym z.parted) ∙ i.begin))
 
   -- no statement closes, and main closes twice
   closed_twice : asks closes es ≤ 2
   closed_twice =
       let a : asks closes es ≤ asked closes (lines_of main es ns) =
-      only_asks main closes es ns u.same (only_main closes (λ d. false) (λ bound d. (calls_ask bound d).0) (λ o i. grind (arith, nat_tests, i)) refl (λ w x rs l y i s z. refl)) in
+      only_asks main closes es ns u.same (only_main closes (λ d. false) (λ bound d. (calls_ask bound d).0) (λ o i. grind (arith, nat_tests, i)) refl
+      (λ w x rs l y i s z. refl)) in
       let b : asked closes (lines_of main es ns)
       ≡ asked closes (head_of (has_begin first_of.part.statements)) + asked closes (first_of.ran.body ++ tail_of_main) =
       ap (asked closes) first_of.ran.is ∙ many_append (λ l. closes l.op) (head_of (has_begin first_of.part.statements)) (first_of.ran.body
@@ -243,4 +245,5 @@ module _ {layout : Layout} {load : Workload} {es : List NodeEntry} {ns : List �
 
   pub new_id : (id : ℕ) → makes_queue id l.op ≡ true → some_entry (λ e. makes_queue id e.op) c.before ≡ false
   new_id id m = no_entry (makes_queue id) c.before (let a : asks (makes_queue id) c.before < 1 =
-      fewer_before (makes_queue id) (has_id id) 1 (grind (arith, nat_tests)) (one_id id (all_statements load) (settled_whole load u.settled).ids) m in omega arith)
+      fewer_before (makes_queue id) (has_id id) 1 (grind (arith, nat_tests)) (one_id id (all_statements load) (settled_whole load u.settled).ids) m in
+      omega arith)

@@ -22,7 +22,8 @@ module _ {layout : Layout} {load : Workload} {es : List NodeEntry} {ns : List �
   one_user : OnlyBy who p es
   one_user =
       only_by (ran u) who p (λ o i. outside o (work_outside o i))
-      (map_run (ran u) (Seat layout load es ns) (λ w q rs. (w == who) ≡ false → Each (λ l. p l.op ≡ false) (lines_of w es ns)) (λ w q rs l x d. others w q rs x d)
+      (map_run (ran u) (Seat layout load es ns) (λ w q rs. (w == who) ≡ false
+      → Each (λ l. p l.op ≡ false) (lines_of w es ns)) (λ w q rs l x d. others w q rs x d)
       (seats u))
 
 -- The looks at a task

@@ -265,7 +265,8 @@ module _ {k : ObjectKind} {t : Sort} (y : Handed k t) where
             let same : handle_at (map handle_of f.step.replies) a ≡ w.handle =
             sym (step_handle f.step a (omega arith)) ∙ e ∙ found_bound f ∙ ap handle_of w.told in
             let i : Gave k w.handle f.step.first =
-            bound_gave f.step.before f.step.first f.step.replies f.step.carried (step_granted f.step g).0 a (step_shorter f.step t a (omega arith) x) w.handle same in
+            bound_gave f.step.before f.step.first f.step.replies f.step.carried (step_granted f.step g).0 a
+            (step_shorter f.step t a (omega arith) x) w.handle same in
             given_once who (start ++ f.step.first) w.op w.handle 0 (f.step.more ++ X)
             (at ∙ ap (λ (q : List Line). (start ++ q) ++ X) (f.step.is ∙ ap (λ (q : List Line). f.step.first ++ (q ++ f.step.more)) w.is)
             ∙ ap (λ (q : List Line). q ++ X) (sym (append_assoc start f.step.first (line w.op (Reply.Handle w.handle) 0 ∷ f.step.more)))

@@ -1,6 +1,6 @@
 -- The summary of plain replies is the plain summary.
 use Rattle.settled_runs.proofs.Names.{arith, nat_tests, ◌≡◌, ℕ, cond, List, [], ◌∷◌, Option, refl, ◌∙◌, ap, TaskEnd, Action, Reply, after, Deed, Statement, Part, is_task, Told, run_terms, parts_told, no_totals, all_statements, actions_in, Faults, no_faults, with_plain_task, SettledSummariesArePlain, end_at, shown_of, with_tasks, with_parts, totals, totals_text, task_in, faults_behind, IsPlainReply, ArePlain, PartsArePlain, with_plain_tasks, with_plain_parts, plain_summary, Totals, with_counted as with_task}
-use Rattle.settled_runs.proofs.RunReport.{told_plainly}
+use Rattle.settled_runs.proofs.RunReport.{told_plainly, settled_reports_are_plain, settled_reports_are_alike}
 
 module _ (actions : List Action) (ends : ℕ → Option TaskEnd) where
   task_counted : (all : List Statement) (faults : Faults) (t : Totals) (d : Deed) (r : Reply) → IsPlainReply actions all ends faults d r
@@ -31,3 +31,5 @@ unfolding totals plain_summary
 settled_summaries_are_plain layout load es ns u =
     ap totals_text (parts_counted (actions_in (all_statements load)) (end_at (after (run_terms layout load) es).tasks) no_totals load.parts (parts_told load es)
     (told_plainly layout load es ns u))
+
+pub ruleset settled_law = (settled_reports_are_plain, settled_summaries_are_plain, settled_reports_are_alike)

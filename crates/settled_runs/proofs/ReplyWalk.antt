@@ -27,7 +27,8 @@ module _ {layout : Layout} {load : Workload} {es : List NodeEntry} {ns : List �
       let s : State = after terms c.before in
       let e : NodeEntry = entry who o (Reply.Handle h) in
       let x : (t : NewTask) × AskedAs s t o × HasObject ObjectKind.Task h (SameTask (new_task t s.starts)) (next s e) =
-      on_start (λ r ms. is_given h r ≡ true → (t : NewTask) × AskedAs s t o × HasObject ObjectKind.Task h (SameTask (new_task t s.starts)) (after_moves ms s)) s who
+      on_start (λ r ms. is_given h r ≡ true → (t : NewTask) × AskedAs s t o
+      × HasObject ObjectKind.Task h (SameTask (new_task t s.starts)) (after_moves ms s)) s who
       (Reply.Handle h) (λ k i. true_false i refl) o z (λ k t b f i. (
         t,
         b,
@@ -108,7 +109,8 @@ module _ {layout : Layout} {load : Workload} {es : List NodeEntry} {ns : List �
               k.1,
               t.2 ∙ ap (plain_end actions) (sym t.1.0),
             )
-        by (Deed.Enqueue queue args cores detached group) e v o n k = by_queue queue args cores detached group (queue_at p.statements queue) refl e o.0 n k.0 k.1
+        by (Deed.Enqueue queue args cores detached group) e v o n k =
+            by_queue queue args cores detached group (queue_at p.statements queue) refl e o.0 n k.0 k.1
         by Deed.Begin e v o n k = begin_told n.0
         by (Deed.Action job kind cores) e v o n k = ap is_status k.1
         by Deed.Group e v o n k = ap is_status k.1

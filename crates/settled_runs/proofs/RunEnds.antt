@@ -40,7 +40,8 @@ module _ {layout : Layout} {load : Workload} {es : List NodeEntry} {ns : List �
       → Each (λ l. is_planned (actions_in (all_statements load)) l.op ≡ true) (lines_of w es ns)
   seat_planned w p rs x =
       seat_within x (λ o. is_planned (actions_in (all_statements load)) o ≡ true) (outside_planned (actions_in (all_statements load)))
-      (λ s y. deed_planned load.settings (x.known ++ actions_in y.before) y.before p.statements (actions_in (all_statements load)) (map handle_of y.replies) s.deed
+      (λ s y. deed_planned load.settings (x.known
+      ++ actions_in y.before) y.before p.statements (actions_in (all_statements load)) (map handle_of y.replies) s.deed
       y.front y.reply (within_step y (actions_in (all_statements load)) x.within) (step_settled y load.settings x.known x.settled) y.made)
 
   pub planned : ArePlanned (actions_in (all_statements load)) es

@@ -1,6 +1,6 @@
 -- What a look at a whole group tells in a quiet history: its live members are the tasks that were put into it since the last verdict.
 use Rattle.settled_runs.proofs.Names.{◌≡◌, ◌⊎◌, inl, inr, ℕ, ◌≤◌, Bool, true, false, cond, List, [], ◌∷◌, Option, Some, None, refl, ◌∙◌, ap, subst, arith, ◌==◌, is_some, option_and_then, option_or, eq-eqb, MtapiStatus, Listed, live_object, Task, TaskState, Ended, end_of, is_member, Ending, insert, insert_ended, fault_of, first_fault, end_in, some_same, live_listed, true_false, at_skip, at_here, OnceIn, once_rest, live_of, listed, endings, sym, ◌&&◌, is_none, eqb-true, holds, with_fields, gone, with_notes, new_task, Group, freed, Op, State, is_open, tasks, Move, starts_task, notes, leaves, is_fresh, is_served, apply, NodeEntry, IsNext, next, IsMade, all_live, fst_true, snd_true, Every, every_map, always, listed_move, LegalFrom, after_from, list_any, TaskEnd, GroupHandle, NewTask, StartsTask, FreesMembers, FoundAs, is_quiet, starts_member, looks_at_all, change_all, cond_both, Notes, ◌++◌, ◌||◌, not, entry, any_listed, is_unended, with_waiter, new_group, is_unended_member, Reply, opening, groups, after_moves, Allows, moves_of, after_row, verdict, is_pending, after, AllGives, given, on_live, both_true, Legal-front, by_moves, at_issue_here, cut_from, cut_after, found_changed, found_issued, fresh_unlisted, AreQuiet, with_new, members_behind, goes_on, GoOn, IsVerdict, QuietVerdicts, IsCalm, calm_next, calm_along, calm_opening, row, members_of, false_from_ne_true, or_right, or_cases, May, by_made_moves, looks_row, once_from, end_found, ObjectKind, whether, nat_tests}
-use Rattle.settled_runs.proofs.{Stays.there_next, Stays.made_there, Granted.any_found, Granted.open_move, Stays.AskedAs, Stays.on_start}
+use Rattle.settled_runs.proofs.{Stays.there_next, Stays.made_there, Granted.any_found, Granted.open_move, Stays.AskedAs, Stays.on_start, Stays.made_objects_stay, Granted.quiet_calls_are_granted, Waits.quiet_looks_are_answered}
 use Rattle.history_law.proofs.TaskSteps as step
 use Rattle.history_law.proofs.TaskSteps.{Step, Steps, tasks_go, step_handle, step_alive, every_steps}
 use Rattle.mtapi_machine.specs.Laws.{IsBy, may}
@@ -407,3 +407,5 @@ quiet_verdicts terms before behind maker who g r legal q0 q1 k =
           inr (subst (λ (t : State). IsVerdict t (members_of g.0 [] behind) r) (sym same)
           (is_verdict g.0 (members_of g.0 [] behind) (after_from (next first e0) behind) r e.0 once fine.members e.1))
     ]
+
+pub ruleset quiet_law = (made_objects_stay, quiet_calls_are_granted, quiet_looks_are_answered, quiet_verdicts)

@@ -207,7 +207,8 @@ module _ {layout : Layout} {load : Workload} {es : List NodeEntry} {ns : List �
       λ other v e. one_handle u x y g groups_handed other place v b e in
       let first_unused : Each (λ l. uses h l.op ≡ false) z.first =
       statements_each (λ o. uses h o ≡ false) z.before z.first z.replies z.carried (λ t v. step_each (λ o. uses h o ≡ false) v
-      (uses_call h v.before t (map handle_of v.replies) (step_statement v (step_before z (step_before y x.are))) (λ n o e. let k = step_bound v Sort.Group n o in
+      (uses_call h v.before t (map handle_of v.replies) (step_statement v (step_before z (step_before y x.are))) (λ n o e. let k =
+      step_bound v Sort.Group n o in
       let i : n < length z.before = k.0.early in let j : length z.before ≡ place = here.early in
       let same : n ≡ place = only n (step_longer z Sort.Group n k.0) (step_handle z n i ∙ k.1 ∙ e) in absurd (omega arith)))) in
       let fits : Fit actions p.statements (λ j. option_and_then fault_of (ends j)) place (members_in h [] z.more) told_fault =

@@ -240,7 +240,8 @@ module _ {layout : Layout} {load : Workload} {es : List NodeEntry} {ns : List �
           let c = cut_here (line v y.reply 0) (n.0
           ∙ ap (λ (b : Bool). line (Op.TaskEnqueue (record { 0 = handle queue }) args cores b (group_of group)) y.reply 0 ∷ []) t.0) in
           (calls c).enqueue (record { 0 = handle queue }) q.job q.priority args cores (group_of group) (asking y.first (line v y.reply 0) y.more c)
-          (is_queued c queue o.0 q e i) (room u c ObjectKind.Task (rooms load u.settled).3 refl) (is_served c q.job cores.0 t.2) (group_made c group o.1.1.1.1.0)
+          (is_queued c queue o.0 q e i) (room u c ObjectKind.Task (rooms load u.settled).3 refl) (is_served c q.job cores.0 t.2)
+          (group_made c group o.1.1.1.1.0)
 
       by : (d : Deed) → s.deed ≡ d → is_settled_deed load.settings (x.at.known ++ actions_in y.before) y.before p.statements d ≡ true
           → AllFit y.before (fields (word_for d)) (values d) → Made (call_of (map handle_of y.replies) d) y.front y.reply → GrantedTo d y.reply

@@ -13,7 +13,7 @@ ghost use Rattle.settled_runs.specs.Verdicts.{QuietVerdicts};
 /// Where nobody cancels, deletes or disables anything, and every action is of a pure kind, the actions, queues and groups that were made
 /// stay as they were made. No call is refused for which there is room and all that it needs; nor is a look at a task that its caller
 /// alone looks at. How the tasks end says `history_law::law_quiet_ends`.
-#[tactic(auto, using(crate::proofs::Stays::made_objects_stay, crate::proofs::Granted::quiet_calls_are_granted, crate::proofs::Waits::quiet_looks_are_answered, crate::proofs::Verdicts::quiet_verdicts))]
+#[tactic(auto, using(crate::proofs::Verdicts::quiet_law))]
 pub fn law_quiet()
     ensures stays { MadeObjectsStay }
     ensures granted { QuietCallsAreGranted }
@@ -48,7 +48,7 @@ pub fn law_settled_replies()
 
 /// The report of a run of a settled workload is its plain report, and its summary the plain summary, whatever the number of workers, in
 /// whichever order the calls came and whoever took the tasks. So two runs of the same parts have one report.
-#[tactic(auto, using(crate::proofs::RunReport::settled_reports_are_plain, crate::proofs::PlainSummary::settled_summaries_are_plain, crate::proofs::RunReport::settled_reports_are_alike))]
+#[tactic(auto, using(crate::proofs::PlainSummary::settled_law))]
 pub fn law_settled_report()
     ensures report { SettledReportsArePlain }
     ensures summary { SettledSummariesArePlain }
