@@ -15,12 +15,12 @@ from_bits core old new on same others other lt =
       | false ↦ λ is. ap (λ b. nat_eq b 1) (others other lt (eqb-false other core is))
     ] refl
 
-pub SetsCore-set : (core bits : ℕ) (on : Bool) → core < 64 → on ≡ true → SetsCore core on bits (bit_or bits (1 * 2 ^ core % 2 ^ 64))
-SetsCore-set core bits on lt is =
+pub set_core : (core bits : ℕ) (on : Bool) → core < 64 → on ≡ true → SetsCore core on bits (bit_or bits (1 * 2 ^ core % 2 ^ 64))
+set_core core bits on lt is =
     from_bits core bits _ on (ap (λ b. nat_eq b 1) (bit_at_set_same w64 bits core lt)
     ∙ sym is) (λ other below differs. bit_at_set_other w64 bits core lt other differs)
 
-pub SetsCore-clear : (core bits : ℕ) (on : Bool) → core < 64 → on ≡ false → SetsCore core on bits (bit_and bits (bit_not w64 (1 * 2 ^ core % 2 ^ 64)))
-SetsCore-clear core bits on lt is =
+pub clear_core : (core bits : ℕ) (on : Bool) → core < 64 → on ≡ false → SetsCore core on bits (bit_and bits (bit_not w64 (1 * 2 ^ core % 2 ^ 64)))
+clear_core core bits on lt is =
     from_bits core bits _ on (ap (λ b. nat_eq b 1) (bit_at_clear_same w64 bits core lt)
     ∙ sym is) (λ other below differs. bit_at_clear_other w64 bits core lt other below differs)

@@ -47,6 +47,7 @@ const ALL_KINDS: [Kind; 10] = [
 
 impl Kind {
     /// The kind's word. No two kinds share one.
+    #[tactic(auto, using(crate::proofs::NameLemmas::one_name, crate::proofs::ValueTables::kind_finds_each))]
     pub fn word(self) -> &'static str
         ensures value { result.now ≡ kind_word self }
         ensures alone { (other : Kind) → kind_word other ≡ result.now → other ≡ self }

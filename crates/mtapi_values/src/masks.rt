@@ -55,6 +55,7 @@ impl Mask {
 }
 
 /// These bits with the one of a core set or cleared.
+#[tactic(auto, using(crate::proofs::MaskLemmas::set_core, crate::proofs::MaskLemmas::clear_core))]
 fn with_core(bits: u64, core: u32, on: bool) -> u64
     requires { core < 64 }
     ensures { SetsCore core on bits result }

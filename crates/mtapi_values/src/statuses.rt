@@ -183,6 +183,7 @@ impl MtapiStatus {
     }
 
     /// The status's name. No two statuses share one.
+    #[tactic(auto, using(crate::proofs::NameLemmas::one_name, crate::proofs::ValueTables::mtapi_finds_each))]
     pub fn name(self) -> &'static str
         ensures value { result.now ≡ mtapi_name self }
         ensures alone { (other : MtapiStatus) → mtapi_name other ≡ result.now → other ≡ self }
@@ -306,6 +307,7 @@ impl MrapiStatus {
     }
 
     /// The status's name. No two statuses share one.
+    #[tactic(auto, using(crate::proofs::NameLemmas::one_name, crate::proofs::ValueTables::mrapi_finds_each))]
     pub fn name(self) -> &'static str
         ensures value { result.now ≡ mrapi_name self }
         ensures alone { (other : MrapiStatus) → mrapi_name other ≡ result.now → other ≡ self }
