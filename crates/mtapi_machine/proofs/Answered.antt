@@ -155,105 +155,90 @@ module _ (s : State) (who : ℕ) where
 
   -- the table: an entry an op
   leads : (o : Op) (r : Reply) → Walks o (row s who o r)
-  leads op.Initialize r = λ a. is.opens_node (not_false _ a)
-  leads op.Release r = λ a. is.releases_callers (not_false _ a)
-  leads op.Enter r = λ a. ((λ b. is.enters_early a (not_true _ b)), λ b. is.enters_node a (not_false _ b))
-  leads op.Close r = λ a. is.closes_node a
-  leads op.Final r = λ a b. is.finals_node (fst_true (is_past_open s.phase) _ (not_false _ b)) (snd_true (is_past_open s.phase) _ (not_false _ b))
-  leads (op.JobGet job) r = λ a b. is.finds_job job (not_false _ b)
-  leads (op.ActionCreate job kind cores) r = λ a b d. on_only (op.ActionCreate job kind cores) _ _ _ (λ f. is.creates_action job kind cores (handle_of r) f)
-  leads (op.ActionDelete t) r = λ a. on_live (op.ActionDelete t) (live_object s.actions t.0) _ _ (is.refuses _ _ refl) (λ x e. is.deletes_action t x e)
-  leads (op.ActionDisable t) r = λ a. on_live (op.ActionDisable t) (live_object s.actions t.0) _ _ (is.refuses _ _ refl) (λ x e. is.disables_action t x e)
-  leads (op.ActionEnable t) r = λ a. on_live (op.ActionEnable t) (live_object s.actions t.0) _ _ (is.refuses _ _ refl) (λ x e. is.enables_action t x e)
-  leads (op.TaskStart job args priority cores detached group) r = λ a b d e f g h.
-      on_only (op.TaskStart job args priority cores detached group) _ _ _
-      (λ i. is.starts job args priority cores detached group (handle_of r)
-      (record { up = not_false _ a; grouped = ap not e; served = not_false _ g; fresh = i }))
-  leads (op.TaskEnqueue q args cores detached group) r = λ a b.
-      on_live (op.TaskEnqueue q args cores detached group) (live_object s.queues q.0) _ _ (is.refuses _ _ refl) (λ x y d e f g h j k.
-      on_only (op.TaskEnqueue q args cores detached group) _ _ _
-      (λ i. is.enqueues q args cores detached group (handle_of r) x y (d, tt)
-      (record { up = not_false _ a; grouped = ap not f; served = not_false _ h; fresh = i }) j))
-  leads (op.TaskLook t last) r = λ a. on_live (op.TaskLook t last) (live_object s.tasks t.0) _ _ (is.refuses _ _ refl)
-      (λ x e b d. on_looks t last x x.state e (b, (d, tt)) refl)
-  leads (op.TaskCancel t) r = λ a. on_live (op.TaskCancel t) (live_object s.tasks t.0) _ _ (is.refuses _ _ refl) (λ x e. on_cancels t x x.state e refl)
-  leads op.GroupCreate r = λ a b. on_only op.GroupCreate _ _ _ (λ f. is.creates_group (handle_of r) f)
-  leads (op.GroupDelete g) r = λ a. on_live (op.GroupDelete g) (live_object s.groups g.0) _ _ (is.refuses _ _ refl) (λ x e. is.deletes_group g x e)
-  leads (op.AllLook g last) r = λ a. on_live (op.AllLook g last) (live_object s.groups g.0) _ _ (is.refuses _ _ refl)
-      (λ x e. on_cond (op.AllLook g last) (any_listed (is_unended_member g.0) s.tasks) _ _
-      (λ b. early (λ z. op.AllLook g z) last (reply.Mtapi m.Timeout) (is.all_early g x e b) (is.all_late g)) (λ b. on_verdict g last x _ e b refl))
   leads (op.AnyLook g last) r = λ a. on_live (op.AnyLook g last) (live_object s.groups g.0) _ _ (is.refuses _ _ refl) (λ x e b. on_first g last x _ e refl)
-  leads (op.QueueCreate id job priority limit ordered retain) r =
-      λ a b d e f. on_only (op.QueueCreate id job priority limit ordered retain) _ _ _
-      (λ g. is.creates_queue id job priority limit ordered retain (handle_of r) e g)
-  leads (op.QueueGet id) r = λ a. on_found (op.QueueGet id) _ _ (is.refuses _ _ refl) (λ h e. is.gets_queue id h e)
-  leads (op.QueueEnable q) r = λ a. on_live (op.QueueEnable q) (live_object s.queues q.0) _ _ (is.refuses _ _ refl) (λ x e. is.enables_queue q x e)
-  leads (op.QueueDisable q) r = λ a. on_live (op.QueueDisable q) (live_object s.queues q.0) _ _ (is.refuses _ _ refl) (λ x e. on_disable q x x.retain e refl)
-  leads (op.QueueDelete q) r = λ a. on_live (op.QueueDelete q) (live_object s.queues q.0) _ _ (is.refuses _ _ refl) (λ x e. is.deletes_queue q x e)
   leads op.Pick r = λ a b. (
     (λ d. is.idles_in_new d),
     λ d. on_cond op.Pick (is_stop s) _ _ (λ e. is.stops_worker (not_false _ a) b e)
         (λ e. on_picks r (not_false _ a) b),
   )
-  leads (op.Finish t done) r = on_task (op.Finish t done) t.0 _ refl
-      (λ x b e d. is.finishes t done x (record { inside = b; found = e; runs = fst_true (runs_as who done.kind x) _ (not_false _ d) }) (d, tt))
-  leads (op.Asked t) r = on_task (op.Asked t) t.0 _ refl (λ x b e d f. is.asks t x (record { inside = b; found = e; runs = not_false _ d }) (d, (f, tt)))
-  leads (op.WatchEnd t) r = on_task (op.WatchEnd t) t.0 _ refl
-      (λ x b e d f. is.ends_watch t x (record { inside = b; found = e; runs = not_false _ d }) (d, (f, tt)))
-  leads (op.TallyLock t) r = on_task (op.TallyLock t) t.0 _ refl
-      (λ x b e d f. on_locks t x (tally_args x.args) (record { inside = b; found = e; runs = not_false _ d }) (not_false _ f) refl)
-  leads (op.TallyRead t) r = on_task (op.TallyRead t) t.0 _ refl (λ x b e d f.
-      on_live (op.TallyRead t) (live_object s.segments x.notes.tally.segment) _ _ tt
-      (λ y g. is.tally_reads t x y (record { inside = b; found = e; runs = not_false _ d }) (not_false _ f) g))
-  leads (op.TallyWrite t value) r = on_task (op.TallyWrite t value) t.0 _ refl (λ x b e d f.
-      on_live (op.TallyWrite t value) (live_object s.segments x.notes.tally.segment) _ _ tt
-      (λ y g. is.tally_writes t value x y (record { inside = b; found = e; runs = not_false _ d }) f g))
-  leads (op.TallyEnd t) r = on_task (op.TallyEnd t) t.0 _ refl (λ x b e d f. on_cond (op.TallyEnd t) (x.notes.tally.stage == 4) _ _
-      (λ g. is.tally_ends_failed t x (record { inside = b; found = e; runs = not_false _ d }) g)
-      (λ g. on_live (op.TallyEnd t) (live_object s.segments x.notes.tally.segment) _ _ tt
-      (λ y h. on_live (op.TallyEnd t) (live_object s.mutexes x.notes.tally.mutex) _ _ tt
-      (λ z i. is.tally_ends t x y z (record { inside = b; found = e; runs = not_false _ d }) f g h i))))
-  leads (op.MutexCreate id recursive) r = λ a b d e. on_only (op.MutexCreate id recursive) _ _ _ (λ f. is.creates_mutex id recursive (handle_of r) d f)
-  leads (op.MutexGet id) r = λ a b. on_found (op.MutexGet id) _ _ (is.refuses_caller _ _ refl) (λ h e. is.gets_mutex id h e)
-  leads (op.MutexDelete h) r = λ a b. on_object (op.MutexDelete h) Mutexes h.0 mutex_delete_refusals _ b (is.refuses_caller _ _ refl)
-      (λ x k u. is.deletes_mutex h x (k (u, tt)))
-  leads (op.MutexLook h last) r = λ a b. on_object (op.MutexLook h last) Mutexes h.0 (mutex_look_refusals who) _ b (is.refuses_caller _ _ refl)
-      (λ x k u. on_cond (op.MutexLook h last) (mutex_busy who x) _ _
-      (λ d. early (λ z. op.MutexLook h z) last (reply.Mrapi c.Timeout) (is.mutex_early h x (k (u, tt)) d) (is.mutex_late h))
-      (λ d. is.locks_mutex h last x (k (u, tt)) d))
-  leads (op.MutexUnlock h key) r = λ a b. on_object (op.MutexUnlock h key) Mutexes h.0 (mutex_unlock_refusals who key) _ b (is.refuses_caller _ _ refl)
-      (λ x k u v w. is.unlocks_mutex h key x (k (u, (v, (w, tt)))))
-  leads (op.SemCreate id limit) r = λ a b d e f. on_only (op.SemCreate id limit) _ _ _ (λ g. is.creates_sem id limit (handle_of r) e g)
-  leads (op.SemGet id) r = λ a b. on_found (op.SemGet id) _ _ (is.refuses_caller _ _ refl) (λ h e. is.gets_sem id h e)
-  leads (op.SemDelete h) r = λ a b. on_object (op.SemDelete h) Sems h.0 sem_delete_refusals _ b (is.refuses_caller _ _ refl)
-      (λ x k u. is.deletes_sem h x (k (u, tt)))
-  leads (op.SemLook h last) r = λ a b. on_object (op.SemLook h last) Sems h.0 (λ x. []) _ b (is.refuses_caller _ _ refl)
-      (λ x k. on_cond (op.SemLook h last) (sem_busy x) _ _
-      (λ d. early (λ z. op.SemLook h z) last (reply.Mrapi c.Timeout) (is.sem_early h x (k tt) d) (is.sem_late h)) (λ d. is.takes_sem h last x (k tt) d))
-  leads (op.SemUnlock h) r = λ a b. on_object (op.SemUnlock h) Sems h.0 (sem_unlock_refusals who) _ b (is.refuses_caller _ _ refl)
-      (λ x k u. is.gives_sem h x (k (u, tt)))
-  leads (op.RwlCreate id limit) r = λ a b d e f. on_only (op.RwlCreate id limit) _ _ _ (λ g. is.creates_rwl id limit (handle_of r) e g)
-  leads (op.RwlGet id) r = λ a b. on_found (op.RwlGet id) _ _ (is.refuses_caller _ _ refl) (λ h e. is.gets_rwl id h e)
-  leads (op.RwlDelete h) r = λ a b. on_object (op.RwlDelete h) Rwls h.0 rwl_delete_refusals _ b (is.refuses_caller _ _ refl)
-      (λ x k u. is.deletes_rwl h x (k (u, tt)))
-  leads (op.RwlLook h writer last) r = λ a b. on_object (op.RwlLook h writer last) Rwls h.0 (rwl_look_refusals who) _ b (is.refuses_caller _ _ refl)
-      (λ x k u. on_cond (op.RwlLook h writer last) (rwl_busy writer x) _ _
-      (λ d. early (λ z. op.RwlLook h writer z) last (reply.Mrapi c.Timeout) (is.rwl_early h writer x (k (u, tt)) d) (is.rwl_late h writer))
-      (λ d. is.takes_rwl h writer last x (k (u, tt)) d))
-  leads (op.RwlUnlock h writer) r = λ a b. on_object (op.RwlUnlock h writer) Rwls h.0 (rwl_unlock_refusals who writer) _ b (is.refuses_caller _ _ refl)
-      (λ x k u. is.gives_rwl h writer x (k (u, tt)))
-  leads (op.ShmemCreate id cells) r = λ a b d e f. on_only (op.ShmemCreate id cells) _ _ _ (λ g. is.creates_segment id cells (handle_of r) e g)
-  leads (op.ShmemGet id) r = λ a b. on_found (op.ShmemGet id) _ _ (is.refuses_caller _ _ refl) (λ h e. is.gets_segment id h e)
-  leads (op.ShmemDelete h) r = λ a b. on_object (op.ShmemDelete h) Segments h.0 shmem_delete_refusals _ b (is.refuses_caller _ _ refl)
-      (λ x k u. is.deletes_segment h x (k (u, tt)))
-  leads (op.ShmemAttach h) r = λ a b. on_object (op.ShmemAttach h) Segments h.0 (attach_refusals who) _ b (is.refuses_caller _ _ refl)
-      (λ x k u. is.attaches h x (k (u, tt)))
-  leads (op.ShmemDetach h) r = λ a b. on_object (op.ShmemDetach h) Segments h.0 (detach_refusals who) _ b (is.refuses_caller _ _ refl)
-      (λ x k u. is.detaches h x (k (u, tt)))
-  leads (op.ShmemRead h cell) r = λ a b. on_object (op.ShmemRead h cell) Segments h.0 (cell_refusals who cell) _ b (is.refuses_caller _ _ refl)
-      (λ x k u v. is.reads_cell h cell x (k (u, (v, tt))))
-  leads (op.ShmemWrite h cell value) r = λ a b. on_object (op.ShmemWrite h cell value) Segments h.0 (cell_refusals who cell) _ b (is.refuses_caller _ _ refl)
-      (λ x k u v. is.writes_cell h cell value x (k (u, (v, tt))))
+  leads o r = grind (
+    arith,
+    nat_tests,
+    on_only,
+    on_live,
+    on_cond,
+    on_found,
+    on_object,
+    on_task,
+    early,
+    on_looks,
+    on_cancels,
+    on_verdict,
+    on_disable,
+    on_locks,
+    fst_true,
+    snd_true,
+    not_true,
+    not_false,
+    is.opens_node,
+    is.releases_callers,
+    is.enters_early,
+    is.enters_node,
+    is.closes_node,
+    is.finals_node,
+    is.finds_job,
+    is.creates_action,
+    is.refuses,
+    is.deletes_action,
+    is.disables_action,
+    is.enables_action,
+    is.starts,
+    is.enqueues,
+    is.creates_group,
+    is.deletes_group,
+    is.all_early,
+    is.all_late,
+    is.creates_queue,
+    is.gets_queue,
+    is.enables_queue,
+    is.deletes_queue,
+    is.finishes,
+    is.asks,
+    is.ends_watch,
+    is.tally_reads,
+    is.tally_writes,
+    is.tally_ends_failed,
+    is.tally_ends,
+    is.creates_mutex,
+    is.refuses_caller,
+    is.gets_mutex,
+    is.deletes_mutex,
+    is.mutex_early,
+    is.mutex_late,
+    is.locks_mutex,
+    is.unlocks_mutex,
+    is.creates_sem,
+    is.gets_sem,
+    is.deletes_sem,
+    is.sem_early,
+    is.sem_late,
+    is.takes_sem,
+    is.gives_sem,
+    is.creates_rwl,
+    is.gets_rwl,
+    is.deletes_rwl,
+    is.rwl_early,
+    is.rwl_late,
+    is.takes_rwl,
+    is.gives_rwl,
+    is.creates_segment,
+    is.gets_segment,
+    is.deletes_segment,
+    is.attaches,
+    is.detaches,
+    is.reads_cell,
+    is.writes_cell,
+  )
 
   pub answered : (o : Op) (r : Reply) → Allows (row s who o r) r → Answers s who o r (moves_of (row s who o r))
   answered o r a = led (refuses_with o) (Is o) (refused o) (row s who o r) r (leads o r) a

@@ -37,6 +37,12 @@ abbrev pub EachDecides : (Fss : List (List Field)) → (Choice Fss → Type 0) �
 EachDecides [] Q each = Unit {0}
 EachDecides (Fs ∷ Fss) Q each = ((x y : Values Fs) → Q (inl y) → Decides (each.0 x y) (x ≡ y)) × EachDecides Fss (λ c. Q (inr c)) each.1
 
+-- the test of a variant, whatever the second value is, and those of the next variants
+infixr 30 ◌⊕◌
+pub ◌⊕◌ : {A B : Type 0} {E : A → A → Bool} {Q : A → Type 0} → ((x y : A) → Decides (E x y) (x ≡ y)) → B
+    → ((x y : A) → Q y → Decides (E x y) (x ≡ y)) × B
+d ⊕ rest = (λ x y q. d x y, rest)
+
 by_decides : (Fss : List (List Field)) (Q : Choice Fss → Type 0) (each : Each Bool Fss) → EachDecides Fss Q each → (c d : Choice Fss) → Q d
     → Decides (by false false Fss each c d) (c ≡ d)
 by_decides [] Q each all c d q = absurd c

@@ -70,16 +70,7 @@ pending_changes s who o h e k = absurd (cc)
 dropped_in : (s : State) (who : ℕ) (o : Op) (r : Reply) → IsNext s (entry who o r) → drops (pends_alike s who o) r ≡ true → next s (entry who o r) ≡ s
 dropped_in s who o Idle h d = idle_stays s who o h
 dropped_in s who o Pending h d = pending_stays s who o h d
-dropped_in s who o Ok h d = absurd (cc)
-dropped_in s who o (Handle x) h d = absurd (cc)
-dropped_in s who o (Number x) h d = absurd (cc)
-dropped_in s who o (reply.Ended x) h d = absurd (cc)
-dropped_in s who o (Given x y) h d = absurd (cc)
-dropped_in s who o (Picked a b c k) h d = absurd (cc)
-dropped_in s who o Stop h d = absurd (cc)
-dropped_in s who o (Asked x) h d = absurd (cc)
-dropped_in s who o (Mtapi x) h d = absurd (cc)
-dropped_in s who o (Mrapi x) h d = absurd (cc)
+dropped_in s who o _ h d = absurd (cc)
 
 -- a dropped entry leaves the state as it was
 pub dropped_stays : (s : State) (e : NodeEntry) → IsNext s e → is_dropped s e ≡ true → next s e ≡ s

@@ -7,43 +7,23 @@ use Rattle.mtapi_machine.specs.State.{actions, tasks}
 
 pub own_kind : (k : ObjectKind) → (objects_of k).kind ≡ k
 own_kind kind.Action = refl
-own_kind kind.Task = refl
-own_kind kind.Group = refl
-own_kind kind.Queue = refl
-own_kind kind.Mutex = refl
-own_kind kind.Sem = refl
-own_kind kind.Rwl = refl
-own_kind kind.Shmem = refl
+own_kind _ = refl
 
 -- what an empty list has, each list has before the first entry
 pub at_opening : (P : (T : Type 0) → List (Listed T) → Type 0) → ((T : Type 0) → P T []) → (terms : Terms) (k : ObjectKind)
     → P (FieldsOf k) ((objects_of k).list (opening terms))
 at_opening P none terms kind.Action = none _
-at_opening P none terms kind.Task = none _
-at_opening P none terms kind.Group = none _
-at_opening P none terms kind.Queue = none _
-at_opening P none terms kind.Mutex = none _
-at_opening P none terms kind.Sem = none _
-at_opening P none terms kind.Rwl = none _
-at_opening P none terms kind.Shmem = none _
+at_opening P none terms _ = none _
 
 -- what a sort has, its kind has
 pub of_sort : (P : (T : Type 0) → Objects T → Type 0) (t : Sort) → P (Fields t) (all_of t) → P (FieldsOf (all_of t).kind) (objects_of (all_of t).kind)
 of_sort P Groups v = v
-of_sort P Queues v = v
-of_sort P Mutexes v = v
-of_sort P Sems v = v
-of_sort P Rwls v = v
-of_sort P Segments v = v
+of_sort P _ v = v
 
 -- the list of a sort, where it is this one
 pub sort_at : (t : Sort) (l : List (Listed (Fields t))) (s : State) → (all_of t).list ((all_of t).with_list l s) ≡ l
 sort_at Groups l s = refl
-sort_at Queues l s = refl
-sort_at Mutexes l s = refl
-sort_at Sems l s = refl
-sort_at Rwls l s = refl
-sort_at Segments l s = refl
+sort_at _ l s = refl
 
 -- each list of one state and that of the other one
 abbrev pub OnEach : ((T : Type 0) → Objects T → List (Listed T) → List (Listed T) → Type 0) → State → State → Type 0
@@ -61,14 +41,9 @@ module _ (P : (T : Type 0) → Objects T → List (Listed T) → List (Listed T)
 
   pub each_with : (t : Sort) (l : List (Listed (Fields t))) → P (Fields t) (all_of t) ((all_of t).list s) l → OnEach P s ((all_of t).with_list l s)
   each_with Groups l v kind.Group = v
-  each_with Groups l v k = same (FieldsOf k) (objects_of k) ((objects_of k).list s)
   each_with Queues l v kind.Queue = v
-  each_with Queues l v k = same (FieldsOf k) (objects_of k) ((objects_of k).list s)
   each_with Mutexes l v kind.Mutex = v
-  each_with Mutexes l v k = same (FieldsOf k) (objects_of k) ((objects_of k).list s)
   each_with Sems l v kind.Sem = v
-  each_with Sems l v k = same (FieldsOf k) (objects_of k) ((objects_of k).list s)
   each_with Rwls l v kind.Rwl = v
-  each_with Rwls l v k = same (FieldsOf k) (objects_of k) ((objects_of k).list s)
   each_with Segments l v kind.Shmem = v
-  each_with Segments l v k = same (FieldsOf k) (objects_of k) ((objects_of k).list s)
+  each_with _ l v k = same (FieldsOf k) (objects_of k) ((objects_of k).list s)

@@ -19,7 +19,7 @@ use Rattle.mtapi_machine.specs.contracts.ops.Op as op
 use Rattle.mtapi_machine.specs.contracts.ops.OpPartialEq.TheImpl as op_eq
 use Rattle.mtapi_machine.specs.contracts.replies.Reply as reply
 use Rattle.mtapi_machine.specs.contracts.replies.ReplyPartialEq.TheImpl as reply_eq
-use Rattle.mtapi_machine.proofs.Derived.{decides_so, option_decides, bare_decides, none_decide, one_decides, more_decide, derived_decides}
+use Rattle.mtapi_machine.proofs.Derived.{decides_so, option_decides, bare_decides, none_decide, one_decides, more_decide, ◌⊕◌, derived_decides}
 
 -- handles, masks, kinds, statuses and arguments
 actions_decide : (a b : ActionHandle) → Decides (a.0 == b.0) (a ≡ b)
@@ -68,42 +68,9 @@ end_decides a b = grind (arith, nat_tests, derived_decides, one_decides, args_de
 -- replies
 pub reply_decides : (a b : Reply) → Decides (reply_eq.ghosts.eq a b) (a ≡ b)
 reply_decides a b = derived_decides reply.enum (λ c. Unit {0}) _ (
-  (λ x y q. none_decide x y),
-  (
-    (λ x y q. one_decides Decides-eqb x y),
-    (
-      (λ x y q. one_decides Decides-int_eq x y),
-      (
-        (λ x y q. one_decides end_decides x y),
-        (
-          (λ x y q. more_decide tasks_decide (one_decides end_decides) x y),
-          (
-            (λ x y q. none_decide x y),
-            (
-              (λ x y q. more_decide tasks_decide (more_decide actions_decide (more_decide kinds_decide (one_decides args_decide))) x y),
-              (
-                (λ x y q. none_decide x y),
-                (
-                  (λ x y q. none_decide x y),
-                  (
-                    (λ x y q. one_decides booleans_Decides x y),
-                    (
-                      (λ x y q. one_decides mtapi_decide x y),
-                      (
-                        (λ x y q. one_decides mrapi_decide x y),
-                        tt,
-                      ),
-                    ),
-                  ),
-                ),
-              ),
-            ),
-          ),
-        ),
-      ),
-    ),
-  ),
-) a b tt
+    none_decide ⊕ one_decides Decides-eqb ⊕ one_decides Decides-int_eq ⊕ one_decides end_decides ⊕ more_decide tasks_decide (one_decides end_decides)
+    ⊕ none_decide ⊕ more_decide tasks_decide (more_decide actions_decide (more_decide kinds_decide (one_decides args_decide))) ⊕ none_decide
+    ⊕ none_decide ⊕ one_decides booleans_Decides ⊕ one_decides mtapi_decide ⊕ one_decides mrapi_decide ⊕ tt) a b tt
 
 -- ops, but for the answer that a worker hands in: it is told by its kind and its arguments alone
 abbrev pub IsNoFinish : Op → Type 0
@@ -112,174 +79,28 @@ IsNoFinish _ = Unit {0}
 
 pub op_decides : (a b : Op) → IsNoFinish b → Decides (op_eq.ghosts.eq a b) (a ≡ b)
 op_decides a b q = derived_decides op.enum (λ c. IsNoFinish (op.the_make c)) _ (
-  (λ x y q. none_decide x y),
-  (
-    (λ x y q. none_decide x y),
-    (
-      (λ x y q. none_decide x y),
-      (
-        (λ x y q. none_decide x y),
-        (
-          (λ x y q. none_decide x y),
-          (
-            (λ x y q. one_decides Decides-eqb x y),
-            (
-              (λ x y q. more_decide Decides-eqb (more_decide kinds_decide (one_decides masks_decide)) x y),
-              (
-                (λ x y q. one_decides actions_decide x y),
-                (
-                  (λ x y q. one_decides actions_decide x y),
-                  (
-                    (λ x y q. one_decides actions_decide x y),
-                    (
-                      (λ x y q. more_decide Decides-eqb (more_decide args_decide
-                          (more_decide Decides-eqb (more_decide masks_decide (more_decide booleans_Decides (one_decides (option_decides groups_decide)))))) x
-                          y),
-                      (
-                        (λ x y q. more_decide queues_decide (more_decide args_decide
-                            (more_decide masks_decide (more_decide booleans_Decides (one_decides (option_decides groups_decide))))) x y),
-                        (
-                          (λ x y q. more_decide tasks_decide (one_decides booleans_Decides) x y),
-                          (
-                            (λ x y q. one_decides tasks_decide x y),
-                            (
-                              (λ x y q. none_decide x y),
-                              (
-                                (λ x y q. one_decides groups_decide x y),
-                                (
-                                  (λ x y q. more_decide groups_decide (one_decides booleans_Decides) x y),
-                                  (
-                                    (λ x y q. more_decide groups_decide (one_decides booleans_Decides) x y),
-                                    (
-                                      (λ x y q. more_decide Decides-eqb (more_decide Decides-eqb
-                                          (more_decide Decides-eqb (more_decide Decides-eqb (more_decide booleans_Decides (one_decides booleans_Decides))))) x
-                                          y),
-                                      (
-                                        (λ x y q. one_decides Decides-eqb x y),
-                                        (
-                                          (λ x y q. one_decides queues_decide x y),
-                                          (
-                                            (λ x y q. one_decides queues_decide x y),
-                                            (
-                                              (λ x y q. one_decides queues_decide x y),
-                                              (
-                                                (λ x y q. none_decide x y),
-                                                (
-                                                  (λ x y q. absurd q),
-                                                  (
-                                                    (λ x y q. one_decides tasks_decide x y),
-                                                    (
-                                                      (λ x y q. one_decides tasks_decide x y),
-                                                      (
-                                                        (λ x y q. one_decides tasks_decide x y),
-                                                        (
-                                                          (λ x y q. one_decides tasks_decide x y),
-                                                          (
-                                                            (λ x y q. more_decide tasks_decide (one_decides Decides-int_eq) x y),
-                                                            (
-                                                              (λ x y q. one_decides tasks_decide x y),
-                                                              (
-                                                                (λ x y q. more_decide Decides-eqb (one_decides booleans_Decides) x y),
-                                                                (
-                                                                  (λ x y q. one_decides Decides-eqb x y),
-                                                                  (
-                                                                    (λ x y q. one_decides mutexes_decide x y),
-                                                                    (
-                                                                      (λ x y q. more_decide mutexes_decide (one_decides booleans_Decides) x y),
-                                                                      (
-                                                                        (λ x y q. more_decide mutexes_decide (one_decides Decides-eqb) x y),
-                                                                        (
-                                                                          (λ x y q. more_decide Decides-eqb (one_decides Decides-eqb) x y),
-                                                                          (
-                                                                            (λ x y q. one_decides Decides-eqb x y),
-                                                                            (
-                                                                              (λ x y q. one_decides sems_decide x y),
-                                                                              (
-                                                                                (λ x y q. more_decide sems_decide (one_decides booleans_Decides) x y),
-                                                                                (
-                                                                                  (λ x y q. one_decides sems_decide x y),
-                                                                                  (
-                                                                                    (λ x y q. more_decide Decides-eqb (one_decides Decides-eqb) x y),
-                                                                                    (
-                                                                                      (λ x y q. one_decides Decides-eqb x y),
-                                                                                      (
-                                                                                        (λ x y q. one_decides rwls_decide x y),
-                                                                                        (
-                                                                                          (λ x y q. more_decide rwls_decide (more_decide booleans_Decides
-                                                                                              (one_decides booleans_Decides)) x y),
-                                                                                          (
-                                                                                            (λ x y q. more_decide rwls_decide (one_decides booleans_Decides) x
-                                                                                                y),
-                                                                                            (
-                                                                                              (λ x y q. more_decide Decides-eqb (one_decides Decides-eqb) x y),
-                                                                                              (
-                                                                                                (λ x y q. one_decides Decides-eqb x y),
-                                                                                                (
-                                                                                                  (λ x y q. one_decides segments_decide x y),
-                                                                                                  (
-                                                                                                    (λ x y q. one_decides segments_decide x y),
-                                                                                                    (
-                                                                                                      (λ x y q. one_decides segments_decide x y),
-                                                                                                      (
-                                                                                                        (λ x y q. more_decide segments_decide (one_decides
-                                                                                                            Decides-eqb) x y),
-                                                                                                        (
-                                                                                                          (λ x y q. more_decide segments_decide (more_decide
-                                                                                                              Decides-eqb (one_decides Decides-int_eq)) x y),
-                                                                                                          tt,
-                                                                                                        ),
-                                                                                                      ),
-                                                                                                    ),
-                                                                                                  ),
-                                                                                                ),
-                                                                                              ),
-                                                                                            ),
-                                                                                          ),
-                                                                                        ),
-                                                                                      ),
-                                                                                    ),
-                                                                                  ),
-                                                                                ),
-                                                                              ),
-                                                                            ),
-                                                                          ),
-                                                                        ),
-                                                                      ),
-                                                                    ),
-                                                                  ),
-                                                                ),
-                                                              ),
-                                                            ),
-                                                          ),
-                                                        ),
-                                                      ),
-                                                    ),
-                                                  ),
-                                                ),
-                                              ),
-                                            ),
-                                          ),
-                                        ),
-                                      ),
-                                    ),
-                                  ),
-                                ),
-                              ),
-                            ),
-                          ),
-                        ),
-                      ),
-                    ),
-                  ),
-                ),
-              ),
-            ),
-          ),
-        ),
-      ),
-    ),
-  ),
-) a b (subst IsNoFinish (sym (op.the_eta b)) q)
+    none_decide ⊕ none_decide ⊕ none_decide ⊕ none_decide ⊕ none_decide ⊕ one_decides Decides-eqb
+    ⊕ more_decide Decides-eqb (more_decide kinds_decide (one_decides masks_decide)) ⊕ one_decides actions_decide ⊕ one_decides actions_decide
+    ⊕ one_decides actions_decide
+    ⊕ more_decide Decides-eqb (more_decide args_decide (more_decide Decides-eqb (more_decide masks_decide (more_decide booleans_Decides (one_decides (option_decides groups_decide))))))
+    ⊕ more_decide queues_decide (more_decide args_decide (more_decide masks_decide (more_decide booleans_Decides (one_decides (option_decides groups_decide)))))
+    ⊕ more_decide tasks_decide (one_decides booleans_Decides) ⊕ one_decides tasks_decide ⊕ none_decide ⊕ one_decides groups_decide
+    ⊕ more_decide groups_decide (one_decides booleans_Decides) ⊕ more_decide groups_decide (one_decides booleans_Decides)
+    ⊕ more_decide Decides-eqb (more_decide Decides-eqb (more_decide Decides-eqb (more_decide Decides-eqb (more_decide booleans_Decides (one_decides booleans_Decides)))))
+    ⊕ one_decides Decides-eqb ⊕ one_decides queues_decide ⊕ one_decides queues_decide ⊕ one_decides queues_decide ⊕ none_decide
+    ⊕ (
+      λ x y q. absurd q,
+      one_decides tasks_decide ⊕ one_decides tasks_decide ⊕ one_decides tasks_decide ⊕ one_decides tasks_decide
+          ⊕ more_decide tasks_decide (one_decides Decides-int_eq) ⊕ one_decides tasks_decide ⊕ more_decide Decides-eqb (one_decides booleans_Decides)
+          ⊕ one_decides Decides-eqb ⊕ one_decides mutexes_decide ⊕ more_decide mutexes_decide (one_decides booleans_Decides)
+          ⊕ more_decide mutexes_decide (one_decides Decides-eqb) ⊕ more_decide Decides-eqb (one_decides Decides-eqb) ⊕ one_decides Decides-eqb
+          ⊕ one_decides sems_decide ⊕ more_decide sems_decide (one_decides booleans_Decides) ⊕ one_decides sems_decide
+          ⊕ more_decide Decides-eqb (one_decides Decides-eqb) ⊕ one_decides Decides-eqb ⊕ one_decides rwls_decide
+          ⊕ more_decide rwls_decide (more_decide booleans_Decides (one_decides booleans_Decides)) ⊕ more_decide rwls_decide (one_decides booleans_Decides)
+          ⊕ more_decide Decides-eqb (one_decides Decides-eqb) ⊕ one_decides Decides-eqb ⊕ one_decides segments_decide ⊕ one_decides segments_decide
+          ⊕ one_decides segments_decide ⊕ more_decide segments_decide (one_decides Decides-eqb)
+          ⊕ more_decide segments_decide (more_decide Decides-eqb (one_decides Decides-int_eq)) ⊕ tt,
+    )) a b (subst IsNoFinish (sym (op.the_eta b)) q)
 
 pub no_finish : (a : Op) → ((t : TaskHandle) (done : Finished) → a ≡ ops.Finish t done → ⊥) → IsNoFinish a
 no_finish a e1 = grind (arith, nat_tests)

@@ -12,16 +12,6 @@ pub mod StartOrder
 pub mod Replays
 pub mod Lines
 pub mod Worked
-pub mod WorkedPhases
-pub mod WorkedActions
-pub mod WorkedTasks
-pub mod WorkedGroups
-pub mod WorkedQueues
-pub mod WorkedWork
-pub mod WorkedTallies
-pub mod WorkedResources
-pub mod WorkedLayouts
-pub mod WorkedLimits
 pub mod Alone
 pub mod EachKind
 pub mod Derived

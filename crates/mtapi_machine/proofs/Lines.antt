@@ -1,61 +1,21 @@
 -- A table of worked lines is decided by computing: its replay is the history that it tells, and at each line the machine's own reply
 -- differs from the wrong ones.
-use Rattle.mtapi_machine.proofs.Names.{◌≡◌, ℕ, ◌≤◌, Bool, true, false, List, ◌∷◌, ◌++◌, Option, Some, None, refl, ◌∙◌, ap, arith, ℤ, pos, negsuc, ◌&&◌, ◌==◌, if◌then◌else◌, nat_tests, TaskEnd, Completed, Cancelled, Failed, kind_number, entry, Terms, Reply, Ok, Handle, Number, Given, Pending, Picked, Idle, Stop, Asked, Mtapi, Mrapi, State, opening, NodeEntry, IsNext, Fits, row_of, next, LegalFrom, after_from, Legal, answer, replay, Line, reported, NoneIsLegal, WrongIsIllegal, Works, node_of, small, one_generation, single, []}
-use Rattle.mtapi_machine.specs.WorkedLimits.{unlike}
-use Rattle.mtapi_values.specs.Statuses.{mtapi_number, mrapi_number}
-use Rattle.mtapi_machine.specs.declared.replies.Reply.TheVariants.{Ended}
-use Rattle.mtapi_machine.proofs.Replays.{answer-allowed, legal_if}
+use Rattle.mtapi_machine.proofs.Names.{rules, not, ◌≡◌, ℕ, ◌≤◌, Bool, true, false, List, ◌∷◌, ◌++◌, Option, Some, None, refl, ◌∙◌, ap, arith, ◌&&◌, nat_tests, entry, Terms, Reply, State, opening, NodeEntry, IsNext, Fits, row_of, next, LegalFrom, after_from, Legal, answer, replay, Line, reported, NoneIsLegal, WrongIsIllegal, Works, node_of, []}
+use Rattle.mtapi_machine.specs.contracts.replies.ReplyPartialEq.TheImpl as reply_eq
+use Rattle.mtapi_machine.proofs.Equal.{reply_decides}
+use Rattle.mtapi_machine.proofs.Replays.{answer-allowed, is_at_most, legal_if}
 use Rattle.mtapi_machine.proofs.Lists.{Legal-rest, after-one}
-
--- a reply in numbers; it is enough that equal replies have equal numbers
-abbrev integers : List ℤ → List ℕ
-integers [] = []
-integers (pos n ∷ zs) = 0 ∷ n ∷ integers zs
-integers (negsuc n ∷ zs) = 1 ∷ n ∷ integers zs
-
-abbrev end_numbers : TaskEnd → List ℕ
-end_numbers (Completed args) = 0 ∷ integers args
-end_numbers Cancelled = 1 ∷ []
-end_numbers (Failed c) = 2 ∷ mtapi_number c ∷ []
-
-abbrev yes_number : Bool → ℕ
-yes_number true = 1
-yes_number false = 0
-
-abbrev numbers : Reply → List ℕ
-numbers Ok = 0 ∷ []
-numbers (Handle h) = 1 ∷ h ∷ []
-numbers (Number z) = 2 ∷ integers (z ∷ [])
-numbers (Ended e) = 3 ∷ end_numbers e
-numbers (Given t e) = 4 ∷ t.0 ∷ end_numbers e
-numbers Pending = 5 ∷ []
-numbers (Picked t a k args) = 6 ∷ t.0 ∷ a.0 ∷ kind_number k ∷ integers args
-numbers Idle = 7 ∷ []
-numbers Stop = 8 ∷ []
-numbers (Asked b) = 9 ∷ yes_number b ∷ []
-numbers (Mtapi c) = 10 ∷ mtapi_number c ∷ []
-numbers (Mrapi c) = 11 ∷ mrapi_number c ∷ []
-
-abbrev differ : List ℕ → List ℕ → Bool
-differ [] [] = false
-differ [] (n ∷ ns) = true
-differ (m ∷ ms) [] = true
-differ (m ∷ ms) (n ∷ ns) = if m == n then differ ms ns else true
-
-eq_same : (n : ℕ) → (n == n) ≡ true
-eq_same n = grind (arith, nat_tests)
-
-differ_same : (ns : List ℕ) → differ ns ns ≡ false
-differ_same [] = refl
-differ_same (n ∷ ns) = ap (λ b. if b then differ ns ns else true) (eq_same n) ∙ differ_same ns
 
 -- the machine's own reply isn't this one
 abbrev rejected : Option Reply → Reply → Bool
 rejected None x = true
-rejected (Some y) x = differ (numbers y) (numbers x)
+rejected (Some y) x = not (reply_eq.ghosts.eq y x)
+
+same_reply : (r : Reply) → reply_eq.ghosts.eq r r ≡ true
+same_reply r = (reply_decides r r).1 refl
 
 rejected_next : (s : State) (e : NodeEntry) → rejected (answer (row_of s e)) e.reply ≡ true → IsNext s e → ⊥
-rejected_next s e e1 e2 = grind (arith, nat_tests, answer-allowed, row_of, differ_same)
+rejected_next s e e1 e2 = grind (arith, nat_tests, answer-allowed, row_of, same_reply)
 
 abbrev none_is_next : State → NodeEntry → List Reply → Bool
 none_is_next s e [] = true
@@ -95,19 +55,10 @@ pub works_if : (terms : Terms) (table : List Line) → Fits terms → replay (op
 unfolding after_from
 works_if terms table f h k = record { legal = record { fits = f; from = legal_if _ _ h }; wrong = wrong_from terms [] table k }
 
+-- by these each table works that computes
+pub ruleset worked = (rules, works_if, is_at_most)
+
 -- the terms of the tables
 pub fits_of : (workers tasks others : ℕ) → 1 ≤ workers → workers ≤ 16 → 1 ≤ tasks → tasks ≤ 1024 → 1 ≤ others → others ≤ 256
     → Fits (node_of workers tasks others)
 fits_of workers tasks others e1 e2 e3 e4 e5 e6 = grind (arith, nat_tests)
-
-pub fits_small : Fits small
-fits_small = fits_of 1 2 2 (omega arith) (omega arith) (omega arith) (omega arith) (omega arith) (omega arith)
-
-pub fits_one_generation : Fits one_generation
-fits_one_generation = grind (arith, nat_tests)
-
-pub fits_single : Fits single
-fits_single = grind (arith, nat_tests)
-
-pub fits_unlike : Fits unlike
-fits_unlike = grind (arith, nat_tests)

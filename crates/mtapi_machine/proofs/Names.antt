@@ -1,5 +1,5 @@
 -- The names that the proofs of this crate cite of lower crates and of its own specs/, passed on from one place. Declares nothing.
-pub use Rattle.std.proofs.Common.{Bool, List, None, Option, Some, ap, arith, cond, false, negsuc, pos, refl, subst, suc, sym, true, zero, ℕ, ℤ, ◌++◌, ◌+◌, ◌<◌, ◌∙◌, ◌∷◌, ◌≡◌, ◌≤◌, []}
+pub use Rattle.std.proofs.Common.{rules, Bool, List, None, Option, Some, ap, arith, cond, false, negsuc, pos, refl, subst, suc, sym, true, zero, ℕ, ℤ, ◌++◌, ◌+◌, ◌<◌, ◌∙◌, ◌∷◌, ◌≡◌, ◌≤◌, []}
 pub use Rattle.std.proofs.lemmas.Bool.Decides.{Decides-eqb, Decides-int_eq, nat_tests}
 pub use Rattle.std.specs.Bool.{Decides, MatchBool}
 pub use Rattle.std.specs.Prelude.{if◌then◌else◌, is_none, is_some, length, nat_le, nat_lt, not, ◌&&◌, ◌==◌}
@@ -23,8 +23,6 @@ pub use Rattle.mtapi_machine.specs.Tables.{Line, NoneIsLegal, Works, WrongIsIlle
 pub use Rattle.mtapi_machine.specs.TallyRows.{gives_up, locks, takes_both}
 pub use Rattle.mtapi_machine.specs.TaskRows.{cancels, looks_at}
 pub use Rattle.mtapi_machine.specs.WorkRows.{picks}
-pub use Rattle.mtapi_machine.specs.WorkedLayouts.{WorkedLayouts, single}
-pub use Rattle.mtapi_machine.specs.WorkedTasks.{WorkedTasks, one_generation}
 pub use Rattle.mtapi_machine.specs.declared.ops.Op.{Op}
 pub use Rattle.mtapi_machine.specs.declared.ops.Op.TheVariants.{ActionCreate, Finish, GroupCreate, MutexCreate, Pick, QueueCreate, RwlCreate, SemCreate, ShmemCreate, TaskEnqueue, TaskStart}
 pub use Rattle.mtapi_machine.specs.declared.replies.Reply.{Reply}
@@ -54,8 +52,6 @@ unfoldable pub use Rattle.mtapi_machine.specs.Kept.{kept, skipped}
 unfoldable pub use Rattle.mtapi_machine.specs.Legal.{LegalFrom, after_from}
 unfoldable pub use Rattle.mtapi_machine.specs.Replay.{replay}
 unfoldable pub use Rattle.mtapi_machine.specs.WorkRows.{can_take, has_better, is_ready}
-unfoldable pub use Rattle.mtapi_machine.specs.WorkedLayouts.{kinds_again, kinds_named, other_kinds}
-unfoldable pub use Rattle.mtapi_machine.specs.WorkedTasks.{cancelled, looks_refused, no_core, one_waiter, place_retires, starts_refused}
 unfoldable pub use Rattle.mtapi_objects.specs.Actions.{has_worker}
 unfoldable pub use Rattle.mtapi_objects.specs.Groups.{endings}
 unfoldable pub use Rattle.mtapi_objects.specs.Tasks.{end_each}

@@ -17,7 +17,7 @@ parts false b h = absurd (cc)
 at_most : (a b : ℕ) → a ≤ b → nat_le a b ≡ true
 at_most a b h = grind (arith, nat_tests)
 
-is_at_most : (a b : ℕ) → nat_le a b ≡ true → a ≤ b
+pub is_at_most : (a b : ℕ) → nat_le a b ≡ true → a ≤ b
 is_at_most a b h = grind (arith, nat_tests)
 
 sound_if : (op : Op) → IsHonest op → (is_sound op ≡ true) × (corrected op ≡ op)

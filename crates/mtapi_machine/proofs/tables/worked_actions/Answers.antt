@@ -1,5 +1,9 @@
-use Rattle.mtapi_machine.proofs.WorkedActions.{actions}
+use Rattle.mtapi_machine.proofs.Names.{replay, live_of, issue, change, change_all, listed, issued_at, retired, is_full, may_issue, fits, answer_of, has_worker, end_each, endings, is_ready, can_take, has_better}
+use Rattle.mtapi_machine.specs.WorkedActions.{actions_made, action_deleted, action_disabled, action_kept}
+use Rattle.mtapi_machine.proofs.Lines.{worked, wrong_differ}
 use Rattle.mtapi_machine.proofs.tables.worked_actions.Goals as goal
 
 pub returns : goal.returns
-returns c = actions
+unfolding actions_made action_deleted action_disabled action_kept replay wrong_differ live_of issue change change_all listed issued_at retired is_full
+    may_issue fits answer_of has_worker end_each endings is_ready can_take has_better
+returns c = search worked

@@ -1,5 +1,9 @@
-use Rattle.mtapi_machine.proofs.WorkedResources.{resources}
+use Rattle.mtapi_machine.proofs.Names.{replay, live_of, issue, change, change_all, listed, issued_at, retired, is_full, may_issue, fits, answer_of, has_worker, end_each, endings, is_ready, can_take, has_better}
+use Rattle.mtapi_machine.specs.WorkedResources.{mutexes_made, keys, deepest, semaphores, reader_writer_locks, segments, cleared, greatest_segment}
+use Rattle.mtapi_machine.proofs.Lines.{worked, wrong_differ}
 use Rattle.mtapi_machine.proofs.tables.worked_resources.Goals as goal
 
 pub returns : goal.returns
-returns c = resources
+unfolding mutexes_made keys deepest semaphores reader_writer_locks segments cleared greatest_segment replay wrong_differ live_of issue change change_all
+    listed issued_at retired is_full may_issue fits answer_of has_worker end_each endings is_ready can_take has_better
+returns c = search worked
