@@ -51,21 +51,8 @@ picks_alone c s w v q r x y = grind (arith, nat_tests, same_alone, silent_alone,
 
 -- the rows of the ops that make objects, and of pick, read the reply; those of all others don't
 rows_alone : (s : State) (who : ℕ) (op : Op) (x y : Reply) → Alone (row s who op x) (row s who op y) x y
-rows_alone s who (ActionCreate job kind cores) x y = unless_alone (unless_alone (unless_alone (made_alone _ _ _ _ _ _)))
-rows_alone s who (TaskStart job args priority cores detached group) x y =
-    unless_alone (unless_alone (unless_alone (unless_alone (unless_alone (unless_alone (unless_alone (made_alone _ _ _ _ _ _)))))))
-rows_alone s who (TaskEnqueue q args cores detached group) x y =
-    unless_alone (unless_alone (live_alone (live_object s.queues q.0) _ _ _ x y (λ z.
-    unless_alone (unless_alone (unless_alone (unless_alone (unless_alone (unless_alone (unless_alone (made_alone _ _ _ _ _ _))))))))))
-rows_alone s who GroupCreate x y = unless_alone (unless_alone (made_alone _ _ _ _ _ _))
-rows_alone s who (QueueCreate id job priority limit ordered retain) x y =
-    unless_alone (unless_alone (unless_alone (unless_alone (unless_alone (made_alone _ _ _ _ _ _)))))
 rows_alone s who Pick x y = unless_alone (unless_alone (unless_alone (picks_alone (is_stop s) s who _ x y x y)))
-rows_alone s who (MutexCreate id recursive) x y = unless_alone (unless_alone (unless_alone (unless_alone (made_alone _ _ _ _ _ _))))
-rows_alone s who (SemCreate id limit) x y = unless_alone (unless_alone (unless_alone (unless_alone (unless_alone (made_alone _ _ _ _ _ _)))))
-rows_alone s who (RwlCreate id limit) x y = unless_alone (unless_alone (unless_alone (unless_alone (unless_alone (made_alone _ _ _ _ _ _)))))
-rows_alone s who (ShmemCreate id cells) x y = unless_alone (unless_alone (unless_alone (unless_alone (unless_alone (made_alone _ _ _ _ _ _)))))
-rows_alone s who op x y = same_alone
+rows_alone s who op x y = grind (arith, nat_tests, same_alone, unless_alone, live_alone, made_alone)
 
 pub row_alone : (s : State) (who : ℕ) (op : Op) (x y : Reply) → Allows (row s who op x) x → is_status x ≡ true → Allows (row s who op y) y → y ≡ x
 row_alone s who op x y a s' b = (rows_alone s who op x y).alone a s' b
