@@ -48,28 +48,26 @@ MakesNothing m = Unit {0}
 
 pub move_same : (s : State) (o : Op) (m : Move) → IsMade s o m → MakesNothing m → SameMade s (apply m s)
 move_same s o (phase_is p) i idle k = same-so s p s.released s.stopped s.starts s.ends s.actions s.tasks (handles-same s.actions) (handles-same s.tasks) k
-move_same s o released i idle k = same-so s s.phase true s.stopped s.starts s.ends s.actions s.tasks (handles-same s.actions) (handles-same s.tasks) k
-move_same s o (stops w) i idle k = same-so s s.phase s.released (slice_set s.stopped w true) s.starts s.ends s.actions s.tasks (handles-same s.actions)
-    (handles-same s.tasks) k
-move_same s o (makes_action h a) i idle k = absurd idle
-move_same s o (enables h) i idle k = same-so s s.phase s.released s.stopped s.starts s.ends _ s.tasks
-    (handles-change h (with_fields (with_enabled true)) (keeps-fields (with_enabled true)) s.actions) (handles-same s.tasks) k
-move_same s o (withdraws h f c) i idle k = grind (arith, nat_tests, same-so, handles-change, withdrawn, handles-ends)
-move_same s o (starts_task h t) i idle k = absurd idle
-move_same s o (runs_task h w y) i idle k =
-    with-tasks s s.starts s.ends _ (handles-change h (with_fields (with_state (Running w y))) (keeps-fields (with_state (Running w y))) s.tasks) k
-move_same s o (ends_task h e) i idle k = with-tasks s s.starts _ _ (handles-change h (ended e s.ends) (keeps-ended e s.ends) s.tasks) k
-move_same s o (ends_waiting p e) i idle k = with-tasks s s.starts _ _ (handles-ends (λ t. is_unstarted t && p t) e s.ends s.tasks) k
-move_same s o (notes h f) i idle k = with-tasks s s.starts s.ends _ (handles-change h (with_fields (with_notes f)) (keeps-fields (with_notes f)) s.tasks) k
-move_same s o (leaves h) i idle k = with-tasks s s.starts s.ends _ (handles-change h gone keeps-gone s.tasks) k
-move_same s o (frees_members g) i idle k =
-    with-tasks s s.starts s.ends _ (handles-change_all (λ t. is_member g t && not (is_unended t)) freed keeps-freed s.tasks) k
-move_same s o (lets_members_go g) i idle k = with-tasks s s.starts s.ends _ (handles-change_all (is_member g) let_go keeps-let_go s.tasks) k
-move_same s o (makes t h v) i idle k = absurd idle
 move_same s o (alters t h f) i idle k =
     each_with (λ T o l m. SameHandles l m) (λ T o l. handles-same l) s t _ (handles-change h (with_fields f) (keeps-fields f) ((all_of t).list s)) k
 move_same s o (removes t h) i idle k = each_with (λ T o l m. SameHandles l m) (λ T o l. handles-same l) s t _
     (handles-change h gone keeps-gone ((all_of t).list s)) k
+move_same s o m i idle k = grind (
+  arith,
+  nat_tests,
+  same-so,
+  with-tasks,
+  handles-same,
+  handles-change,
+  handles-change_all,
+  handles-ends,
+  keeps-fields,
+  keeps-gone,
+  keeps-ended,
+  keeps-freed,
+  keeps-let_go,
+  withdrawn,
+)
 
 -- after each move, of the list of each kind: what a new object and the same handles bring
 pub each_move : (P : (T : Type 0) → Objects T → List (Listed T) → List (Listed T) → Type 0) (s : State) (o : Op) (m : Move) → IsMade s o m →

@@ -24,38 +24,34 @@ module _ {s : State} {P : ObjectKind → (Reply → Row) → Type 0} (w : HoldsI
   abbrev Of : ObjectKind → Op → Type 0
   Of k o = P k (λ r. row s who o r)
 
+  -- of the kind that an op makes
+  abbrev OfMade : Option ObjectKind → Op → Type 0
+  OfMade None o = Unit {0}
+  OfMade (Some k) o = Of k o
+
+  made_row : (o : Op) → OfMade (made_kind o) o
+  made_row (op.ActionCreate job y cores) =
+      w.condition refl (w.condition refl (w.action (new_action job y cores.0)))
+  made_row (op.TaskStart job args priority cores detached group) =
+      w.condition refl (w.condition refl (w.condition refl (w.condition refl (w.condition refl (w.condition refl (w.task (asked_for job args priority cores detached group)))))))
+  made_row (op.TaskEnqueue queue args cores detached group) =
+      w.condition refl (w.condition refl (on_live (live_object s.queues queue.0) (Mtapi m.ErrQueueInvalid) (λ z r. mtapi_unless (put_refusals z ++ start_refusals s (asked_of queue.0 z args cores detached group) ++ (count_listed (is_unended_in queue.0) s.tasks == z.limit, m.ErrQueueLimit) ∷ []) (creates tasks s r (λ b. starts_task b (asked_of queue.0 z args cores detached group)))) refl (λ z. w.condition refl (w.condition refl (w.condition refl (w.condition refl (w.condition refl (w.condition refl (w.task (asked_of queue.0 z args cores detached group))))))))))
+  made_row op.GroupCreate =
+      w.condition refl (w.sort Groups new_group)
+  made_row (op.QueueCreate id job priority limit ordered retain) =
+      w.condition refl (w.condition refl (w.condition refl (w.condition refl (w.sort Queues (new_queue id job priority limit ordered retain)))))
+  made_row (op.MutexCreate id recursive) =
+      w.condition refl (w.condition refl (w.condition refl (w.sort Mutexes (new_mutex id recursive))))
+  made_row (op.SemCreate id limit) =
+      w.condition refl (w.condition refl (w.condition refl (w.condition refl (w.sort Sems (new_sem id limit)))))
+  made_row (op.RwlCreate id limit) =
+      w.condition refl (w.condition refl (w.condition refl (w.condition refl (w.sort Rwls (new_rwl id limit)))))
+  made_row (op.ShmemCreate id cells) =
+      w.condition refl (w.condition refl (w.condition refl (w.condition refl (w.sort Segments (new_segment id cells)))))
+  made_row _ = tt
+
   pub create_row : (k : ObjectKind) (o : Op) → made_kind o ≡ Some k → Of k o
-  create_row k (op.ActionCreate job y cores) i = let e : kind.Action ≡ k = cc in
-      subst (λ (j : ObjectKind). Of j (op.ActionCreate job y cores)) e (w.condition refl (w.condition refl (w.action (new_action job y cores.0))))
-  create_row k (op.TaskStart job args priority cores detached group) i =
-      let e : kind.Task ≡ k = cc in subst (λ (j : ObjectKind). Of j (op.TaskStart job args priority cores detached group)) e
-      (w.condition refl (w.condition refl (w.condition refl
-      (w.condition refl (w.condition refl (w.condition refl (w.task (asked_for job args priority cores detached group))))))))
-  create_row k (op.TaskEnqueue queue args cores detached group) i =
-      let e : kind.Task ≡ k = cc in subst (λ (j : ObjectKind). Of j (op.TaskEnqueue queue args cores detached group)) e
-      (w.condition refl (w.condition refl (on_live (live_object s.queues queue.0) (Mtapi m.ErrQueueInvalid)
-      (λ z r. mtapi_unless (put_refusals z ++ start_refusals s (asked_of queue.0 z args cores detached group)
-      ++ (count_listed (is_unended_in queue.0) s.tasks == z.limit, m.ErrQueueLimit) ∷ [])
-      (creates tasks s r (λ b. starts_task b (asked_of queue.0 z args cores detached group)))) refl
-      (λ z. w.condition refl (w.condition refl
-      (w.condition refl (w.condition refl (w.condition refl (w.condition refl (w.task (asked_of queue.0 z args cores detached group)))))))))))
-  create_row k op.GroupCreate i = let e : kind.Group ≡ k = cc in subst (λ (j : ObjectKind). Of j op.GroupCreate) e (w.condition refl (w.sort Groups new_group))
-  create_row k (op.QueueCreate id job priority limit ordered retain) i =
-      let e : kind.Queue ≡ k = cc in subst (λ (j : ObjectKind). Of j (op.QueueCreate id job priority limit ordered retain)) e
-      (w.condition refl (w.condition refl (w.condition refl (w.condition refl (w.sort Queues (new_queue id job priority limit ordered retain))))))
-  create_row k (op.MutexCreate id recursive) i = let e : kind.Mutex ≡ k = cc in
-      subst (λ (j : ObjectKind). Of j (op.MutexCreate id recursive)) e
-      (w.condition refl (w.condition refl (w.condition refl (w.sort Mutexes (new_mutex id recursive)))))
-  create_row k (op.SemCreate id limit) i = let e : kind.Sem ≡ k = cc in
-      subst (λ (j : ObjectKind). Of j (op.SemCreate id limit)) e
-      (w.condition refl (w.condition refl (w.condition refl (w.condition refl (w.sort Sems (new_sem id limit))))))
-  create_row k (op.RwlCreate id limit) i = let e : kind.Rwl ≡ k = cc in
-      subst (λ (j : ObjectKind). Of j (op.RwlCreate id limit)) e
-      (w.condition refl (w.condition refl (w.condition refl (w.condition refl (w.sort Rwls (new_rwl id limit))))))
-  create_row k (op.ShmemCreate id cells) i = let e : kind.Shmem ≡ k = cc in
-      subst (λ (j : ObjectKind). Of j (op.ShmemCreate id cells)) e
-      (w.condition refl (w.condition refl (w.condition refl (w.condition refl (w.sort Segments (new_segment id cells))))))
-  create_row k o i = absurd (cc)
+  create_row k o i = subst (λ (m : Option ObjectKind). OfMade m o) i (made_row o)
 
 -- where the row allows the handle, this holds of the state after it
 record Makes (s : State) (Q : ObjectKind → State → Type 0) (h : ℕ) (k : ObjectKind) (own : Reply → Row) : Type 0 where

@@ -39,29 +39,27 @@ module _ {g : Renaming} {s : State} (n : Follows g s) (x : Room) (h other : ℕ)
       (unless_creates (ap not (action-any n.fits x (has_job job))) refl
       (keyed_creates n keyed_queues (new_queue id job priority limit ordered retain) refl)))
 
-  -- the kind that the op makes
+  -- of the kind that an op makes
+  abbrev OfMade : Option ObjectKind → Op → Type 0
+  OfMade None o = Unit {0}
+  OfMade (Some k) o = Alike k o
+
+  made_alike : (o : Op) → OfMade (made_kind o) o
+  made_alike (op.ActionCreate job y cores) = action_alike job y cores
+  made_alike (op.TaskStart job args priority cores detached group) = start_alike job args priority cores detached group
+  made_alike (op.TaskEnqueue q args cores detached group) = enqueue_alike q args cores detached group
+  made_alike op.GroupCreate = unless_creates refl refl (creates_sort n Groups new_group)
+  made_alike (op.QueueCreate id job priority limit ordered retain) = queue_alike id job priority limit ordered retain
+  made_alike (op.MutexCreate id recursive) =
+      unless_creates refl refl (unless_creates refl refl (keyed_creates n keyed_mutexes (new_mutex id recursive) refl))
+  made_alike (op.SemCreate id limit) =
+      unless_creates refl refl (unless_creates refl refl (mrapi_creates (sem_create_refusals limit) (keyed_creates n keyed_sems (new_sem id limit) refl)))
+  made_alike (op.RwlCreate id limit) =
+      unless_creates refl refl (unless_creates refl refl (mrapi_creates (rwl_create_refusals limit) (keyed_creates n keyed_rwls (new_rwl id limit) refl)))
+  made_alike (op.ShmemCreate id cells) =
+      unless_creates refl refl
+      (unless_creates refl refl (mrapi_creates (shmem_create_refusals cells) (keyed_creates n keyed_segments (new_segment id cells) refl)))
+  made_alike _ = tt
+
   pub create_alike : (k : ObjectKind) (o : Op) → made_kind o ≡ Some k → Alike k o
-  create_alike k (op.ActionCreate job y cores) i = let e : kind.Action ≡ k = cc in
-      subst (λ (j : ObjectKind). Alike j (op.ActionCreate job y cores)) e (action_alike job y cores)
-  create_alike k (op.TaskStart job args priority cores detached group) i = let e : kind.Task ≡ k = cc in
-      subst (λ (j : ObjectKind). Alike j (op.TaskStart job args priority cores detached group)) e (start_alike job args priority cores detached group)
-  create_alike k (op.TaskEnqueue q args cores detached group) i = let e : kind.Task ≡ k = cc in
-      subst (λ (j : ObjectKind). Alike j (op.TaskEnqueue q args cores detached group)) e (enqueue_alike q args cores detached group)
-  create_alike k op.GroupCreate i = let e : kind.Group ≡ k = cc in
-      subst (λ (j : ObjectKind). Alike j op.GroupCreate) e (unless_creates refl refl (creates_sort n Groups new_group))
-  create_alike k (op.QueueCreate id job priority limit ordered retain) i = let e : kind.Queue ≡ k = cc in
-      subst (λ (j : ObjectKind). Alike j (op.QueueCreate id job priority limit ordered retain)) e (queue_alike id job priority limit ordered retain)
-  create_alike k (op.MutexCreate id recursive) i = let e : kind.Mutex ≡ k = cc in
-      subst (λ (j : ObjectKind). Alike j (op.MutexCreate id recursive)) e
-      (unless_creates refl refl (unless_creates refl refl (keyed_creates n keyed_mutexes (new_mutex id recursive) refl)))
-  create_alike k (op.SemCreate id limit) i = let e : kind.Sem ≡ k = cc in
-      subst (λ (j : ObjectKind). Alike j (op.SemCreate id limit)) e
-      (unless_creates refl refl (unless_creates refl refl (mrapi_creates (sem_create_refusals limit) (keyed_creates n keyed_sems (new_sem id limit) refl))))
-  create_alike k (op.RwlCreate id limit) i = let e : kind.Rwl ≡ k = cc in
-      subst (λ (j : ObjectKind). Alike j (op.RwlCreate id limit)) e
-      (unless_creates refl refl (unless_creates refl refl (mrapi_creates (rwl_create_refusals limit) (keyed_creates n keyed_rwls (new_rwl id limit) refl))))
-  create_alike k (op.ShmemCreate id cells) i = let e : kind.Shmem ≡ k = cc in
-      subst (λ (j : ObjectKind). Alike j (op.ShmemCreate id cells)) e
-      (unless_creates refl refl (unless_creates refl refl
-      (mrapi_creates (shmem_create_refusals cells) (keyed_creates n keyed_segments (new_segment id cells) refl))))
-  create_alike k o i = absurd (cc)
+  create_alike k o i = subst (λ (m : Option ObjectKind). OfMade m o) i (made_alike o)

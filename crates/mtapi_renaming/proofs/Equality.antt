@@ -3,69 +3,41 @@ use Rattle.mtapi_renaming.proofs.Names.{arith, nat_tests, ◌≡◌, ℕ, ◌&&�
 use Rattle.mtapi_values.specs.declared.kinds.Kind.TheVariants as k
 use Rattle.mtapi_values.specs.declared.statuses.MtapiStatus.TheVariants as t
 use Rattle.mtapi_values.specs.declared.statuses.MrapiStatus.TheVariants as r
+use Rattle.std.specs.Prelude.{find, Option, Some}
+use Rattle.mtapi_values.specs.Statuses.{mtapi_all, mrapi_all}
+use Rattle.mtapi_values.specs.Kinds.{kind_all}
+use Rattle.mtapi_machine.proofs.Changes.{some_same}
 use Rattle.mtapi_machine.proofs.Derived.{both_decide, decides_so}
 
--- a status and a kind are told by their numbers
-abbrev mtapi_of : ℕ → MtapiStatus
-mtapi_of m = cond (m == 0) t.Success (cond (m == 1) t.Timeout
-    (cond (m == 2) t.GroupCompleted (cond (m == 3) t.ErrParameter
-    (cond (m == 4) t.ErrNodeInitialized (cond (m == 5) t.ErrNodeNotinit
-    (cond (m == 6) t.ErrActionInvalid (cond (m == 7) t.ErrActionLimit
-    (cond (m == 8) t.ErrActionFailed (cond (m == 9) t.ErrActionDeleted
-    (cond (m == 10) t.ErrActionDisabled (cond (m == 11) t.ErrArgSize
-    (cond (m == 12) t.ErrJobInvalid (cond (m == 13) t.ErrNoCore
-    (cond (m == 14) t.ErrTaskInvalid (cond (m == 16) t.ErrTaskLimit
-    (cond (m == 17) t.ErrTaskCancelled (cond (m == 18) t.ErrGroupInvalid
-    (cond (m == 19) t.ErrGroupLimit (cond (m == 20) t.ErrQueueInvalid
-    (cond (m == 21) t.ErrQueueLimit (cond (m == 22) t.ErrQueueDeleted
-    (cond (m == 23) t.ErrQueueDisabled (cond (m == 24) t.ErrQueueExists
-    (cond (m == 25) t.ErrWaitPending (cond (m == 26) t.ErrAttrNum
-    (cond (m == 27) t.ErrAttrReadonly (cond (m == 28) t.ErrCoreNum (t.ErrSpent))))))))))))))))))))))))))))
+-- a status and a kind are told by their numbers, by which each is found among all
+abbrev by_number : {X : Type 0} → (X → ℕ) → List X → ℕ → Option X
+by_number number all n = find (λ x. number x == n) all
 
-mtapi-number : (c : MtapiStatus) → mtapi_of (mtapi_number c) ≡ c
+mtapi-number : (c : MtapiStatus) → by_number mtapi_number mtapi_all (mtapi_number c) ≡ Some c
 mtapi-number t.Success = refl
 mtapi-number c = refl
 
-abbrev mrapi_of : ℕ → MrapiStatus
-mrapi_of m = cond (m == 0) r.Success (cond (m == 1) r.Timeout
-    (cond (m == 2) r.ErrParameter (cond (m == 3) r.ErrNodeNotinit
-    (cond (m == 4) r.ErrMutexInvalid (cond (m == 5) r.ErrMutexIdInvalid
-    (cond (m == 6) r.ErrMutexExists (cond (m == 7) r.ErrMutexLimit
-    (cond (m == 8) r.ErrMutexLocked (cond (m == 9) r.ErrMutexNotlocked
-    (cond (m == 10) r.ErrMutexKey (cond (m == 11) r.ErrMutexLockorder
-    (cond (m == 12) r.ErrSemInvalid (cond (m == 13) r.ErrSemIdInvalid
-    (cond (m == 14) r.ErrSemExists (cond (m == 15) r.ErrSemLocked
-    (cond (m == 16) r.ErrSemNotlocked (cond (m == 17) r.ErrRwlInvalid
-    (cond (m == 18) r.ErrRwlIdInvalid (cond (m == 19) r.ErrRwlExists
-    (cond (m == 20) r.ErrRwlLimit (cond (m == 21) r.ErrRwlLocked
-    (cond (m == 22) r.ErrRwlNotlocked (cond (m == 23) r.ErrShmInvalid
-    (cond (m == 24) r.ErrShmIdInvalid (cond (m == 25) r.ErrShmExists
-    (cond (m == 26) r.ErrShmLimit (cond (m == 27) r.ErrShmAttached
-    (cond (m == 28) r.ErrShmNotattached (cond (m == 29) r.ErrSpent (r.ErrSemLimit))))))))))))))))))))))))))))))
-
-mrapi-number : (c : MrapiStatus) → mrapi_of (mrapi_number c) ≡ c
+mrapi-number : (c : MrapiStatus) → by_number mrapi_number mrapi_all (mrapi_number c) ≡ Some c
 mrapi-number r.Success = refl
 mrapi-number c = refl
 
-abbrev kind_of : ℕ → Kind
-kind_of m = cond (m == 1) k.Add (cond (m == 2) k.Mul
-    (cond (m == 3) k.Max (cond (m == 4) k.Div
-    (cond (m == 5) k.Gcd (cond (m == 6) k.Echo (cond (m == 7) k.Triangle (cond (m == 8) k.Fail (cond (m == 9) k.Watch (k.Tally)))))))))
+kind-number : (c : Kind) → by_number kind_number kind_all (kind_number c) ≡ Some c
+kind-number k.Add = refl
+kind-number c = refl
 
-kind-number : (c : Kind) → kind_of (kind_number c) ≡ c
-kind-number c = grind (arith, nat_tests)
+number_decides : {X : Type 0} (number : X → ℕ) (all : List X) → ((x : X) → by_number number all (number x) ≡ Some x) → (a b : X)
+    → Decides (number a == number b) (a ≡ b)
+number_decides number all found a b = decides_so (number a == number b) (λ e. some_same (sym (found a) ∙ ap (by_number number all) e ∙ found b)) (ap number)
+    (Decides-eqb (number a) (number b))
 
 mtapi_decides : (a b : MtapiStatus) → Decides (mtapi_number a == mtapi_number b) (a ≡ b)
-mtapi_decides a b = decides_so (mtapi_number a == mtapi_number b) (λ e. sym (mtapi-number a) ∙ ap mtapi_of e
-    ∙ mtapi-number b) (λ e. ap mtapi_number e) (Decides-eqb (mtapi_number a) (mtapi_number b))
+mtapi_decides = number_decides mtapi_number mtapi_all mtapi-number
 
 mrapi_decides : (a b : MrapiStatus) → Decides (mrapi_number a == mrapi_number b) (a ≡ b)
-mrapi_decides a b = decides_so (mrapi_number a == mrapi_number b) (λ e. sym (mrapi-number a) ∙ ap mrapi_of e
-    ∙ mrapi-number b) (λ e. ap mrapi_number e) (Decides-eqb (mrapi_number a) (mrapi_number b))
+mrapi_decides = number_decides mrapi_number mrapi_all mrapi-number
 
 kind_decides : (a b : Kind) → Decides (kind_number a == kind_number b) (a ≡ b)
-kind_decides a b = decides_so (kind_number a == kind_number b) (λ e. sym (kind-number a) ∙ ap kind_of e
-    ∙ kind-number b) (λ e. ap kind_number e) (Decides-eqb (kind_number a) (kind_number b))
+kind_decides = number_decides kind_number kind_all kind-number
 
 pub end_decides : (a b : TaskEnd) → Decides (same_end a b) (a ≡ b)
 end_decides a b = grind (arith, nat_tests, decides_so, signed_items, mtapi_decides)

@@ -28,4 +28,3 @@ pub mod Comes
 pub mod Steps
 pub mod Equality
 pub mod Verdicts
-pub mod Worked

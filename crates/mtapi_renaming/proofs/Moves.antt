@@ -1,5 +1,5 @@
 -- Each move of a state is, in the renamed state, the same move with the other handles, and leaves what the renaming has.
-use Rattle.mtapi_renaming.proofs.Names.{arith, nat_tests, ◌≡◌, ℕ, ◌+◌, Bool, true, ◌&&◌, List, [], ◌∷◌, refl, sym, ◌∙◌, ap, not, slice_set, option_map, Kind, TaskEnd, Failed, MtapiStatus, Listed, live_of, change, issue, update, retire, gone, with_fields, change-inside, update-inside, retire-inside, issue-inside, Action, with_enabled, has_worker, Task, NewTask, Notes, is_unstarted, is_unended, ended, with_notes, is_member, freed, let_go, Phase, State, workers, end_tasks, Move, Sort, Groups, Queues, Mutexes, Sems, Rwls, Segments, Fields, all_of, phase_is, released, stops, makes_action, enables, withdraws, starts_task, runs_task, ends_task, ends_waiting, notes, leaves, frees_members, lets_members_go, makes, alters, removes, apply, after_moves, Renaming, Room, renamed_list, renamed_task, renamed_notes, renamed, HasNotes, HasTask, NoHandle, HasEach, Fits}
+use Rattle.mtapi_renaming.proofs.Names.{rules, arith, nat_tests, ◌≡◌, ℕ, ◌+◌, Bool, true, ◌&&◌, List, [], ◌∷◌, refl, sym, ◌∙◌, ap, not, slice_set, option_map, Kind, TaskEnd, Failed, MtapiStatus, Listed, live_of, change, issue, update, retire, gone, with_fields, change-inside, update-inside, retire-inside, issue-inside, Action, with_enabled, has_worker, Task, NewTask, Notes, is_unstarted, is_unended, ended, with_notes, is_member, freed, let_go, Phase, State, workers, end_tasks, Move, Sort, Groups, Queues, Mutexes, Sems, Rwls, Segments, Fields, all_of, phase_is, released, stops, makes_action, enables, withdraws, starts_task, runs_task, ends_task, ends_waiting, notes, leaves, frees_members, lets_members_go, makes, alters, removes, apply, after_moves, Renaming, Room, renamed_list, renamed_task, renamed_notes, renamed, HasNotes, HasTask, NoHandle, HasEach, Fits}
 use Rattle.mtapi_values.specs.declared.handles.ObjectKind.TheVariants as kind
 use Rattle.handle_pool.specs.Inside.{turned as turned_one}
 use Rattle.mtapi_renaming.proofs.Lists.{apart, same_count, change_all-renamed, has-change, has-change_all}
@@ -57,97 +57,15 @@ sort-has g Segments s n = n.segments
 -- the state with another list of a kind that no rule of tasks speaks of
 pub has-with : (g : Renaming) (s : State) → Fits g s → (k : Sort) (l : List (Listed (Fields k))) → HasEach g (all_of k).kind NoHandle l
     → Fits g ((all_of k).with_list l s)
-has-with g s n Groups l v = record {
-  one = n.one;
-  zero = n.zero;
-  actions = n.actions;
-  tasks = n.tasks;
-  groups = v;
-  queues = n.queues;
-  mutexes = n.mutexes;
-  sems = n.sems;
-  rwls = n.rwls;
-  segments = n.segments;
-}
-has-with g s n Queues l v = record {
-  one = n.one;
-  zero = n.zero;
-  actions = n.actions;
-  tasks = n.tasks;
-  groups = n.groups;
-  queues = v;
-  mutexes = n.mutexes;
-  sems = n.sems;
-  rwls = n.rwls;
-  segments = n.segments;
-}
-has-with g s n Mutexes l v = record {
-  one = n.one;
-  zero = n.zero;
-  actions = n.actions;
-  tasks = n.tasks;
-  groups = n.groups;
-  queues = n.queues;
-  mutexes = v;
-  sems = n.sems;
-  rwls = n.rwls;
-  segments = n.segments;
-}
-has-with g s n Sems l v = record {
-  one = n.one;
-  zero = n.zero;
-  actions = n.actions;
-  tasks = n.tasks;
-  groups = n.groups;
-  queues = n.queues;
-  mutexes = n.mutexes;
-  sems = v;
-  rwls = n.rwls;
-  segments = n.segments;
-}
-has-with g s n Rwls l v = record {
-  one = n.one;
-  zero = n.zero;
-  actions = n.actions;
-  tasks = n.tasks;
-  groups = n.groups;
-  queues = n.queues;
-  mutexes = n.mutexes;
-  sems = n.sems;
-  rwls = v;
-  segments = n.segments;
-}
-has-with g s n Segments l v = record {
-  one = n.one;
-  zero = n.zero;
-  actions = n.actions;
-  tasks = n.tasks;
-  groups = n.groups;
-  queues = n.queues;
-  mutexes = n.mutexes;
-  sems = n.sems;
-  rwls = n.rwls;
-  segments = v;
-}
+has-with g s n Groups l v = search rules
+has-with g s n _ l v = search rules
 
 -- the state with other actions and tasks, and what is no object
 pub has-so : (g : Renaming) (s : State) → Fits g s
     → (p : Phase) (b : Bool) (marks : List Bool) (starts ends : ℕ) (l : List (Listed Action)) (ts : List (Listed Task)) → HasEach g kind.Action NoHandle l
     → HasEach g kind.Task (HasTask g) ts →
     Fits g (record s { phase = p; released = b; stopped = marks; starts = starts; ends = ends; actions = l; tasks = ts })
-has-so g s n p b marks starts ends l ts v w =
-    record {
-      one = n.one;
-      zero = n.zero;
-      actions = v;
-      tasks = w;
-      groups = n.groups;
-      queues = n.queues;
-      mutexes = n.mutexes;
-      sems = n.sems;
-      rwls = n.rwls;
-      segments = n.segments;
-    }
+has-so g s n p b marks starts ends l ts v w = search rules
 
 -- new objects, whatever the renaming has
 module _ (g : Renaming) (x : Room) (s : State) where

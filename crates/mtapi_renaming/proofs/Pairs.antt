@@ -1,20 +1,12 @@
 -- A renaming with one pair more: what it has, and what a state is by it.
-use Rattle.mtapi_renaming.proofs.Names.{◌≡◌, ℕ, zero, ◌+◌, ◌≤◌, true, ◌&&◌, cond, List, [], ◌∷◌, Option, Some, None, inl, inr, refl, sym, ◌∙◌, ap, subst, arith, ◌==◌, option_map, IfSome, eq-eqb, nat_tests, ObjectKind, object_number, Listed, listed, may_issue, issue, inside, Agree, count-inside, listed-issue, Action, Task, NewTask, new_task, State, Objects, Sort, Fields, all_of, makes_action, starts_task, makes, is_fresh, apply, snd_true, of_sort, sort_at, each_so, each_with, Renaming, Has, IsOneToOne, with_pair, Room, renamed_list, renamed_task, renamed, HasOrNone, HasTask, NoHandle, HasEach, Fits, listed_in, Only, Follows}
+use Rattle.mtapi_renaming.proofs.Names.{rules, ◌≡◌, ℕ, zero, ◌+◌, ◌≤◌, true, ◌&&◌, cond, List, [], ◌∷◌, Option, Some, None, inl, inr, refl, sym, ◌∙◌, ap, subst, arith, ◌==◌, option_map, IfSome, eq-eqb, nat_tests, ObjectKind, object_number, Listed, listed, may_issue, issue, inside, Agree, count-inside, listed-issue, Action, Task, NewTask, new_task, State, Objects, Sort, Fields, all_of, makes_action, starts_task, makes, is_fresh, apply, snd_true, of_sort, sort_at, each_so, each_with, Renaming, Has, IsOneToOne, with_pair, Room, renamed_list, renamed_task, renamed, HasOrNone, HasTask, NoHandle, HasEach, Fits, listed_in, Only, Follows}
 use Rattle.mtapi_values.specs.declared.handles.ObjectKind.TheVariants as kind
 use Rattle.mtapi_renaming.proofs.Lists.{same_test, has-issue}
 use Rattle.mtapi_renaming.proofs.Moves.{renamed_new, sort-has, has-with, has-so, makes_action-renames, starts_task-renames, makes-renames}
 
 -- a kind is told by its number
-abbrev object_of : ℕ → ObjectKind
-object_of m = cond (m == 1) kind.Action
-    (cond (m == 2) kind.Task (cond (m == 3) kind.Group
-    (cond (m == 4) kind.Queue (cond (m == 5) kind.Mutex (cond (m == 6) kind.Sem (cond (m == 7) kind.Rwl kind.Shmem))))))
-
-object-number : (k : ObjectKind) → object_of (object_number k) ≡ k
-object-number k = grind (arith, nat_tests)
-
 same_kind : (j k : ObjectKind) → object_number j ≡ object_number k → j ≡ k
-same_kind j k e = sym (object-number j) ∙ ap object_of e ∙ object-number k
+same_kind j k e = grind (arith, nat_tests)
 
 -- the handle is new, and nothing has the other one
 pub record IsNew (g : Renaming) (k : ObjectKind) (h other : ℕ) : Type 0 where
@@ -133,18 +125,7 @@ module _ (g : Renaming) (k : ObjectKind) (h other : ℕ) where
 
     -- it fits the state still
     fits-more : (s : State) → Fits g s → Fits (with_pair k h other g) s
-    fits-more s n = record {
-      one = one-pair;
-      zero = λ j. zero-pair j (n.zero j);
-      actions = has-more kind.Action NoHandle NoHandle (λ y v. v) s.actions n.actions;
-      tasks = has-more kind.Task (HasTask g) (HasTask (with_pair k h other g)) task-still s.tasks n.tasks;
-      groups = has-more kind.Group NoHandle NoHandle (λ y v. v) s.groups n.groups;
-      queues = has-more kind.Queue NoHandle NoHandle (λ y v. v) s.queues n.queues;
-      mutexes = has-more kind.Mutex NoHandle NoHandle (λ y v. v) s.mutexes n.mutexes;
-      sems = has-more kind.Sem NoHandle NoHandle (λ y v. v) s.sems n.sems;
-      rwls = has-more kind.Rwl NoHandle NoHandle (λ y v. v) s.rwls n.rwls;
-      segments = has-more kind.Shmem NoHandle NoHandle (λ y v. v) s.segments n.segments;
-    }
+    fits-more s n = search (rules, one-pair, zero-pair, has-more, task-still)
 
     -- and has just what was issued in a state in which the new handle was issued too
     only-more : (s t : State) → Only g s → ((j : ObjectKind) (a : ℕ) → listed_in j s a ≤ listed_in j t a) → 1 ≤ listed_in k t h → Only (with_pair k h other g) t

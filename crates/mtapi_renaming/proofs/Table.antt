@@ -22,7 +22,6 @@ module _ {g : Renaming} {s : State} (n : Fits g s) (x : Room) where
       (λ f. one_move (ends_waiting-renames g x _ f (is_shut_in (renamed g x s).queues) (is_shut_in s.queues) (same_shut n x) Cancelled))))
   row_alike who op.Final r i = unless_alike n refl refl (unless_alike n refl refl (gives_alike n refl (one_move (phase-renames g x s n _))))
   row_alike who (op.JobGet job) r i = unless_alike n refl refl (unless_alike n (ap not (action-any n x (has_job job))) refl (says_alike n refl))
-  row_alike who (op.ActionCreate job y cores) r i = absurd (cc)
   row_alike who (op.ActionDelete a) r i =
       unless_alike n refl refl (on_action n a.0 _ _
       (λ y. gives_alike n refl (one_move (withdraws-renames g x s n a.0 gone (λ z. refl) (λ z. refl) m.ErrActionDeleted))))
@@ -30,14 +29,11 @@ module _ {g : Renaming} {s : State} (n : Fits g s) (x : Room) where
       unless_alike n refl refl (on_action n a.0 _ _
       (λ y. gives_alike n refl (one_move (withdraws-renames g x s n a.0 (with_fields (with_enabled false)) (λ z. refl) (λ z. refl) m.ErrActionDisabled))))
   row_alike who (op.ActionEnable a) r i = unless_alike n refl refl (on_action n a.0 _ _ (λ y. gives_alike n refl (one_move (enables-renames g x s n a.0))))
-  row_alike who (op.TaskStart job args priority cores detached group) r i = absurd (cc)
-  row_alike who (op.TaskEnqueue q args cores detached group) r i = absurd (cc)
   row_alike who (op.TaskLook t last) r i =
       unless_alike n refl refl (on_task n t.0 _ _
       (λ y v. unless_alike n (ap (λ (b : Bool). y.notes.detached || b) (is_some-map (g kind.Group) y.notes.group)) refl
       (unless_alike n refl refl (looks_at_alike n who t.0 last y.state))))
   row_alike who (op.TaskCancel t) r i = unless_alike n refl refl (on_task n t.0 _ _ (λ y v. cancels_alike n t.0 y.state))
-  row_alike who op.GroupCreate r i = absurd (cc)
   row_alike who (op.GroupDelete h) r i =
       unless_alike n refl refl (on_sort n Groups h.0 _ _
       (λ y. gives_alike n refl (then_moves (lets_members_go-renames g x s n h.0) (λ f. one_move (removes-renames g x _ f Groups h.0)))))
@@ -54,7 +50,6 @@ module _ {g : Renaming} {s : State} (n : Fits g s) (x : Room) where
       (λ y. unless_alike n (ap not (task-any n x (is_member (g kind.Group h.0)) (is_member h.0) (same_member g n.one h.0))) refl
       (gives_first_alike n last (endings h.0 (live_of s.tasks)) (endings (g kind.Group h.0) (live_of (renamed g x s).tasks))
       (endings-renamed g n.one h.0 s.tasks n.tasks))))
-  row_alike who (op.QueueCreate id job priority limit ordered retain) r i = absurd (cc)
   row_alike who (op.QueueGet id) r i = unless_alike n refl refl (gets_alike n keyed_queues id r refl)
   row_alike who (op.QueueEnable q) r i = unless_alike n refl refl
       (on_sort n Queues q.0 _ _ (λ y. gives_alike n refl (one_move (alters-renames g x s n Queues q.0 (opened true)))))
@@ -89,7 +84,6 @@ module _ {g : Renaming} {s : State} (n : Fits g s) (x : Room) where
       on_tally_alike n who t.0 _ _ (λ y v. unless_alike n refl refl
       (cond_alike n (y.notes.tally.stage == 4) (y.notes.tally.stage == 4) refl
       (gives_alike n refl (one_move (ends_task-renames g x s n t.0 y.notes.tally.verdict))) (gives_back_alike n who t.0 y _)))
-  row_alike who (op.MutexCreate id recursive) r i = absurd (cc)
   row_alike who (op.MutexGet id) r i = unless_alike n refl refl (unless_alike n refl refl (gets_alike n keyed_mutexes id r refl))
   row_alike who (op.MutexDelete h) r i = unless_alike n refl refl (unless_alike n refl refl (deletes_alike n Mutexes h.0 mutex_delete_refusals))
   row_alike who (op.MutexLook h last) r i =
@@ -97,14 +91,12 @@ module _ {g : Renaming} {s : State} (n : Fits g s) (x : Room) where
       (looks_alike n Mutexes h.0 last (mutex_look_refusals who) (mutex_busy who) (λ y. Number (pos (y.depth + 1))) (locked_by who) (λ y. refl)))
   row_alike who (op.MutexUnlock h key) r i =
       unless_alike n refl refl (unless_alike n refl refl (alters_alike n Mutexes h.0 (mutex_unlock_refusals who key) (λ y. Ok) unlocked (λ y. refl)))
-  row_alike who (op.SemCreate id limit) r i = absurd (cc)
   row_alike who (op.SemGet id) r i = unless_alike n refl refl (unless_alike n refl refl (gets_alike n keyed_sems id r refl))
   row_alike who (op.SemDelete h) r i = unless_alike n refl refl (unless_alike n refl refl (deletes_alike n Sems h.0 sem_delete_refusals))
   row_alike who (op.SemLook h last) r i =
       unless_alike n refl refl (unless_alike n refl refl (looks_alike n Sems h.0 last (λ y. []) sem_busy (λ y. Ok) (sem_taken who) (λ y. refl)))
   row_alike who (op.SemUnlock h) r i = unless_alike n refl refl
       (unless_alike n refl refl (alters_alike n Sems h.0 (sem_unlock_refusals who) (λ y. Ok) (sem_given who) (λ y. refl)))
-  row_alike who (op.RwlCreate id limit) r i = absurd (cc)
   row_alike who (op.RwlGet id) r i = unless_alike n refl refl (unless_alike n refl refl (gets_alike n keyed_rwls id r refl))
   row_alike who (op.RwlDelete h) r i = unless_alike n refl refl (unless_alike n refl refl (deletes_alike n Rwls h.0 rwl_delete_refusals))
   row_alike who (op.RwlLook h writer last) r i =
@@ -113,7 +105,6 @@ module _ {g : Renaming} {s : State} (n : Fits g s) (x : Room) where
   row_alike who (op.RwlUnlock h writer) r i =
       unless_alike n refl refl (unless_alike n refl refl
       (alters_alike n Rwls h.0 (rwl_unlock_refusals who writer) (λ y. Ok) (rwl_given who writer) (λ y. refl)))
-  row_alike who (op.ShmemCreate id cells) r i = absurd (cc)
   row_alike who (op.ShmemGet id) r i = unless_alike n refl refl (unless_alike n refl refl (gets_alike n keyed_segments id r refl))
   row_alike who (op.ShmemDelete h) r i = unless_alike n refl refl (unless_alike n refl refl (deletes_alike n Segments h.0 shmem_delete_refusals))
   row_alike who (op.ShmemAttach h) r i = unless_alike n refl refl
@@ -124,3 +115,4 @@ module _ {g : Renaming} {s : State} (n : Fits g s) (x : Room) where
       unless_alike n refl refl (unless_alike n refl refl (on_sort n Segments h.0 _ _ (λ y. mrapi_alike n (cell_refusals who cell y) (says_alike n refl))))
   row_alike who (op.ShmemWrite h cell value) r i =
       unless_alike n refl refl (unless_alike n refl refl (alters_alike n Segments h.0 (cell_refusals who cell) (λ y. Ok) (with_cell cell value) (λ y. refl)))
+  row_alike who o r i = absurd (cc)

@@ -55,14 +55,10 @@ module _ {g : Renaming} {x : Room} {s : State} (n : Fits g s) {k : Option Object
 
   pub looks_at_alike : (who h : ℕ) (last : Bool) (y : TaskState) → Alike g x s k r (looks_at who h last y) (looks_at who (g kind.Task h) last y)
   looks_at_alike who h last (Ended e m) = gives_alike n refl (one_move (leaves-renames g x s n h))
-  looks_at_alike who h true Scheduled = gives_alike n refl
+  looks_at_alike who h true _ = gives_alike n refl
       (one_move (notes-renames g x s n h _ _ (λ y. refl) (λ y v. record { group = v.group; tally = v.tally })))
-  looks_at_alike who h false Scheduled = gives_alike n refl
+  looks_at_alike who h false _ = gives_alike n refl
       (one_move (notes-renames g x s n h _ _ (λ y. refl) (λ y v. record { group = v.group; tally = v.tally })))
-  looks_at_alike who h true (Running w m) =
-      gives_alike n refl (one_move (notes-renames g x s n h _ _ (λ y. refl) (λ y v. record { group = v.group; tally = v.tally })))
-  looks_at_alike who h false (Running w m) =
-      gives_alike n refl (one_move (notes-renames g x s n h _ _ (λ y. refl) (λ y v. record { group = v.group; tally = v.tally })))
 
   pub cancels_alike : (h : ℕ) (y : TaskState) → Alike g x s k r (cancels h y) (cancels (g kind.Task h) y)
   cancels_alike h Scheduled = gives_alike n refl (one_move (ends_task-renames g x s n h Cancelled))
@@ -72,11 +68,10 @@ module _ {g : Renaming} {x : Room} {s : State} (n : Fits g s) {k : Option Object
   -- Groups
 
   gives_end_alike : (h : ℕ) (y : TaskState) → Has g kind.Task h → Alike g x s k r (gives_end h y) (gives_end (g kind.Task h) y)
-  gives_end_alike h Scheduled v = never_alike n
-  gives_end_alike h (Running w m) v = never_alike n
   gives_end_alike h (Ended e m) v =
       gives_renamed n v (then_moves (notes-renames g x s n h in_no_group in_no_group (λ y. refl) (λ y w. record { group = tt; tally = w.tally }))
       (λ f. one_move (leaves-renames g x _ f h)))
+  gives_end_alike h _ v = never_alike n
 
   pub gives_first_alike : (last : Bool) (xs ys : List Ending) → ys ≡ renamed_endings g xs
       → Alike g x s k r (gives_first s last xs) (gives_first (renamed g x s) last ys)

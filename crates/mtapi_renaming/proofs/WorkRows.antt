@@ -81,9 +81,7 @@ module _ {g : Renaming} {x : Room} {s : State} (n : Fits g s) {k : Option Object
       (λ f. then_moves (alters-renames g x _ f Segments b (with_attached who true))
       (λ l. one_move (notes-renames g x _ l h (with_tally (tally_has a b)) (with_tally (tally_has (g kind.Mutex a) (g kind.Shmem b))) (λ u. refl)
       (λ u m. record { group = m.group; tally = record { mutex = inr (v a refl); segment = inr (w b refl) } })))))))))
-  takes_both_alike who h cell (Some a) None v w = gives_up_alike h _
-  takes_both_alike who h cell None (Some b) v w = gives_up_alike h _
-  takes_both_alike who h cell None None v w = gives_up_alike h _
+  takes_both_alike who h cell _ _ v w = gives_up_alike h _
 
   pub locks_alike : (who h : ℕ) (args : List ℤ) (y : Option Adds) → Alike g x s k r (locks s who h args y) (locks (renamed g x s) who (g kind.Task h) args y)
   locks_alike who h args None = gives_up_alike h _

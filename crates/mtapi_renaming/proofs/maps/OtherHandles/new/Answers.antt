@@ -1,9 +1,9 @@
-use Rattle.std.proofs.Common.{◌≡◌, ℕ, List, [], ap}
+use Rattle.std.proofs.Common.{rules, ◌≡◌, ℕ, List, [], ap}
 use Rattle.std.specs.Ordering.{nat_cmp}
 use Rattle.std.specs.BTreeMap.{is_at}
 use Rattle.std.specs.Map.{lookup}
 use Rattle.mtapi_values.specs.declared.handles.ObjectKind.{ObjectKind}
-use Rattle.mtapi_values.specs.declared.handles.ObjectKind.TheVariants.{Action, Task, Group, Queue, Mutex, Sem, Rwl, Shmem}
+use Rattle.mtapi_values.specs.declared.handles.ObjectKind.TheVariants.{Action}
 use Rattle.mtapi_renaming.specs.Renaming.{or_zero}
 use Rattle.mtapi_renaming.specs.declared.maps.OtherHandles.{OtherHandles}
 use Rattle.mtapi_renaming.specs.Renaming.{nothing}
@@ -27,11 +27,5 @@ returns c = empty _ by_kind
       rwls = c.new-7.result;
       segments = c.new-8.result;
     }) k).entries ≡ []
-    by_kind Action = c.new.ensures.empty
-    by_kind Task = c.new-2.ensures.empty
-    by_kind Group = c.new-3.ensures.empty
-    by_kind Queue = c.new-4.ensures.empty
-    by_kind Mutex = c.new-5.ensures.empty
-    by_kind Sem = c.new-6.ensures.empty
-    by_kind Rwl = c.new-7.ensures.empty
-    by_kind Shmem = c.new-8.ensures.empty
+    by_kind Action = search rules
+    by_kind _ = search rules
