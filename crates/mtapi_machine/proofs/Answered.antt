@@ -30,6 +30,25 @@ module _ (p : Reply → Bool) (Q : Reply → List Move → Type 0) (no : (x : Re
 unended_in : (x : Task) (y : TaskState) → x.state ≡ y → is_none (end_of y) ≡ true → is_unended x ≡ true
 unended_in x y e u = ap (λ (z : TaskState). is_none (end_of z)) e ∙ u
 
+-- the answers, by what they are of
+ruleset of_callers = (is.opens_node, is.releases_callers, is.enters_early, is.enters_node, is.closes_node, is.finals_node, is.refuses, is.refuses_caller)
+
+ruleset of_starts = (is.finds_job, is.creates_action, is.deletes_action, is.disables_action, is.enables_action, is.starts, is.enqueues)
+
+ruleset of_lists = (is.creates_group, is.deletes_group, is.all_early, is.all_late, is.creates_queue, is.gets_queue, is.enables_queue, is.deletes_queue)
+
+ruleset of_work = (is.finishes, is.asks, is.ends_watch, is.tally_reads, is.tally_writes, is.tally_ends_failed, is.tally_ends)
+
+ruleset of_mutexes = (is.creates_mutex, is.gets_mutex, is.deletes_mutex, is.mutex_early, is.mutex_late, is.locks_mutex, is.unlocks_mutex)
+
+ruleset of_sems = (is.creates_sem, is.gets_sem, is.deletes_sem, is.sem_early, is.sem_late, is.takes_sem, is.gives_sem)
+
+ruleset of_rwls = (is.creates_rwl, is.gets_rwl, is.deletes_rwl, is.rwl_early, is.rwl_late, is.takes_rwl, is.gives_rwl)
+
+ruleset of_segments = (is.creates_segment, is.gets_segment, is.deletes_segment, is.attaches, is.detaches, is.reads_cell, is.writes_cell)
+
+ruleset outcomes = (of_callers, of_starts, of_lists, of_work, of_mutexes, of_sems, of_rwls, of_segments, fst_true, snd_true, not_true, not_false)
+
 module _ (s : State) (who : ℕ) where
   abbrev Is : Op → Reply → List Move → Type 0
   Is o r ms = Answers s who o r ms
@@ -153,6 +172,8 @@ module _ (s : State) (who : ℕ) where
   refused o (reply.Mrapi x) e = is.refuses_caller o x e
   refused o _ e = absurd (cc)
 
+  ruleset walks = (on_only, on_live, on_cond, on_found, on_object, on_task, early, on_looks, on_cancels, on_verdict, on_disable, on_locks)
+
   -- the table: an entry an op
   leads : (o : Op) (r : Reply) → Walks o (row s who o r)
   leads (op.AnyLook g last) r = λ a. on_live (op.AnyLook g last) (live_object s.groups g.0) _ _ (is.refuses _ _ refl) (λ x e b. on_first g last x _ e refl)
@@ -161,84 +182,7 @@ module _ (s : State) (who : ℕ) where
     λ d. on_cond op.Pick (is_stop s) _ _ (λ e. is.stops_worker (not_false _ a) b e)
         (λ e. on_picks r (not_false _ a) b),
   )
-  leads o r = grind (
-    arith,
-    nat_tests,
-    on_only,
-    on_live,
-    on_cond,
-    on_found,
-    on_object,
-    on_task,
-    early,
-    on_looks,
-    on_cancels,
-    on_verdict,
-    on_disable,
-    on_locks,
-    fst_true,
-    snd_true,
-    not_true,
-    not_false,
-    is.opens_node,
-    is.releases_callers,
-    is.enters_early,
-    is.enters_node,
-    is.closes_node,
-    is.finals_node,
-    is.finds_job,
-    is.creates_action,
-    is.refuses,
-    is.deletes_action,
-    is.disables_action,
-    is.enables_action,
-    is.starts,
-    is.enqueues,
-    is.creates_group,
-    is.deletes_group,
-    is.all_early,
-    is.all_late,
-    is.creates_queue,
-    is.gets_queue,
-    is.enables_queue,
-    is.deletes_queue,
-    is.finishes,
-    is.asks,
-    is.ends_watch,
-    is.tally_reads,
-    is.tally_writes,
-    is.tally_ends_failed,
-    is.tally_ends,
-    is.creates_mutex,
-    is.refuses_caller,
-    is.gets_mutex,
-    is.deletes_mutex,
-    is.mutex_early,
-    is.mutex_late,
-    is.locks_mutex,
-    is.unlocks_mutex,
-    is.creates_sem,
-    is.gets_sem,
-    is.deletes_sem,
-    is.sem_early,
-    is.sem_late,
-    is.takes_sem,
-    is.gives_sem,
-    is.creates_rwl,
-    is.gets_rwl,
-    is.deletes_rwl,
-    is.rwl_early,
-    is.rwl_late,
-    is.takes_rwl,
-    is.gives_rwl,
-    is.creates_segment,
-    is.gets_segment,
-    is.deletes_segment,
-    is.attaches,
-    is.detaches,
-    is.reads_cell,
-    is.writes_cell,
-  )
+  leads o r = grind (arith, nat_tests, outcomes, walks)
 
   pub answered : (o : Op) (r : Reply) → Allows (row s who o r) r → Answers s who o r (moves_of (row s who o r))
   answered o r a = led (refuses_with o) (Is o) (refused o) (row s who o r) r (leads o r) a
