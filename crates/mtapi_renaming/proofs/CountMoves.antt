@@ -39,6 +39,8 @@ with-tasks s starts ends ts w = same-so s s.phase s.released s.stopped starts en
 withdrawn : (h : ℕ) (f : Listed Action → Listed Action) (o : Op) → WithdrawsAction h f o → (r : Listed Action) → KeepsHandle r (f r)
 withdrawn h f o i r = grind (arith, nat_tests)
 
+ruleset keeping = (handles-change, handles-change_all, handles-ends, keeps-fields, keeps-gone, keeps-ended, keeps-freed, keeps-let_go, withdrawn)
+
 -- the move makes no object
 abbrev pub MakesNothing : Move → Type 0
 MakesNothing (makes_action h a) = ⊥
@@ -52,22 +54,7 @@ move_same s o (alters t h f) i idle k =
     each_with (λ T o l m. SameHandles l m) (λ T o l. handles-same l) s t _ (handles-change h (with_fields f) (keeps-fields f) ((all_of t).list s)) k
 move_same s o (removes t h) i idle k = each_with (λ T o l m. SameHandles l m) (λ T o l. handles-same l) s t _
     (handles-change h gone keeps-gone ((all_of t).list s)) k
-move_same s o m i idle k = grind (
-  arith,
-  nat_tests,
-  same-so,
-  with-tasks,
-  handles-same,
-  handles-change,
-  handles-change_all,
-  handles-ends,
-  keeps-fields,
-  keeps-gone,
-  keeps-ended,
-  keeps-freed,
-  keeps-let_go,
-  withdrawn,
-)
+move_same s o m i idle k = grind (arith, nat_tests, same-so, with-tasks, handles-same, keeping)
 
 -- after each move, of the list of each kind: what a new object and the same handles bring
 pub each_move : (P : (T : Type 0) → Objects T → List (Listed T) → List (Listed T) → Type 0) (s : State) (o : Op) (m : Move) → IsMade s o m →
