@@ -1,7 +1,5 @@
 pub mod Names
 mod Replays
-mod Worked
-mod WorkedWords
 mod BoxLemmas
 mod Relisted
 mod RingLemmas

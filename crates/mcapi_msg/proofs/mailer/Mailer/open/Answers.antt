@@ -11,5 +11,4 @@ returns-clause-called g c = called Names
     (op.Open c.args.port) c.args.self.now c.once.new.self c.once.result c.named.result c.once.ensures.turned c.once.ensures.spent c.named.ensures
 
 pub returns-clause-same : goal.returns-clause-same
-returns-clause-same g c = called_same Names (op.Open c.args.port) c.args.self.now c.once.new.self c.named.result
-    (called Names (op.Open c.args.port) c.args.self.now c.once.new.self c.once.result c.named.result c.once.ensures.turned c.once.ensures.spent c.named.ensures)
+returns-clause-same g c = called_same Names (op.Open c.args.port) c.args.self.now c.once.new.self c.named.result (returns-clause-called g c)

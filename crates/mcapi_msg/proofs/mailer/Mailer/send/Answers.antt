@@ -14,5 +14,4 @@ returns-clause-called g c = called Done
 
 pub returns-clause-same : goal.returns-clause-same
 returns-clause-same g c = called_same Done (op.Send c.args.to c.args.priority c.args.msg) c.args.self.now c.once-reply.new.self c.done.result
-    (called Done (op.Send c.args.to c.args.priority c.args.msg) c.args.self.now c.once-reply.new.self c.once-reply.result c.done.result
-    c.once-reply.ensures.turned c.once-reply.ensures.spent c.done.ensures)
+    (returns-clause-called g c)

@@ -11,5 +11,4 @@ returns-clause-called g c = called Done
     (op.Shut c.args.at) c.args.self.now c.once.new.self c.once.result c.done.result c.once.ensures.turned c.once.ensures.spent c.done.ensures
 
 pub returns-clause-same : goal.returns-clause-same
-returns-clause-same g c = called_same Done (op.Shut c.args.at) c.args.self.now c.once.new.self c.done.result
-    (called Done (op.Shut c.args.at) c.args.self.now c.once.new.self c.once.result c.done.result c.once.ensures.turned c.once.ensures.spent c.done.ensures)
+returns-clause-same g c = called_same Done (op.Shut c.args.at) c.args.self.now c.once.new.self c.done.result (returns-clause-called g c)
