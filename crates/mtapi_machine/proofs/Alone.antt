@@ -1,6 +1,6 @@
 -- Where a row allows a status, it allows no other reply of the same entry: a reply is read only for what it chooses, and whether a
 -- status answers doesn't hang on that.
-use Rattle.mtapi_machine.proofs.Names.{arith, nat_tests, ◌≡◌, ℕ, Bool, true, false, List, Option, refl, sym, ◌∙◌, if◌then◌else◌, live_object, Op, ActionCreate, TaskStart, TaskEnqueue, GroupCreate, QueueCreate, Pick, MutexCreate, SemCreate, RwlCreate, ShmemCreate, Reply, Handle, State, is_stop, Move, Row, unless, gives, never, Allows, only, live, picks, row, is_status}
+use Rattle.mtapi_machine.proofs.Names.{arith, nat_tests, ◌≡◌, ℕ, Bool, true, false, List, Option, refl, sym, ◌∙◌, if◌then◌else◌, Op, Pick, Reply, Handle, State, is_stop, Move, Row, unless, gives, never, Allows, only, live, picks, row, is_status}
 
 -- where the first row allows a status, the second one allows nothing else
 record Alone (v w : Row) (x y : Reply) : Type 0 where

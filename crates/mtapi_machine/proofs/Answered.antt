@@ -1,8 +1,7 @@
 -- The rows of the machine, walked over once: a reply that a row allows is one of its answers.
-use Rattle.mtapi_machine.proofs.Names.{arith, nat_tests, ◌≡◌, ℕ, Bool, true, false, cond, List, ◌∷◌, Option, Some, None, refl, sym, ◌∙◌, ap, subst, MatchBool, ◌==◌, not, nat_lt, is_some, is_none, length, MtapiStatus, MrapiStatus, TaskHandle, GroupHandle, QueueHandle, live_object, live_of, any_listed, first_handle, Task, TaskState, Scheduled, Running, is_unended, end_of, runs_as, runs_on, task_look_refusals, Adds, tally_args, Group, Ending, endings, first_fault, is_unended_member, Queue, opened, is_in, Cancelled, mutex_delete_refusals, mutex_look_refusals, mutex_busy, mutex_unlock_refusals, sem_delete_refusals, sem_busy, sem_unlock_refusals, rwl_delete_refusals, rwl_look_refusals, rwl_busy, rwl_unlock_refusals, shmem_delete_refusals, attach_refusals, detach_refusals, cell_refusals, Op, Reply, State, workers, is_past_open, is_stop, Move, Sort, Queues, Mutexes, Sems, Rwls, Segments, Fields, all_of, alters, ends_waiting, frees_members, Row, unless, gives, never, says, not_yet, Allows, only, live, handle_of, moves_of, row, found, looks_at, cancels, verdict, gives_end, gives_first, picks, is_ready, can_take, gives_up, takes_both, locks, []}
+use Rattle.mtapi_machine.proofs.Names.{arith, nat_tests, ◌≡◌, ℕ, Bool, true, false, cond, List, ◌∷◌, Option, Some, None, refl, sym, ◌∙◌, ap, subst, MatchBool, ◌==◌, not, nat_lt, is_some, is_none, length, MtapiStatus, MrapiStatus, TaskHandle, GroupHandle, QueueHandle, live_object, live_of, any_listed, first_handle, Task, TaskState, Scheduled, Running, is_unended, end_of, runs_on, task_look_refusals, Adds, tally_args, Group, Ending, endings, first_fault, is_unended_member, Queue, opened, is_in, Cancelled, Op, Reply, State, workers, is_stop, Move, Sort, Queues, Fields, all_of, alters, ends_waiting, frees_members, Row, unless, gives, never, says, not_yet, Allows, only, live, moves_of, row, found, looks_at, cancels, verdict, gives_end, gives_first, picks, is_ready, can_take, gives_up, takes_both, locks, []}
 use Rattle.mtapi_values.specs.declared.kinds.Kind.TheVariants as kinds
 use Rattle.mtapi_values.specs.declared.statuses.MtapiStatus.TheVariants as m
-use Rattle.mtapi_values.specs.declared.statuses.MrapiStatus.TheVariants as c
 use Rattle.mtapi_objects.specs.Tasks.{Ended}
 use Rattle.mtapi_machine.specs.declared.ops.Op.TheVariants as op
 use Rattle.mtapi_machine.specs.declared.replies.Reply.TheVariants as reply

@@ -1,7 +1,6 @@
 -- A legal list without its dropped entries is legal, and leads to the same state.
-use Rattle.mtapi_machine.proofs.Names.{◌≡◌, ℕ, Bool, true, false, cond, List, ◌∷◌, Option, Some, ◌⊎◌, refl, sym, arith, nat_tests, TaskHandle, Reply, Ok, Handle, Number, Given, Pending, Picked, Idle, Stop, Asked, Mtapi, Mrapi, Op, live_object, update, holds, Task, TaskState, with_notes, with_waiter, task_look_refusals, State, Row, unless, says, gives, never, Allows, after_row, mtapi_unless, live, after_moves, row, looks_at, entry, NodeEntry, IsNext, next, LegalFrom, after_from, pends_alike, drops, is_dropped, kept, DropsRightly, []}
+use Rattle.mtapi_machine.proofs.Names.{◌≡◌, ℕ, Bool, true, false, cond, List, ◌∷◌, Option, Some, ◌⊎◌, refl, sym, arith, nat_tests, TaskHandle, Reply, Pending, Idle, Mtapi, Op, live_object, update, holds, Task, TaskState, with_notes, with_waiter, task_look_refusals, State, Row, unless, says, gives, never, Allows, after_row, mtapi_unless, live, after_moves, row, looks_at, entry, NodeEntry, IsNext, next, LegalFrom, after_from, pends_alike, drops, is_dropped, kept, DropsRightly, []}
 use Rattle.mtapi_values.specs.declared.statuses.MtapiStatus.TheVariants as m
-use Rattle.mtapi_machine.specs.declared.replies.Reply.TheVariants as reply
 use Rattle.mtapi_machine.specs.declared.ops.Op.TheVariants as op
 use Rattle.mtapi_values.specs.Seats.{is_seat}
 use Rattle.mtapi_machine.proofs.Refusals.{entry_stays, idle_stays}
