@@ -1,7 +1,6 @@
 -- The counts of a state, over its moves and over entries.
-use Rattle.mtapi_renaming.proofs.Names.{nat_tests, ◌≡◌, ℕ, ◌+◌, ◌<◌, Bool, true, ◌&&◌, List, [], None, refl, sym, ◌∙◌, ap, arith, ◌==◌, not, slice_set, ObjectKind, Listed, live_of, issue, listed, with_fields, gone, Action, with_enabled, Task, NewTask, new_task, Running, is_unstarted, is_unended, ended, with_state, with_notes, is_member, freed, let_go, Phase, Terms, Op, Reply, State, Objects, FieldsOf, objects_of, opening, actions, tasks, Move, Fields, all_of, phase_is, released, stops, makes_action, enables, withdraws, starts_task, runs_task, ends_task, ends_waiting, notes, leaves, frees_members, lets_members_go, makes, alters, removes, is_fresh, apply, moves_of, after_row, row, NodeEntry, after, IsMade, MakesAction, StartsTask, WithdrawsAction, fst_true, snd_true, row_made, moves_keep, along, own_kind, at_opening, OnEach, each_so, each_with, made_kind, live_in, is_full_of, is_fresh_of, made_in, most_of, is_next_of, MakesNone, is_live_of, live_object, is_some, length, is_full}
+use Rattle.mtapi_renaming.proofs.Names.{nat_tests, ◌≡◌, ℕ, ◌+◌, ◌<◌, Bool, true, List, [], None, refl, sym, ◌∙◌, ap, arith, ◌==◌, ObjectKind, Listed, live_of, issue, listed, with_fields, gone, Action, Task, NewTask, new_task, Phase, Terms, Op, Reply, State, Objects, FieldsOf, objects_of, opening, actions, tasks, Move, Fields, all_of, phase_is, makes_action, starts_task, makes, alters, removes, is_fresh, apply, moves_of, after_row, row, NodeEntry, after, IsMade, MakesAction, StartsTask, WithdrawsAction, fst_true, snd_true, row_made, moves_keep, along, own_kind, at_opening, OnEach, each_so, each_with, made_kind, live_in, is_full_of, is_fresh_of, made_in, most_of, is_next_of, MakesNone, is_live_of, live_object, is_some, length, is_full}
 use Rattle.mtapi_values.specs.declared.handles.ObjectKind.TheVariants as kind
-use Rattle.mtapi_machine.specs.declared.ops.Op.TheVariants as op
 use Rattle.mtapi_renaming.proofs.Handles.{KeepsHandle, keeps-fields, keeps-gone, keeps-ended, keeps-freed, keeps-let_go, SameHandles, handles-same, handles-change, handles-change_all, handles-ends, issued_at-same, length-same}
 use Rattle.mtapi_renaming.proofs.Counts.{InTurn, turn-same, turn-issue, fresh-next, full-live}
 

@@ -1,5 +1,5 @@
 -- The rows of the ops that make objects, in the renamed state.
-use Rattle.mtapi_renaming.proofs.Names.{nat_tests, ◌≡◌, ◌↔◌, ℕ, Bool, true, false, List, [], ◌∷◌, Option, Some, None, refl, sym, ◌∙◌, ap, subst, ◌==◌, not, is_none, option_map, IfSome, MatchBool, ObjectKind, MrapiStatus, holds, live_object, Action, has_job, has_enabled_job, NewTask, Group, Queue, Reply, Handle, State, Objects, actions, tasks, queues, Move, Sort, Groups, Queues, Fields, all_of, makes_action, starts_task, makes, is_fresh, apply, after_moves, of_sort, Row, unless, gives, Allows, after_row, says, only, mtapi_unless, handle_of, live, on, creates, Keyed, mrapi_unless, creates_keyed, start_refusals, Renaming, Has, with_pair, Room, renamed_task, renamed, HasTask, NoHandle, Fits, Follows, full, is_full_of, is_fresh_of, limit_of, CanBe, is_handle, makes_or_not, refusal_in, Ok, arith, cond}
+use Rattle.mtapi_renaming.proofs.Names.{nat_tests, ◌≡◌, ◌↔◌, ℕ, Bool, true, false, List, [], ◌∷◌, Option, Some, None, refl, sym, ◌∙◌, ap, subst, ◌==◌, not, is_none, option_map, IfSome, MatchBool, ObjectKind, MrapiStatus, holds, live_object, Action, has_job, has_enabled_job, NewTask, Queue, Reply, Handle, State, Objects, actions, tasks, queues, Move, Sort, Groups, Queues, Fields, all_of, makes_action, starts_task, makes, is_fresh, apply, after_moves, of_sort, Row, unless, gives, Allows, after_row, says, only, mtapi_unless, handle_of, live, on, creates, Keyed, mrapi_unless, creates_keyed, start_refusals, Renaming, Has, with_pair, Room, renamed_task, renamed, HasTask, NoHandle, Fits, Follows, full, is_full_of, is_fresh_of, limit_of, CanBe, is_handle, makes_or_not, refusal_in, Ok, arith, cond}
 use Rattle.mtapi_values.specs.declared.handles.ObjectKind.TheVariants as kind
 use Rattle.mtapi_renaming.proofs.Rows.{is_plain}
 use Rattle.mtapi_renaming.proofs.Lists.{found-has}

@@ -1,5 +1,5 @@
 -- The tests of equality decide it.
-use Rattle.mtapi_renaming.proofs.Names.{arith, nat_tests, ◌≡◌, ℕ, ◌&&◌, cond, List, refl, sym, ◌∙◌, ap, ◌==◌, beq, Decides, int_eq, signed_Decides, booleans_Decides, signed_items, pointwise, Decides-eqb, Kind, MtapiStatus, MrapiStatus, mtapi_number, mrapi_number, TaskHandle, ActionHandle, TaskEnd, ActEnd, kind_number, Reply, Ok, Handle, Number, Ended, Given, Pending, Picked, Idle, Stop, Asked, Mtapi, Mrapi, same_end, same_act, same_reply}
+use Rattle.mtapi_renaming.proofs.Names.{arith, nat_tests, ◌≡◌, ℕ, ◌&&◌, List, refl, sym, ◌∙◌, ap, ◌==◌, beq, Decides, int_eq, signed_Decides, booleans_Decides, signed_items, pointwise, Decides-eqb, Kind, MtapiStatus, MrapiStatus, mtapi_number, mrapi_number, TaskHandle, ActionHandle, TaskEnd, ActEnd, kind_number, Reply, Ok, Handle, Number, Ended, Given, Pending, Picked, Idle, Stop, Asked, Mtapi, Mrapi, same_end, same_act, same_reply}
 use Rattle.mtapi_values.specs.declared.kinds.Kind.TheVariants as k
 use Rattle.mtapi_values.specs.declared.statuses.MtapiStatus.TheVariants as t
 use Rattle.mtapi_values.specs.declared.statuses.MrapiStatus.TheVariants as r

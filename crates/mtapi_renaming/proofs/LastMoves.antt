@@ -1,5 +1,5 @@
 -- The handles of the last generation of a state, over its moves and over entries.
-use Rattle.mtapi_renaming.proofs.Names.{nat_tests, ◌≡◌, ℕ, ◌+◌, List, [], None, Some, refl, ◌∙◌, ap, arith, ◌==◌, ObjectKind, Listed, listed, Action, new_task, Terms, Op, Reply, Handle, State, objects_of, opening, Move, Sort, Fields, all_of, makes, apply, Allows, moves_of, after_row, row, NodeEntry, after, IsMade, snd_true, row_made, moves_keep, along, rest_keeps, made_kind, live_in, is_full_of, most_of, lasts_in, lasts_of, gone_of, with_last, MakesLast, at_opening, of_sort, sort_at, released, is_full, is_some, live_object, how_many, not, sym}
+use Rattle.mtapi_renaming.proofs.Names.{nat_tests, ◌≡◌, ℕ, ◌+◌, List, [], None, Some, refl, ◌∙◌, ap, arith, ◌==◌, ObjectKind, Listed, listed, new_task, Terms, Op, Reply, Handle, State, objects_of, opening, Move, Sort, Fields, all_of, makes, apply, Allows, moves_of, after_row, row, NodeEntry, after, IsMade, snd_true, row_made, moves_keep, along, rest_keeps, made_kind, live_in, is_full_of, most_of, lasts_in, lasts_of, gone_of, with_last, MakesLast, at_opening, of_sort, sort_at, released, is_full, is_some, live_object, how_many, not, sym}
 use Rattle.mtapi_values.specs.declared.handles.ObjectKind.TheVariants as kind
 use Rattle.mtapi_renaming.proofs.CountMoves.{SameIn, each_move, move_same, by_none, live_is, most_is}
 use Rattle.mtapi_renaming.proofs.CountRows.{other_actions, other_tasks, other_sorts}

@@ -61,7 +61,6 @@ pub use Rattle.mtapi_renaming.specs.Refusals.{CanAnswer, makes_or_not, refusal_o
 pub use Rattle.mtapi_renaming.specs.Renamed.{Room, renamed, renamed_list, renamed_notes, renamed_task}
 pub use Rattle.mtapi_renaming.specs.Renaming.{Has, IsOneToOne, Renaming, with_pair}
 pub use Rattle.mtapi_renaming.specs.Verdicts.{IsJudged, is_answer, is_honest, may_come, same_act, same_end, same_reply}
-pub use Rattle.mtapi_renaming.specs.Worked.{WorkedLasts, WorkedRefusals, WorkedRenaming, WorkedVerdicts}
 pub use Rattle.mtapi_values.specs.Conditions.{holds}
 pub use Rattle.mtapi_values.specs.Layouts.{object_number}
 pub use Rattle.mtapi_values.specs.Statuses.{mrapi_number, mtapi_number}

@@ -1,5 +1,5 @@
 -- A renaming with one pair more: what it has, and what a state is by it.
-use Rattle.mtapi_renaming.proofs.Names.{rules, ◌≡◌, ℕ, zero, ◌+◌, ◌≤◌, true, ◌&&◌, cond, List, [], ◌∷◌, Option, Some, None, inl, inr, refl, sym, ◌∙◌, ap, subst, arith, ◌==◌, option_map, IfSome, eq-eqb, nat_tests, ObjectKind, object_number, Listed, listed, may_issue, issue, inside, Agree, count-inside, listed-issue, Action, Task, NewTask, new_task, State, Objects, Sort, Fields, all_of, makes_action, starts_task, makes, is_fresh, apply, snd_true, of_sort, sort_at, each_so, each_with, Renaming, Has, IsOneToOne, with_pair, Room, renamed_list, renamed_task, renamed, HasOrNone, HasTask, NoHandle, HasEach, Fits, listed_in, Only, Follows}
+use Rattle.mtapi_renaming.proofs.Names.{rules, ◌≡◌, ℕ, ◌+◌, ◌≤◌, true, ◌&&◌, cond, List, [], ◌∷◌, Option, Some, None, inl, inr, refl, sym, ◌∙◌, ap, subst, arith, ◌==◌, option_map, IfSome, eq-eqb, nat_tests, ObjectKind, object_number, Listed, listed, may_issue, issue, inside, Agree, count-inside, listed-issue, Action, Task, NewTask, new_task, State, Objects, Sort, Fields, all_of, makes_action, starts_task, makes, is_fresh, apply, snd_true, of_sort, sort_at, each_so, each_with, Renaming, Has, IsOneToOne, with_pair, Room, renamed_list, renamed_task, renamed, HasOrNone, HasTask, NoHandle, HasEach, Fits, listed_in, Only, Follows}
 use Rattle.mtapi_values.specs.declared.handles.ObjectKind.TheVariants as kind
 use Rattle.mtapi_renaming.proofs.Lists.{same_test, has-issue}
 use Rattle.mtapi_renaming.proofs.Moves.{renamed_new, sort-has, has-with, has-so, makes_action-renames, starts_task-renames, makes-renames}

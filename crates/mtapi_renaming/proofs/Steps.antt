@@ -1,6 +1,5 @@
 -- The laws of one step and of the start.
 use Rattle.mtapi_renaming.proofs.Names.{nat_tests, ◌≡◌, ◌↔◌, ℕ, false, List, [], ◌∷◌, length, Some, None, refl, sym, ap, subst, arith, is_some, ObjectKind, Listed, live_of, inside, Terms, Op, Reply, State, Row, Allows, row, Renaming, Room, renamed_list, renamed, Follows, renamed_op, renamed_reply, made_kind, live_in, is_live_of, takes_task, row_in, StepRenames, CreateRenames, LiveAlike, StartRenames}
-use Rattle.mtapi_values.specs.declared.handles.ObjectKind.TheVariants as kind
 use Rattle.mtapi_machine.specs.declared.ops.Op.TheVariants as op
 use Rattle.mtapi_renaming.proofs.Lists.{found-renamed}
 use Rattle.mtapi_renaming.proofs.TaskRows.{is_some-map}
