@@ -1,5 +1,5 @@
 -- The rows of the machine, walked over once: a reply that a row allows is one of its answers.
-use Rattle.mtapi_machine.proofs.Names.{arith, nat_tests, ◌≡◌, ℕ, Bool, true, false, cond, List, ◌∷◌, Option, Some, None, refl, sym, ◌∙◌, ap, subst, MatchBool, ◌==◌, not, nat_lt, is_some, is_none, length, MtapiStatus, MrapiStatus, TaskHandle, GroupHandle, QueueHandle, live_object, live_of, any_listed, first_handle, Task, TaskState, Scheduled, Running, is_unended, end_of, runs_on, task_look_refusals, Adds, tally_args, Group, Ending, endings, first_fault, is_unended_member, Queue, opened, is_in, Cancelled, Op, Reply, State, workers, is_stop, Move, Sort, Queues, Fields, all_of, alters, ends_waiting, frees_members, Row, unless, gives, never, says, not_yet, Allows, only, live, moves_of, row, found, looks_at, cancels, verdict, gives_end, gives_first, picks, is_ready, can_take, gives_up, takes_both, locks, []}
+use Rattle.mtapi_machine.proofs.Names.{arith, nat_tests, ◌≡◌, ℕ, Bool, true, false, cond, List, ◌∷◌, Option, Some, None, refl, sym, ◌∙◌, ap, subst, MatchBool, ◌==◌, not, nat_lt, is_some, is_none, length, MrapiStatus, TaskHandle, GroupHandle, live_object, live_of, any_listed, first_handle, Task, TaskState, Scheduled, Running, is_unended, end_of, runs_on, task_look_refusals, Adds, tally_args, Group, Ending, endings, Op, Reply, State, workers, is_stop, Move, Sort, Fields, all_of, Row, unless, gives, never, says, not_yet, Allows, only, live, moves_of, row, found, looks_at, cancels, gives_end, gives_first, picks, is_ready, can_take, gives_up, takes_both, locks, []}
 use Rattle.mtapi_values.specs.declared.kinds.Kind.TheVariants as kinds
 use Rattle.mtapi_values.specs.declared.statuses.MtapiStatus.TheVariants as m
 use Rattle.mtapi_objects.specs.Tasks.{Ended}
@@ -36,6 +36,8 @@ ruleset of_starts = (is.finds_job, is.creates_action, is.deletes_action, is.disa
 
 ruleset of_lists = (is.creates_group, is.deletes_group, is.all_early, is.all_late, is.creates_queue, is.gets_queue, is.enables_queue, is.deletes_queue)
 
+ruleset of_ends = (is.all_well, is.all_faulty, is.retains_queue, is.disables_queue)
+
 ruleset of_work = (is.finishes, is.asks, is.ends_watch, is.tally_reads, is.tally_writes, is.tally_ends_failed, is.tally_ends)
 
 ruleset of_mutexes = (is.creates_mutex, is.gets_mutex, is.deletes_mutex, is.mutex_early, is.mutex_late, is.locks_mutex, is.unlocks_mutex)
@@ -46,7 +48,7 @@ ruleset of_rwls = (is.creates_rwl, is.gets_rwl, is.deletes_rwl, is.rwl_early, is
 
 ruleset of_segments = (is.creates_segment, is.gets_segment, is.deletes_segment, is.attaches, is.detaches, is.reads_cell, is.writes_cell)
 
-ruleset outcomes = (of_callers, of_starts, of_lists, of_work, of_mutexes, of_sems, of_rwls, of_segments, fst_true, snd_true, not_true, not_false)
+ruleset outcomes = (of_callers, of_starts, of_lists, of_ends, of_work, of_mutexes, of_sems, of_rwls, of_segments, fst_true, snd_true, not_true, not_false)
 
 module _ (s : State) (who : ℕ) where
   abbrev Is : Op → Reply → List Move → Type 0
@@ -95,12 +97,6 @@ module _ (s : State) (who : ℕ) where
 
   -- Groups
 
-  on_verdict : (g : GroupHandle) (last : Bool) (x : Group) (y : Option MtapiStatus) → live_object s.groups g.0 ≡ Some x
-      → any_listed (is_unended_member g.0) s.tasks ≡ false → first_fault (endings g.0 (live_of s.tasks)) ≡ y
-      → Is (op.AllLook g last) (verdict y) (frees_members g.0 ∷ [])
-  on_verdict g last x None f u d = is.all_well g last x f u d
-  on_verdict g last x (Some c) f u d = is.all_faulty g last x c f u d
-
   on_first : (g : GroupHandle) (last : Bool) (x : Group) (es : List Ending) → live_object s.groups g.0 ≡ Some x → endings g.0 (live_of s.tasks) ≡ es
       → Walks (op.AnyLook g last) (gives_first s last es)
   on_first g last x [] f d = early (λ b. op.AnyLook g b) last (reply.Mtapi m.Timeout) (is.any_early g x f d) (is.any_late g)
@@ -110,13 +106,6 @@ module _ (s : State) (who : ℕ) where
       by_state t Scheduled e i = tt
       by_state t (Running w k) e i = tt
       by_state t (Ended v n) e i = is.any_given g last x y ys t v n f d e i
-
-  -- Queues
-
-  on_disable : (q : QueueHandle) (x : Queue) (b : Bool) → live_object s.queues q.0 ≡ Some x → x.retain ≡ b
-      → Is (op.QueueDisable q) reply.Ok (alters Queues q.0 (opened false) ∷ cond b [] (ends_waiting (is_in q.0) Cancelled ∷ []))
-  on_disable q x true f d = is.retains_queue q x f d
-  on_disable q x false f d = is.disables_queue q x f d
 
   -- Work
 
@@ -171,7 +160,7 @@ module _ (s : State) (who : ℕ) where
   refused o (reply.Mrapi x) e = is.refuses_caller o x e
   refused o _ e = absurd (cc)
 
-  ruleset walks = (on_only, on_live, on_cond, on_found, on_object, on_task, early, on_looks, on_cancels, on_verdict, on_disable, on_locks)
+  ruleset walks = (on_only, on_live, on_cond, on_found, on_object, on_task, early, on_looks, on_cancels, on_locks)
 
   -- the table: an entry an op
   leads : (o : Op) (r : Reply) → Walks o (row s who o r)

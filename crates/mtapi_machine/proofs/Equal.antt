@@ -82,11 +82,13 @@ op_decides a b q = derived_decides op.enum (λ c. IsNoFinish (op.the_make c)) _ 
     none_decide ⊕ none_decide ⊕ none_decide ⊕ none_decide ⊕ none_decide ⊕ one_decides Decides-eqb
     ⊕ more_decide Decides-eqb (more_decide kinds_decide (one_decides masks_decide)) ⊕ one_decides actions_decide ⊕ one_decides actions_decide
     ⊕ one_decides actions_decide
-    ⊕ more_decide Decides-eqb (more_decide args_decide (more_decide Decides-eqb (more_decide masks_decide (more_decide booleans_Decides (one_decides (option_decides groups_decide))))))
+    ⊕ more_decide Decides-eqb (more_decide args_decide (more_decide Decides-eqb (more_decide masks_decide
+    (more_decide booleans_Decides (one_decides (option_decides groups_decide))))))
     ⊕ more_decide queues_decide (more_decide args_decide (more_decide masks_decide (more_decide booleans_Decides (one_decides (option_decides groups_decide)))))
     ⊕ more_decide tasks_decide (one_decides booleans_Decides) ⊕ one_decides tasks_decide ⊕ none_decide ⊕ one_decides groups_decide
     ⊕ more_decide groups_decide (one_decides booleans_Decides) ⊕ more_decide groups_decide (one_decides booleans_Decides)
-    ⊕ more_decide Decides-eqb (more_decide Decides-eqb (more_decide Decides-eqb (more_decide Decides-eqb (more_decide booleans_Decides (one_decides booleans_Decides)))))
+    ⊕ more_decide Decides-eqb (more_decide Decides-eqb (more_decide Decides-eqb (more_decide Decides-eqb
+    (more_decide booleans_Decides (one_decides booleans_Decides)))))
     ⊕ one_decides Decides-eqb ⊕ one_decides queues_decide ⊕ one_decides queues_decide ⊕ one_decides queues_decide ⊕ none_decide
     ⊕ (
       λ x y q. absurd q,
