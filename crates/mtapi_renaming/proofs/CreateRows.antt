@@ -33,9 +33,15 @@ module _ {s : State} {P : ObjectKind → (Reply → Row) → Type 0} (w : HoldsI
   made_row (op.ActionCreate job y cores) =
       w.condition refl (w.condition refl (w.action (new_action job y cores.0)))
   made_row (op.TaskStart job args priority cores detached group) =
-      w.condition refl (w.condition refl (w.condition refl (w.condition refl (w.condition refl (w.condition refl (w.task (asked_for job args priority cores detached group)))))))
+      w.condition refl (w.condition refl (w.condition refl
+      (w.condition refl (w.condition refl (w.condition refl (w.task (asked_for job args priority cores detached group)))))))
   made_row (op.TaskEnqueue queue args cores detached group) =
-      w.condition refl (w.condition refl (on_live (live_object s.queues queue.0) (Mtapi m.ErrQueueInvalid) (λ z r. mtapi_unless (put_refusals z ++ start_refusals s (asked_of queue.0 z args cores detached group) ++ (count_listed (is_unended_in queue.0) s.tasks == z.limit, m.ErrQueueLimit) ∷ []) (creates tasks s r (λ b. starts_task b (asked_of queue.0 z args cores detached group)))) refl (λ z. w.condition refl (w.condition refl (w.condition refl (w.condition refl (w.condition refl (w.condition refl (w.task (asked_of queue.0 z args cores detached group))))))))))
+      w.condition refl (w.condition refl (on_live (live_object s.queues queue.0) (Mtapi m.ErrQueueInvalid)
+      (λ z r. mtapi_unless (put_refusals z ++ start_refusals s (asked_of queue.0 z args cores detached group)
+      ++ (count_listed (is_unended_in queue.0) s.tasks == z.limit, m.ErrQueueLimit) ∷ [])
+      (creates tasks s r (λ b. starts_task b (asked_of queue.0 z args cores detached group)))) refl
+      (λ z. w.condition refl (w.condition refl
+      (w.condition refl (w.condition refl (w.condition refl (w.condition refl (w.task (asked_of queue.0 z args cores detached group))))))))))
   made_row op.GroupCreate =
       w.condition refl (w.sort Groups new_group)
   made_row (op.QueueCreate id job priority limit ordered retain) =

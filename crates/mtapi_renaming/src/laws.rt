@@ -24,7 +24,7 @@ pub fn law_renaming()
 /// Whether a handle may be given to a new object is told by how many objects were made in its slot, after any entries; and while fewer
 /// objects of a kind were made than a slot has generations, whether there is room is told by how many are live. An op that answers the
 /// handle of a new object makes just that one, and an op that makes nothing leaves these counts. No entry changes the terms.
-#[tactic(auto, using(crate::proofs::CountMoves::fresh_next, crate::proofs::CountMoves::full_live, crate::proofs::CountMoves::others_make_none, crate::proofs::LastMoves::terms_after))]
+#[tactic(auto, using(crate::proofs::CountMoves::fresh_next, crate::proofs::CountMoves::full_live, crate::proofs::CountMoves::others_make_none))]
 pub fn law_counts()
     ensures fresh { FreshIsNext }
     ensures full { FullIsLive }
@@ -37,7 +37,7 @@ pub fn law_counts()
 /// there is none the limit or any handle that may be given. No refusal is a handle, and where it answers no handle it changes nothing.
 /// Two nodes that differ in their handles and limits alone refuse it alike. And a worker that may take some task may be told nothing
 /// else.
-#[tactic(auto, using(crate::proofs::Refusals::refusals_tell, crate::proofs::Refusals::refusals_plain, crate::proofs::Refusals::refusals_rename, crate::proofs::Picks::pick_takes))]
+#[tactic(auto, using(crate::proofs::Refusals::refusals_tell, crate::proofs::Refusals::refusals_plain, crate::proofs::Refusals::refusals_rename))]
 pub fn law_refusals()
     ensures told { RefusalsTell }
     ensures stay { RefusalsStay }
