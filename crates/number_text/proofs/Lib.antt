@@ -7,4 +7,3 @@ pub mod Spelling
 pub mod Writing
 pub mod Names
 pub mod KindWords
-pub mod Computed

@@ -9,6 +9,7 @@ ghost use Rattle.number_text.specs.Cores.{cores_of, cores_text};
 ghost use Rattle.number_text.specs.Worked.{WorkedNumbers};
 
 /// A text is the number that it spells, and each number of u64 has one text.
+#[tactic(auto, using(crate::proofs::Writing::number_written, crate::proofs::Spelling::number_spelled, crate::proofs::Reading::number_fits))]
 pub fn law_number()
     ensures written { (n : ℕ) → n < 2 ^ 64 → number (decimal n) ≡ Some n }
     ensures read { (text : List ℕ) (n : ℕ) → number text ≡ Some n → decimal n ≡ text }
@@ -16,6 +17,7 @@ pub fn law_number()
 {}
 
 /// The same of i64.
+#[tactic(auto, using(crate::proofs::Writing::whole_written, crate::proofs::Spelling::whole_spelled, crate::proofs::Reading::whole_fits))]
 pub fn law_whole()
     ensures written { (z : ℤ) → FitsSigned w64 z → whole (signed_decimal z) ≡ Some z }
     ensures read { (text : List ℕ) (z : ℤ) → whole text ≡ Some z → signed_decimal z ≡ text }
@@ -23,6 +25,7 @@ pub fn law_whole()
 {}
 
 /// The same of lists of 1 to 16 numbers.
+#[tactic(auto, using(crate::proofs::Writing::list_written, crate::proofs::Spelling::list_spelled))]
 pub fn law_list()
     ensures written { (zs : List ℤ) → 1 ≤ length zs → length zs ≤ 16 → AllByRecursion (FitsSigned w64) zs
         → list_of (list_text zs) ≡ Some zs }
@@ -32,6 +35,7 @@ pub fn law_list()
 {}
 
 /// The same of sets of cores that aren't empty.
+#[tactic(auto, using(crate::proofs::Writing::cores_written, crate::proofs::Spelling::cores_spelled, crate::proofs::Reading::cores_fit))]
 pub fn law_cores()
     ensures written { (mask : ℕ) → 0 < mask → mask < 2 ^ 64 → cores_of (cores_text mask) ≡ Some mask }
     ensures read { (text : List ℕ) (mask : ℕ) → cores_of text ≡ Some mask → cores_text mask ≡ text }
