@@ -29,9 +29,6 @@ own = numerals_by_value _ (search rules)
 abbrev pub read_from : ℕ → List ℕ → Option ℕ
 read_from n ds = cond (list_all is_ascii_digit ds && ltb (digits_value_after 10 n ds) (2 ^ 64)) (Some (digits_value_after 10 n ds)) None
 
-abbrev nothing : Option ℕ
-nothing = None
-
 grows : (n : ℕ) (ds : List ℕ) → n ≤ digits_value_after 10 n ds
 grows n [] = omega arith
 grows n (c ∷ cs) = omega (arith, grows (n * 10 + digit_value c) cs)
@@ -56,12 +53,6 @@ pub read_done : (n i : ℕ) (text : List ℕ) (o : Option ℕ) → length text �
 read_done n i text o e1 e2 e3 = grind (arith, nat_tests, drop_all, lt-ltb)
 
 -- ---- numbers
-
-not_begun : {X : Type 0} (a l c t : Bool) (x : X) → (a && c) ≡ false → None ≡ cond ((a && l && c) && t) (Some x) None
-not_begun a l c t x e1 = grind (arith, nat_tests)
-
-begun : {X : Type 0} (a l c t : Bool) (x : X) (o : Option X) → (a && c) ≡ true → o ≡ cond (l && t) (Some x) None → o ≡ cond ((a && l && c) && t) (Some x) None
-begun a l c t x o e1 e2 = grind (arith, nat_tests)
 
 -- ---- numbers of i64
 

@@ -1,16 +1,17 @@
 -- Texts that are cut at a byte.
 use Rattle.std.proofs.lemmas.Bool.Decides.{nat_tests}
-use Rattle.std.proofs.Common.{◌≡◌, ℕ, ◌+◌, ◌<◌, ◌≤◌, List, [], ◌∷◌, ◌++◌, Bool, eqb, length, take, drop, Option, Some, None, refl, sym, arith, append_assoc}
+use Rattle.std.proofs.Common.{false, ◌≡◌, ℕ, ◌+◌, ◌<◌, ◌≤◌, List, [], ◌∷◌, ◌++◌, Bool, eqb, length, take, drop, Option, Some, None, refl, sym, arith, append_assoc}
 use Rattle.std.specs.Prelude.{IfSome, position}
 use Rattle.std.specs.List.{position_or_len, slice_split}
-use Rattle.std.proofs.lemmas.Bool.{lt-ltb, le-ltb, false_from_ne_true}
+use Rattle.std.proofs.lemmas.Bool.{eq-eqb, lt-ltb, le-ltb, false_from_ne_true}
 use Rattle.std.proofs.lemmas.List.Sums.{position_or_len_is}
 use Rattle.memchr.specs.Find.{IsFirstByte, is_byte}
-use Rattle.std.proofs.lemmas.List.Splits.{slice_split_first}
+use Rattle.std.proofs.lemmas.List.Splits.{slice_split_first, slice_split_at, slice_split_none}
 use Rattle.number_text.specs.Lists.{between}
 use denote.Ref.{Bor}
 use Rattle.std.proofs.lemmas.List.{append-nil}
-use Rattle.std.specs.List.{join_with_byte}
+use Rattle.std.specs.List.{AllByRecursion, join_with_byte}
+use Rattle.std.proofs.lemmas.List.Elements.{All-from_recursion}
 use Rattle.number_text.specs.Lists.{led}
 
 -- where no element passes, the list is one piece
@@ -57,3 +58,14 @@ joined byte text (next ∷ texts) = rw (joined byte next texts) refl
 pub led_append : (byte : ℕ) (xs ys : List (List ℕ)) → led byte (xs ++ ys) ≡ led byte xs ++ led byte ys
 led_append byte [] ys = refl
 led_append byte (x ∷ xs) ys = rw (led_append byte xs ys) (simp append_assoc)
+
+-- texts joined by a byte that none has
+unfoldable pub Lacks : ℕ → List ℕ → Type 0
+Lacks byte text = AllByRecursion (λ b. eqb b byte ≡ false) text
+
+pub between_joined : (byte : ℕ) (first : List ℕ) (rest : List (List ℕ)) → AllByRecursion (Lacks byte) (first ∷ rest)
+    → between byte (join_with_byte byte (first ∷ rest)) ≡ first ∷ rest
+unfolding Lacks
+between_joined byte first [] h = slice_split_none (λ b. eqb b byte) first (All-from_recursion (λ (b : ℕ). eqb b byte ≡ false) first h.0)
+between_joined byte first (next ∷ rest) h =
+    grind (arith, nat_tests, between_joined byte next rest h.1, slice_split_at, join_with_byte, All-from_recursion, eq-eqb)

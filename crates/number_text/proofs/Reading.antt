@@ -65,12 +65,7 @@ whole_fits text z e =
 wholes_fit : (texts : List (List ℕ)) (zs : List ℤ) → wholes texts ≡ Some zs → (length zs ≡ length texts) × AllByRecursion (FitsSigned w64) zs
 unfolding wholes
 wholes_fit [] zs e = let same : [] ≡ zs = just_is [] zs e in rw (← same) (refl, tt)
-wholes_fit (text ∷ texts) zs e =
-    let a = bind_some (whole text) _ zs e in
-    let b = bind_some (wholes texts) _ zs a.2 in
-    let rest = wholes_fit texts b.0 b.1 in
-    subst (λ (l : List ℤ). (length l ≡ length (text ∷ texts))
-    × AllByRecursion (FitsSigned w64) l) (just_is (a.0 ∷ b.0) zs b.2) (omega (arith, rest.0), (whole_fits text a.0 a.1, rest.1))
+wholes_fit (text ∷ texts) zs e = grind (arith, nat_tests, wholes_fit texts, bind_some, just_is, whole_fits)
 
 pub list_cond : (b : Bool) (o : Option (List ℤ)) (zs : List ℤ) → cond b o None ≡ Some zs → (b ≡ true) × (o ≡ Some zs)
 list_cond b o zs e1 = grind (arith, nat_tests)
@@ -91,18 +86,8 @@ pow_double n = rw add-one (omega arith)
 
 bits_fit : (texts : List (List ℕ)) (low bits : ℕ) → bits_from low texts ≡ Some bits → low ≤ 64 → bits + 2 ^ low ≤ 2 ^ 64
 unfolding bits_from
-bits_fit [] low bits e le =
-    let same : 0 ≡ bits = just_is 0 bits e in
-    let p : 2 ^ low ≤ 2 ^ 64 = pow-le-pow_right (lit< tt) le in
-    omega (arith, same, p)
-bits_fit (text ∷ texts) low bits e le =
-    let a = bind_some (number_within low 63 text) _ bits e in
-    let b = bind_some (bits_from (a.0 + 1) texts) _ bits a.2 in
-    let w = within_is low 63 a.0 text a.1 in
-    let rest = bits_fit texts (a.0 + 1) b.0 b.1 (omega (arith, w.2)) in
-    let same : 2 ^ a.0 + b.0 ≡ bits = just_is (2 ^ a.0 + b.0) bits b.2 in
-    let p : 2 ^ low ≤ 2 ^ a.0 = pow-le-pow_right (lit< tt) w.1 in
-    omega (arith, same, p, rest, pow_double a.0)
+bits_fit [] low bits e le = grind (arith, nat_tests, just_is, pow-le-pow_right)
+bits_fit (text ∷ texts) low bits e le = grind (arith, nat_tests, bits_fit texts, bind_some, number_within, bits_from, within_is, just_is, pow-le-pow_right, pow_double)
 
 bits_some : (texts : List (List ℕ)) (low bits : ℕ) → 1 ≤ length texts → bits_from low texts ≡ Some bits → 0 < bits
 unfolding bits_from
@@ -116,8 +101,4 @@ bits_some (text ∷ texts) low bits h e =
     omega (arith, same, p)
 
 pub cores_fit : (text : List ℕ) (mask : ℕ) → cores_of text ≡ Some mask → (0 < mask) × (mask < 2 ^ 64)
-cores_fit text mask e =
-    let some : 1 ≤ length (between 44 text) = omega (arith, length-slice_split (λ b. eqb b 44) text) in
-    let a = bits_some (between 44 text) 0 mask some e in
-    let b = bits_fit (between 44 text) 0 mask e (omega arith) in
-    (a, omega (arith, b))
+cores_fit text mask e1 = grind (arith, nat_tests, length-slice_split, bits_some, bits_fit)

@@ -34,11 +34,7 @@ decimal_text text h lt =
 
 pub number_spelled : (text : List ℕ) (n : ℕ) → number text ≡ Some n → decimal n ≡ text
 unfolding number
-number_spelled text n e =
-    let g = some_cond _ (digits_value 10 text) n e in
-    let both = and_parts (is_decimal text) (nat_lt (digits_value 10 text) (2 ^ 64)) g.0 in
-    let lt = ltb-true (digits_value 10 text) (2 ^ 64) both.1 in
-    ap decimal (sym g.1) ∙ decimal_text text both.0 (omega arith)
+number_spelled text n e1 = grind (arith, nat_tests, some_cond, digits_value, and_parts, is_decimal, nat_lt, ltb-true, decimal_text)
 
 minus_text : (text : List ℕ) → slice_index text 0 ≡ 45 → text ≡ 45 ∷ drop 1 text
 minus_text text e1 = grind (arith, nat_tests)
@@ -79,11 +75,7 @@ whole_spelled text z e =
 wholes_text : (texts : List (List ℕ)) (zs : List ℤ) → wholes texts ≡ Some zs → map signed_decimal zs ≡ texts
 unfolding wholes
 wholes_text [] zs e = let same : [] ≡ zs = just_is [] zs e in rw (← same) refl
-wholes_text (text ∷ texts) zs e =
-    let a = bind_some (whole text) _ zs e in
-    let b = bind_some (wholes texts) _ zs a.2 in
-    let same = just_is (a.0 ∷ b.0) zs b.2 in
-    rw (← same, whole_spelled text a.0 a.1, wholes_text texts b.0 b.1) refl
+wholes_text (text ∷ texts) zs e = grind (arith, nat_tests, wholes_text texts, bind_some, just_is, whole_spelled)
 
 pub list_spelled : (text : List ℕ) (zs : List ℤ) → list_of text ≡ Some zs → listed (map signed_decimal zs) ≡ text
 unfolding list_of
@@ -100,12 +92,7 @@ cores_from mask low (suc k) = cond (in_mask low mask) (low ∷ []) [] ++ cores_f
 
 cores_up : (mask n k : ℕ) → cores_below mask n ++ cores_from mask n k ≡ cores_below mask (n + k)
 cores_up mask n zero = append-nil (cores_below mask n) ∙ ap (cores_below mask) (omega arith)
-cores_up mask n (suc k) =
-    let next = cores_next mask n in
-    let rest = cores_up mask (n + 1) k in
-    let same : n + 1 + k ≡ n + suc k = omega arith in
-    sym (append_assoc (cores_below mask n) (cond (in_mask n mask) (n ∷ []) []) (cores_from mask (n + 1) k))
-    ∙ (ap (λ (l : List ℕ). l ++ cores_from mask (n + 1) k) (sym next) ∙ (rest ∙ ap (cores_below mask) same))
+cores_up mask n (suc k) = grind (arith, nat_tests, cores_up mask (n + 1) k, cores_next, append_assoc, cores_below, in_mask)
 
 pub cores_all : (mask : ℕ) → cores_below mask 64 ≡ cores_from mask 0 64
 cores_all mask = sym (cores_up mask 0 64) ∙ ap (λ (l : List ℕ). l ++ cores_from mask 0 64) (cores_none mask)

@@ -11,12 +11,13 @@ use Rattle.std.proofs.lemmas.Bool.{le-leb, lt-ltb, and_parts, and_from, or_right
 use Rattle.std.proofs.lemmas.Fmt.{digits_value-decimal, digits_decimal, decimal_nonempty, first_decimal, decimal_digit}
 use Rattle.std.proofs.lemmas.List.{length-map}
 use Rattle.std.proofs.lemmas.List.Elements.{All-from_recursion}
-use Rattle.std.proofs.lemmas.List.Splits.{slice_split_at, slice_split_none}
 use Rattle.mtapi_values.specs.Masks.{in_mask}
 use Rattle.number_text.specs.Numbers.{is_decimal, number, number_within, whole}
 use Rattle.number_text.specs.Lists.{between, wholes, list_of, listed, list_text}
 use Rattle.number_text.specs.Cores.{bits_from, cores_of, cores_text}
 use Rattle.number_text.proofs.Parsing.{own}
+use Rattle.number_text.proofs.Pieces.{between_joined}
+unfoldable use Rattle.number_text.proofs.Pieces.{Lacks}
 use Rattle.number_text.proofs.Reading.{bind_some, just_is, within_is, pow_double}
 use Rattle.number_text.proofs.Spelling.{cores_from, cores_all, twice}
 
@@ -72,16 +73,6 @@ whole_written (negsuc n) f =
     (digits_value-decimal own (suc n) wide) le
 
 -- ---- texts joined by a byte that none has
-
-pub Lacks : ℕ → List ℕ → Type 0
-Lacks byte text = AllByRecursion (λ b. eqb b byte ≡ false) text
-
-pub between_joined : (byte : ℕ) (first : List ℕ) (rest : List (List ℕ)) → AllByRecursion (Lacks byte) (first ∷ rest)
-    → between byte (join_with_byte byte (first ∷ rest)) ≡ first ∷ rest
-unfolding Lacks
-between_joined byte first [] h = slice_split_none (λ b. eqb b byte) first (All-from_recursion (λ (b : ℕ). eqb b byte ≡ false) first h.0)
-between_joined byte first (next ∷ rest) h =
-    grind (arith, nat_tests, between_joined byte next rest h.1, slice_split_at, join_with_byte, All-from_recursion, eq-eqb)
 
 digit_lacks : (b : ℕ) → is_ascii_digit b ≡ true → eqb b 44 ≡ false
 digit_lacks b e1 = grind (arith, nat_tests)
