@@ -1,6 +1,6 @@
 -- The canonical text of what a text gives, read again.
 use Rattle.std.proofs.lemmas.Bool.Decides.{nat_tests}
-use Rattle.workload_file.proofs.Cited.{◌≡◌, ℕ, ◌+◌, ◌≤◌, List, [], ◌∷◌, ◌++◌, length, true, false, eqb, Some, Ok, refl, sym, ap, subst, ◌∙◌, arith, length-append, All, ◌-◌, Option, None, ◌⊎◌, inl, inr, map, append_assoc, list_all, flat_map, bytes_eq, and_parts, and_from, ne_eqb, eqb-true, cases_Bool, eq-eqb, not-false, NodeSettings, Word, Naming, OptionValue, Statement, Reading, LineEffect, row, word_text, word_of, words, naming, fields, setting_values, place_of, use_in, is_unbound, name_in, options_in, is_misplaced, line_gives, with_change, line_adds, lines_add, start, finished, workload_of, bound_name, values_in, change_of, or_zero, settings_by, change_with, value_text, options_words, bound_words, used_words, line_text, statement_text, node_text, caller_text, Line, if_any, statement_lines_behind, lines_of_part, lines_of, laid_out, canonical, led, between, led_append, append-nil, slice_split_at, slice_split_none, Part, Workload, words_of, statement_lines, line_if_any, part_lines}
+use Rattle.workload_file.proofs.Cited.{◌≡◌, ℕ, ◌+◌, ◌≤◌, List, [], ◌∷◌, ◌++◌, length, true, false, eqb, Some, Ok, refl, sym, ap, subst, ◌∙◌, arith, length-append, All, ◌-◌, Option, None, ◌⊎◌, inl, inr, map, append_assoc, list_all, flat_map, bytes_eq, and_parts, and_from, ne_eqb, eqb-true, cases_Bool, eq-eqb, not-false, NodeSettings, Word, Naming, OptionValue, Statement, Reading, LineEffect, row, word_text, word_of, words, naming, fields, setting_values, place_of, use_in, is_unbound, name_in, options_in, is_misplaced, line_gives, with_change, line_adds, lines_add, start, finished, workload_of, bound_name, values_in, change_of, or_zero, change_with, value_text, options_words, bound_words, used_words, line_text, statement_text, node_text, caller_text, Line, if_any, statement_lines_behind, lines_of_part, lines_of, laid_out, canonical, led, between, led_append, append-nil, slice_split_at, slice_split_none, Part, Workload, words_of, statement_lines, line_if_any, part_lines}
 use Rattle.workload_file.specs.declared.table.Word.TheVariants as word
 use Rattle.workload_file.specs.declared.table.Naming.TheVariants as rule
 use Rattle.workload_file.specs.declared.reading.LineEffect.TheVariants as change
@@ -107,24 +107,8 @@ chosen r first rest w name options read words =
 written_as : (r : Reading) (line : ℕ) (first : List ℕ) (rest : List (List ℕ)) (w : Word) (name : List ℕ) (options : List (List ℕ)) (c : LineEffect)
     → IsRead r first rest w name options → IsEffectOf r line w name options c
     → text_of_change r c ≡ line_text (first ∷ (named (naming w) name ++ options_words (here r) (fields w) (values_in (here r) options (fields w))))
-written_as r line first rest w name options c read (says_node is change) =
-    let values = (node_given (here r) options (rw is at read.sound)).0 in
-    rw (change, is, node_named name, values, ← word_spelled first word.Node (rw is at read.word))
-    (ap (λ (ps : List (List ℕ)). line_text (word_text word.Node ∷ ps)) (ap (options_words [] (fields word.Node)) (sym values)
-    ∙ (node_options (here r) (settings_by (values_in (here r) options (fields word.Node))) ∙ ap (options_words (here r) (fields word.Node)) values)))
-written_as r line first rest w name options c read (says_caller is change) =
-    rw (change, is, caller_named name, caller_options (here r) options, ← word_spelled first word.Caller (rw is at read.word)) refl
-written_as r line first rest w name options c read (says_deed h change) =
-    let g = deed_given r first rest w name options h read in
-    rw (
-      change,
-      g.0.used,
-      g.1,
-      g.0.word,
-      word_spelled first w read.word,
-      names_written (here r) (naming w) name
-          (options_words (here r) (fields w) (values_in (here r) options (fields w))) (deed_naming w h) read.bound,
-    ) refl
+written_as r line first rest w name options c e1 e2 =
+    grind (arith, nat_tests, node_given, node_named, word_spelled, node_options, caller_named, caller_options, deed_given, names_written, deed_naming)
 
 -- ---- the line
 
@@ -192,11 +176,7 @@ line_shown line text le = let n : line ≡ 0 → ⊥ = λ (e : line ≡ 0). omeg
 statement_shown : (r : Reading) (s : Statement)
     → shown (with_change r s.line (Some (change.Statement s))) ≡ shown r ++ (s.line, statement_text r.current.statements s) ∷ []
 unfolding with_change
-statement_shown r s =
-    let a = flat_push lines_of_part r.before r.current in
-    let b = flat_push lines_of_part r.before (record r.current { statements = r.current.statements ++ s ∷ [] }) in
-    let m = statements_push [] r.current.statements s in
-    rw (b, a, m) (simp append_assoc)
+statement_shown r s = grind (arith, nat_tests, flat_push, lines_of_part, statements_push, append_assoc)
 
 caller_shown : (r : Reading) (line : ℕ) (name : List ℕ) → 1 ≤ line
     → shown (with_change r line (Some (change.Caller name))) ≡ shown r ++ (line, caller_text name) ∷ []
@@ -213,35 +193,14 @@ any_count : (line : ℕ) (text : List ℕ) → length (if_any line text) ≡ len
 any_count line text = elim (cases_Bool (eqb line 0)) [ inl t ↦ rw t refl | inr f ↦ rw f refl ]
 
 pub part_count : (p : Part) → length (lines_of_part p) ≡ length (part_lines p)
-part_count p = omega (
-  arith,
-  length-append (if_any p.line (caller_text p.name)) (statement_lines_behind [] p.statements),
-  length-append (line_if_any p.line)
-      (map (λ (s : Statement). s.line) p.statements),
-  any_count p.line (caller_text p.name),
-  statements_count [] p.statements,
-)
+part_count p = grind (arith, nat_tests, length-append, if_any, caller_text, statement_lines_behind, line_if_any, any_count, statements_count)
 
 pub parts_count : (ps : List Part) → length (flat_map lines_of_part ps) ≡ length (flat_map part_lines ps)
 parts_count [] = refl
-parts_count (p ∷ ps) = omega (
-  arith,
-  length-append (lines_of_part p) (flat_map lines_of_part ps),
-  length-append (part_lines p)
-      (flat_map part_lines ps),
-  part_count p,
-  parts_count ps,
-)
+parts_count (p ∷ ps) = grind (arith, nat_tests, parts_count ps, length-append, lines_of_part, flat_map, part_lines, part_count)
 
 pub lines_count : (load : Workload) → length (lines_of load) ≡ length (statement_lines load)
-lines_count load = omega (
-  arith,
-  length-append (if_any load.node_line (node_text load.settings)) (flat_map lines_of_part load.parts),
-  length-append
-      (line_if_any load.node_line) (flat_map part_lines load.parts),
-  any_count load.node_line (node_text load.settings),
-  parts_count load.parts,
-)
+lines_count load = grind (arith, nat_tests, length-append, if_any, node_text, flat_map, lines_of_part, line_if_any, part_lines, any_count, parts_count)
 
 empty_back : (xs ys : List Line) → length (xs ++ ys) ≡ 0 → (xs ++ ys ≡ []) × (ys ≡ [])
 empty_back [] [] h = (refl, refl)
@@ -310,16 +269,8 @@ pub next_adds : (r s end : Reading) (line : ℕ) (text : List ℕ) (ls : List Li
     → line_adds r line text ≡ Ok s → lines_add s (line + 1) (between 10 (laid_out (line + 1) ls)) ≡ Ok end
     → lines_add r line (between 10 (text ++ laid_out line ls)) ≡ Ok end
 unfolding From
-next_adds r s end line text [] lacks from e h =
-    let whole : between 10 (text ++ laid_out line []) ≡ text ∷ [] =
-    ap (λ (t : List ℕ). between 10 t) (ap (λ (t : List ℕ). text ++ t) (laid_none line) ∙ append-nil text) ∙ slice_split_none (λ b. eqb b 10) text lacks in
-    let same = empty_more s end (line + 1) (subst (λ (t : List ℕ). lines_add s (line + 1) (between 10 t) ≡ Ok end) (laid_none (line + 1)) h) in
-    subst (λ (ts : List (List ℕ)). lines_add r line ts ≡ Ok end) (sym whole) (one_adds r end line text (e ∙ ap Ok same))
-next_adds r s end line text (l ∷ ls) lacks from e h =
-    let whole : between 10 (text ++ laid_out line (l ∷ ls)) ≡ text ∷ between 10 (laid_out (line + 1) (l ∷ ls)) =
-    ap (λ (t : List ℕ). between 10 (text ++ t)) (laid_step line l ls from)
-    ∙ slice_split_at (λ b. eqb b 10) text 10 (laid_out (line + 1) (l ∷ ls)) lacks (eq-eqb 10 10 refl) in
-    subst (λ (ts : List (List ℕ)). lines_add r line ts ≡ Ok end) (sym whole) (one_more r s line text (between 10 (laid_out (line + 1) (l ∷ ls))) (Ok end) e h)
+next_adds r s end line text ls e1 e2 e3 e4 =
+    grind (arith, nat_tests, laid_out, laid_none, append-nil, slice_split_none, empty_more, lines_add, one_adds, laid_step, slice_split_at, eq-eqb, one_more)
 
 laid_less : (line : ℕ) (ls : List Line) → From (line + 1) ls → length (laid_out line ls) ≤ length (laid_out (line + 1) ls) + 1
 unfolding From
@@ -355,15 +306,7 @@ given_line : (r mid s : Reading) (line : ℕ) (text written : List ℕ) (texts :
     → length written ≤ length text → line_adds r line written ≡ Ok mid → All (λ b. eqb b 10 ≡ false) written → IsReread mid s (line + 1) texts
     → IsReread r s line (text ∷ texts)
 unfolding From
-given_line r mid s line text written texts here le adds lacks h = record {
-  lines = (line, written) ∷ h.lines;
-  shows = h.shows ∙ (ap (λ (l : List Line). l ++ h.lines) here ∙ append_assoc (shown r) ((line, written) ∷ []) h.lines);
-  from = omega arith;
-  read = subst (λ (t : List ℕ). lines_add r line (between 10 t)
-      ≡ Ok s) (sym (laid_here line written h.lines)) (next_adds r mid s line written h.lines lacks h.from adds h.read);
-  short = inl (subst (λ (t : List ℕ). length t + 1
-      ≤ length (led 10 (text ∷ texts))) (sym (laid_here line written h.lines)) (behind line text written texts h.lines h.from le h.short));
-}
+given_line r mid s line text written texts e1 e2 e3 e4 e5 = grind (arith, nat_tests, append_assoc, lines_add, laid_here, next_adds, behind)
 
 none_is : (r : Reading) (line : ℕ) → with_change r line None ≡ r
 unfolding with_change

@@ -1,12 +1,9 @@
 -- Comments, spaces, the order of options and written-out defaults.
 use Rattle.std.proofs.lemmas.Bool.Decides.{nat_tests}
-use Rattle.workload_file.proofs.Cited.{◌≡◌, ℕ, ◌≤◌, List, [], ◌∷◌, ◌++◌, length, replicate, Bool, true, false, not, cond, eqb, ◌&&◌, ◌||◌, Option, Some, None, Ok, refl, sym, ap, subst, ◌∙◌, arith, inl, inr, zero, suc, ◌+◌, map, nat_le, nat_lt, filter, is_some, option_and_then, slice_get, option_map, find, list_any, list_all, onto_first, position_or_len, bytes_eq, and_parts, and_from, or_parts, or_from, cases_Bool, le-ltb, not-false, append-nil, map-append, length-map, length-slice_split, between, Word, Naming, Key, Field, OptionValue, Statement, Workload, Reading, LineEffect, is_name, is_name_byte, begins_with_letter, words_of, naming, fields, key_text, word_of, key_of, value_of, is_known, has_twice, gives, text_of, has_second, name_in, options_in, use_in, is_called, bound_at, is_binding, place_of, is_taken, is_misplaced, is_ninth_caller, is_unbound, value_given, value_absent, value_at, values_in, change_with, change_of, or_unbound, line_gives, line_adds, lines_add, at_line, start, workload_of, with_change, finished, IsPlain, has_equals, IsSwapped, IsWrittenOut, AddsAlike, DifferAt, AddsNothing, IsInserted, still, still_part, AreStill, GivesStill, is_statement, is_printable, slice_get-map, Sort, OptionShape, Part, is_begin, length-append, length-replicate, filter-append}
+use Rattle.workload_file.proofs.Cited.{◌≡◌, ℕ, ◌≤◌, List, [], ◌∷◌, ◌++◌, length, replicate, Bool, true, false, not, cond, eqb, ◌&&◌, ◌||◌, Option, Some, None, Ok, refl, sym, ap, subst, ◌∙◌, arith, inl, inr, zero, suc, ◌+◌, map, nat_le, nat_lt, filter, is_some, option_and_then, slice_get, option_map, find, list_any, list_all, onto_first, position_or_len, bytes_eq, and_parts, or_parts, or_from, cases_Bool, le-ltb, not-false, append-nil, map-append, length-map, length-slice_split, between, Word, Naming, Key, Field, OptionValue, Statement, Workload, Reading, LineEffect, is_name, is_name_byte, begins_with_letter, words_of, naming, fields, key_text, word_of, key_of, value_of, is_known, has_twice, gives, text_of, has_second, name_in, options_in, use_in, is_called, bound_at, is_binding, place_of, is_taken, is_misplaced, is_ninth_caller, is_unbound, value_given, value_absent, value_at, values_in, change_with, change_of, or_unbound, line_gives, line_adds, lines_add, at_line, start, workload_of, with_change, finished, IsPlain, has_equals, IsSwapped, IsWrittenOut, AddsAlike, DifferAt, AddsNothing, IsInserted, still, still_part, AreStill, GivesStill, is_statement, is_printable, slice_get-map, Sort, OptionShape, Part, is_begin, length-append, length-replicate, filter-append}
 use Rattle.workload_file.specs.declared.table.Naming.TheVariants as rule
-use Rattle.workload_file.specs.declared.table.Word.TheVariants as word
-use Rattle.workload_file.specs.declared.table.OptionShape.TheVariants as shape
-use Rattle.workload_file.specs.declared.values.OptionValue.TheVariants as given
 use Rattle.workload_file.specs.declared.reading.LineEffect.TheVariants as change
-use Rattle.workload_file.proofs.Facts.{IsRead, bind_ok, at_line_ok, some_is, here, is_sound, stated, states, silent, silence, ok_is, one_more, gives_adds}
+use Rattle.workload_file.proofs.Facts.{IsRead, bind_ok, at_line_ok, here, is_sound, stated, states, silent, silence, ok_is, one_more, gives_adds}
 use Rattle.workload_file.proofs.Fields.{AreApart, IsField, fields_apart, option_is}
 use Rattle.workload_file.proofs.Invariant.{any_push, no_name as nameless}
 use Rattle.workload_file.proofs.Phrases.{all_append}
@@ -84,11 +81,7 @@ pub first_space : (r : Reading) (line : ℕ) (a : List ℕ) → length (32 ∷ a
 first_space r line a h = same_words r line (32 ∷ a) a (lead_words a) refl h (omega (arith, h))
 
 pub last_space : (r : Reading) (line : ℕ) (a : List ℕ) → length (a ++ 32 ∷ []) ≤ 512 → line_adds r line (a ++ 32 ∷ []) ≡ line_adds r line a
-last_space r line a h =
-    let words : words_of (a ++ 32 ∷ []) ≡ words_of a =
-    words_append a [] ∙ (ap (λ (ws : List (List ℕ)). words_of a ++ ws) end_words ∙ append-nil (words_of a)) in
-    let printable : list_all is_printable (a ++ 32 ∷ []) ≡ list_all is_printable a = printable_space a [] ∙ ap (list_all is_printable) (append-nil a) in
-    same_words r line (a ++ 32 ∷ []) a words printable h (omega (arith, h, length-append a (32 ∷ [])))
+last_space r line a e1 = grind (arith, nat_tests, words_append, end_words, append-nil, printable_space, same_words, length-append)
 
 -- ---- other words that give the same
 
@@ -162,15 +155,8 @@ find_swap q (w ∷ ws) x y back h = ap (λ (o : Option (List ℕ)). cond (q w) (
 once_swap : (front : List (List ℕ)) (x y : List ℕ) (back : List (List ℕ)) → has_twice (front ++ x ∷ (y ∷ back)) ≡ false
     → (has_twice (front ++ y ∷ (x ∷ back)) ≡ false) × (bytes_eq (key_of y) (key_of x) ≡ false)
 unfolding has_twice
-once_swap [] x y back h =
-    let both = or_parts _ _ h in
-    let one = or_parts _ _ both.0 in
-    let two = or_parts _ _ both.1 in
-    (or_from _ _ (or_from _ _ (apart_sym (key_of y) (key_of x) one.0) two.0) (or_from _ _ one.1 two.1), one.0)
-once_swap (w ∷ ws) x y back h =
-    let both = or_parts _ _ h in
-    let rest = once_swap ws x y back both.1 in
-    (or_from _ _ (sym (any_swap (λ v. bytes_eq (key_of v) (key_of w)) ws x y back) ∙ both.0) rest.0, rest.1)
+once_swap [] x y back h = grind (arith, nat_tests, or_parts, or_from, apart_sym, key_of)
+once_swap (w ∷ ws) x y back h = grind (arith, nat_tests, once_swap ws x y back, or_parts, or_from, any_swap, bytes_eq, key_of)
 
 not_both : (x y key : List ℕ) → bytes_eq y x ≡ false → (bytes_eq x key && bytes_eq y key) ≡ false
 not_both x y key apart =
@@ -267,11 +253,7 @@ any_named q n rest e1 = grind (arith, nat_tests)
 twice_push : (k : Key) (ps : List (List ℕ)) (o : List ℕ) → key_of o ≡ key_text k → has_twice ps ≡ false → gives k ps ≡ false → has_twice (ps ++ o ∷ []) ≡ false
 unfolding has_twice
 twice_push k [] o e h g = refl
-twice_push k (p ∷ ps) o e h g =
-    let both = or_parts _ _ h in
-    let free = or_parts _ _ g in
-    let other : bytes_eq (key_of o) (key_of p) ≡ false = rw e (apart_sym (key_of p) (key_text k) free.0) in
-    or_from _ _ (any_push (λ v. bytes_eq (key_of v) (key_of p)) ps o both.0 other) (twice_push k ps o e both.1 free.1)
+twice_push k (p ∷ ps) o e h g = grind (arith, nat_tests, twice_push k ps o e, or_parts, bytes_eq, key_of, apart_sym, key_text, or_from, any_push)
 
 find_push : (q : List ℕ → Bool) (ps : List (List ℕ)) (o : List ℕ) → q o ≡ false → find q (ps ++ o ∷ []) ≡ find q ps
 find_push q [] o f = rw f refl
@@ -295,11 +277,7 @@ values_other : (before : List Statement) (ps : List (List ℕ)) (o : List ℕ) (
     → list_any (λ g. bytes_eq (key_text g.key) (key_text k)) fs ≡ false → values_in before (ps ++ o ∷ []) fs ≡ values_in before ps fs
 values_other before ps o k [] e h = refl
 values_other before ps o k (g ∷ gs) e h =
-    let both = or_parts (bytes_eq (key_text g.key) (key_text k)) (list_any (λ g. bytes_eq (key_text g.key) (key_text k)) gs) h in
-    let other : bytes_eq (key_of o) (key_text g.key) ≡ false = rw e (apart_sym (key_text g.key) (key_text k) both.0) in
-    let first = ap (value_at before g) (text_other g.key ps o other) in
-    let rest = values_other before ps o k gs e both.1 in
-    λ i. first i ∷ rest i
+    grind (arith, nat_tests, values_other before ps o k gs e, or_parts, bytes_eq, key_text, list_any, key_of, apart_sym, value_at, text_other)
 
 values_out : (before : List Statement) (ps : List (List ℕ)) (o value : List ℕ) (f : Field) (fs : List Field) → IsOut before f ps o value → AreApart fs
     → IsField fs f → values_in before (ps ++ o ∷ []) fs ≡ values_in before ps fs
@@ -327,26 +305,8 @@ written_out : (r : Reading) (line : ℕ) (first : List ℕ) (rest : List (List �
     → IsField (fields w) f → gives f.key rest ≡ false → value_given (here r) f.shape value ≡ value_absent f.absent f.shape
     → Instead r line first rest (rest ++ (key_text f.key ++ 61 ∷ value) ∷ [])
 unfolding Instead
-written_out r line first rest w f value word field absent reads = λ v name ps read.
-    let same : w ≡ v = some_is w v (sym word ∙ read.word) in
-    let n = naming v in
-    let fs = fields v in
-    let o = key_text f.key ++ 61 ∷ value in
-    let known : IsField fs f = subst (λ (x : Word). IsField (fields x) f) same field in
-    let is = option_is f.key value in
-    let free : gives f.key ps ≡ false = subst (λ (x : List (List ℕ)). gives f.key x
-    ≡ false) read.options_are (any_named (λ x. bytes_eq (key_of x) (key_text f.key)) n rest absent) in
-    let values = values_out (here r) ps o value f fs (record { key = is.key; text = is.value; absent = free; reads = reads }) (fields_apart v) known in
-    let push = name_push n rest o (rw read.name_is read.named) in (
-      ps ++ o ∷ [],
-      read_instead r first rest (rest ++ o ∷ []) v name ps (ps ++ o ∷ []) read (push.0 ∙ read.name_is) (push.1
-          ∙ ap (λ (x : List (List ℕ)). x ++ o ∷ []) read.options_are) (record {
-            known = all_append (is_known fs) ps (o ∷ []) read.known (and_from _ _ (known_here fs f value known) refl);
-            once = twice_push f.key ps o is.key read.once free;
-            values = values;
-          }),
-      change_instead r line v name ps (ps ++ o ∷ []) values,
-    )
+written_out r line first rest w f value e1 e2 e3 e4 =
+    grind (arith, nat_tests, option_is, any_named, values_out, fields_apart, name_push, read_instead, all_append, known_here, twice_push, change_instead)
 
 pub written_adds : (text other : List ℕ) → IsWrittenOut text other → IsPlain other → AddsAlike text other
 written_adds text other w plain = λ r line s e.
@@ -456,21 +416,8 @@ moved line (change.Statement s) = change.Statement (record s { line = line })
 
 read_alike : (r q : Reading) (first : List ℕ) (rest : List (List ℕ)) (w : Word) (name : List ℕ) (options : List (List ℕ)) → AreAlike r q
     → IsRead r first rest w name options → IsRead q first rest w name options
-read_alike r q first rest w name options a read = record {
-  comment = read.comment;
-  word = read.word;
-  name_is = read.name_is;
-  options_are = read.options_are;
-  few = ap (nat_le 20000) (sym a.count) ∙ read.few;
-  callers = sym (callers_alike r q w a) ∙ read.callers;
-  placed = sym (placed_alike r q w a) ∙ read.placed;
-  named = read.named;
-  known = read.known;
-  once = read.once;
-  sound = ap (list_all is_sound) (sym (values_alike r q options (fields w) a)) ∙ read.sound;
-  free = sym (taken_alike r q (naming w) name a) ∙ read.free;
-  bound = ap (is_unbound (naming w)) (sym (used_alike r q (naming w) name a)) ∙ read.bound;
-}
+read_alike r q first rest w name options e1 e2 =
+    grind (arith, nat_tests, nat_le, callers_alike, placed_alike, list_all, is_sound, values_alike, taken_alike, is_unbound, used_alike)
 
 moved_is : (line at : ℕ) (w : Word) (name : List ℕ) (place : Option ℕ) (vs : List OptionValue)
     → change_with at w name place vs ≡ moved at (change_with line w name place vs)

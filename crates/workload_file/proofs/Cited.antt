@@ -8,7 +8,9 @@ pub use Rattle.mtapi_values.specs.declared.kinds.Kind.{Kind}
 pub use Rattle.mtapi_values.specs.declared.lists.Args.{Args}
 pub use Rattle.mtapi_values.specs.declared.masks.Mask.{Mask}
 pub use Rattle.mtapi_values.specs.declared.timeouts.Timeout.{Timeout}
-pub use Rattle.number_text.proofs.Pieces.{after_len, joined, led_append, left_len}
+pub use Rattle.number_text.proofs.Parsing.{some_cond}
+pub use Rattle.number_text.proofs.Pieces.{after_len, between_joined, joined, led_append, left_len}
+pub use Rattle.number_text.proofs.Slices.{first_rest, on_ok, rest_of}
 pub use Rattle.number_text.proofs.Reading.{bind_some, cores_fit, list_fits, whole_fits}
 pub use Rattle.number_text.proofs.Spelling.{cores_spelled, list_spelled, number_spelled, whole_spelled}
 pub use Rattle.number_text.specs.Cores.{cores_text}
@@ -66,26 +68,11 @@ pub use Rattle.workload_file.specs.declared.workload.Statement.{Statement}
 pub use Rattle.workload_file.specs.declared.workload.Workload.{Workload}
 pub use denote.Ref.{Bor}
 unfoldable pub use Rattle.mtapi_values.specs.Kinds.{kind_named}
+unfoldable pub use Rattle.number_text.proofs.Pieces.{Lacks}
 unfoldable pub use Rattle.workload_file.specs.Changes.{change_with, settings_by, value_absent, value_given, with_setting}
 unfoldable pub use Rattle.workload_file.specs.Cuts.{words_of}
-unfoldable pub use Rattle.workload_file.specs.Deeds.{
-  args_in,
-  cores_in,
-  deed_spelled,
-  deed_with,
-  flag_in,
-  is_begin,
-  kind_in,
-  lock_deed,
-  mode_in,
-  number_in,
-  place_in,
-  place_there,
-  queue_deed,
-  segment_deed,
-  timeout_in,
-  whole_in,
-}
+unfoldable pub use Rattle.workload_file.specs.Deeds.{args_in, cores_in, deed_spelled, deed_with, flag_in, is_begin, kind_in, lock_deed}
+unfoldable pub use Rattle.workload_file.specs.Deeds.{mode_in, number_in, place_in, place_there, queue_deed, segment_deed, timeout_in, whole_in}
 unfoldable pub use Rattle.workload_file.specs.Faulty.{is_faulty}
 unfoldable pub use Rattle.workload_file.specs.Names.{is_misplaced, is_ninth_caller, is_taken, place_of}
 unfoldable pub use Rattle.workload_file.specs.Options.{has_twice, text_of}

@@ -85,36 +85,7 @@ met_of r w rest = statement_met r w (name_in (naming w) rest) (options_in (namin
 read_of : (r : Reading) (first : List ℕ) (rest : List (List ℕ)) (w : Word) → is_comment first ≡ false → word_of first ≡ Some w → met_of r w rest ≡ None
     → IsRead r first rest w (name_in (naming w) rest) (options_in (naming w) rest)
 unfolding is_faulty
-read_of r first rest w c e none =
-    let name = name_in (naming w) rest in
-    let options = options_in (naming w) rest in
-    let vs = values_in (here r) options (fields w) in
-    let a = cond_none (nat_le 20000 r.count) cause.TooManyStatements _ none in
-    let b = cond_none (is_ninth_caller r w) cause.TooManyCallers _ a.1 in
-    let d = cond_none (is_misplaced r w) cause.Misplaced _ b.1 in
-    let f = cond_none (has_second (naming w) && not (is_name name)) cause.BadName _ d.1 in
-    let g = cond_none (not (list_all (is_known (fields w)) options)) cause.UnknownOption _ f.1 in
-    let h = cond_none (has_twice options) cause.OptionTwice _ g.1 in
-    let i = cond_none (list_any is_bad vs) cause.BadValue _ h.1 in
-    let j = cond_none (list_any is_missing vs) cause.OptionMissing _ i.1 in
-    let k = cond_none (is_taken r (naming w) name) cause.NameTaken _ j.1 in
-    let l = cond_none (is_unbound (naming w) (use_in (here r) (naming w) name) || list_any names_nothing vs) cause.NameUnknown None k.1 in
-    let m = or_parts (is_unbound (naming w) (use_in (here r) (naming w) name)) (list_any names_nothing vs) l.0 in
-    record {
-      comment = c;
-      word = e;
-      name_is = refl;
-      options_are = refl;
-      few = a.0;
-      callers = b.0;
-      placed = d.0;
-      named = f.0;
-      known = not-false _ g.0;
-      once = h.0;
-      sound = all_sound vs i.0 j.0 m.1;
-      free = k.0;
-      bound = m.0;
-    }
+read_of r first rest w e1 e2 e3 = grind (arith, nat_tests, cond_none, or_parts, not-false, all_sound)
 
 of_read : (r : Reading) (w : Word) (name : List ℕ) (options : List (List ℕ)) (first : List ℕ) (rest : List (List ℕ)) → IsRead r first rest w name options
     → statement_met r w name options ≡ None
@@ -346,16 +317,7 @@ pub text_refused : (bytes : List ℕ) (fault : Fault) → workload_of bytes ≡ 
 unfolding workload_of
 text_refused bytes fault e =
     let h = fault_in (between 10 bytes) start 1 fault (kept_fault (lines_add start 1 (between 10 bytes)) fault e) in
-    record {
-      before = h.before;
-      text = h.text;
-      after = h.after;
-      said = h.said;
-      lines = h.lines;
-      number = omega (arith, h.number);
-      read = h.read;
-      cause = h.cause;
-    }
+    grind (arith, nat_tests)
 
 pub refused_text : (bytes : List ℕ) (fault : Fault) → IsFirstFault bytes fault → workload_of bytes ≡ Err fault
 unfolding workload_of

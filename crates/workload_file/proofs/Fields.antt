@@ -7,7 +7,6 @@ use Rattle.workload_file.specs.declared.table.OptionShape.TheVariants as shape
 use Rattle.workload_file.specs.declared.table.Absent.TheVariants as absent
 use Rattle.workload_file.specs.declared.values.OptionValue.TheVariants as given
 use Rattle.workload_file.specs.declared.reading.LineEffect.TheVariants as change
-use Rattle.workload_file.specs.declared.table.Key.TheVariants as key
 use Rattle.workload_file.specs.declared.table.Naming.TheVariants as rule
 use Rattle.workload_file.specs.Indexed.{name_of}
 use Rattle.workload_file.proofs.Finds.{find_all}
@@ -99,10 +98,7 @@ IsField fs f = find (λ g. bytes_eq (key_text g.key) (key_text f.key)) fs ≡ So
 found_behind : (f : Field) (all gs : List Field) → list_any (λ g. bytes_eq (key_text g.key) (key_text f.key)) gs ≡ false → AllByRecursion (IsField all) gs
     → AllByRecursion (IsField (f ∷ all)) gs
 found_behind f all [] h p = tt
-found_behind f all (g ∷ gs) h p =
-    let both = or_parts (bytes_eq (key_text g.key) (key_text f.key)) (list_any (λ g. bytes_eq (key_text g.key) (key_text f.key)) gs) h in
-    let other = apart_sym (key_text g.key) (key_text f.key) both.0 in
-    (rw other p.0, found_behind f all gs both.1 p.1)
+found_behind f all (g ∷ gs) h p = grind (arith, nat_tests, found_behind f all gs, or_parts, bytes_eq, key_text, list_any, apart_sym)
 
 found_each : (fs : List Field) → AreApart fs → AllByRecursion (IsField fs) fs
 found_each [] a = tt

@@ -1,9 +1,8 @@
 -- Each line keeps what is read well formed.
 use Rattle.std.proofs.lemmas.Bool.Decides.{nat_tests}
-use Rattle.workload_file.proofs.Cited.{◌≡◌, ℕ, ◌+◌, ◌≤◌, ◌<◌, List, [], ◌∷◌, ◌++◌, length, Bool, true, false, not, cond, Option, Some, refl, sym, ap, arith, inl, inr, append_assoc, ◌&&◌, None, Ok, subst, ◌∙◌, ◌⊎◌, map, is_some, IfSome, AllByRecursion, list_any, flat_map, position_or_len, list_all, bytes_eq, or_parts, or_from, eqb-true, lt-ltb, le-leb, not-false, leb-false, ne_eqb, append-nil, length_push, map-append, NodeSettings, Word, Naming, Deed, Statement, Part, Reading, is_name, row, naming, fields, deed_spelled, word_for, used_place, values, used_with, setting_values, is_begin, number_in, Spelled, is_called, bound_at, is_taken, is_misplaced, place_of, has_second, name_in, options_in, use_in, is_unbound, is_ninth_caller, finished, with_change, line_gives, line_adds, lines_add, start, workload_of, with_setting, usual_settings, bound_name, values_in, settings_by, or_zero, AllFit, IsBoundAt, has_name, IsNew, IsStatement, AreStatements, begins, IsPart, IsMain, IsFurther, MainFirst, HaveDifferentNames, statement_lines, Rise, line_if_any, part_lines, WellFormed, Workload, LineEffect, between}
+use Rattle.workload_file.proofs.Cited.{◌≡◌, ℕ, ◌+◌, ◌≤◌, ◌<◌, List, [], ◌∷◌, ◌++◌, length, Bool, true, false, not, cond, Option, Some, refl, sym, ap, arith, inl, inr, append_assoc, ◌&&◌, None, Ok, subst, ◌∙◌, ◌⊎◌, is_some, IfSome, AllByRecursion, list_any, flat_map, position_or_len, list_all, bytes_eq, or_parts, or_from, eqb-true, lt-ltb, not-false, leb-false, ne_eqb, append-nil, length_push, map-append, NodeSettings, Word, Naming, Deed, Statement, Part, Reading, is_name, row, naming, fields, deed_spelled, word_for, used_place, values, used_with, setting_values, is_begin, number_in, Spelled, is_called, bound_at, is_taken, is_misplaced, place_of, has_second, name_in, options_in, use_in, is_unbound, is_ninth_caller, finished, with_change, line_gives, line_adds, lines_add, start, workload_of, with_setting, usual_settings, bound_name, values_in, settings_by, or_zero, AllFit, IsBoundAt, has_name, IsNew, IsStatement, AreStatements, begins, IsPart, IsMain, IsFurther, MainFirst, HaveDifferentNames, statement_lines, Rise, line_if_any, part_lines, WellFormed, Workload, LineEffect, between}
 use Rattle.workload_file.specs.declared.table.Word.TheVariants as word
 use Rattle.workload_file.specs.declared.table.Naming.TheVariants as rule
-use Rattle.workload_file.specs.declared.workload.Deed.TheVariants as deed
 use Rattle.workload_file.proofs.Facts.{IsRead, here, is_sound, bind_ok, ok_is, at_line_ok, stated}
 use Rattle.workload_file.proofs.Fields.{is_deed, made, fields_good, deed_said, deed_is, node_values, place_at, IsEffectOf, says_node, says_caller, says_deed, says}
 use Rattle.workload_file.proofs.Spelling.{values_are, place_is, any_place, place_found}
@@ -37,8 +36,7 @@ any_push t (x ∷ xs) y h e = let both = or_parts (t x) (list_any t xs) h in or_
 any_last : (name : List ℕ) (xs : List Part) (p q : Part) → q.name ≡ p.name → list_any (λ q. bytes_eq name q.name) (xs ++ p ∷ []) ≡ false
     → list_any (λ q. bytes_eq name q.name) (xs ++ q ∷ []) ≡ false
 any_last name [] p q e h = rw e h
-any_last name (x ∷ xs) p q e h = let both = or_parts (bytes_eq name x.name) (list_any (λ q. bytes_eq name q.name) (xs ++ p ∷ [])) h in
-    or_from (bytes_eq name x.name) (list_any (λ q. bytes_eq name q.name) (xs ++ q ∷ [])) both.0 (any_last name xs p q e both.1)
+any_last name (x ∷ xs) p q e h = grind (arith, nat_tests, any_last name xs p q, or_parts, bytes_eq)
 
 pub names_last : (xs : List Part) (p q : Part) → q.name ≡ p.name → HaveDifferentNames (xs ++ p ∷ []) → HaveDifferentNames (xs ++ q ∷ [])
 names_last [] p q e h = (refl, tt)
@@ -54,8 +52,7 @@ begins_push (x ∷ xs) s = let e = begins_push xs s in omega (arith, e)
 
 no_begins : (xs : List Statement) → list_any (λ s. is_begin s.deed) xs ≡ false → begins xs ≡ 0
 no_begins [] h = refl
-no_begins (x ∷ xs) h = let both = or_parts (is_begin x.deed) (list_any (λ s. is_begin s.deed) xs) h in let rest = no_begins xs both.1 in
-    rw both.0 (omega (arith, rest))
+no_begins (x ∷ xs) h = grind (arith, nat_tests, no_begins xs, or_parts)
 
 pub flat_push : {A : Type 0} (f : Part → List A) (xs : List Part) (p : Part) → flat_map f (xs ++ p ∷ []) ≡ flat_map f xs ++ f p
 flat_push f [] p = append-nil (f p)
@@ -164,44 +161,10 @@ begin_free r w e1 e2 = grind (arith, nat_tests, or_parts, is_begin, eqb-true, no
 
 -- ---- node
 
--- a setting that is in its range is set
-set_workers : (v : ℕ) (s : NodeSettings) → (1 ≤ v) × (v ≤ 16) → with_setting 1 v s ≡ record s { workers = v }
-unfolding with_setting
-set_workers v s h = rw (le-leb 1 v h.0, le-leb v 16 h.1) refl
-
-set_tasks : (v : ℕ) (s : NodeSettings) → (1 ≤ v) × (v ≤ 65536) → with_setting 2 v s ≡ record s { tasks = v }
-unfolding with_setting
-set_tasks v s h = rw (le-leb 1 v h.0, le-leb v 65536 h.1) refl
-
-set_actions : (v : ℕ) (s : NodeSettings) → (1 ≤ v) × (v ≤ 1024) → with_setting 3 v s ≡ record s { actions = v }
-unfolding with_setting
-set_actions v s h = rw (le-leb 1 v h.0, le-leb v 1024 h.1) refl
-
-set_groups : (v : ℕ) (s : NodeSettings) → (1 ≤ v) × (v ≤ 1024) → with_setting 4 v s ≡ record s { groups = v }
-unfolding with_setting
-set_groups v s h = rw (le-leb 1 v h.0, le-leb v 1024 h.1) refl
-
-set_queues : (v : ℕ) (s : NodeSettings) → (1 ≤ v) × (v ≤ 256) → with_setting 5 v s ≡ record s { queues = v }
-unfolding with_setting
-set_queues v s h = rw (le-leb 1 v h.0, le-leb v 256 h.1) refl
-
-set_objects : (v : ℕ) (s : NodeSettings) → (1 ≤ v) × (v ≤ 256) → with_setting 6 v s ≡ record s { objects = v }
-unfolding with_setting
-set_objects v s h = rw (le-leb 1 v h.0, le-leb v 256 h.1) refl
-
-set_priorities : (v : ℕ) (s : NodeSettings) → (1 ≤ v) × (v ≤ 8) → with_setting 7 v s ≡ record s { priorities = v }
-unfolding with_setting
-set_priorities v s h = rw (le-leb 1 v h.0, le-leb v 8 h.1) refl
-
-set_generations : (v : ℕ) (s : NodeSettings) → (1 ≤ v) × (v ≤ 4294967295) → with_setting 8 v s ≡ record s { generations = v }
-unfolding with_setting
-set_generations v s h = rw (le-leb 1 v h.0, le-leb v 4294967295 h.1) refl
-
 -- the settings whose values fit are given by their values
 pub node_settings : (before : List Statement) (s : NodeSettings) → AllFit before (fields word.Node) (setting_values s) → settings_by (setting_values s) ≡ s
-unfolding row settings_by number_in
-node_settings before s (a, (b, (c, (d, (e, (f, (g, (h, _)))))))) =
-    rw (set_workers, set_tasks, set_actions, set_groups, set_queues, set_objects, set_priorities, set_generations) refl
+unfolding row settings_by number_in with_setting
+node_settings before s fit = grind (arith, nat_tests)
 
 -- the settings of a node line fit, and their values are those of its options
 pub node_given : (before : List Statement) (options : List (List ℕ)) → list_all is_sound (values_in before options (fields word.Node)) ≡ true
@@ -226,12 +189,7 @@ abbrev with_statement : Reading → Statement → Reading
 with_statement r s = record r { current = record r.current { statements = r.current.statements ++ s ∷ [] }; count = r.count + 1 }
 
 lines_statement : (r : Reading) (s : Statement) → lines_so_far (with_statement r s) ≡ lines_so_far r ++ s.line ∷ []
-lines_statement r s =
-    let a = flat_push part_lines r.before r.current in
-    let b = flat_push part_lines r.before (record r.current { statements = r.current.statements ++ s ∷ [] }) in
-    let m : map (λ (s : Statement). s.line) (r.current.statements ++ s ∷ []) ≡ map (λ (s : Statement). s.line) r.current.statements ++ s.line ∷ [] =
-    map-append (λ (s : Statement). s.line) r.current.statements (s ∷ []) in
-    rw (b, a, m) (simp append_assoc)
+lines_statement r s = grind (arith, nat_tests, flat_push, part_lines, map-append, append_assoc)
 
 line_there : (line : ℕ) → 1 ≤ line → line_if_any line ≡ line ∷ []
 line_there line le = let n : line ≡ 0 → ⊥ = λ (e : line ≡ 0). omega arith in rw (ne_eqb line 0 n) refl
@@ -291,25 +249,8 @@ statement_keeps r line first rest w name options place d f le read g =
 caller_keeps : (r : Reading) (line : ℕ) (first : List ℕ) (rest : List (List ℕ)) (name : List ℕ) (options : List (List ℕ)) → IsFormed r line → 1 ≤ line
     → IsRead r first rest word.Caller name options → IsFormed (with_caller r line name) (line + 1)
 unfolding is_taken is_ninth_caller row
-caller_keeps r line first rest name options f le read =
-    let good : is_name name ≡ true = not-false (is_name name) read.named in
-    let lines = lines_caller r line name le in
-    let fewer = leb-false 20000 r.count read.few in
-    let callers = leb-false 8 (length r.before) read.callers in
-    let free = or_parts (bytes_eq r.current.name name) (list_any (λ p. bytes_eq p.name name) r.before) read.free in
-    record {
-      callers = omega (arith, callers, length_push r.before r.current);
-      main = main_push r.before r.current (new_part line name) f.main (record { line = le; begin = refl });
-      names = names_push (r.before ++ r.current
-          ∷ []) (new_part line name) f.names (any_push (λ (p : Part). bytes_eq p.name name) r.before r.current free.1 free.0);
-      parts = push_all IsPart (r.before ++ r.current ∷ []) (new_part line name) f.parts (record { name = good; statements = tt });
-      count = rw lines (length_push (lines_so_far r) line ∙ rw f.count refl);
-      few = omega (arith, fewer);
-      rise = rw lines (rise_push 0 line (lines_so_far r) (omega arith) f.rise f.below);
-      below = rw lines (below_push line (lines_so_far r) f.below);
-      usual = f.usual;
-      settings = f.settings;
-    }
+caller_keeps r line first rest name options e1 e2 e3 =
+    grind (arith, nat_tests, not-false, lines_caller, leb-false, or_parts, length_push, main_push, names_push, any_push, push_all, rise_push, below_push)
 
 -- ---- a node line
 
@@ -329,22 +270,7 @@ node_fits before settings h = h
 node_keeps : (r : Reading) (line : ℕ) (settings : NodeSettings) → IsFormed r line → 1 ≤ line → is_misplaced r word.Node ≡ false
     → AllFit r.current.statements (fields word.Node) (setting_values settings) → IsFormed (with_node r line settings) (line + 1)
 unfolding is_misplaced
-node_keeps r line settings f le placed fit =
-    let none : r.count ≡ 0 = eqb-true r.count 0 (not-false _ placed) in
-    let empty = empty_parts (line_if_any r.node_line) (flat_map part_lines (r.before ++ r.current ∷ [])) (f.count ∙ none) in
-    let lines : lines_so_far (with_node r line settings) ≡ line ∷ [] = rw (line_there line le, empty) refl in
-    record {
-      callers = f.callers;
-      main = f.main;
-      names = f.names;
-      parts = f.parts;
-      count = rw (lines, none) refl;
-      few = omega (arith, none);
-      rise = rw lines (omega arith, tt);
-      below = rw lines (omega arith, tt);
-      usual = λ (e : line ≡ 0). absurd (omega arith);
-      settings = node_fits r.current.statements settings fit;
-    }
+node_keeps r line settings e1 e2 e3 e4 = grind (arith, nat_tests, eqb-true, not-false, empty_parts, line_if_any, flat_map, part_lines, line_there, node_fits)
 
 -- ---- every line
 
@@ -360,18 +286,7 @@ keeps r line first rest w name options c f le read (says_deed h change) =
 
 none_keeps : (r : Reading) (line : ℕ) → IsFormed r line → IsFormed (with_change r line None) (line + 1)
 unfolding with_change
-none_keeps r line f = record {
-  callers = f.callers;
-  main = f.main;
-  names = f.names;
-  parts = f.parts;
-  count = f.count;
-  few = f.few;
-  rise = f.rise;
-  below = below_more line (lines_so_far r) f.below;
-  usual = f.usual;
-  settings = f.settings;
-}
+none_keeps r line e1 = grind (arith, nat_tests, below_more)
 
 pub line_keeps : (r : Reading) (line : ℕ) (text : List ℕ) (c : Option LineEffect) → IsFormed r line → 1 ≤ line → line_gives r line text ≡ Ok c
     → IsFormed (with_change r line c) (line + 1)
@@ -393,16 +308,7 @@ lines_keep (text ∷ texts) r s line f le e = grind (arith, nat_tests, lines_kee
 
 usual_fit : AllFit [] (fields word.Node) (setting_values usual_settings)
 unfolding row
-usual_fit = (
-  (omega arith, omega arith),
-  (
-    (omega arith, omega arith),
-    (
-      (omega arith, omega arith),
-      ((omega arith, omega arith), ((omega arith, omega arith), ((omega arith, omega arith), ((omega arith, omega arith), ((omega arith, omega arith), tt))))),
-    ),
-  ),
-)
+usual_fit = grind (arith, nat_tests)
 
 pub start_formed : IsFormed start 1
 unfolding start is_name

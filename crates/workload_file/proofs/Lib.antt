@@ -11,4 +11,3 @@ pub mod Optioned
 pub mod Again
 pub mod Alike
 pub mod Taken
-pub mod Computed

@@ -1,9 +1,6 @@
 -- The options that are written of values are options of the statement, and give the values.
 use Rattle.std.proofs.lemmas.Bool.Decides.{nat_tests}
 use Rattle.workload_file.proofs.Cited.{◌≡◌, ℕ, ◌-◌, List, [], ◌∷◌, ◌++◌, Bool, true, false, Option, Some, None, refl, sym, ap, ◌<◌, eqb, subst, inl, inr, append_assoc, arith, length, length-append, AllByRecursion, list_any, find, list_all, bytes_eq, or_parts, and_from, and_parts, or_from, cases_Bool, lt-ltb, Key, Field, key_text, key_of, value_of, gives, text_of, field_of, is_known, has_twice, value_text, is_default, options_words, is_some, nat_lt, option_map, OptionShape, Absent, OptionValue, Statement, value_given, value_absent, value_at, values_in}
-use Rattle.workload_file.specs.declared.values.OptionValue.TheVariants as given
-use Rattle.workload_file.specs.declared.table.OptionShape.TheVariants as shape
-use Rattle.workload_file.specs.declared.table.Absent.TheVariants as absent
 use Rattle.workload_file.proofs.Facts.{some, is_sound}
 use Rattle.workload_file.proofs.Finds.{find_skip, find_nothing, find_all}
 use Rattle.workload_file.proofs.Invariant.{any_push}
@@ -20,10 +17,7 @@ Free ws fs = AllByRecursion (λ f. gives f.key ws ≡ false) fs
 pub free_push : (ws : List (List ℕ)) (word : List ℕ) (k : Key) (fs : List Field) → key_of word ≡ key_text k
     → list_any (λ g. bytes_eq (key_text g.key) (key_text k)) fs ≡ false → Free ws fs → Free (ws ++ word ∷ []) fs
 free_push ws word k [] e h f = tt
-free_push ws word k (g ∷ fs) e h f =
-    let both = or_parts _ _ h in
-    let other : bytes_eq (key_of word) (key_text g.key) ≡ false = rw e (apart_sym (key_text g.key) (key_text k) both.0) in
-    (any_push (λ (w : List ℕ). bytes_eq (key_of w) (key_text g.key)) ws word f.0 other, free_push ws word k fs e both.1 f.1)
+free_push ws word k (g ∷ fs) e h f = grind (arith, nat_tests, free_push ws word k fs e, or_parts, bytes_eq, key_of, key_text, apart_sym, any_push)
 
 pub text_skip : (k : Key) (xs ys : List (List ℕ)) (word text : List ℕ) → gives k xs ≡ false → key_of word ≡ key_text k → value_of word ≡ text
     → text_of k (xs ++ word ∷ ys) ≡ Some text
@@ -90,11 +84,7 @@ pub all_read : (before : List Statement) (all : List Field) (options : List (Lis
 unfolding text_of
 all_read before all options [] good known words h = tt
 all_read before all options (f ∷ fs) good known words h =
-    let both = and_parts (is_sound (value_at before f (text_of f.key options))) (list_all is_sound (values_in before options fs)) h in (
-      field_read before all options f (find (λ w. bytes_eq (key_of w) (key_text f.key)) options) good.0 known words refl both.0,
-      all_read before all options fs
-          good.1 known words both.1,
-    )
+    grind (arith, nat_tests, all_read before all options fs good.1 known words, and_parts, is_sound, field_read)
 
 -- ---- the words
 

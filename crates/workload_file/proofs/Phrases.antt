@@ -1,7 +1,6 @@
 -- Words that are joined are cut into the same words, and a line of fewer words is shorter.
 use Rattle.std.proofs.lemmas.Bool.Decides.{nat_tests}
-use Rattle.workload_file.proofs.Cited.{◌≡◌, ℕ, ◌+◌, ◌≤◌, List, [], ◌∷◌, ◌++◌, length, Bool, true, false, not, cond, ◌&&◌, eqb, refl, ap, ◌∙◌, arith, length-append, All, Result, Ok, sym, ◌-◌, replicate, append_assoc, take, get_or, drop, ◌<◌, ◌⊎◌, nat_lt, filter, OnOk, AllByRecursion, list_all, join_with_byte, onto_first, flat_map, and_parts, and_from, eq-eqb, not-true, ne_eqb, All-from_recursion, slice_split_at, slice_split_none, length-slice_split, join_with_byte-slice_split, between, led, words_of, is_printable, line_text, Line, if_any, laid_out, statement_lines_behind, statement_text, lines_of_part, joined, led_append, Bor, map-append, append-nil, take_all, take_more, replicate_more, texts, Reading, Fault, LineError, line_adds, lines_add, Fails, Statement, Part, last_line}
-use Rattle.workload_file.specs.declared.faults.LineError.TheVariants as errors
+use Rattle.workload_file.proofs.Cited.{Lacks, between_joined, rest_of, first_rest, ◌≡◌, ℕ, ◌+◌, ◌≤◌, List, [], ◌∷◌, ◌++◌, length, Bool, true, false, not, cond, ◌&&◌, eqb, refl, ap, ◌∙◌, arith, length-append, All, Result, Ok, sym, ◌-◌, replicate, append_assoc, take, get_or, ◌<◌, ◌⊎◌, nat_lt, filter, AllByRecursion, list_all, join_with_byte, onto_first, flat_map, and_parts, and_from, not-true, ne_eqb, All-from_recursion, length-slice_split, join_with_byte-slice_split, between, led, words_of, is_printable, line_text, Line, if_any, laid_out, statement_lines_behind, statement_text, lines_of_part, joined, led_append, Bor, map-append, append-nil, take_more, replicate_more, texts, Reading, Fault, LineError, line_adds, lines_add, Fails, Statement, Part, last_line}
 
 -- ---- what words consist of
 
@@ -14,20 +13,10 @@ is_word w = nat_lt 0 (length w) && list_all is_inner w
 
 -- ---- joined words
 
-pub Lacks : ℕ → List ℕ → Type 0
-Lacks byte text = AllByRecursion (λ b. eqb b byte ≡ false) text
-
 inner_lacks : (w : List ℕ) → list_all is_inner w ≡ true → Lacks 32 w
 unfolding Lacks
 inner_lacks [] h = tt
 inner_lacks (b ∷ bs) h = grind (arith, nat_tests, inner_lacks bs, and_parts, is_printable, not-true)
-
-pub between_joined : (byte : ℕ) (first : List ℕ) (rest : List (List ℕ)) → AllByRecursion (Lacks byte) (first ∷ rest)
-    → between byte (join_with_byte byte (first ∷ rest)) ≡ first ∷ rest
-unfolding Lacks
-between_joined byte first [] h = slice_split_none (λ b. eqb b byte) first (All-from_recursion (λ (b : ℕ). eqb b byte ≡ false) first h.0)
-between_joined byte first (next ∷ rest) h =
-    grind (arith, nat_tests, between_joined byte next rest h.1, slice_split_at, join_with_byte, All-from_recursion, eq-eqb)
 
 words_lack : (ws : List (List ℕ)) → list_all is_word ws ≡ true → AllByRecursion (Lacks 32) ws
 words_lack [] h = tt
@@ -178,9 +167,6 @@ text_more first now fed text out at line xs a b c =
 pub line_more : (at line : ℕ) (text : List ℕ) (xs : List Line) → last_line at (xs ++ (line, text) ∷ []) ≡ line
 line_more at line text xs = rw (last-append at xs ((line, text) ∷ [])) refl
 
-pub on_ok : {T E : Type 0} (r : Result T E) (P Q : Type 0) → (P → Q) → OnOk r P → OnOk r Q
-on_ok r P Q e1 e2 = grind (arith, nat_tests)
-
 -- a line that may be absent
 pub no_line : (now text : List ℕ) (at line : ℕ) → line ≡ 0 → now ≡ now ++ laid_out at (if_any line text)
 unfolding laid_out
@@ -199,12 +185,6 @@ pub more_last : (at to end : ℕ) (xs ys : List Line) → to ≡ last_line at xs
 more_last at to end xs ys a b = rw (b, a, last-append at xs ys) refl
 
 -- ---- slices as their first and their rest
-
-abbrev pub rest_of : {X : Type 0} → List X → List X
-rest_of xs = take (length xs - 1) (drop 1 xs)
-
-pub first_rest : {X : Type 0} (xs : List X) (d : X) → 1 ≤ length xs → xs ≡ get_or xs 0 d ∷ rest_of xs
-first_rest xs d e1 = grind (arith, nat_tests, take_all)
 
 pub none_below : {X : Type 0} (xs : List X) → length xs < 1 → xs ≡ []
 none_below [] h = refl
@@ -233,10 +213,7 @@ statements_more sts i s lt is =
 
 pub fed_more : (first now out : List ℕ) (line at : ℕ) → line ≤ at → now ≡ first ++ replicate (at - line) 10 → out ≡ now ++ 10 ∷ []
     → out ≡ first ++ replicate (at + 1 - line) 10
-fed_more first now out line at le a b =
-    let n : at + 1 - line ≡ (at - line) + 1 = omega arith in
-    let more : replicate {A = ℕ} (at - line) 10 ++ 10 ∷ [] ≡ replicate {A = ℕ} ((at - line) + 1) 10 = replicate_more {X = ℕ} (at - line) 10 in
-    rw (b, a, n, ← more) (append_assoc first (replicate (at - line) 10) (10 ∷ []))
+fed_more first now out line at e1 e2 e3 = grind (arith, nat_tests, replicate_more, append_assoc)
 
 pub fed_all : (first now : List ℕ) (line at to : ℕ) → (at ≤ to) ⊎ (at ≡ line) → to ≤ at → line ≤ at → now ≡ first ++ replicate (at - line) 10
     → now ≡ first ++ replicate (to - line) 10

@@ -1,6 +1,6 @@
 -- Options at their places, and words that add nothing.
 use Rattle.std.proofs.lemmas.Bool.Decides.{nat_tests}
-use Rattle.workload_file.proofs.Cited.{◌≡◌, ℕ, zero, suc, ◌<◌, ◌≤◌, ◌+◌, ◌-◌, ◌⊎◌, List, [], ◌∷◌, ◌++◌, length, Bool, true, false, cond, eqb, Option, Some, None, Ok, is_some, refl, sym, ap, ◌∙◌, arith, inl, inr, map, get_or, take, drop, replicate, find, list_any, list_all, subst, bytes_eq, option_map, or_parts, and_parts, and_from, cases_Bool, Field, Key, Word, Statement, OptionValue, Reading, fields, key_text, key_of, value_of, text_of, field_of, is_known, has_twice, value_at, values_in, length-map, length-append, take_more, take_all, with_change, is_statement, is_comment, words_meet, word_causes, words_say}
+use Rattle.workload_file.proofs.Cited.{◌≡◌, ℕ, zero, suc, ◌<◌, ◌≤◌, ◌+◌, ◌-◌, ◌⊎◌, List, [], ◌∷◌, ◌++◌, length, Bool, true, false, cond, eqb, Option, Some, None, Ok, is_some, refl, sym, ap, ◌∙◌, arith, inl, inr, map, get_or, take, drop, replicate, find, list_any, list_all, bytes_eq, option_map, or_parts, and_parts, and_from, cases_Bool, Field, Key, Word, Statement, OptionValue, Reading, fields, key_text, key_of, value_of, text_of, field_of, is_known, has_twice, value_at, values_in, length-map, length-append, take_more, take_all, with_change, is_statement, is_comment, words_meet, word_causes, words_say, rest_of, first_rest, some_cond}
 use Rattle.std.specs.Prelude.{set}
 use Rattle.std.proofs.lemmas.List.{drop_all, drop_more, length-drop, map-set}
 use Rattle.std.specs.Option.{option_copied}
@@ -10,9 +10,9 @@ use Rattle.workload_file.specs.Steps.{texts_in, IsOptionAt, values_of, unless_me
 use Rattle.workload_file.proofs.Facts.{some, nothing, none_some, silent_says}
 use Rattle.workload_file.proofs.Fields.{AreApart, fields_apart, option_is}
 use Rattle.workload_file.proofs.Invariant.{any_push}
-use Rattle.workload_file.proofs.Phrases.{rest_of, first_rest, none_below}
+use Rattle.workload_file.proofs.Phrases.{none_below}
 use Rattle.workload_file.proofs.Places.{bytes_are, bytes_same, apart_sym}
-use Rattle.workload_file.proofs.Spelling.{some_cond, spelled}
+use Rattle.workload_file.proofs.Spelling.{spelled}
 use denote.Ref.{Bor}
 
 -- ---- a word that is a key, = and a value
@@ -79,11 +79,8 @@ option_at (f ∷ fs) word (suc place) d lt e = grind (arith, nat_tests, option_a
 -- the word that the key opens gives the option at its place
 pub opened : (fs : List Field) (word value : List ℕ) (place : ℕ) (d : Field) → place < length fs
     → some value ≡ cond (opens word (key_text (get_or fs place d).key)) (Some (value_of word)) None → (true ≡ is_known fs word) × IsOptionAt fs word place
-opened fs word value place d lt e =
-    let key = key_text (get_or fs place d).key in
-    let both = and_parts (list_any (λ b. eqb b 61) word) (bytes_eq key (key_of word)) (some_cond (opens word key) (value_of word) value (sym e)).0 in
-    let at = option_at fs word place d lt both.1 in
-    (sym (and_from (list_any (λ b. eqb b 61) word) (is_some (field_of fs word)) both.0 at.0), at.1)
+opened fs word value place d e1 e2 = grind
+    (arith, nat_tests, key_text, get_or, and_parts, list_any, bytes_eq, key_of, some_cond, value_of, option_at, and_from, is_some, field_of)
 
 -- no option before this place opens the word, and neither does this one
 pub not_opened : (fs : List Field) (word : List ℕ) (place : ℕ) (d : Field) → place < length fs
@@ -116,12 +113,7 @@ others : (word : List ℕ) (ws : List (List ℕ)) (k : Key) (fs : List Field) �
     → list_any (λ g. bytes_eq (key_text g.key) (key_text k)) fs ≡ false → texts_in fs (word ∷ ws) ≡ texts_in fs ws
 unfolding text_of
 others word ws k [] e h = refl
-others word ws k (f ∷ fs) e h =
-    let both = or_parts (bytes_eq (key_text f.key) (key_text k)) (list_any (λ g. bytes_eq (key_text g.key) (key_text k)) fs) h in
-    let other : bytes_eq (key_of word) (key_text f.key) ≡ false = rw (← e) (apart_sym (key_text f.key) (key_text k) both.0) in
-    let here : text_of f.key (word ∷ ws) ≡ text_of f.key ws = rw other refl in
-    let rest = others word ws k fs e both.1 in
-    λ i. here i ∷ rest i
+others word ws k (f ∷ fs) e h = grind (arith, nat_tests, others word ws k fs e, or_parts, bytes_eq, key_text, list_any, key_of, apart_sym, text_of)
 
 pub texts_put : (word : List ℕ) (ws : List (List ℕ)) (fs : List Field) (place : ℕ) → AreApart fs → IsOptionAt fs word place
     → set (texts_in fs ws) place (Some (value_of word)) ≡ texts_in fs (word ∷ ws)
@@ -183,20 +175,12 @@ place_low xs n words word w place e1 e2 e3 = grind (arith, nat_tests, option_bel
 -- the words from a place on, with the one before it
 before : (words : List (Bor (List ℕ))) (at : ℕ) (d : Bor (List ℕ)) → 0 < at → at ≤ length words
     → texts (drop (at - 1) words) ≡ (get_or words (at - 1) d).now ∷ texts (drop at words)
-before words at d low high =
-    let back : at - 1 + 1 ≡ at = omega (arith, low) in
-    subst (λ k. texts (drop (at - 1) words)
-    ≡ (get_or words (at - 1) d).now ∷ texts (drop k words)) back (ap texts (drop_more words (at - 1) d (omega (arith, low, high))))
+before words at d e1 e2 = grind (arith, nat_tests, get_or, drop_more)
 
 pub given_more : (xs : List (Option (Bor (List ℕ)))) (words : List (Bor (List ℕ))) (at : ℕ) (d v : Bor (List ℕ)) (w : Word) (place : ℕ) → 0 < at
     → at ≤ length words → map option_copied xs ≡ texts_in (fields w) (texts (drop at words)) → IsOptionAt (fields w) (get_or words (at - 1) d).now place
     → v.now ≡ value_of (get_or words (at - 1) d).now → map option_copied (set xs place (Some v)) ≡ texts_in (fields w) (texts (drop (at - 1) words))
-given_more xs words at d v w place low high is option value =
-    let word = (get_or words (at - 1) d).now in
-    map-set option_copied xs place (Some v)
-    ∙ (ap (λ (l : List (Option (List ℕ))). set l place (Some v.now)) is
-    ∙ (ap (λ (x : List ℕ). set (texts_in (fields w) (texts (drop at words))) place (Some x)) value
-    ∙ (texts_put word (texts (drop at words)) (fields w) place (fields_apart w) option ∙ ap (texts_in (fields w)) (sym (before words at d low high)))))
+given_more xs words at d v w place e1 e2 e3 e4 e5 = grind (arith, nat_tests, get_or, map-set, option_copied, texts_in, texts_put, fields_apart, before)
 
 pub twice_more : (xs : List (Option (Bor (List ℕ)))) (words : List (Bor (List ℕ))) (at : ℕ) (d : Bor (List ℕ)) (w : Word) (place : ℕ)
     (x : Option (Bor (List ℕ))) (here twice rest : Bool) → 0 < at → at ≤ length words → map option_copied xs ≡ texts_in (fields w) (texts (drop at words))

@@ -1,6 +1,6 @@
 -- The index of a part's names, and the places at which the names are bound.
 use Rattle.std.proofs.lemmas.Bool.Decides.{nat_tests}
-use Rattle.workload_file.proofs.Cited.{◌≡◌, ℕ, ◌+◌, ◌<◌, ◌≤◌, List, [], ◌∷◌, ◌++◌, Bool, true, false, cond, eqb, length, Option, Some, None, is_some, not, refl, arith, inl, inr, pow_mono, pow-add, ◌*◌, ◌-◌, ◌^◌, get_or, drop, sym, nat_lt, nat_le, length_push, position_or_len, list_all, bytes_eq, bytes_eq-Decides, position_or_len_push, cases_Bool, eq-eqb, and_parts, eqb-true, Statement, bound_at, is_called, first_of_two, is_name, is_name_byte, begins_with_letter}
+use Rattle.workload_file.proofs.Cited.{◌≡◌, ℕ, ◌+◌, ◌<◌, ◌≤◌, List, [], ◌∷◌, ◌++◌, Bool, true, false, cond, eqb, length, Option, Some, None, is_some, not, refl, arith, inl, inr, pow_mono, pow-add, ◌*◌, ◌-◌, ◌^◌, get_or, drop, nat_lt, nat_le, length_push, position_or_len, list_all, bytes_eq, bytes_eq-Decides, position_or_len_push, cases_Bool, eq-eqb, and_parts, eqb-true, Statement, bound_at, is_called, first_of_two, is_name, is_name_byte, begins_with_letter}
 use Rattle.std.proofs.lemmas.List.{drop_all, drop_more}
 use Rattle.workload_file.specs.Indexed.{key_of}
 
@@ -12,11 +12,6 @@ bytes_same xs = (bytes_eq-Decides xs xs).1 refl
 
 -- ---- the place at which a name is bound, after one more statement
 
-push_end : (p : Bool) (i len : ℕ) → i ≡ len
-    → first_of_two (cond (nat_lt i len) (Some i) None) (cond p (Some len) None)
-    ≡ cond (nat_lt (cond (eqb i len) (len + cond p 0 1) i) (len + 1)) (Some (cond (eqb i len) (len + cond p 0 1) i)) None
-push_end p i len e1 = grind (arith, nat_tests)
-
 push_place : (p : Bool) (i len : ℕ) → i ≤ len
     → first_of_two (cond (nat_lt i len) (Some i) None) (cond p (Some len) None)
     ≡ cond (nat_lt (cond (eqb i len) (len + cond p 0 1) i) (len + 1)) (Some (cond (eqb i len) (len + cond p 0 1) i)) None
@@ -24,11 +19,7 @@ push_place p i len e1 = grind (arith, nat_tests)
 
 position_le : {X : Type 0} (p : X → Bool) (xs : List X) → position_or_len p xs ≤ length xs
 position_le p [] = omega arith
-position_le p (x ∷ xs) = elim (cases_Bool (p x)) [
-  | inl t ↦ let e : position_or_len p (x ∷ xs) ≡ 0 = rw t refl in omega (arith, e)
-  | inr f ↦
-      let e : position_or_len p (x ∷ xs) ≡ 1 + position_or_len p xs = rw f refl in omega (arith, e, position_le p xs)
-]
+position_le p (x ∷ xs) = grind (arith, nat_tests, position_le p xs, cases_Bool, position_or_len)
 
 pub bound_push : (name : List ℕ) (sts : List Statement) (s : Statement)
     → first_of_two (bound_at name sts) (cond (is_called name s.name) (Some (length sts)) None) ≡ bound_at name (sts ++ s ∷ [])
@@ -54,10 +45,7 @@ key_none text = rw (drop_all (length text) text (omega arith)) refl
 pub key_more : (text : List ℕ) (at key d : ℕ) → 0 < at → at ≤ length text → key ≡ key_of (drop at text)
     → key * 256 + get_or text (at - 1) d ≡ key_of (drop (at - 1) text)
 unfolding key_of
-key_more text at key d low high e =
-    let back : at - 1 + 1 ≡ at = omega (arith, low) in
-    let below : at - 1 < length text = omega (arith, low, high) in
-    rw (drop_more text (at - 1) d below, back) (omega (arith, e))
+key_more text at key d e1 e2 e3 = grind (arith, nat_tests, drop_more)
 
 pub key_next : (n at key digit : ℕ) → 0 < at → at ≤ n → key < 2 ^ (8 * (n - at)) → digit < 256 → key * 256 + digit < 2 ^ (8 * (n - (at - 1)))
 key_next n at key digit low high fits small =
@@ -96,11 +84,7 @@ names_same xs ys e1 e2 e3 = grind (arith, nat_tests, and_parts, begins_with_lett
 
 -- keys apart of names apart
 keys_apart : (xs ys : List ℕ) → is_name xs ≡ true → is_name ys ≡ true → bytes_eq xs ys ≡ false → eqb (key_of xs) (key_of ys) ≡ false
-keys_apart xs ys h k apart =
-    elim (cases_Bool (eqb (key_of xs) (key_of ys))) [
-      | inl t ↦ absurd (let same = names_same xs ys h k (eqb-true (key_of xs) (key_of ys) t) in let yes : bytes_eq xs ys ≡ true = rw same (bytes_same ys) in cc)
-      | inr f ↦ f
-    ]
+keys_apart xs ys e1 e2 e3 = grind (arith, nat_tests, cases_Bool, key_of, names_same, eqb-true, bytes_eq, bytes_same)
 
 -- ---- numbers of 64 bits and longer ones, each in a map of its own
 
@@ -122,15 +106,4 @@ alone x = grind (arith, nat_tests)
 pub put : (name other : List ℕ) (place : ℕ) (before : Option ℕ) → is_name name ≡ true → (bytes_eq name other ≡ true → before ≡ None)
     → cond (is_name other) (cond (eqb (key_of name) (key_of other)) (Some place) before) None
     ≡ first_of_two (cond (is_name other) before None) (cond (bytes_eq name other) (Some place) None)
-put name other place before named none =
-    elim (cases_Bool (bytes_eq name other)) [
-      | inl t ↦
-          let same : other ≡ name = sym (bytes_are name other t) in
-          let absent = none t in
-          rw (absent, same, named, eq-eqb (key_of name) (key_of name) refl, bytes_same name) refl
-      | inr f ↦
-          elim (cases_Bool (is_name other)) [
-            | inl y ↦ rw (y, keys_apart name other named y f, f) (alone before)
-            | inr n ↦ rw (n, f) refl
-          ]
-    ]
+put name other place before e1 e2 = grind (arith, nat_tests, cases_Bool, bytes_eq, bytes_are, eq-eqb, key_of, bytes_same, is_name, keys_apart, alone)

@@ -1,12 +1,11 @@
 -- A value that was read is in its range, and is written as it was read.
 use Rattle.std.proofs.lemmas.Bool.Decides.{nat_tests}
-use Rattle.workload_file.proofs.Cited.{◌≡◌, ℕ, ◌+◌, ◌-◌, ◌^◌, ◌≤◌, ◌<◌, List, [], ◌∷◌, ◌++◌, length, Bool, true, false, not, cond, ◌&&◌, eqb, Option, Some, None, refl, sym, ap, subst, ◌∙◌, arith, ◌⊎◌, inl, inr, get_or, zero, suc, length-append, nat_le, is_some, option_and_then, slice_get, codes, list_any, position_or_len, AllByRecursion, find, list_all, decimal, bytes_eq, eqb-true, and_parts, cases_Bool, and_from, or_parts, or_left, or_right, position-Some, split_at_first, passes_at_first, Kind, Timeout, kind_all, kind_word, kind_named, list_of, led, cores_text, cores_fit, bind_some, whole_fits, list_fits, number_spelled, cores_spelled, whole_spelled, list_spelled, Sort, Statement, number, number_within, cores_of, timeout_of, flag_of, mode_of, is_name, key_of, value_of, is_known, text_of, place_of, bound_at, is_called, is_binding, name_text, timeout_text, name_at, name_of, value_text, is_default, option_words, options_words, IsBoundAt, IsTimeout, Fits, AllFit, option_map, whole, led_append, OptionShape, Absent, Key, Field, OptionValue, key_text, or_bad, or_unbound, value_given, value_absent, value_at, values_in}
+use Rattle.workload_file.proofs.Cited.{some_cond, ◌≡◌, ℕ, ◌+◌, ◌-◌, ◌^◌, ◌≤◌, ◌<◌, List, [], ◌∷◌, ◌++◌, length, Bool, true, false, not, cond, ◌&&◌, eqb, Option, Some, None, refl, sym, ap, subst, ◌∙◌, arith, ◌⊎◌, inl, inr, get_or, zero, suc, length-append, nat_le, is_some, option_and_then, slice_get, codes, list_any, position_or_len, AllByRecursion, find, list_all, decimal, bytes_eq, eqb-true, and_parts, cases_Bool, and_from, or_parts, or_left, or_right, position-Some, split_at_first, passes_at_first, Kind, Timeout, kind_all, kind_word, kind_named, list_of, led, cores_text, cores_fit, bind_some, whole_fits, list_fits, number_spelled, cores_spelled, whole_spelled, list_spelled, Sort, Statement, number, number_within, cores_of, timeout_of, flag_of, mode_of, is_name, key_of, value_of, is_known, text_of, place_of, bound_at, is_called, is_binding, name_text, timeout_text, name_at, name_of, value_text, is_default, option_words, options_words, IsBoundAt, IsTimeout, Fits, AllFit, option_map, whole, led_append, OptionShape, Absent, Key, Field, OptionValue, key_text, or_bad, or_unbound, value_given, value_absent, value_at, values_in}
 use Rattle.number_text.specs.Lists.{◌>>=◌}
 use Rattle.mtapi_values.specs.declared.timeouts.Timeout.TheVariants as timeout
 use Rattle.number_text.specs.Cores.{cores_of as listed_cores}
 use Rattle.number_text.proofs.Reading.{within_is as wide_is}
 use Rattle.workload_file.specs.declared.table.OptionShape.TheVariants as shape
-use Rattle.workload_file.specs.declared.table.Absent.TheVariants as absent
 use Rattle.workload_file.specs.declared.values.OptionValue.TheVariants as given
 use Rattle.workload_file.proofs.Facts.{some_is, is_sound}
 use Rattle.workload_file.proofs.Finds.{find_passes, find_all}
@@ -30,9 +29,6 @@ spelled word h =
 
 cond_some : {A : Type 0} (b : Bool) (x y : A) (o : Option A) → cond b (Some x) o ≡ Some y → ((b ≡ true) × (x ≡ y)) ⊎ (o ≡ Some y)
 cond_some b x y o e1 = grind (arith, nat_tests)
-
-pub some_cond : {A : Type 0} (b : Bool) (x y : A) → cond b (Some x) None ≡ Some y → (b ≡ true) × (x ≡ y)
-some_cond b x y e1 = grind (arith, nat_tests)
 
 -- ---- numbers
 
@@ -283,13 +279,7 @@ picks_parts : (before : List Statement) (all : List Field) (options : List (List
 unfolding parts text_of
 picks_parts before all options [] good known h = rw (options_none before []) (omega arith)
 picks_parts before all options (f ∷ fs) good known h =
-    let v = value_at before f (text_of f.key options) in
-    let both = and_parts (is_sound v) (list_all is_sound (values_in before options fs)) h in
-    let first = picked before all options f (find (λ w. bytes_eq (key_of w) (key_text f.key)) options) good.0 known refl both.0 in
-    let rest = picks_parts before all options fs good.1 known both.1 in
-    let xs = option_words before f v in
-    let ys = options_words before fs (values_in before options fs) in
-    rw (options_cons before f fs v (values_in before options fs), led_append 32 xs ys) (omega (arith, first, rest, length-append (led 32 xs) (led 32 ys)))
+    grind (arith, nat_tests, picks_parts before all options fs good.1 known, and_parts, picked, options_cons, led_append, length-append)
 
 parts_empty : (fs : List Field) → parts fs [] ≡ 0
 unfolding parts part
@@ -305,11 +295,7 @@ ones_none : (fs : List Field) (k : Key) (w : List ℕ) (c : ℕ) → key_of w �
     → ones fs w c ≡ 0
 unfolding ones
 ones_none [] k w c e h = refl
-ones_none (f ∷ fs) k w c e h =
-    let both = or_parts _ _ h in
-    let other : bytes_eq (key_of w) (key_text f.key) ≡ false = rw e (apart_sym (key_text f.key) (key_text k) both.0) in
-    let rest = ones_none fs k w c e both.1 in
-    rw other (omega (arith, rest))
+ones_none (f ∷ fs) k w c e h = grind (arith, nat_tests, ones_none fs k w c e, or_parts, bytes_eq, key_of, key_text, apart_sym)
 
 ones_le : (fs : List Field) (w : List ℕ) (c : ℕ) → AreApart fs → ones fs w c ≤ c
 unfolding ones

@@ -163,6 +163,7 @@ fn add_statement<'a>(
 }
 
 /// What words add, unless they meet a cause.
+#[tactic(auto, using(crate::proofs::Placed::none_adds, crate::proofs::Placed::comment_adds))]
 fn add_words<'a>(
     alloc: Global,
     r: &mut Reader,

@@ -25,6 +25,7 @@ pub fn law_formed()
 {}
 
 /// The canonical text of what a text gives is no longer than the text, and gives the same.
+#[tactic(auto, using(crate::proofs::Again::canonical_again, crate::proofs::Again::canonical_short))]
 pub fn law_again()
     ensures same { (bytes : List ℕ) (load : Workload) → workload_of bytes ≡ Ok load
         → workload_of (canonical load) ≡ Ok load }
@@ -33,6 +34,7 @@ pub fn law_again()
 {}
 
 /// A line is refused for the first of the causes that it meets, and for none exactly where it meets none. A text is refused exactly where it has such a line, at the first one.
+#[tactic(auto, using(crate::proofs::Facts::line_refused, crate::proofs::Facts::text_refused))]
 pub fn law_causes()
     ensures text { (bytes : List ℕ) (fault : Fault) → workload_of bytes ≡ Err fault → IsFirstFault bytes fault }
     ensures refused { (bytes : List ℕ) (fault : Fault) → IsFirstFault bytes fault → workload_of bytes ≡ Err fault }

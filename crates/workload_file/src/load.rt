@@ -93,15 +93,13 @@ fn workload_of(alloc: Global, bytes: &[u8]) -> Result<Workload, LineError>
 }
 
 /// The workload that a text is, and that it is well formed.
+#[tactic(auto, using(crate::proofs::Invariant::workload_formed))]
 fn formed_workload_of(alloc: Global, bytes: &[u8]) -> Result<Workload, LineError>
     requires { length bytes.now < 2 ^ 63 }
     ensures value { Gives result (workload_of bytes.now) }
     ensures formed { IfOk result WellFormed }
 {
-    match workload_of(alloc, bytes) {
-        Ok(load) => Ok(load),
-        Err(error) => Err(error),
-    }
+    workload_of(alloc, bytes)
 }
 
 /// Reads a workload from a source, to its end or to one byte past 1,048,576 bytes. Ok exactly where the bytes are of the

@@ -37,10 +37,7 @@ pub fn timeout_of(text: &[u8]) -> Option<Timeout>
     if text == b"inf".as_slice() {
         return Some(Timeout::Infinite);
     }
-    match number_within(0, 1_000_000, text) {
-        Some(n) => Some(Timeout::Looks(n)),
-        None => None,
-    }
+    Some(Timeout::Looks(number_within(0, 1_000_000, text)?))
 }
 
 /// The flag that a text is: `yes` or `no`.
@@ -79,8 +76,5 @@ pub fn cores_of(text: &[u8]) -> Option<Mask>
     if text == b"all".as_slice() {
         return Some(Mask(u64::MAX));
     }
-    match number_text::cores_of(text) {
-        Some(bits) => Some(Mask(bits)),
-        None => None,
-    }
+    Some(Mask(number_text::cores_of(text)?))
 }

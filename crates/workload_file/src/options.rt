@@ -12,6 +12,7 @@ use std::alloc::AllocError;
 
 /// The value that a word gives, where it is this key, `=` and a value. Where another key stands, the byte behind as many bytes as
 /// this key has is seldom `=`, so that keys are seldom compared.
+#[tactic(auto, using(crate::proofs::Placed::shut_short, crate::proofs::Placed::shut_byte, crate::proofs::Placed::shut_key, crate::proofs::Placed::opens_key))]
 fn value_behind<'a>(word: &'a [u8], key: Key) -> Option<&'a [u8]>
     ensures { option_copied result ≡ (if opens word.now (key_text key) then Some (value_of word.now) else None) }
 {
@@ -30,6 +31,7 @@ fn value_behind<'a>(word: &'a [u8], key: Key) -> Option<&'a [u8]>
 }
 
 /// The place of the option that a word gives, and the value.
+#[tactic(auto, using(crate::proofs::Placed::opened, crate::proofs::Placed::not_opened))]
 fn option_in<'a>(fields: &[Field], word: &'a [u8]) -> Option<(usize, &'a [u8])>
     ensures known { is_some result ≡ is_known fields.now word.now }
     ensures place { IfSome result (λ option. IsOptionAt fields.now word.now option.0) }

@@ -22,6 +22,7 @@ struct Page {
 }
 
 /// Line feeds up to a line.
+#[tactic(auto, using(crate::proofs::Phrases::fed_more, crate::proofs::Phrases::fed_all))]
 fn feed(page: &mut Page, line: u64) -> Result<(), AllocError>
     ensures text { OnOk result (page.new.text.items ≡ page.old.text.items ++ replicate (line - page.old.line) 10) }
     ensures line { OnOk result (page.new.line ≡ line) }

@@ -1,5 +1,5 @@
-use Rattle.workload_file.proofs.Cited.{sym, append-nil, flat_map, lines_of_part}
-use Rattle.workload_file.proofs.Phrases.{on_ok, more_lines, more_last, parts_split, none_below, rest_of, laid_none}
+use Rattle.workload_file.proofs.Cited.{sym, append-nil, flat_map, lines_of_part, on_ok, rest_of}
+use Rattle.workload_file.proofs.Phrases.{more_lines, more_last, parts_split, none_below, laid_none}
 use Rattle.workload_file.proofs.page.+lay_parts.Goals as goal
 
 pub returns-in-empty-clause-text : goal.returns-in-empty-clause-text

@@ -1,5 +1,5 @@
-use Rattle.workload_file.proofs.Cited.{caller_text}
-use Rattle.workload_file.proofs.Phrases.{no_line, one_line, on_ok}
+use Rattle.workload_file.proofs.Cited.{caller_text, on_ok}
+use Rattle.workload_file.proofs.Phrases.{no_line, one_line}
 use Rattle.workload_file.proofs.page.lay_caller.Goals as goal
 
 pub returns-then-line-eq0-clause-text : goal.returns-then-line-eq0-clause-text

@@ -1,5 +1,5 @@
-use Rattle.workload_file.proofs.Cited.{[], caller_text, if_any, statement_lines_behind}
-use Rattle.workload_file.proofs.Phrases.{more_lines, on_ok}
+use Rattle.workload_file.proofs.Cited.{[], caller_text, if_any, statement_lines_behind, on_ok}
+use Rattle.workload_file.proofs.Phrases.{more_lines}
 use Rattle.workload_file.proofs.page.lay_part.Goals as goal
 
 pub returns-clause-text : goal.returns-clause-text

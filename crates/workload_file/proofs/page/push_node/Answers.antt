@@ -1,4 +1,5 @@
-use Rattle.workload_file.proofs.Phrases.{on_ok, words_more}
+use Rattle.workload_file.proofs.Cited.{on_ok}
+use Rattle.workload_file.proofs.Phrases.{words_more}
 use Rattle.workload_file.proofs.page.push_node.Goals as goal
 
 pub returns : goal.returns

@@ -1,5 +1,5 @@
-use Rattle.workload_file.proofs.Cited.{◌++◌, append_assoc, sym, ap, Spelled, bound_words, used_words, options_words}
-use Rattle.workload_file.proofs.Phrases.{on_ok, words_more, led_more}
+use Rattle.workload_file.proofs.Cited.{◌++◌, append_assoc, sym, ap, Spelled, bound_words, used_words, options_words, on_ok}
+use Rattle.workload_file.proofs.Phrases.{words_more, led_more}
 use Rattle.workload_file.proofs.page.push_statement.Goals as goal
 
 pub returns : goal.returns
