@@ -1,6 +1,6 @@
 -- A head line that was written is read as the same.
 use Rattle.std.proofs.lemmas.Bool.Decides.{nat_tests}
-use Rattle.journal_text.proofs.Names.{◌≡◌, ℕ, ◌<◌, ◌≤◌, ◌^◌, List, [], ◌∷◌, ◌++◌, map, Bool, true, false, cond, ◌&&◌, eqb, Some, None, refl, sym, ap, ◌∙◌, arith, codes, nat_lt, unwrap_or, list_all, after_first, bytes_eq, decimal, and_from, le-leb, NodeSettings, AreNodeSettings, Layout, number, number_within, within_written, Head, version, setting_text, first_texts, last_texts, head_text, number_behind, numbers_behind, with_setting, usual_settings, settings_from, head_from, has_callers, head_in, or_else, head_of, HeadFits}
+use Rattle.journal_text.proofs.Names.{◌≡◌, ℕ, ◌<◌, ◌≤◌, ◌^◌, List, [], ◌∷◌, ◌++◌, map, Bool, true, false, cond, ◌&&◌, eqb, Some, None, refl, sym, ap, ◌∙◌, arith, codes, nat_lt, unwrap_or, list_all, after_first, bytes_eq, decimal, and_from, le-leb, NodeSettings, AreNodeSettings, Layout, number, number_within, within_written, Head, version, setting_text, first_texts, last_texts, head_text, number_behind, numbers_behind, with_setting, settings_from, head_from, has_callers, head_in, or_else, head_of, HeadFits}
 use Rattle.journal_text.proofs.Plain.{is_plain, is_above, between_words, joined_above, decimal_plain, all_append}
 use Rattle.journal_text.proofs.LinesAgain.{bytes_same}
 
@@ -32,27 +32,9 @@ cons {y = y} {xs = xs} a b = ap (λ t. t ∷ xs) a ∙ ap (λ t. y ∷ t) b
 numbers_again : (h : Head) → HeadFits h → map number_behind (head_words h) ≡ setting_numbers h.settings h.callers
 numbers_again h e1 = grind (arith, nat_tests, keyed, setting_text, cons, title_none, version_none)
 
--- a setting takes a value in its range
-set : (v : ℕ) (s : NodeSettings) → 1 ≤ v → (v ≤ 16 → with_setting 1 v s ≡ record s { workers = v })
-    × (v ≤ 65536 → with_setting 2 v s ≡ record s { tasks = v }) × (v ≤ 1024 → with_setting 3 v s ≡ record s { actions = v })
-    × (v ≤ 1024 → with_setting 4 v s ≡ record s { groups = v }) × (v ≤ 256 → with_setting 5 v s ≡ record s { queues = v })
-    × (v ≤ 256 → with_setting 6 v s ≡ record s { objects = v }) × (v ≤ 8 → with_setting 7 v s ≡ record s { priorities = v })
-    × (v ≤ 4294967295 → with_setting 8 v s ≡ record s { generations = v })
-unfolding with_setting
-set v s e1 = grind (arith, nat_tests)
-
 settings_again : (s : NodeSettings) (callers : ℕ) → AreNodeSettings s → settings_from (setting_numbers s callers) ≡ s
-unfolding settings_from
-settings_again s callers f =
-    let a = (set s.workers usual_settings f.workers.0).0 f.workers.1 in
-    let b = ap (with_setting 2 s.tasks) a ∙ (set s.tasks _ f.tasks.0).1 f.tasks.1 in
-    let c = ap (with_setting 3 s.actions) b ∙ (set s.actions _ f.actions.0).2 f.actions.1 in
-    let d = ap (with_setting 4 s.groups) c ∙ (set s.groups _ f.groups.0).3 f.groups.1 in
-    let e = ap (with_setting 5 s.queues) d ∙ (set s.queues _ f.queues.0).4 f.queues.1 in
-    let x = ap (with_setting 6 s.objects) e ∙ (set s.objects _ f.objects.0).5 f.objects.1 in
-    let g = ap (with_setting 7 s.priorities) x ∙ (set s.priorities _ f.priorities.0).6 f.priorities.1 in
-    let h = ap (with_setting 8 s.generations) g ∙ (set s.generations _ f.generations.0).7 f.generations.1 in
-    h
+unfolding settings_from with_setting
+settings_again s callers f = grind (arith, nat_tests)
 
 -- ---- the line
 

@@ -12,4 +12,3 @@ pub mod HeadsAgain
 pub mod JournalsAgain
 pub mod Taken
 pub mod Splits
-pub mod Computed

@@ -35,20 +35,8 @@ unfoldable pub use Rattle.journal_text.specs.Journals.{entries_from, journal_fro
 unfoldable pub use Rattle.journal_text.specs.Lines.{entry_by, entry_from, entry_of, entry_text, op_from, reply_from, seat_of, skipped_from}
 unfoldable pub use Rattle.journal_text.specs.Ops.{lock_op, node_op, op_of, op_row, op_spelled, op_word_of, queue_op, segment_op, task_op, work_op}
 unfoldable pub use Rattle.journal_text.specs.Replies.{reply_of, reply_row, reply_spelled, reply_word_of}
-unfoldable pub use Rattle.journal_text.specs.Values.{
-  args_of,
-  completed_of,
-  end_of,
-  failed_of,
-  group_of,
-  mrapi_of,
-  mtapi_of,
-  status_of,
-  value_of,
-  value_words,
-  values_onto,
-  word_value,
-}
+unfoldable pub use Rattle.journal_text.specs.Values.{args_of, completed_of, end_of, failed_of, group_of, mrapi_of}
+unfoldable pub use Rattle.journal_text.specs.Values.{mtapi_of, status_of, value_of, value_words, values_onto, word_value}
 unfoldable pub use Rattle.mtapi_values.specs.Kinds.{kind_named}
 unfoldable pub use Rattle.number_text.specs.{Lists.list_of, Numbers.number, Numbers.number_within, Numbers.whole}
 pub use Rattle.number_text.proofs.Pieces.{left_len}

@@ -4,9 +4,7 @@ use Rattle.std.proofs.Common.{arith, ◌≡◌, true}
 use Rattle.std.specs.Prelude.{nat_le}
 use Rattle.std.specs.List.{list_all}
 use Rattle.mtapi_values.specs.declared.statuses.MtapiStatus.{MtapiStatus}
-use Rattle.mtapi_values.specs.declared.statuses.MtapiStatus.TheVariants as mtapi
 use Rattle.mtapi_values.specs.declared.statuses.MrapiStatus.{MrapiStatus}
-use Rattle.mtapi_values.specs.declared.statuses.MrapiStatus.TheVariants as mrapi
 use Rattle.mtapi_values.specs.Statuses.{mtapi_name, mrapi_name}
 
 pub mtapi_plain : (s : MtapiStatus) → list_all (λ b. nat_le b 127) (mtapi_name s) ≡ true

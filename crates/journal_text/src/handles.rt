@@ -99,9 +99,7 @@ fn handle_named(kind: ObjectKind, text: &[u8]) -> Option<u64>
     ensures { result ≡ handle_named kind text.now }
 {
     let (prefix, back) = cut_at(text, b'.');
-    let Some(generation) = number_within(0, 4_294_967_295, prefix) else {
-        return None;
-    };
+    let generation = number_within(0, 4_294_967_295, prefix)?;
     let slot = match back {
         Some(rest) => number_within(0, 0xFF_FFFF, rest),
         None => number_within(0, 0xFF_FFFF, &[]),

@@ -84,6 +84,7 @@ fn text_of(alloc: Global, journal: &Journal) -> Result<Vec<u8>, AllocError>
 ///
 /// # Errors
 /// `AllocError` where memory runs out.
+#[tactic(auto, using(crate::proofs::JournalsAgain::again_from))]
 pub fn write_journal(alloc: Global, journal: &Journal) -> Result<Vec<u8>, AllocError>
     ensures text { IfOk result (λ text. text.items ≡ journal_text journal.now) }
     // Reading this text gives the same journal.

@@ -112,14 +112,14 @@ fn seat_of(head: &Head, word: &[u8]) -> Option<u32>
 {
     match word {
         [] => None,
-        [letter, rest @ ..] => match number_within(0, 255, rest) {
-            Some(n) => Some(if *letter == b'w' {
-                n as u32
+        [letter, rest @ ..] => {
+            let n = number_within(0, 255, rest)? as u32;
+            Some(if *letter == b'w' {
+                n
             } else {
-                head.settings.workers() + n as u32
-            }),
-            None => None,
-        },
+                head.settings.workers() + n
+            })
+        }
     }
 }
 
@@ -164,19 +164,13 @@ fn skipped_from(left: Option<&[u8]>) -> Option<u64>
     let Some((_, left)) = next_word(left) else {
         return Some(0);
     };
-    let Some((text, _)) = next_word(left) else {
-        return None;
-    };
-    number(text)
+    number(next_word(left)?.0)
 }
 
 fn without_word(left: Option<&[u8]>) -> Option<&[u8]>
     ensures { pieces_of 32 result ≡ drop 1 (pieces_of 32 left.entry) }
 {
-    match next_word(left) {
-        Some((_, left)) => left,
-        None => None,
-    }
+    next_word(left)?.1
 }
 
 #[tactic(auto, unfolding(crate::specs::Lines::entry_by))]

@@ -21,6 +21,7 @@ fn begins_journal(bytes: &[u8], at: usize) -> bool
 }
 
 // Where the journal begins: past the last byte where there is none.
+#[tactic(auto, using(crate::proofs::Splits::none_below))]
 fn journal_place(bytes: &[u8]) -> usize
     ensures within { result ≤ length bytes.now }
     ensures begins { (result ≡ length bytes.now) ⊎ (begins_journal bytes.now result ≡ true) }

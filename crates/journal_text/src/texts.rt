@@ -10,10 +10,7 @@ pub fn next_word(left: Option<&[u8]>) -> Option<(&[u8], Option<&[u8]>)>
     ensures word { IfSome result (λ x. pieces_of 32 left.entry ≡ x.0.now ∷ pieces_of 32 x.1) }
     ensures none { IfNone result (pieces_of 32 left.entry ≡ []) }
 {
-    match left {
-        Some(text) => Some(cut_at(text, b' ')),
-        None => None,
-    }
+    Some(cut_at(left?, b' '))
 }
 
 /// Appends a word, behind a space.

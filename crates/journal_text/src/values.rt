@@ -82,8 +82,7 @@ fn push_args(alloc: Global, out: &mut Vec<u8>, args: &[i64]) -> Result<(), Alloc
     ensures { OnOk result (out.new.items ≡ out.old.items ++ args_text args.now) }
 {
     if args.is_empty() {
-        out.push(b'-')?;
-        return Ok(());
+        return Ok(out.push(b'-')?);
     }
     push_list(alloc, out, args)
 }
@@ -158,7 +157,7 @@ fn push_value(
 }
 
 /// Appends the words of values, each behind a space.
-#[tactic(auto, using(number_text::proofs::Pieces::led_append))]
+#[tactic(auto, using(number_text::proofs::Pieces::led_append, crate::proofs::Pieces::values_more))]
 pub fn push_values(
     alloc: Global,
     out: &mut Vec<u8>,
@@ -202,10 +201,7 @@ fn status_of(text: &[u8]) -> Option<Status>
 {
     match mtapi_of(text) {
         Some(status) => Some(Status::Mtapi(status)),
-        None => match mrapi_of(text) {
-            Some(status) => Some(Status::Mrapi(status)),
-            None => None,
-        },
+        None => Some(Status::Mrapi(mrapi_of(text)?)),
     }
 }
 
@@ -226,36 +222,23 @@ fn group_of(text: &[u8]) -> Option<Option<u64>>
     if text == b"-".as_slice() {
         return Some(None);
     }
-    match handle_of(text) {
-        Some(handle) => Some(Some(handle)),
-        None => None,
-    }
+    Some(Some(handle_of(text)?))
 }
 
 #[tactic(auto, unfolding(crate::specs::Values::completed_of))]
 fn completed_of(left: Option<&[u8]>) -> Option<(TaskEnd, Option<&[u8]>)>
     ensures { left_texts result ≡ completed_of (pieces_of 32 left.entry) }
 {
-    let Some((word, left)) = next_word(left) else {
-        return None;
-    };
-    match args_of(word) {
-        Some(args) => Some((TaskEnd::Completed(args), left)),
-        None => None,
-    }
+    let (word, left) = next_word(left)?;
+    Some((TaskEnd::Completed(args_of(word)?), left))
 }
 
 #[tactic(auto, unfolding(crate::specs::Values::failed_of))]
 fn failed_of(left: Option<&[u8]>) -> Option<(TaskEnd, Option<&[u8]>)>
     ensures { left_texts result ≡ failed_of (pieces_of 32 left.entry) }
 {
-    let Some((word, left)) = next_word(left) else {
-        return None;
-    };
-    match mtapi_of(word) {
-        Some(status) => Some((TaskEnd::Failed(status), left)),
-        None => None,
-    }
+    let (word, left) = next_word(left)?;
+    Some((TaskEnd::Failed(mtapi_of(word)?), left))
 }
 
 #[tactic(auto, unfolding(crate::specs::Values::end_of))]
@@ -275,10 +258,7 @@ fn end_of<'a>(word: &[u8], left: Option<&'a [u8]>) -> Option<(TaskEnd, Option<&'
 fn small(text: &[u8]) -> Option<u32>
     ensures { result ≡ number_within 0 4294967295 text.now }
 {
-    match number_within(0, 4_294_967_295, text) {
-        Some(n) => Some(n as u32),
-        None => None,
-    }
+    Some(number_within(0, 4_294_967_295, text)? as u32)
 }
 
 /// The value of this shape that one word may be: what is written, and more.
@@ -305,18 +285,13 @@ fn word_value(shape: Shape, word: &[u8]) -> Option<Value>
 fn value_of(shape: Shape, left: Option<&[u8]>) -> Option<(Value, Option<&[u8]>)>
     ensures { left_texts result ≡ value_of shape (pieces_of 32 left.entry) }
 {
-    let Some((word, left)) = next_word(left) else {
-        return None;
-    };
+    let (word, left) = next_word(left)?;
     match shape {
         Shape::End => match end_of(word, left) {
             Some((end, left)) => Some((Value::End(end), left)),
             None => None,
         },
-        _ => match word_value(shape, word) {
-            Some(value) => Some((value, left)),
-            None => None,
-        },
+        _ => Some((word_value(shape, word)?, left)),
     }
 }
 
