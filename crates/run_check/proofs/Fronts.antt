@@ -1,38 +1,13 @@
 -- Which calls the front of a list of lines is made by.
-use Rattle.run_check.proofs.Names.{◌≡◌, ℕ, suc, ◌+◌, ◌-◌, ◌≤◌, Bool, true, false, List, [], ◌∷◌, ◌++◌, Option, None, arith, refl, sym, ◌∙◌, ap, subst, length, take, drop, get_or, take-length, Op, Reply, is_pending, Wanted, Task, Entrance, AllMembers, FirstMember, Mutex, Sem, Rwl, Looking, op_of, waits, IsTimed, Line, line, before_it, looks_before, Takes, DecidesAs}
+use Rattle.run_check.proofs.Names.{◌≡◌, ℕ, suc, ◌+◌, ◌-◌, ◌≤◌, Bool, true, false, List, [], ◌∷◌, ◌++◌, Option, None, arith, refl, sym, ◌∙◌, ap, subst, length, take, drop, get_or, take-length, Op, Reply, is_pending, Wanted, Looking, op_of, waits, IsTimed, Line, line, before_it, looks_before, Takes, DecidesAs}
 use Rattle.std.proofs.Common.{Some}
 use Rattle.mtapi_values.specs.declared.timeouts.Timeout.{Timeout}
-use Rattle.mtapi_machine.specs.declared.ops.Op.TheVariants.{TaskLook, AllLook, AnyLook, MutexLook, SemLook, RwlLook}
 use Rattle.mtapi_machine.specs.declared.replies.Reply.TheVariants as reply
 use Rattle.run_check.specs.Takes.{Decides}
 
--- whether a look is the last one
-abbrev pub last_in : Op → Bool
-last_in (TaskLook t last) = last
-last_in (AllLook g last) = last
-last_in (AnyLook g last) = last
-last_in (MutexLook x last) = last
-last_in (SemLook x last) = last
-last_in (RwlLook x writer last) = last
-last_in op = false
-
--- a line is its three fields
-pub of_line : (l : Line) → l ≡ line l.op l.reply l.beside
-of_line l = refl
-
 pub is_the_reply : (r : Reply) → is_pending r ≡ true → r ≡ reply.Pending
 is_the_reply reply.Pending p = refl
-is_the_reply reply.Ok p = absurd (let x = p in cc)
-is_the_reply (reply.Handle h) p = absurd (let x = p in cc)
-is_the_reply (reply.Number n) p = absurd (let x = p in cc)
-is_the_reply (reply.Ended e) p = absurd (let x = p in cc)
-is_the_reply (reply.Given t e) p = absurd (let x = p in cc)
-is_the_reply (reply.Picked t a k args) p = absurd (let x = p in cc)
-is_the_reply reply.Idle p = absurd (let x = p in cc)
-is_the_reply reply.Stop p = absurd (let x = p in cc)
-is_the_reply (reply.Asked b) p = absurd (let x = p in cc)
-is_the_reply (reply.Mtapi s) p = absurd (let x = p in cc)
-is_the_reply (reply.Mrapi s) p = absurd (let x = p in cc)
+is_the_reply _ p = absurd (let x = p in cc)
 
 -- what stands in front of a list that isn't empty
 pub at_front : {A : Type 0} (L : List A) (l : A) → 1 ≤ length L → l ≡ get_or L 0 l → L ≡ l ∷ take (length L - 1) (drop 1 L)
@@ -41,12 +16,20 @@ at_front (x ∷ L) l m e =
     let long : suc (length L) - 1 ≡ length L = omega (arith) in
     ap (λ z. z ∷ L) (sym e) ∙ ap (λ z. l ∷ z) (sym (take-length L) ∙ ap (λ n. take n L) (sym long))
 
+abbrev pub behind_first : {A : Type 0} → List A → List A
+behind_first L = take (length L - 1) (drop 1 L)
+
+two_front : (L : List Line) (l d : Line) → 1 ≤ length L → l ≡ get_or L 0 l → 1 ≤ length (behind_first L) → d ≡ get_or (behind_first L) 0 d
+    → L ≡ l ∷ d ∷ behind_first (behind_first L)
+two_front L l d some at more next = at_front L l some at ∙ ap (λ z. l ∷ z) (at_front (behind_first L) d more next)
+
 module _ (w : Wanted) (timeout : Timeout) where
   -- a look that decides at once
-  pub alone : (l : Line) (rest : List Line) → Decides w timeout 0 l → Takes (Looking (waits w) (op_of w) timeout) (l ∷ rest) rest l.reply
-  alone l rest d = record {
+  pub alone : (L : List Line) (l : Line) → 1 ≤ length L → l ≡ get_or L 0 l → Decides w timeout 0 l
+      → Takes (Looking (waits w) (op_of w) timeout) L (behind_first L) l.reply
+  alone L l some at d = record {
     front = l ∷ [];
-    is = refl;
+    is = at_front L l some at;
     made = record {
       first = None;
       beside = l.beside;
@@ -60,11 +43,12 @@ module _ (w : Wanted) (timeout : Timeout) where
   }
 
   -- a kept look, and one that decides
-  pub behind_kept : (l d : Line) (rest : List Line) → is_pending l.reply ≡ true → l.op ≡ op_of w false → waits w ≡ true → Decides w timeout (l.beside + 1) d
-      → Takes (Looking (waits w) (op_of w) timeout) (l ∷ d ∷ rest) rest d.reply
-  behind_kept l d rest pending asks stands decides = record {
+  pub behind_kept : (L : List Line) (l d : Line) → 1 ≤ length L → l ≡ get_or L 0 l → 1 ≤ length (behind_first L) → d ≡ get_or (behind_first L) 0 d
+      → is_pending l.reply ≡ true → l.op ≡ op_of w false → waits w ≡ true → Decides w timeout (l.beside + 1) d
+      → Takes (Looking (waits w) (op_of w) timeout) L (behind_first (behind_first L)) d.reply
+  behind_kept L l d some at more next pending asks stands decides = record {
     front = l ∷ d ∷ [];
-    is = refl;
+    is = two_front L l d some at more next;
     made = record {
       first = Some l.beside;
       beside = d.beside;
@@ -109,11 +93,13 @@ module _ (w : Wanted) (timeout : Timeout) where
       (record { decides = t.made.decides; within = t.made.within; late = t.made.late })
 
   -- where the look doesn't decide, none was kept and the next does, and else the next doesn't decide
-  pub no_front : (l d : Line) (ls rest : List Line) (r : Reply) → is_pending l.reply ≡ true → (Decides w timeout (l.beside + 1) d → ⊥)
-      → Takes (Looking (waits w) (op_of w) timeout) (l ∷ d ∷ ls) rest r → ⊥
-  no_front l d ls rest r pending not t = by (look_front l (d ∷ ls) rest r t)
+  pub no_front : (L : List Line) (l d : Line) (rest : List Line) (r : Reply) → 1 ≤ length L → l ≡ get_or L 0 l → 1 ≤ length (behind_first L)
+      → d ≡ get_or (behind_first L) 0 d → is_pending l.reply ≡ true → (Decides w timeout (l.beside + 1) d → ⊥)
+      → Takes (Looking (waits w) (op_of w) timeout) L rest r → ⊥
+  no_front L l d rest r some at more next pending not t = by (look_front l (d ∷ behind_first (behind_first L)) rest r
+      (subst (λ (z : List Line). Takes (Looking (waits w) (op_of w) timeout) z rest r) (two_front L l d some at more next) t))
     where
-      by : LookFront l (d ∷ ls) rest r → ⊥
+      by : LookFront l (d ∷ behind_first (behind_first L)) rest r → ⊥
       by (at_once a b decided e) = absurd (cc)
       by (kept_one x is b p o s e) =
           let here : d ≡ x = cc in

@@ -1,5 +1,5 @@
 -- The lines of a part, from what its statements leave behind.
-use Rattle.run_check.proofs.Names.{◌≡◌, ℕ, ◌+◌, ◌<◌, ◌≤◌, Bool, true, false, List, [], ◌∷◌, ◌++◌, refl, sym, ◌∙◌, ap, subst, length, get_or, drop, Option, None, arith, append_assoc, length-drop, ◌&&◌, ◌==◌, ◌↔◌, IsTrue, IfSome, IfNone, append-nil, nil_from_length, drop_more, Decides-eqb, Statement, Reply, handle_of, call_of, Carried, MainRan, CallerRan, has_begin, Line, line, Made, head_of, tail_of_main, in_lines, is_work, all_work, CarriedTo}
+use Rattle.run_check.proofs.Names.{◌≡◌, ℕ, ◌+◌, ◌<◌, ◌≤◌, Bool, true, false, List, [], ◌∷◌, ◌++◌, refl, sym, ◌∙◌, ap, subst, length, get_or, drop, Option, None, arith, append_assoc, length-drop, ◌&&◌, ◌==◌, ◌↔◌, IsTrue, IfSome, IfNone, append-nil, nil_from_length, drop_more, Decides-eqb, Statement, Op, Reply, handle_of, call_of, Carried, MainRan, CallerRan, has_begin, Line, line, Made, head_of, tail_of_main, in_lines, is_work, all_work, CarriedTo}
 use Rattle.std.proofs.Common.{Some}
 use Rattle.mtapi_machine.specs.declared.replies.Reply.TheVariants as replies
 use Rattle.mtapi_machine.specs.declared.ops.Op.TheVariants as ops
@@ -134,17 +134,12 @@ is_nil l b e = (λ t. nil_from_length l (omega (arith, (Decides-eqb (length l) 0
 
 -- Workers
 
-pub work_more : (ls : List Line) (i : ℕ) (l : Line) → i < length ls → l ≡ get_or ls i l
-    → all_work (drop i ls) ≡ (is_work l.op l.reply && all_work (drop (i + 1) ls))
+pub work_more : (ls : List Line) (i : ℕ) (l : Line) (o : Op) (r : Reply) (b : Bool) → i < length ls → l ≡ get_or ls i l → o ≡ l.op → r ≡ l.reply
+    → b ≡ is_work o r → all_work (drop i ls) ≡ (b && all_work (drop (i + 1) ls))
 unfolding all_work
-work_more ls i l here is = ap all_work (drop_more ls i l here ∙ ap (λ x. x ∷ drop (i + 1) ls) (sym is))
+work_more ls i l o r b here is asks says e = ap all_work (drop_more ls i l here ∙ ap (λ x. x ∷ drop (i + 1) ls) (sym is))
+    ∙ ap (λ x. x && all_work (drop (i + 1) ls)) (sym (e ∙ (ap (λ z. is_work z r) asks ∙ ap (λ z. is_work l.op z) says)))
 
 pub work_none : (ls : List Line) (i : ℕ) → length ls ≤ i → all_work (drop i ls) ≡ true
 unfolding all_work
 work_none ls i past = ap all_work (nil_from_length (drop i ls) (omega (arith, length-drop i ls, past)))
-
-pub and_false : (a b : Bool) → a ≡ false → (a && b) ≡ false
-and_false a b e = ap (λ x. x && b) e
-
-pub and_true : (a b : Bool) → a ≡ true → (a && b) ≡ b
-and_true a b e = ap (λ x. x && b) e

@@ -1,5 +1,4 @@
-use Rattle.run_check.proofs.Names.{◌≡◌, ◌+◌, ◌-◌, ℕ, List, [], refl, sym, subst, length, take, drop, arith, IsTrue, ◌↔◌, nil_from_length, Part, Line, lines_of}
-use Rattle.run_check.proofs.Fronts.{at_front}
+use Rattle.run_check.proofs.Names.{◌≡◌, ℕ, List, [], refl, sym, subst, arith, nil_from_length, Part, Line, lines_of}
 use Rattle.run_check.proofs.Several.{Some, no_callers, not_first, and_rest}
 use Rattle.run_check.proofs.whole.+callers_ran.Goals as goal
 
@@ -10,23 +9,12 @@ returns-in_default t c =
     (λ x. subst (λ (ps : List Part). Some made c.args.who ps) (sym nil) (no_callers made c.args.who), λ s. refl)
 
 pub returns-then-not-branch : goal.returns-then-not-branch
-returns-then-not-branch t c =
-    let made : ℕ → List Line = λ w. lines_of w c.args.entries.now c.args.skipped.now in
-    let p = c.part-item.result in
-    let rest = take (length c.args.parts.now - 1) (drop 1 c.args.parts.now) in
-    let front = at_front c.args.parts.now p c.in-len1-up.len_at_least c.part-item.is in (
-      λ x. absurd (let y = x in cc),
-      λ s. absurd (not_first made c.args.who p rest
-          (λ r. let x = c.in_ok-caller_made.ensures.1 r in let y = c.if-not-branch.true in
-          absurd (cc)) (subst (λ (ps : List Part). Some made c.args.who ps) front s)),
-    )
+returns-then-not-branch t c = (
+  λ x. absurd (let y = x in cc),
+  λ s. absurd (not_first (λ w. lines_of w c.args.entries.now c.args.skipped.now) c.args.who c.args.parts.now c.part-item.result c.in-len1-up.len_at_least
+      c.part-item.is (λ r. let x = c.in_ok-caller_made.ensures.1 r in let y = c.if-not-branch.true in absurd (cc)) s),
+)
 
 pub returns : goal.returns
-returns t c =
-    let made : ℕ → List Line = λ w. lines_of w c.args.entries.now c.args.skipped.now in
-    let p = c.part-item.result in
-    let rest = take (length c.args.parts.now - 1) (drop 1 c.args.parts.now) in
-    let front = at_front c.args.parts.now p c.in-len1-up.len_at_least c.part-item.is in
-    subst (λ (ps : List Part). IsTrue c.in_ok-rest_ran.rest_ran ↔ Some made c.args.who ps) (sym front)
-    (and_rest made c.args.who p rest (c.args.who
-    + 1) c.in_ok-rest_ran.rest_ran (c.in_ok-caller_made.ensures.0 c.if-not-branch.false) refl c.in_ok-rest_ran.ensures)
+returns t c = and_rest (λ w. lines_of w c.args.entries.now c.args.skipped.now) c.args.who c.args.parts.now c.part-item.result c.in_ok-rest_ran.rest_ran
+    c.in-len1-up.len_at_least c.part-item.is (c.in_ok-caller_made.ensures.0 c.if-not-branch.false) c.in_ok-rest_ran.ensures
