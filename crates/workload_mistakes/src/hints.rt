@@ -30,6 +30,11 @@ pub fn hint_at(
     Ok(Hint { at, text: out })
 }
 
+/// The hint at a word: the word, and two texts behind it.
+pub fn word_hint(alloc: Global, word: Piece, text: &[u8], more: &[u8]) -> Result<Hint, AllocError> {
+    hint_at(alloc, word.at, word.text, text, more)
+}
+
 /// The hint with a line's number behind it.
 fn with_line(alloc: Global, hint: Hint, front: &[u8], line: u64) -> Result<Hint, AllocError> {
     let mut hint = hint;
@@ -42,35 +47,18 @@ fn statement_hint(alloc: Global, word: Piece) -> Result<Hint, AllocError> {
     match row_of(word.text) {
         Some(row) => {
             let meant = row.word().as_bytes();
-            hint_at(alloc, word.at, word.text, b": perhaps you mean ", meant)
+            word_hint(alloc, word, b": perhaps you mean ", meant)
         }
-        None => hint_at(
-            alloc,
-            word.at,
-            word.text,
-            b": no statement begins with this word",
-            b"",
-        ),
+        None => word_hint(alloc, word, b": no statement begins with this word", b""),
     }
 }
 
 fn misplaced_hint(alloc: Global, word: Piece) -> Result<Hint, AllocError> {
     if word.text == b"node".as_slice() {
-        return hint_at(
-            alloc,
-            word.at,
-            word.text,
-            b": only as the first statement",
-            b"",
-        );
+        return word_hint(alloc, word, b": only as the first statement", b"");
     }
-    hint_at(
-        alloc,
-        word.at,
-        word.text,
-        b": once, and before the first caller line",
-        b"",
-    )
+    let rule = b": once, and before the first caller line";
+    word_hint(alloc, word, rule, b"")
 }
 
 fn name_hint(alloc: Global, name: Piece) -> Result<Hint, AllocError> {
@@ -80,7 +68,7 @@ fn name_hint(alloc: Global, name: Piece) -> Result<Hint, AllocError> {
         b": "
     };
     let rule = b"a name is a letter a to z and up to 15 more of a to z, 0 to 9 and _";
-    hint_at(alloc, name.at, name.text, front, rule)
+    word_hint(alloc, name, front, rule)
 }
 
 /// What is said of a name that is taken.
@@ -88,14 +76,14 @@ fn taken_hint(alloc: Global, text: &[u8], number: u64) -> Result<Hint, AllocErro
     let (first, name) = first_two(line_of(text, number));
     if first.text == b"caller".as_slice() {
         let rule = b": each part has a name of its own, and the first is main";
-        return hint_at(alloc, name.at, name.text, rule, b"");
+        return word_hint(alloc, name, rule, b"");
     }
     match binding_before(text, number, name.text, false) {
         Some(binding) => {
-            let hint = hint_at(alloc, name.at, name.text, b"", b"")?;
+            let hint = word_hint(alloc, name, b"", b"")?;
             with_line(alloc, hint, b": bound on line ", binding.line)
         }
-        None => hint_at(alloc, name.at, name.text, b": bound before", b""),
+        None => word_hint(alloc, name, b": bound before", b""),
     }
 }
 
@@ -134,32 +122,16 @@ fn unknown_hint(
     let name = unknown_name(text, number, pieces);
     if let Some(binding) = binding_before(text, number, name.text, false) {
         let binds = binding.binds.as_bytes();
-        let hint = hint_at(
-            alloc,
-            name.at,
-            name.text,
-            b": the name of another kind of object: ",
-            binds,
-        )?;
+        let rule = b": the name of another kind of object: ";
+        let hint = word_hint(alloc, name, rule, binds)?;
         return with_line(alloc, hint, b", bound on line ", binding.line);
     }
     if let Some(binding) = binding_before(text, number, name.text, true) {
-        let hint = hint_at(
-            alloc,
-            name.at,
-            name.text,
-            b": perhaps you mean ",
-            binding.name,
-        )?;
+        let hint = word_hint(alloc, name, b": perhaps you mean ", binding.name)?;
         return with_line(alloc, hint, b", bound on line ", binding.line);
     }
-    hint_at(
-        alloc,
-        name.at,
-        name.text,
-        b": no line before in this caller's part binds it",
-        b"",
-    )
+    let rule = b": no line before in this caller's part binds it";
+    word_hint(alloc, name, rule, b"")
 }
 
 /// What is said of a line that has this cause, where the line itself, and others before it, may be mended by now.
@@ -180,20 +152,14 @@ pub fn hint_of(
         Cause::LineTooLong => hint_at(alloc, 512, b"512 bytes are allowed", b"", b""),
         Cause::BadByte => byte_hint(alloc, line),
         Cause::UnknownWord => statement_hint(alloc, first),
-        Cause::TooManyStatements => hint_at(
-            alloc,
-            first.at,
-            first.text,
-            b": 20,000 are allowed; the rest isn't looked at",
-            b"",
-        ),
-        Cause::TooManyCallers => hint_at(
-            alloc,
-            first.at,
-            first.text,
-            b": 8 are allowed; the rest isn't looked at",
-            b"",
-        ),
+        Cause::TooManyStatements => {
+            let rule = b": 20,000 are allowed; the rest isn't looked at";
+            word_hint(alloc, first, rule, b"")
+        }
+        Cause::TooManyCallers => {
+            let rule = b": 8 are allowed; the rest isn't looked at";
+            word_hint(alloc, first, rule, b"")
+        }
         Cause::Misplaced => misplaced_hint(alloc, first),
         Cause::BadName => name_hint(alloc, second),
         Cause::UnknownOption => option_hint(alloc, &pieces),

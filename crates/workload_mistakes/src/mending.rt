@@ -65,6 +65,7 @@ fn part_in(part: Part, text: &[u8]) -> &[u8]
     front_of(rest_of(text, part.from), part.long)
 }
 
+#[tactic(auto, using(crate::proofs::Lines::space_more))]
 fn push_spaces(out: &mut Vec<u8>, count: u64) -> Result<(), AllocError>
     ensures { OnOk result (out.new.items ≡ out.old.items ++ replicate count 32) }
 {

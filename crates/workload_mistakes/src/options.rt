@@ -1,5 +1,5 @@
 //! What is wrong with the options of a statement.
-use crate::hints::{Hint, hint_at};
+use crate::hints::{Hint, hint_at, word_hint};
 use crate::reading::{Verdict, verdict_on};
 use crate::table::{KINDS, row_of, value_text};
 use crate::words::{Piece, are_near, nearest};
@@ -140,40 +140,23 @@ fn option_like(pieces: &[Piece], key: &[u8]) -> Option<&'static [u8]> {
 /// What is said of a word that is no option of its statement.
 pub fn option_hint(alloc: Global, pieces: &[Piece]) -> Result<Hint, AllocError> {
     let (option, before) = refused_option(alloc, pieces, Cause::UnknownOption)?;
-    let at = option.at;
     let word = option.text;
     let usage = usage_of(pieces);
     if word.starts_with(b"#") {
-        return hint_at(alloc, at, word, b": a comment has a line of its own", b"");
+        return word_hint(alloc, option, b": a comment has a line of its own", b"");
     }
     if before.text.ends_with(b",") {
-        return hint_at(
-            alloc,
-            at,
-            word,
-            b": a space ends a word; a list has commas and no spaces",
-            b"",
-        );
+        let rule = b": a space ends a word; a list has commas and no spaces";
+        return word_hint(alloc, option, rule, b"");
     }
     if !has_key(word) {
-        return hint_at(
-            alloc,
-            at,
-            word,
-            b": an option is key=value without spaces: ",
-            usage,
-        );
+        let rule = b": an option is key=value without spaces: ";
+        return word_hint(alloc, option, rule, usage);
     }
     if let Some(meant) = option_like(pieces, key_of(word)) {
-        return hint_at(alloc, at, word, b": perhaps ", meant);
+        return word_hint(alloc, option, b": perhaps ", meant);
     }
-    hint_at(
-        alloc,
-        at,
-        word,
-        b": not an option of this statement: ",
-        usage,
-    )
+    word_hint(alloc, option, b": not an option of this statement: ", usage)
 }
 
 /// What is said of an option that stands twice.
@@ -184,7 +167,7 @@ pub fn twice_hint(alloc: Global, pieces: &[Piece]) -> Result<Hint, AllocError> {
             .iter()
             .any(|other| key_of(other.text) == key_of(option.text))
         {
-            return hint_at(alloc, option.at, option.text, b": each option once", b"");
+            return word_hint(alloc, *option, b": each option once", b"");
         }
     }
     hint_at(alloc, 0, b"", b"", b"")
@@ -200,29 +183,11 @@ pub fn value_hint(alloc: Global, pieces: &[Piece]) -> Result<Hint, AllocError> {
         .unwrap_or(&[]);
     if key == b"kind".as_slice() {
         return match nearest(KINDS, value) {
-            Some(kind) => hint_at(
-                alloc,
-                option.at,
-                option.text,
-                b": perhaps you mean ",
-                kind.as_bytes(),
-            ),
-            None => hint_at(
-                alloc,
-                option.at,
-                option.text,
-                b": one of ten words: ",
-                KINDS.as_bytes(),
-            ),
+            Some(kind) => word_hint(alloc, option, b": perhaps you mean ", kind.as_bytes()),
+            None => word_hint(alloc, option, b": one of ten words: ", KINDS.as_bytes()),
         };
     }
-    hint_at(
-        alloc,
-        option.at,
-        option.text,
-        b": ",
-        value_text(key).as_bytes(),
-    )
+    word_hint(alloc, option, b": ", value_text(key).as_bytes())
 }
 
 /// What is said of a line of this length in which an option is missing.
