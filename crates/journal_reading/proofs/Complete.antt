@@ -15,26 +15,14 @@ workload_once : (front : List ℕ) (e : ShowEnd) → FrontFails front e → IsWo
 workload_once front end.Memory fails load = refl
 workload_once front (end.Refused line cause) fails load = absurd (let both = sym fails.1 ∙ load.2 in cc)
 workload_once front end.WorkloadTooLong fails load = absurd (omega (arith, fails, load.0))
-workload_once front end.Done fails load = absurd fails
-workload_once front end.Usage fails load = absurd fails
-workload_once front end.TooLong fails load = absurd fails
-workload_once front (end.BadLine line) fails load = absurd fails
-workload_once front end.CutShort fails load = absurd fails
-workload_once front end.ReadFault fails load = absurd fails
-workload_once front end.WriteFault fails load = absurd fails
+workload_once front _ fails load = absurd fails
 
 -- a rest is a journal or none
 journal_once : (rest : List ℕ) (e : ShowEnd) → RestFails rest e → IsJournal rest → (e ≡ end.Memory)
 journal_once rest end.Memory fails journal = refl
 journal_once rest (end.BadLine line) fails journal = absurd (let both = sym fails ∙ journal.1 in cc)
 journal_once rest end.CutShort fails journal = absurd (let both = sym fails ∙ journal.1 in cc)
-journal_once rest (end.Refused line cause) fails journal = absurd fails
-journal_once rest end.WorkloadTooLong fails journal = absurd fails
-journal_once rest end.Done fails journal = absurd fails
-journal_once rest end.Usage fails journal = absurd fails
-journal_once rest end.TooLong fails journal = absurd fails
-journal_once rest end.ReadFault fails journal = absurd fails
-journal_once rest end.WriteFault fails journal = absurd fails
+journal_once rest _ fails journal = absurd fails
 
 -- so is what stands before a journal
 front_once : (view : RunView) (front : List ℕ) (e : ShowEnd) → IsRefused view front e → IsFront view front → (e ≡ end.Memory)
@@ -62,11 +50,7 @@ ends_well view a b bytes end.Memory _ _ _ _ d reads writes calm dry h = inr refl
 ends_well view a b bytes end.ReadFault _ _ _ _ d reads writes calm dry h = absurd (calm (reads refl))
 ends_well view a b bytes end.WriteFault _ _ _ _ d reads writes calm dry h = absurd (dry (writes refl))
 ends_well view a b bytes end.TooLong _ _ _ _ d reads writes calm dry h = absurd (omega (arith, d, h.0))
-ends_well view a b bytes end.Usage _ _ _ _ d reads writes calm dry h = inr (input_once view bytes _ d.1 h.1)
-ends_well view a b bytes (end.Refused line cause) _ _ _ _ d reads writes calm dry h = inr (input_once view bytes _ d.1 h.1)
-ends_well view a b bytes end.WorkloadTooLong _ _ _ _ d reads writes calm dry h = inr (input_once view bytes _ d.1 h.1)
-ends_well view a b bytes (end.BadLine line) _ _ _ _ d reads writes calm dry h = inr (input_once view bytes _ d.1 h.1)
-ends_well view a b bytes end.CutShort _ _ _ _ d reads writes calm dry h = inr (input_once view bytes _ d.1 h.1)
+ends_well view a b bytes _ _ _ _ _ d reads writes calm dry h = inr (input_once view bytes _ d.1 h.1)
 
 pub completes : (view : RunView) (left a b : Option (List ℕ)) (r : ShowEnd) (read read' written written' : ℕ) → IfSome left (λ bytes. Shows view a b bytes r)
     → (r ≡ end.ReadFault → Rose read read') → (r ≡ end.WriteFault → Rose written written')
