@@ -1,4 +1,5 @@
 -- Whether main has closed, and nobody else has an entry behind that, one entry on.
+use Rattle.std.proofs.lemmas.Bool.Decides.{nat_tests}
 use Rattle.run_check.proofs.Names.{◌≡◌, ℕ, ◌+◌, ◌-◌, ◌<◌, ◌≤◌, Bool, true, false, cond, List, [], ◌∷◌, ◌++◌, ◌⊎◌, inl, inr, append_assoc, refl, sym, ◌∙◌, ap, subst, length, get_or, take, arith, ◌==◌, ◌↔◌, IsTrue, take_at_read, take-length, Decides-eqb, NodeEntry, ClosesAtEnd, StaysClosed, Closes}
 use Rattle.history.specs.Histories.{entry, entries_of}
 use Rattle.mtapi_machine.specs.declared.ops.Op.TheVariants as ops
@@ -17,9 +18,7 @@ module _ {E : Type 0} where
   pub split : (L before behind : List E) (e c : E) → L ++ e ∷ [] ≡ before ++ c ∷ behind → Split L before behind e c
   split [] [] behind e c is = inl (sym (cc), refl, cc)
   split [] (b ∷ bs) behind e c is = absurd (no_middle bs behind c (cc))
-  split (x ∷ L) [] behind e c is =
-      let here : x ≡ c = cc in
-      inr (L, sym (cc), ap (λ z. z ∷ L) here)
+  split (x ∷ L) [] behind e c is = grind (arith, nat_tests)
   split (x ∷ L) (b ∷ bs) behind e c is =
       let here : x ≡ b = cc in
       let more : L ++ e ∷ [] ≡ bs ++ c ∷ behind = cc in
@@ -30,24 +29,11 @@ module _ {E : Type 0} where
       by here (inr s) = inr (s.0, s.1, λ i. here i ∷ s.2 i)
 
   pub last_same : (xs ys : List E) (x y : E) → xs ++ x ∷ [] ≡ ys ++ y ∷ [] → (xs ≡ ys) × (x ≡ y)
-  last_same xs ys x y is = by (split xs ys [] x y is)
-    where
-      by : Split xs ys [] x y → (xs ≡ ys) × (x ≡ y)
-      by (inl s) = (s.1, s.2)
-      by (inr s) = absurd (no_middle s.0 [] x s.1)
+  last_same xs ys x y e1 = grind (arith, nat_tests, split, no_middle)
 
 of_more : (who : ℕ) (L : List NodeEntry) (e : NodeEntry) → entries_of who (L ++ e ∷ []) ≡ entries_of who L ++ cond (e.who == who) (e ∷ []) []
-of_more who [] e = by (e.who == who)
-  where
-    by : (b : Bool) → cond b (e ∷ []) [] ≡ cond b (e ∷ []) []
-    by b = refl
-of_more who (x ∷ L) e = by (x.who == who) (of_more who L e)
-  where
-    by : (b : Bool) → entries_of who (L ++ e ∷ []) ≡ entries_of who L ++ cond (e.who == who) (e ∷ []) []
-        → cond b (x ∷ entries_of who (L ++ e ∷ [])) (entries_of who (L ++ e ∷ []))
-        ≡ cond b (x ∷ entries_of who L) (entries_of who L) ++ cond (e.who == who) (e ∷ []) []
-    by true m = ap (λ l. x ∷ l) m
-    by false m = m
+of_more who [] e = refl
+of_more who (x ∷ L) e = grind (arith, nat_tests, of_more who L e)
 
 both_nil : {A : Type 0} (l r : List A) → l ++ r ≡ [] → (l ≡ []) × (r ≡ [])
 both_nil [] r e = (refl, e)
@@ -64,16 +50,7 @@ module _ (main : ℕ) (L : List NodeEntry) (e : NodeEntry) where
   close = entry main ops.Close replies.Ok
 
   stays : Closes main L → e.who ≤ main → Closes main (L ++ e ∷ [])
-  stays c low = record {
-    before = c.before;
-    behind = c.behind ++ e ∷ [];
-    closes = ap (λ l. l ++ e ∷ []) c.closes ∙ append_assoc c.before (close ∷ c.behind) (e ∷ []);
-    callers_ended = λ who l. of_more who c.behind e
-        ∙ (ap (λ l. l ++ cond (e.who == who) (e ∷ []) []) (c.callers_ended who l) ∙ ap (λ b. cond b (e ∷ []) []) (other who l));
-  }
-    where
-      other : (who : ℕ) → main < who → (e.who == who) ≡ false
-      other who l = false_from_ne_true (e.who == who) (λ t. absurd (omega (arith, low, l, (Decides-eqb e.who who).0 t)))
+  stays e1 e2 = grind (arith, nat_tests, append_assoc, of_more, false_from_ne_true, Decides-eqb)
 
   begins : e ≡ close → Closes main (L ++ e ∷ [])
   begins is = record { before = L; behind = []; closes = ap (λ x. L ++ x ∷ []) is; callers_ended = λ who l. refl }
@@ -108,15 +85,7 @@ module _ (main : ℕ) (L : List NodeEntry) (e : NodeEntry) where
 
   pub closes_next : (closed after : Bool) → IsTrue closed ↔ Closes main L → IsTrue after ↔ StaysClosed main (IsTrue closed) e
       → IsTrue after ↔ Closes main (L ++ e ∷ [])
-  closes_next closed after so next = (λ t. there (next.0 t), λ c. next.1 (back (stayed c)))
-    where
-      there : StaysClosed main (IsTrue closed) e → Closes main (L ++ e ∷ [])
-      there (inl is) = begins is
-      there (inr s) = stays (so.0 s.0) s.1
-
-      back : StaysClosed main (Closes main L) e → StaysClosed main (IsTrue closed) e
-      back (inl is) = inl is
-      back (inr s) = inr (so.1 s.0, s.1)
+  closes_next closed after e1 e2 = grind (arith, nat_tests, stayed, begins, stays)
 
   -- one entry on, in a longer list
   pub closes_at : (i : ℕ) (es : List NodeEntry) (closed after : Bool) → L ≡ take i es → i < length es → e ≡ get_or es i e
@@ -149,7 +118,4 @@ ends_by main before es last b is final so = (λ t. there (so.0 t), λ c. so.1 (b
 
 -- a list that isn't empty, from behind
 pub at_last : (L : List NodeEntry) (x : NodeEntry) → 1 ≤ length L → x ≡ get_or L (length L - 1) x → L ≡ take (length L - 1) L ++ x ∷ []
-at_last L x some is =
-    let n : ℕ = length L - 1 in
-    let long : n + 1 ≡ length L = omega (arith, some) in
-    sym (ap (λ k. take k L) long ∙ take-length L) ∙ ((take_at_read L n x (omega (arith, some))).1 ∙ ap (λ z. take n L ++ z ∷ []) (sym is))
+at_last L x e1 e2 = grind (arith, nat_tests, take-length, take_at_read)

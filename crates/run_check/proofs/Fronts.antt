@@ -1,4 +1,5 @@
 -- Which calls the front of a list of lines is made by.
+use Rattle.std.proofs.lemmas.Bool.Decides.{nat_tests}
 use Rattle.run_check.proofs.Names.{◌≡◌, ℕ, suc, ◌+◌, ◌-◌, ◌≤◌, Bool, true, false, List, [], ◌∷◌, ◌++◌, Option, None, arith, refl, sym, ◌∙◌, ap, subst, length, take, drop, get_or, take-length, Op, Reply, is_pending, Wanted, Looking, op_of, waits, IsTimed, Line, line, before_it, looks_before, Takes, DecidesAs}
 use Rattle.std.proofs.Common.{Some}
 use Rattle.mtapi_values.specs.declared.timeouts.Timeout.{Timeout}
@@ -71,12 +72,7 @@ module _ (w : Wanted) (timeout : Timeout) where
   by_first : (l : Line) (ls rest front : List Line) (r : Reply) (first : Option ℕ) (beside : ℕ) (last : Bool) → l ∷ ls ≡ front ++ rest
       → front ≡ before_it (op_of w false) first ++ line (op_of w last) r beside ∷ [] → (waits w ≡ false → first ≡ None)
       → DecidesAs timeout last (looks_before first + (beside + 1)) r → LookFront l ls rest r
-  by_first l ls rest front r None beside last is made none shows =
-      let e : l ∷ ls ≡ line (op_of w last) r beside ∷ rest = is ∙ ap (λ f. f ++ rest) made in
-      let here : l ≡ line (op_of w last) r beside = cc in
-      let behind : ls ≡ rest = cc in
-      at_once (sym behind) (sym (ap (λ z. z.reply) here)) (ap (λ z. is_pending z.reply) here ∙ shows.decides)
-      (record { last = last; is = ap (λ z. z.op) here; shows = subst (λ (z : Line). DecidesAs timeout last (0 + (z.beside + 1)) z.reply) (sym here) shows })
+  by_first l ls rest front r None beside last is made none shows = grind (arith, nat_tests, op_of, is_pending)
   by_first l ls rest front r (Some n) beside last is made none shows =
       let e : l ∷ ls ≡ line (op_of w false) reply.Pending n ∷ line (op_of w last) r beside ∷ rest = is ∙ ap (λ f. f ++ rest) made in
       let here : l ≡ line (op_of w false) reply.Pending n = cc in

@@ -1,4 +1,5 @@
 -- The lines of a part, from what its statements leave behind.
+use Rattle.std.proofs.lemmas.Bool.Decides.{nat_tests}
 use Rattle.run_check.proofs.Names.{◌≡◌, ℕ, ◌+◌, ◌<◌, ◌≤◌, Bool, true, false, List, [], ◌∷◌, ◌++◌, refl, sym, ◌∙◌, ap, subst, length, get_or, drop, Option, None, arith, append_assoc, length-drop, ◌&&◌, ◌==◌, ◌↔◌, IsTrue, IfSome, IfNone, append-nil, nil_from_length, drop_more, Decides-eqb, Statement, Op, Reply, handle_of, call_of, Carried, MainRan, CallerRan, has_begin, Line, line, Made, head_of, tail_of_main, in_lines, is_work, all_work, CarriedTo}
 use Rattle.std.proofs.Common.{Some}
 use Rattle.mtapi_machine.specs.declared.replies.Reply.TheVariants as replies
@@ -63,21 +64,10 @@ module _ (ss : List Statement) (lines : List Line) where
 
   -- main's lines behind their head
   pub main_left : (left : List Line) → lines ≡ head_of (has_begin ss) ++ left → SomeMain → CarriedTo [] ss left tail_of_main
-  main_left left is m =
-      let same : head_of (has_begin ss) ++ left ≡ head_of (has_begin ss) ++ (m.1.body ++ tail_of_main) = sym is ∙ m.1.is in
-      subst (λ (z : List Line). CarriedTo [] ss z tail_of_main) (sym (by (has_begin ss) left (m.1.body ++ tail_of_main) same))
-      (to_rest [] ss m.1.body tail_of_main m.0 m.1.carried)
-    where
-      by : (b : Bool) (x y : List Line) → head_of b ++ x ≡ head_of b ++ y → x ≡ y
-      by true x y e = cc
-      by false x y e =
-          let more : line ops.Release replies.Ok 0 ∷ x ≡ line ops.Release replies.Ok 0 ∷ y = cc in
-          cc
+  main_left left e1 e2 = grind (arith, nat_tests, head_of, has_begin, tail_of_main, to_rest)
 
   pub main_is : (left : List Line) → lines ≡ head_of (has_begin ss) ++ left → CarriedTo [] ss left tail_of_main → SomeMain
-  main_is left is c =
-      let b = from_rest [] ss left tail_of_main c in
-      (b.replies, record { body = b.body; is = is ∙ ap (λ l. head_of (has_begin ss) ++ l) b.is; carried = b.carried })
+  main_is left e1 e2 = grind (arith, nat_tests, from_rest, tail_of_main, head_of, has_begin)
 
   pub caller_left : (first : Line) (rest : List Line) → lines ≡ first ∷ rest → SomeCaller → CarriedTo [] ss rest []
   caller_left first rest is m =
@@ -102,11 +92,7 @@ module _ (ss : List Statement) (lines : List Line) where
 
   pub main_some : (left rest : List Line) (b : Bool) → lines ≡ head_of (has_begin ss) ++ left → CarriedTo [] ss left rest → IsTrue b ↔ (rest ≡ tail_of_main)
       → IsTrue b ↔ SomeMain
-  main_some left rest b is c same = (
-    λ t. main_is left is (subst (λ (z : List Line). CarriedTo [] ss left z) (same.0 t) c),
-    λ m. same.1
-        (rest_same [] ss left rest tail_of_main c (main_left left is m)),
-  )
+  main_some left rest b e1 e2 e3 = grind (arith, nat_tests, main_is, rest_same, tail_of_main, main_left)
 
   pub main_none : (left : List Line) → lines ≡ head_of (has_begin ss) ++ left → ((rest : List Line) → CarriedTo [] ss left rest → ⊥) → IsTrue false ↔ SomeMain
   main_none left is none = (λ t. absurd (let x = t in cc), λ m. absurd (none tail_of_main (main_left left is m)))

@@ -1,7 +1,7 @@
 -- A call takes the same front of the lines, and comes to the same reply, however it is read.
-use Rattle.run_check.proofs.Names.{◌≡◌, ℕ, Bool, true, false, List, [], ◌∷◌, ◌++◌, Option, None, sym, ◌∙◌, ap, Op, Reply, is_pending, Call, Once, Looking, Line, line, before_it, Takes}
-use Rattle.std.proofs.Common.{Some}
-use Rattle.mtapi_machine.specs.declared.replies.Reply.TheVariants as reply
+use Rattle.std.proofs.lemmas.Bool.Decides.{nat_tests}
+use Rattle.run_check.proofs.Names.{◌≡◌, ℕ, Bool, false, List, [], ◌∷◌, ◌++◌, Option, None, sym, ◌∙◌, ap, Op, Reply, is_pending, Call, Once, Looking, Line, line, before_it, Takes}
+use Rattle.std.proofs.Common.{arith, Some}
 
 -- the same is left, and the reply is the same
 abbrev pub Agree : List Line → Reply → List Line → Reply → Type 0
@@ -10,25 +10,10 @@ Agree rest r other q = (rest ≡ other) × (r ≡ q)
 looked_same : (o : Bool → Op) (lines rest other : List Line) (r q : Reply) (first second : Option ℕ) (m n : ℕ) (a b : Bool)
     → lines ≡ (before_it (o false) first ++ line (o a) r m ∷ []) ++ rest → lines ≡ (before_it (o false) second ++ line (o b) q n ∷ []) ++ other
     → is_pending r ≡ false → is_pending q ≡ false → Agree rest r other q
-looked_same o lines rest other r q None None m n a b x y none nor =
-    let e : line (o a) r m ∷ rest ≡ line (o b) q n ∷ other = sym x ∙ y in
-    let here : line (o a) r m ≡ line (o b) q n = cc in
-    (cc, ap (λ l. l.reply) here)
-looked_same o lines rest other r q None (Some k) m n a b x y none nor =
-    let e : line (o a) r m ∷ rest ≡ line (o false) reply.Pending k ∷ line (o b) q n ∷ other = sym x ∙ y in
-    let here : line (o a) r m ≡ line (o false) reply.Pending k = cc in
-    let pends : is_pending r ≡ true = ap (λ l. is_pending l.reply) here in
-    absurd (cc)
-looked_same o lines rest other r q (Some k) None m n a b x y none nor =
-    let e : line (o false) reply.Pending k ∷ line (o a) r m ∷ rest ≡ line (o b) q n ∷ other = sym x ∙ y in
-    let here : line (o false) reply.Pending k ≡ line (o b) q n = cc in
-    let pends : true ≡ is_pending q = ap (λ l. is_pending l.reply) here in
-    absurd (cc)
-looked_same o lines rest other r q (Some k) (Some j) m n a b x y none nor =
-    let e : line (o false) reply.Pending k ∷ line (o a) r m ∷ rest ≡ line (o false) reply.Pending j ∷ line (o b) q n ∷ other = sym x ∙ y in
-    let behind : line (o a) r m ∷ rest ≡ line (o b) q n ∷ other = cc in
-    let here : line (o a) r m ≡ line (o b) q n = cc in
-    (cc, ap (λ l. l.reply) here)
+looked_same o lines rest other r q None None m n a b x y none nor = grind (arith, nat_tests)
+looked_same o lines rest other r q None (Some k) m n a b x y none nor = grind (arith, nat_tests, is_pending)
+looked_same o lines rest other r q (Some k) None m n a b x y none nor = grind (arith, nat_tests, is_pending)
+looked_same o lines rest other r q (Some k) (Some j) m n a b x y none nor = grind (arith, nat_tests)
 
 pub takes_same : (c : Call) (lines rest other : List Line) (r q : Reply) → Takes c lines rest r → Takes c lines other q → Agree rest r other q
 takes_same (Once o) lines rest other r q s t =

@@ -1,4 +1,5 @@
 -- Several parts, one after another.
+use Rattle.std.proofs.lemmas.Bool.Decides.{nat_tests}
 use Rattle.run_check.proofs.Names.{◌≡◌, ℕ, suc, ◌+◌, ◌≤◌, Bool, List, [], ◌∷◌, length, get_or, sym, ◌∙◌, subst, arith, ◌↔◌, IsTrue, Part, Reply, CallerRan, CallersRan, MainRan, PartsRan, Line, in_lines}
 use Rattle.run_check.proofs.Fronts.{at_front, behind_first}
 
@@ -13,11 +14,7 @@ module _ (made : ℕ → List Line) where
   pub not_first : (who : ℕ) (L : List Part) (p : Part) → 1 ≤ length L → p ≡ get_or L 0 p
       → (((rs : List Reply) × CallerRan in_lines p.statements (made who) rs) → ⊥) → Some who L → ⊥
   unfolding CallersRan
-  not_first who L p some at none s = by (subst (Some who) (at_front L p some at) s)
-    where
-      by : Some who (p ∷ behind_first L) → ⊥
-      by ([], c) = c
-      by (rs ∷ rss, c) = none (rs, c.0)
+  not_first who L p e1 e2 e3 e4 = grind (arith, nat_tests, at_front, behind_first)
 
   -- a part that was made, and the callers of the others
   and_more : (First : List Reply → Type 0) (Whole : List (List Reply) → Type 0) (who : ℕ) (ps : List Part) (b : Bool) → (rs : List Reply) × First rs
