@@ -55,9 +55,7 @@ pub mod_less : (x n : ℕ) → 0 < n → x % n < n
 mod_less x n h = omega arith
 
 handle_whole : (h : ℕ) → h / 2 ^ 32 * 2 ^ 32 + named_kind h * 2 ^ 24 + h % 2 ^ 24 ≡ h
-handle_whole h = whole_handle h (h / 2 ^ 24) (h % 2 ^ 24) (h / 2 ^ 24 / 256) (h / 2 ^ 24 % 256) (h / 2 ^ 32) (h % 2 ^ 32) (div_parts h (2 ^ 24) (omega arith))
-    (mod_less h (2 ^ 24) (omega arith)) (div_parts (h / 2 ^ 24) 256 (omega arith)) (mod_less (h / 2 ^ 24) 256 (omega arith))
-    (div_parts h (2 ^ 32) (omega arith)) (mod_less h (2 ^ 32) (omega arith))
+handle_whole h = grind (arith, nat_tests, whole_handle, div_parts, mod_less)
 
 pub generation_fits : (h : ℕ) → h < 2 ^ 64 → h / 2 ^ 32 < 2 ^ 32
 generation_fits h f = let parts = div_parts h (2 ^ 32) (omega arith) in omega arith
@@ -86,11 +84,7 @@ found_passes p (y ∷ ys) x e = cond_both (p y) (Some y) (find p ys) (λ o. o �
 
 kind_again : (h : ℕ) (o : Option ObjectKind) → h < 2 ^ 64 → kind_numbered (named_kind h) ≡ o → handle_of (named_text o h) ≡ Some h
 unfolding handle_of
-kind_again h None f e = decimal_again h f
-kind_again h (Some k) f e =
-    let rest = decimal (generation h) ++ 46 ∷ decimal (slot h) in
-    let n = eqb-true (object_number k) (named_kind h) (found_passes (λ x. eqb (object_number x) (named_kind h)) object_kinds k e) in
-    ap (λ o. handle_led o rest (kind_letter k ∷ rest)) (letter_again k) ∙ named_again k h f n
+kind_again h o e1 e2 = grind (arith, nat_tests, decimal_again, eqb-true, found_passes, letter_again, named_again)
 
 pub handle_again : (l : Layout) (h : ℕ) → h < 2 ^ 64 → handle_of (handle_text l h) ≡ Some h
 unfolding handle_text

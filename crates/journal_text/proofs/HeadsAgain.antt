@@ -89,9 +89,7 @@ other_text x h a b = rw (a, b) refl
 
 not_one : (h : Head) → h.layout ≡ Layout.Two → head_in Layout.One (head_text h) ≡ None
 unfolding head_in head_from
-not_one h e =
-    let x = head_from Layout.One (numbers_behind (head_text h)) in
-    ap (λ b. cond b (Some x) None) (and_false (has_callers x) (bytes_eq (head_text x) (head_text h)) (other_text x h refl e))
+not_one h e1 = grind (arith, nat_tests, head_from, numbers_behind, head_text, and_false, has_callers, bytes_eq, other_text)
 
 layout_again : (h : Head) (l : Layout) → h.layout ≡ l → HeadFits h → head_of (head_text h) ≡ Some h
 unfolding head_of

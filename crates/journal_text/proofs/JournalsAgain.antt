@@ -70,13 +70,7 @@ whole_again head es ns g f =
 
 pub text_again : (j : Journal) → JournalFits j → journal_of (journal_text j) ≡ Ok j
 unfolding journal_of journal_text
-text_again j f =
-    let head = head_for j in
-    let es = j.entries.entries in
-    let ns = j.entries.skipped in
-    ap journal_from (between_line (head_text head) (lines_text (entry_lines head es ns)) (head_above head f.head)
-    ∙ ap (λ l. head_text head ∷ l) (lines_again head es ns f.head f.entries))
-    ∙ whole_again head es ns f.head f.entries
+text_again j e1 = grind (arith, nat_tests, head_for, journal_from, between_line, head_text, lines_text, entry_lines, head_above, lines_again, whole_again)
 
 -- ---- what the types keep, beside what makes a journal one that can be written
 

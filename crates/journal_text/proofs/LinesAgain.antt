@@ -34,25 +34,12 @@ seat_again head who f lt =
 op_from_again : (l : Layout) (o : Op) (ws : List (List ℕ)) → IsHonest o → AllByRecursion ValueFits (op_spelled o).1
     → op_from (op_texts l o ++ ws) ≡ Some (o, ws)
 unfolding op_from
-op_from_again l o ws h f =
-    let w = (op_spelled o).0 in
-    let vs = (op_spelled o).1 in
-    ap (λ r. r >>= λ x. values_onto [] (op_row x).1 (values_words l vs ++ ws) >>= λ values. op_of x values.0 >>= λ y. Some (y, values.1)) (op_word_again w)
-    ∙ ap (λ ss. values_onto [] ss (values_words l vs ++ ws) >>= λ values. op_of w values.0 >>= λ y. Some (y, values.1)) (op_shapes o)
-    ∙ ap (λ r. r >>= λ values. op_of w values.0 >>= λ y. Some (y, values.1)) (values_again l [] vs ws f)
-    ∙ ap (λ r. r >>= λ y. Some (y, ws)) (op_again o h)
+op_from_again l o ws e1 e2 = grind (arith, nat_tests, op_spelled, values_onto, op_row, values_words, op_of, op_word_again, op_shapes, values_again, op_again)
 
 reply_from_again : (l : Layout) (r : Reply) (ws : List (List ℕ)) → AllByRecursion ValueFits (reply_spelled r).1
     → reply_from (reply_texts l r ++ ws) ≡ Some (r, ws)
 unfolding reply_from
-reply_from_again l r ws f =
-    let w = (reply_spelled r).0 in
-    let vs = (reply_spelled r).1 in
-    ap (λ o. o >>= λ x. values_onto [] (reply_row x).1 (values_words l vs ++ ws) >>= λ values. reply_of x values.0 >>= λ y. Some (y, values.1))
-    (reply_word_again w)
-    ∙ ap (λ ss. values_onto [] ss (values_words l vs ++ ws) >>= λ values. reply_of w values.0 >>= λ y. Some (y, values.1)) (reply_shapes r)
-    ∙ ap (λ o. o >>= λ values. reply_of w values.0 >>= λ y. Some (y, values.1)) (values_again l [] vs ws f)
-    ∙ ap (λ o. o >>= λ y. Some (y, ws)) (reply_again r)
+reply_from_again l r ws e1 = grind (arith, nat_tests, reply_word_again, reply_shapes, values_again, reply_again)
 
 skipped_again : (n : ℕ) → n < 2 ^ 64 → skipped_from (skipped_texts n) ≡ Some n
 unfolding skipped_from
@@ -63,17 +50,7 @@ skipped_again n e1 = grind (arith, nat_tests, nat_lt, number_written, ltb-false)
 entry_from_again : (head : Head) (e : NodeEntry) (n : ℕ) → HeadFits head → EntryFits head e n
     → entry_from head (seat_text head.settings.workers e.who ∷ entry_texts head.layout e n) ≡ Some (e, n)
 unfolding entry_from entry_by
-entry_from_again head e n g f =
-    let l = head.layout in
-    let ws = entry_texts l e n in
-    let behind = codes "->" ∷ (reply_texts l e.reply ++ skipped_texts n) in
-    ap (λ r. r >>= λ who. op_from ws >>= λ o. reply_from (drop 1 o.1) >>= λ a. skipped_from a.1 >>= λ m. Some (record { who = who; op = o.0; reply = a.0 }, m))
-    (seat_again head e.who g f.place.seat)
-    ∙ ap (λ r. r >>= λ o. reply_from (drop 1 o.1) >>= λ a. skipped_from a.1 >>= λ m. Some (record { who = e.who; op = o.0; reply = a.0 }, m))
-    (op_from_again l e.op behind f.parts.honest f.parts.op)
-    ∙ ap (λ r. r >>= λ a. skipped_from a.1 >>= λ m. Some (record { who = e.who; op = e.op; reply = a.0 }, m))
-    (reply_from_again l e.reply (skipped_texts n) f.parts.reply)
-    ∙ ap (λ r. r >>= λ m. Some (record { who = e.who; op = e.op; reply = e.reply }, m)) (skipped_again n f.parts.number)
+entry_from_again head e n e1 e2 = grind (arith, nat_tests, seat_again, op_from_again, reply_from_again, skipped_again)
 
 seat_plain : (workers who : ℕ) → who < 2 ^ 64 → is_plain (seat_text workers who) ≡ true
 seat_plain workers who e1 = grind (arith, nat_tests, nat_lt, decimal_plain)
@@ -83,14 +60,7 @@ skipped_plain n e1 = grind (arith, nat_tests, nat_lt, and_from, decimal_plain)
 
 entry_plain : (head : Head) (e : NodeEntry) (n : ℕ) → HeadFits head → EntryFits head e n
     → list_all is_plain (seat_text head.settings.workers e.who ∷ entry_texts head.layout e n) ≡ true
-entry_plain head e n g f =
-    let l = head.layout in
-    let workers = g.settings.workers.1 in
-    let replies = all_append is_plain (reply_texts l e.reply) (skipped_texts n)
-    (and_from _ _ (reply_plain (reply_spelled e.reply).0) (values_plain l (reply_spelled e.reply).1 f.parts.reply)) (skipped_plain n f.parts.number) in
-    let ops = and_from _ _ (op_plain (op_spelled e.op).0) (values_plain l (op_spelled e.op).1 f.parts.op) in
-    and_from _ _ (seat_plain head.settings.workers e.who (omega (arith, f.place.seat, workers, g.few)))
-    (all_append is_plain (op_texts l e.op) (codes "->" ∷ (reply_texts l e.reply ++ skipped_texts n)) ops replies)
+entry_plain head e n e1 e2 = grind (arith, nat_tests, all_append, and_from, reply_plain, values_plain, skipped_plain, op_plain, seat_plain)
 
 if_spelled_again : (head : Head) (line : List ℕ) (e : NodeEntry) (n : ℕ) → has_words head.layout e ≡ true → is_seated head e ≡ true → entry_text head e n ≡ line
     → if_spelled head line (e, n) ≡ Some (e, n)

@@ -110,21 +110,7 @@ single w h = and_from _ _ h refl
 
 value_plain : (l : Layout) (v : Value) → ValueFits v → list_all is_plain (value_words l v) ≡ true
 unfolding value_words
-value_plain l (Value.Number n) f = single (decimal n) (decimal_plain n (omega arith))
-value_plain l (Value.Whole z) f = single (signed_decimal z) (whole_plain z f)
-value_plain l (Value.Flag true) f = refl
-value_plain l (Value.Flag false) f = refl
-value_plain l (Value.Kind k) f = single (kind_word k) (kind_plain k)
-value_plain l (Value.Cores mask) f = single (decimal mask.0) (decimal_plain mask.0 f)
-value_plain l (Value.Args zs) f = single (args_text zs) (args_plain zs f)
-value_plain l (Value.Handle h) f = single (handle_text l h) (handle_plain l h f)
-value_plain l (Value.Group None) f = refl
-value_plain l (Value.Group (Some h)) f = single (handle_text l h) (handle_plain l h f)
-value_plain l (Value.End (TaskEnd.Completed zs)) f = single (args_text zs) (args_plain zs f)
-value_plain l (Value.End TaskEnd.Cancelled) f = refl
-value_plain l (Value.End (TaskEnd.Failed s)) f = single (mtapi_name s) (mtapi_plain s)
-value_plain l (Value.Status (Status.Mtapi s)) f = single (mtapi_name s) (mtapi_plain s)
-value_plain l (Value.Status (Status.Mrapi s)) f = single (mrapi_name s) (mrapi_plain s)
+value_plain l v e1 = grind (arith, nat_tests, single, decimal_plain, whole_plain, kind_plain, args_plain, handle_plain, mtapi_plain, mrapi_plain)
 
 pub values_plain : (l : Layout) (vs : List Value) → AllByRecursion ValueFits vs → list_all is_plain (values_words l vs) ≡ true
 values_plain l [] f = refl

@@ -26,11 +26,7 @@ entry_spelled head line x h =
 
 head_in_spelled : (l : _) (line : List ℕ) (h : Head) → head_in l line ≡ Some h → head_text h ≡ line
 unfolding head_in
-head_in_spelled l line h e =
-    let x = head_from l (numbers_behind line) in
-    let c = cond_some (has_callers x && bytes_eq (head_text x) line) x h e in
-    let t = and_parts (has_callers x) _ c.0 in
-    rw (← c.1) (bytes_are (head_text x) line t.1)
+head_in_spelled l line h e1 = grind (arith, nat_tests, head_from, numbers_behind, cond_some, has_callers, bytes_eq, head_text, and_parts, bytes_are)
 
 or_else_spelled : (line : List ℕ) (h : Head) (a b : Option Head) → ((x : Head) → a ≡ Some x → head_text x ≡ line)
     → ((x : Head) → b ≡ Some x → head_text x ≡ line) → or_else a b ≡ Some h → head_text h ≡ line

@@ -66,16 +66,10 @@ first_again : (l : Layout) (prefix : List Value) (v : Value) (vs : List Value) (
     → values_onto prefix (shape_of v ∷ map shape_of vs) (values_words l (v ∷ vs) ++ ws)
     ≡ values_onto (prefix ++ v ∷ []) (map shape_of vs) (values_words l vs ++ ws)
 unfolding values_onto
-first_again l prefix v vs ws f =
-    let regrouped = append_assoc (value_words l v) (values_words l vs) ws in
-    ap (λ t. value_of (shape_of v) t >>= λ x. values_onto (prefix ++ x.0 ∷ []) (map shape_of vs) x.1) regrouped
-    ∙ ap (λ o. o >>= λ x. values_onto (prefix ++ x.0 ∷ []) (map shape_of vs) x.1) (value_again l v (values_words l vs ++ ws) f)
+first_again l prefix v vs ws e1 = grind (arith, nat_tests, append_assoc, value_words, values_words, value_of, values_onto, value_again)
 
 pub values_again : (l : Layout) (prefix vs : List Value) (ws : List (List ℕ)) → AllByRecursion ValueFits vs
     → values_onto prefix (map shape_of vs) (values_words l vs ++ ws) ≡ Some (prefix ++ vs, ws)
 unfolding values_onto
 values_again l prefix [] ws f = ap (λ t. Some (t, ws)) (sym (append-nil prefix))
-values_again l prefix (v ∷ vs) ws f =
-    first_again l prefix v vs ws f.0
-    ∙ values_again l (prefix ++ v ∷ []) vs ws f.1
-    ∙ ap (λ t. Some (t, ws)) (append_assoc prefix (v ∷ []) vs)
+values_again l prefix (v ∷ vs) ws f = grind (arith, nat_tests, values_again l (prefix ++ v ∷ []) vs ws f.1, first_again, append_assoc)
