@@ -87,7 +87,8 @@ pow_double n = rw add-one (omega arith)
 bits_fit : (texts : List (List ℕ)) (low bits : ℕ) → bits_from low texts ≡ Some bits → low ≤ 64 → bits + 2 ^ low ≤ 2 ^ 64
 unfolding bits_from
 bits_fit [] low bits e le = grind (arith, nat_tests, just_is, pow-le-pow_right)
-bits_fit (text ∷ texts) low bits e le = grind (arith, nat_tests, bits_fit texts, bind_some, number_within, bits_from, within_is, just_is, pow-le-pow_right, pow_double)
+bits_fit (text ∷ texts) low bits e le =
+    grind (arith, nat_tests, bits_fit texts, bind_some, number_within, bits_from, within_is, just_is, pow-le-pow_right, pow_double)
 
 bits_some : (texts : List (List ℕ)) (low bits : ℕ) → 1 ≤ length texts → bits_from low texts ≡ Some bits → 0 < bits
 unfolding bits_from
