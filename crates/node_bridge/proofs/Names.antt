@@ -1,9 +1,4 @@
 -- The names that the proofs of this crate cite of lower crates and of its own specs/, passed on from one place. Declares nothing.
-pub use Rattle.std.proofs.Common.{Bool, List, None, Option, Some, [], ap, append_assoc, arith, cond, false, length, length-append, refl, subst, suc, sym, true, zero, ℕ, ℤ, ◌++◌, ◌+◌, ◌<◌, ◌∙◌, ◌∷◌, ◌≡◌, ◌≢◌, ◌≤◌}
-pub use Rattle.std.proofs.lemmas.Bool.{eqb-true}
-pub use Rattle.std.proofs.lemmas.Bool.Decides.{nat_tests}
-pub use Rattle.std.proofs.lemmas.List.{append-nil}
-pub use Rattle.std.specs.Prelude.{IfSome, Ok, not, slice_get, slice_set, ◌&&◌, ◌==◌, ◌^◌}
 pub use Rattle.action_fn.specs.Answers.{Answered, is_pure}
 pub use Rattle.handle_pool.specs.Issued.{Listed, gone, how_many, live_object, lookup, with_fields}
 pub use Rattle.history.specs.Histories.{entries_of, entry}
@@ -12,9 +7,9 @@ pub use Rattle.history_law.proofs.Reuse.{apart_if, unlisted_if}
 pub use Rattle.mtapi_layouts.specs.Turned.{turned_task}
 pub use Rattle.mtapi_machine.proofs.Changes.{some_same}
 pub use Rattle.mtapi_machine.proofs.Lists.{Legal-front, Legal-rest, after-append, after-one}
-pub use Rattle.mtapi_machine.proofs.Moves.{by_moves}
+pub use Rattle.mtapi_machine.proofs.Moves.{by_moves, rest_keeps}
 pub use Rattle.mtapi_machine.specs.Laws.{DeletesGroup, EnablesAction, FreesMembers, IsMade, MakesAction, StartsTask, WithdrawsAction}
-pub use Rattle.mtapi_machine.specs.Legal.{IsNext, NodeEntry, after, next}
+pub use Rattle.mtapi_machine.specs.Legal.{Fits, IsNext, Legal as NodeLegal, NodeEntry, after, next}
 pub use Rattle.mtapi_machine.specs.Moves.{Groups, Move, Mutexes, Queues, Rwls, Segments, Sems, after_moves, alters, apply, enables, ends_task, ends_waiting, frees_members, is_fresh, leaves, lets_members_go, makes, makes_action, notes, phase_is, released, removes, runs_task, starts_task, stops, withdraws}
 pub use Rattle.mtapi_machine.specs.Row.{Allows, Row, gives, handle_of, live, moves_of, mtapi_unless, never, only, unless}
 pub use Rattle.mtapi_machine.specs.Rows.{row}
@@ -32,21 +27,27 @@ pub use Rattle.mtapi_values.specs.declared.handles.TaskHandle.{TaskHandle}
 pub use Rattle.mtapi_values.specs.declared.kinds.Kind.{Kind}
 pub use Rattle.mtapi_values.specs.declared.masks.Mask.{Mask}
 pub use Rattle.mtapi_values.specs.declared.statuses.MtapiStatus.{MtapiStatus}
-pub use Rattle.node_bridge.specs.Answers.{Asks, Course, LeftBehind, LookEnds, LookForm, LooksOn, LostSight, NotBegun, PickSays, Seat, StartEnds, StartSays, Told, Unasked, WorkSays, look_in, pends, start_in, told_in}
-pub use Rattle.node_bridge.specs.Image.{BridgeEntry, asks_node, image, image-append, image_of, inside}
+pub use Rattle.node_bridge.specs.Answers.{Asks, Course, LeftBehind, LookEnds, LookForm, LooksOn, LostSight, NotBegun, PickSays, Seat, StartEnds, StartSays, Told, Unasked, WorkSays, entries_in, look_in, pends, start_in, told_in}
+pub use Rattle.node_bridge.specs.Image.{BridgeEntry, asks_node, creates, image, image-append, image_of, inside, inward}
 pub use Rattle.node_bridge.specs.Jobs.{action_for, all_cores, job_of, pure_kinds}
-pub use Rattle.node_bridge.specs.Legal.{Begun, Legal-prefix, begun_by, begun_from, last_of, seat_count}
-pub use Rattle.node_bridge.specs.Opening.{IsOpening}
+pub use Rattle.node_bridge.specs.Legal.{Begun, Legal, Legal-prefix, begun_by, begun_from, last_of, seat_count}
+pub use Rattle.node_bridge.specs.Opening.{Has, IsOpening}
 pub use Rattle.node_bridge.specs.Rounds.{Added, AtRest, AtWork, Finishes, PickEnds, Ran, Round, Rounded, Rounds, Serves, Took, UnusedWorkersRest, work_of}
-pub use Rattle.node_bridge.specs.Stands.{EachLive, IsKept, flat, noted_in, place_of}
+pub use Rattle.node_bridge.specs.Stands.{EachLive, EndsAs, IsKept, Stands, flat, noted_in, place_of, terms_of}
 pub use Rattle.node_bridge.specs.declared.ops.BridgeOp.{BridgeOp}
 pub use Rattle.node_bridge.specs.declared.ops.BridgeReply.{BridgeReply}
 pub use Rattle.node_bridge.specs.declared.served.Noted.{Noted}
 pub use Rattle.node_bridge.specs.declared.served.Served.{Served}
 pub use Rattle.node_bridge.specs.declared.terms.ServedTerms.{ServedTerms}
 pub use Rattle.node_core.specs.Parts.{Agrees, AgreesIn}
-pub use Rattle.node_core.specs.Stands.{history_of}
+pub use Rattle.node_core.specs.Stands.{Stands as NodeStands, history_of, terms_of as node_terms}
 pub use Rattle.node_core.specs.declared.node.Node.{Node}
+pub use Rattle.std.proofs.Common.{Bool, List, None, Option, Some, Vec, [], ap, append_assoc, arith, cond, eq-eqb, false, get_or, length, length-append, ne_eqb, refl, rules, subst, suc, sym, true, vec_capacity, zero, ℕ, ℤ, ◌++◌, ◌+◌, ◌<◌, ◌∙◌, ◌∷◌, ◌≡◌, ◌≢◌, ◌≤◌}
+pub use Rattle.std.proofs.lemmas.Bool.{eqb-true}
+pub use Rattle.std.proofs.lemmas.Bool.Decides.{nat_tests}
+pub use Rattle.std.proofs.lemmas.List.{append-nil}
+pub use Rattle.std.specs.Prelude.{IfSome, Ok, not, slice_get, slice_set, ◌&&◌, ◌==◌, ◌^◌}
+pub use Rattle.std.specs.declared.alloc.Global.{Global}
 pub use Rattle.turn_looks.proofs.OwnEntries.{entries-append}
 pub use Rattle.turn_looks.specs.Turns.{SameSeat, Turned}
 unfoldable pub use Rattle.action_fn.specs.Answers.{answer_of, fits}

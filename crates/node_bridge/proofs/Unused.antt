@@ -1,8 +1,7 @@
 -- A worker's seat that has made no entry is at rest.
-use Rattle.node_bridge.proofs.Names.{◌≡◌, ℕ, ◌<◌, ◌==◌, Bool, false, cond, List, [], ◌∷◌, ◌++◌, refl, ◌∙◌, ap, arith, nat_tests, entry, entries_of, Kind, ActionHandle, opening, NodeEntry, work_stays, entries-append, job_of, pure_kinds, all_cores, images, opening_entries, image, UnusedWorkersRest}
+use Rattle.node_bridge.proofs.Names.{◌≡◌, ℕ, ◌<◌, ◌==◌, Bool, false, cond, List, [], ◌∷◌, ◌++◌, refl, ◌∙◌, ap, arith, nat_tests, entry, entries_of, Kind, ActionHandle, opening, NodeEntry, work_stays, entries-append, job_of, pure_kinds, all_cores, images, opening_entries, image, UnusedWorkersRest, creates}
 use Rattle.mtapi_machine.specs.declared.ops.Op.TheVariants as op
 use Rattle.mtapi_machine.specs.declared.replies.Reply.TheVariants as reply
-use Rattle.node_bridge.specs.Image.{creates}
 use Rattle.node_bridge.proofs.Images.{images_own}
 
 apart : (w who : ℕ) → w < who → (who == w) ≡ false
@@ -12,10 +11,9 @@ none_of : (b : Bool) (x : NodeEntry) (l : List NodeEntry) → b ≡ false → l 
 none_of b x l e1 e2 = grind (arith, nat_tests)
 
 no_creates : (w who : ℕ) (ks : List Kind) (hs : List ActionHandle) → (who == w) ≡ false → entries_of w (creates who ks hs) ≡ []
-no_creates w who [] hs e = refl
-no_creates w who (k ∷ ks) [] e = refl
 no_creates w who (k ∷ ks) (h ∷ hs) e =
     none_of (who == w) (entry who (op.ActionCreate (job_of k) k all_cores) (reply.Handle h.0)) (entries_of w (creates who ks hs)) e (no_creates w who ks hs e)
+no_creates w who ks hs e = refl
 
 no_opening : (w who : ℕ) (hs : List ActionHandle) → (who == w) ≡ false → entries_of w (opening_entries who hs) ≡ []
 unfolding opening_entries
