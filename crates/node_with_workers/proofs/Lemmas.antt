@@ -1,8 +1,10 @@
 -- The seats of a node from its start to its end, and what its clients' calls add.
-use Rattle.node_with_workers.proofs.Names.{nat_tests, ◌≡◌, ℕ, zero, suc, true, ◌+◌, ◌-◌, ◌≤◌, ◌<◌, ◌^◌, List, length, take, drop, [], ◌∷◌, ◌++◌, None, Result, Ok, Err, inl, inr, refl, sym, ◌∙◌, ap, subst, append_assoc, arith, vec_len, All, IfOk, IfErr, append-nil, same_from_push, take-append-drop, StartsWith, entry, entries_of, all_of, fresh_seat, fresh_seats, IsComplete, IsSeatOf, NodeSettings, MtapiStatus, Op, Initialize, Release, Close, Final, Reply, Terms, NodeEntry, Legal, Journal, JournaledTerms, journal_seats, KeptAs, Entrance, Seat, SameSeat, Answers, Waited, mtapi, done, Callers, Hands, GoesOn, MadeOne, MainOpens, CallerEnters, HasCalled, IfRefused, IsRefused, IsNotOpened, IsKeptOut, SaysOf, HasComeBack, MayCall, AreTold, IsJoinedBy, IsLostBy, HaveComeBack, AreRefused, AreReady, IsJoined, CameBack, terms_among, IsRun, IsRunOfAll, HaveCalled, Refuses, RefusesOne, HasAllSeats, HasEnded}
+use Rattle.node_with_workers.proofs.Names.{nat_tests, ◌≡◌, ℕ, zero, suc, true, ◌+◌, ◌-◌, ◌≤◌, ◌<◌, ◌^◌, List, length, take, drop, [], ◌∷◌, ◌++◌, None, Result, Ok, Err, inl, inr, refl, sym, ◌∙◌, ap, subst, append_assoc, arith, vec_len, Vec, All, IfOk, IfErr, append-nil, length-append, same_from_push, take-append-drop, StartsWith, entry, entries_of, all_of, fresh_seat, fresh_seats, IsComplete, IsSeatOf, NodeSettings, MtapiStatus, Op, Initialize, Release, Close, Final, Reply, Terms, NodeEntry, Legal, Journal, JournaledTerms, journal_seats, KeptAs, Entrance, Seat, SameSeat, Answers, Waited, mtapi, done, Callers, Hands, GoesOn, MadeOne, MainOpens, CallerEnters, HasCalled, IfRefused, IsRefused, IsNotOpened, IsKeptOut, SaysOf, HasComeBack, MayCall, AreTold, IsJoinedBy, IsLostBy, HaveComeBack, AreRefused, AreReady, IsJoined, CameBack, terms_among, IsRun, IsRunOfAll, HaveCalled, Refuses, RefusesOne, HasAllSeats, HasEnded, IsMade}
+use Rattle.std.specs.declared.alloc.Global.{Global}
 use Rattle.std.specs.List.{AllZip}
 use Rattle.std.proofs.lemmas.List.Elements.{All-nil, All-cons, AllZip-push}
 use Rattle.history.proofs.Growth.{entries_append}
+use Rattle.turn_cell.proofs.Ends.{all_after}
 use Rattle.turn_cell.proofs.Complete.{numbers, complete_alike, complete_fresh, all_has, has_back, has_front, fresh-take, fresh-drop}
 use Rattle.mtapi_values.specs.declared.handles.Layout.TheVariants.{Two}
 use Rattle.mtapi_machine.specs.declared.replies.Reply.TheVariants as reply
@@ -72,9 +74,7 @@ says_of o seat start tried given x status (failure.Refused s) first called is ba
     subst (IsRefused seat.terms.node seat.number seat.mine o) (sym says.0)
     (subst (λ (q : Seat). IsRefused q.terms.node q.number q.mine o status) first
     (is_refused o start tried x status called is (subst (λ (q : Seat). q.shown < 2 ^ 62) back says.1)))
-says_of o seat start tried given x status failure.Memory first called is back says = tt
-says_of o seat start tried given x status (failure.NoThread n) first called is back says = tt
-says_of o seat start tried given x status (failure.Spent n) first called is back says = tt
+says_of o seat start tried given x status _ first called is back says = tt
 
 pub made_last : (o : Op) (seat start new last : Seat) (x : Result (Unit {0}) MtapiStatus) (u : Unit {0}) → start ≡ seat → Asked mtapi done o start new x
     → x ≡ Ok u → last ≡ new → MadeOne o seat last
@@ -204,12 +204,6 @@ fresh_idle z k (suc n) l =
     (record { cell = refl; rest = new_at_rest (fresh_seat z.terms z.id k) (omega arith) refl })
     (fresh_idle z (suc k) n (omega arith))
 
--- they are the workers', main's, and those of so many further callers
-pub record Dealt (z : Cell) (n : ℕ) (workers : List Seat) (main : Seat) (others : List Seat) : Type 0 where
-  pub workers_are : workers ≡ fresh_seats z.terms z.id 0 z.terms.node.settings.workers
-  pub main_is : main ≡ fresh_seat z.terms z.id z.terms.node.settings.workers
-  pub others_are : others ≡ fresh_seats z.terms z.id (z.terms.node.settings.workers + 1) n
-
 begun : (z : Cell) (t : JournaledTerms) (u : Terms) (n : ℕ) (all : List Seat) → z.terms ≡ t → t ≡ record { node = u; keeps = true } → u.callers ≡ n + 1
     → all ≡ fresh_seats t z.id 0 (journal_seats t) → all ≡ fresh_seats z.terms z.id 0 (suc z.terms.node.settings.workers + n)
 begun z t u n all e1 e2 e3 e4 = grind (arith, nat_tests)
@@ -220,13 +214,15 @@ enough z t u n all e f many is =
     let count = ap (λ (xs : List Seat). length xs) (begun z t u n all e f many is) ∙ fresh_length z 0 (suc z.terms.node.settings.workers + n) in
     omega arith
 
-pub dealt : (z : Cell) (t : JournaledTerms) (u : Terms) (n at : ℕ) (all workers : List Seat) (main : Seat) (others : List Seat) → z.terms ≡ t
-    → t ≡ record { node = u; keeps = true } → u.callers ≡ n + 1
+pub dealt : (z : Cell) (t : JournaledTerms) (u : Terms) (settings : NodeSettings) (k n at : ℕ) (all workers : List Seat) (main : Seat) (others : List Seat)
+    → z.terms ≡ t → t ≡ record { node = u; keeps = true } → u ≡ terms_with Two settings k → k ≡ n + 1
     → all ≡ fresh_seats t z.id 0 (journal_seats t) → at ≡ length all - n → take at all ≡ workers ++ main ∷ [] → others ≡ drop at all
-    → Dealt z n workers main others
-dealt z t u n at all workers main others e f many is off front back =
+    → IsMade settings n z workers main others
+dealt z t u settings k n at all workers main others e f with_all many is off front back =
+    let callers : u.callers ≡ n + 1 = ap (λ (v : Terms). v.callers) with_all ∙ many in
+    let node : u ≡ terms_among settings n = with_all ∙ ap (λ (j : ℕ). terms_with Two settings j) many in
     let w = z.terms.node.settings.workers in
-    let whole : all ≡ fresh_seats z.terms z.id 0 (suc w + n) = begun z t u n all e f many is in
+    let whole : all ≡ fresh_seats z.terms z.id 0 (suc w + n) = begun z t u n all e f callers is in
     let long : length all ≡ suc w + n = ap (λ (xs : List Seat). length xs) whole ∙ fresh_length z 0 (suc w + n) in
     let here : at ≡ suc w = omega arith in
     let first : take at all ≡ fresh_seats z.terms z.id 0 (suc w) =
@@ -236,6 +232,7 @@ dealt z t u n at all workers main others e f many is off front back =
     let from : 0 + suc w ≡ w + 1 = omega arith in
     let left : suc w + n - suc w ≡ n = omega arith in
     record {
+      terms = e ∙ (f ∙ (λ i. record { node = node i; keeps = true }));
       workers_are = both.0;
       main_is = both.1;
       others_are =
@@ -244,54 +241,33 @@ dealt z t u n at all workers main others e f many is off front back =
           ∙ (ap (λ (k : ℕ). fresh_seats z.terms z.id k (suc w + n - suc w)) from ∙ ap (λ (k : ℕ). fresh_seats z.terms z.id (w + 1) k) left))));
     }
 
-pub are_ready : {C D U A : Type 0} (z : Cell) (h : Hands C D U A) → Dealt z (length h.callers.others.items) h.workers.items h.callers.main h.callers.seats.items
-    → h.callers.told.items ≡ [] → AreReady z h
-are_ready z h d none = record {
+-- all that the workers and the callers are handed is of such a cell
+abbrev pub Made : {C D U A : Type 0} → NodeSettings → Cell → Hands C D U A → Type 0
+Made settings z h = IsMade settings (length h.callers.others.items) z h.workers.items h.callers.main h.callers.seats.items
+
+pub are_ready : {C D U A : Type 0} (settings : NodeSettings) (z : Cell) (h : Hands C D U A) → Made settings z h → h.callers.told.items ≡ [] → AreReady z h
+are_ready settings z h d none = record {
   workers = subst (All (IsIdle z)) (sym d.workers_are) (fresh_idle z 0 z.terms.node.settings.workers (omega arith));
   callers = record { main = d.main_is; seats = d.others_are; told = none };
 }
 
--- What is known of main's seat before its calls
-
 -- The further callers' threads
 
 -- a client and a seat were taken from the ends of the lists
-pub record TakenOut {C D U : Type 0} (z : Cell) (h h' : Callers C D U) (s : Seat) : Type 0 where
-  pub may : MayCall z h'
-  pub seat_is : s ≡ fresh_seat z.terms z.id (z.terms.node.settings.workers + 1 + length h'.others.items)
+pub record TakenOut {C D U : Type 0} (z : Cell) (h : Callers C D U) (s : Seat) : Type 0 where
+  pub may : MayCall z h
+  pub seat_is : s ≡ fresh_seat z.terms z.id (z.terms.node.settings.workers + 1 + length h.others.items)
 
-module _ {C D U : Type 0} (z : Cell) (h : Callers C D U) (left : List D) (d : D) where
-  one_fewer : (xs ys : List D) (y : D) → xs ≡ ys ++ y ∷ [] → length xs ≡ suc (length ys)
-  one_fewer xs ys y e = ap (λ (l : List D). length l) e ∙ long ys
-    where
-      long : (l : List D) → length (l ++ y ∷ []) ≡ suc (length l)
-      long [] = refl
-      long (x ∷ l) = ap suc (long l)
-
-  split_last : MayCall z h → h.others.items ≡ left ++ d ∷ []
-      → h.seats.items ≡ fresh_seats z.terms z.id (z.terms.node.settings.workers + 1) (length left)
-      ++ fresh_seat z.terms z.id (z.terms.node.settings.workers + 1 + length left) ∷ []
-  split_last m e =
-      m.seats ∙ (ap (λ (n : ℕ). fresh_seats z.terms z.id (z.terms.node.settings.workers + 1) n) (one_fewer h.others.items left d e)
-      ∙ fresh_more z (z.terms.node.settings.workers + 1) (length left) (z.terms.node.settings.workers + 1 + length left) refl)
-
-  pub some_seat : MayCall z h → h.others.items ≡ left ++ d ∷ [] → length h.seats.items ≡ 0 → ⊥
-  some_seat m e none =
-      let count = ap (λ (l : List Seat). length l) m.seats ∙ fresh_length z (z.terms.node.settings.workers + 1) (length h.others.items) in
-      let more = one_fewer h.others.items left d e in
-      absurd (omega arith)
-
-  pub taken_out : (h' : Callers C D U) (s : Seat) → MayCall z h → h'.main ≡ h.main → h'.told ≡ h.told → h'.others.items ≡ left → h.others.items ≡ left ++ d ∷ []
-      → h.seats.items ≡ h'.seats.items ++ s ∷ [] → TakenOut z h h' s
-  taken_out h' s m main told rest e f =
-      let w1 = z.terms.node.settings.workers + 1 in
-      let both = same_from_push h'.seats.items (fresh_seats z.terms z.id w1 (length left)) s (fresh_seat z.terms z.id (w1 + length left)) (sym f
-      ∙ split_last m e) in
-      let long : length left ≡ length h'.others.items = ap (λ (l : List D). length l) (sym rest) in
-      record {
-        may = record { main = main ∙ m.main; seats = both.0 ∙ ap (λ (n : ℕ). fresh_seats z.terms z.id w1 n) long; told = ap (λ v. v.items) told ∙ m.told };
-        seat_is = both.1 ∙ ap (λ (n : ℕ). fresh_seat z.terms z.id (w1 + n)) long;
-      }
+pub taken_out : {C D U : Type 0} (z : Cell) (h : Callers C D U) (seats : Vec Seat Global) (others : Vec D Global) (s : Seat) (d : D) → MayCall z h
+    → h.others.items ≡ others.items ++ d ∷ [] → h.seats.items ≡ seats.items ++ s ∷ [] → TakenOut z (record h { seats = seats; others = others }) s
+taken_out {D} z h seats others s d m e f =
+    let w1 = z.terms.node.settings.workers + 1 in
+    let n = length others.items in
+    let long : length h.others.items ≡ suc n = omega (arith, ap (λ (l : List D). length l) e, length-append others.items (d ∷ [])) in
+    let all : h.seats.items ≡ fresh_seats z.terms z.id w1 n ++ fresh_seat z.terms z.id (w1 + n) ∷ [] =
+    m.seats ∙ (ap (λ (k : ℕ). fresh_seats z.terms z.id w1 k) long ∙ fresh_more z w1 n (w1 + n) refl) in
+    let both = same_from_push seats.items (fresh_seats z.terms z.id w1 n) s (fresh_seat z.terms z.id (w1 + n)) (sym f ∙ all) in
+    record { may = record { main = m.main; seats = both.0; told = m.told }; seat_is = both.1 }
 
 -- what is owed of the seat of a further caller
 pub record IsNewIn (z : Cell) (s : Seat) : Type 0 where
@@ -299,120 +275,89 @@ pub record IsNewIn (z : Cell) (s : Seat) : Type 0 where
   pub number : s.terms.node.settings.workers ≤ s.number
   pub new : s.mine ≡ []
 
-pub new_in : {C D U : Type 0} (z : Cell) (h h' : Callers C D U) (s : Seat) → TakenOut z h h' s → IsNewIn z s
-new_in z h h' s e1 = grind (arith, nat_tests)
+pub new_in : {C D U : Type 0} (z : Cell) (h : Callers C D U) (s : Seat) → TakenOut z h s → IsNewIn z s
+new_in z h s e1 = grind (arith, nat_tests)
 
 told_more : {D U : Type 0} (further : D → Seat → Seat → U → Type 0) (z : Cell) (who j : ℕ) (ds : List D) (bs : List Seat) (us : List U) (d : D) (c : Called U)
     → j ≡ who + length ds → AreTold further z who ds bs us → HasComeBack CallerEnters further d (fresh_seat z.terms z.id j) c
     → AreTold further z who (ds ++ d ∷ []) (bs ++ c.seat ∷ []) (us ++ c.told ∷ [])
 told_more {U = U} further z who j [] bs us d c e a h =
-    let here : j ≡ who = omega arith in (
-      c.seat,
-      [],
-      c.told,
-      [],
-      ap (λ (l : List Seat). l ++ c.seat ∷ []) a.0,
-      ap (λ (l : List U). l ++ c.told ∷ []) a.1,
-      subst (λ (k : ℕ). HasComeBack CallerEnters further d (fresh_seat z.terms z.id k) c) here h,
-      (refl, refl),
-    )
-told_more {U = U} further z who j (x ∷ ds) bs us d c e a h = (
-  a.0,
-  a.1 ++ c.seat ∷ [],
-  a.2,
-  a.3 ++ c.told ∷ [],
-  ap (λ (l : List Seat). l ++ c.seat ∷ []) a.4,
-  ap (λ (l : List U). l ++ c.told ∷ []) a.5,
-  a.6,
-  told_more further z (suc who) j ds a.1 a.3 d c (omega arith) a.7 h,
-)
+    let here : j ≡ who = omega arith in
+    let first = subst (λ (k : ℕ). HasComeBack CallerEnters further d (fresh_seat z.terms z.id k) c) here h in
+    (c.seat, [], c.told, [], ap (λ (l : List Seat). l ++ c.seat ∷ []) a.0, ap (λ (l : List U). l ++ c.told ∷ []) a.1, first, (refl, refl))
+told_more {U = U} further z who j (x ∷ ds) bs us d c e a h =
+    let seats = ap (λ (l : List Seat). l ++ c.seat ∷ []) a.4 in
+    let told = ap (λ (l : List U). l ++ c.told ∷ []) a.5 in
+    let rest = told_more further z (suc who) j ds a.1 a.3 d c (omega arith) a.7 h in
+    (a.0, a.1 ++ c.seat ∷ [], a.2, a.3 ++ c.told ∷ [], seats, told, a.6, rest)
 
 -- one more of the further callers came back
-pub one_more_back : {C D T U : Type 0} (promise : C → Seat → Seat → T → Type 0) (further : D → Seat → Seat → U
-    → Type 0) (z : Cell) (h h' : Callers C D U) (s : Seat) (d : D) (c c' : Company T U) (back : Result (Called U) Failure)
-    → h.others.items ≡ h'.others.items ++ d ∷ [] → h'.main ≡ h.main → h'.client ≡ h.client → TakenOut z h h' s
-    → IfOk back (HasComeBack CallerEnters further d s)
-    → IsJoinedBy c back c' → HaveComeBack promise further z h' c → HaveComeBack promise further z h c'
-one_more_back promise further z h h' s d c c' (Err f) items main client t came joined b = absurd joined
-one_more_back {C} {D} {T} {U} promise further z h h' s d c c' (Ok k) items main client t came joined b =
+pub one_more_back : {C D T U : Type 0} (promise : C → Seat → Seat → T → Type 0) (further : D → Seat → Seat → U → Type 0) (z : Cell) (h : Callers C D U)
+    (seats : Vec Seat Global) (others : Vec D Global) (s : Seat) (d : D) (c c' : Company T U) (back : Result (Called U) Failure)
+    → h.others.items ≡ others.items ++ d ∷ [] → TakenOut z (record h { seats = seats; others = others }) s
+    → IfOk back (HasComeBack CallerEnters further d s) → IsJoinedBy c back c'
+    → HaveComeBack promise further z (record h { seats = seats; others = others }) c → HaveComeBack promise further z h c'
+one_more_back promise further z h seats others s d c c' (Err f) items t came joined b = absurd joined
+one_more_back {C} {D} {T} {U} promise further z h seats others s d c c' (Ok k) items t came joined b =
     let w1 = z.terms.node.settings.workers + 1 in
     record {
-      main =
-          subst (λ (x : Called T). HasComeBack MainOpens promise h.client h.main x) (sym joined.main)
-          (subst (λ (x : Seat). HasComeBack MainOpens promise h.client x c.main) main
-          (subst (λ (x : C). HasComeBack MainOpens promise x h'.main c.main) client b.main));
+      main = subst (λ (x : Called T). HasComeBack MainOpens promise h.client h.main x) (sym joined.main) b.main;
       others =
           subst (λ (ds : List D). AreTold further z w1 ds c'.seats.items c'.told.items) (sym items)
-          (subst (λ (bs : List Seat). AreTold further z w1 (h'.others.items ++ d ∷ []) bs c'.told.items) (sym joined.seats)
-          (subst (λ (us : List U). AreTold further z w1 (h'.others.items ++ d ∷ []) (c.seats.items ++ k.seat ∷ []) us) (sym joined.told)
-          (told_more further z w1 (w1 + length h'.others.items) h'.others.items c.seats.items c.told.items d k refl b.others
+          (subst (λ (bs : List Seat). AreTold further z w1 (others.items ++ d ∷ []) bs c'.told.items) (sym joined.seats)
+          (subst (λ (us : List U). AreTold further z w1 (others.items ++ d ∷ []) (c.seats.items ++ k.seat ∷ []) us) (sym joined.told)
+          (told_more further z w1 (w1 + length others.items) others.items c.seats.items c.told.items d k refl b.others
           (subst (λ (x : Seat). HasComeBack CallerEnters further d x k) t.seat_is came))));
     }
 
 -- why one wasn't let in, said of the cell
-pub lost_one : {C D U V : Type 0} (z : Cell) (h h' : Callers C D U) (s : Seat) (d : D) (back : Result (Called V) Failure) (f : Failure)
-    → h.others.items ≡ h'.others.items ++ d ∷ [] → TakenOut z h h' s → IfErr back (λ e. IfRefused e (IsKeptOut s.terms.node s.number)) → IsLostBy back f
+pub lost_one : {C D U V : Type 0} (z : Cell) (h : Callers C D U) (seats : Vec Seat Global) (others : Vec D Global) (s : Seat) (d : D)
+    (back : Result (Called V) Failure) (f : Failure) → h.others.items ≡ others.items ++ d ∷ []
+    → TakenOut z (record h { seats = seats; others = others }) s → IfErr back (λ e. IfRefused e (IsKeptOut s.terms.node s.number)) → IsLostBy back f
     → IfRefused f (AreRefused z.terms.node (length h.others.items))
-lost_one {D = D} z h h' s d (Ok k) f items t out lost = subst (λ (g : Failure). IfRefused g (AreRefused z.terms.node (length h.others.items))) (sym lost) tt
-lost_one {D = D} z h h' s d (Err g) f items t out lost =
-    let more : length h.others.items ≡ suc (length h'.others.items) = one_fewer z h h'.others.items d h.others.items h'.others.items d items in
+lost_one z h seats others s d (Ok k) f items t out lost = subst (λ (g : Failure). IfRefused g (AreRefused z.terms.node (length h.others.items))) (sym lost) tt
+lost_one {D} z h seats others s d (Err g) f items t out lost =
+    let more : length h.others.items ≡ suc (length others.items) = omega (arith, ap (λ (l : List D). length l) items, length-append others.items (d ∷ [])) in
     subst (λ (e : Failure). IfRefused e (AreRefused z.terms.node (length h.others.items))) (sym lost)
     (refused_weaker (IsKeptOut s.terms.node s.number) (AreRefused z.terms.node (length h.others.items)) g
-    (λ status k. inr (length h'.others.items, omega arith, subst (λ (q : Seat). IsKeptOut q.terms.node q.number status) t.seat_is k)) out)
-
-pub fewer : {D : Type 0} (xs ys : List D) (y : D) → xs ≡ ys ++ y ∷ [] → length ys ≤ length xs
-fewer {D} xs ys y e = let same = ap (λ (l : List D). length l) e ∙ longer ys in omega arith
-  where
-    longer : (l : List D) → length (l ++ y ∷ []) ≡ suc (length l)
-    longer [] = refl
-    longer (x ∷ l) = ap suc (longer l)
+    (λ status k. inr (length others.items, omega arith, subst (λ (q : Seat). IsKeptOut q.terms.node q.number status) t.seat_is k)) out)
 
 -- all callers came back, and main began the end
-pub all_closed : {C D T U : Type 0} (promise : C → Seat → Seat → T → Type 0) (further : D → Seat → Seat → U
-    → Type 0) (z : Cell) (h : Callers C D U) (c : Company T U) (back : Seat)
-    → HaveComeBack promise further z h c → GaveUp c.main.seat back
-    → HaveComeBack promise further z h (record { main = record { seat = back; told = c.main.told }; seats = c.seats; told = c.told })
+pub all_closed : {C D T U : Type 0} (promise : C → Seat → Seat → T → Type 0) (further : D → Seat → Seat → U → Type 0) (z : Cell) (h : Callers C D U)
+    (c : Company T U) (back : Seat) → HaveComeBack promise further z h c → GaveUp c.main.seat back
+    → HaveComeBack promise further z h (record c { main = record { seat = back; told = c.main.told } })
 all_closed promise further z h c back b gave = record { main = come_closed MainOpens promise h.client h.main c.main back b.main gave; others = b.others }
 
 -- The workers' threads
 
-pub came_joined : {C D T U A : Type 0} (promise : C → Seat → Seat → T → Type 0) (further : D → Seat → Seat → U
-    → Type 0) (z : Cell) (h h' : Hands C D U A) (s : Seat) (c c' : ThreadResults T U A) (over : Over A)
-    → h.workers.items ≡ h'.workers.items ++ s ∷ [] → vec_len h'.workers + 1 ≡ vec_len h.workers → h'.sets ≡ h.sets → h'.callers ≡ h.callers
-    → SameSeat s over.seat → IsJoined c over c' → CameBack promise further z h' c → CameBack promise further z h c'
-came_joined {C} {D} {T} {U} {A} promise further z h h' s c c' over items len sets callers same j b = record {
+pub came_joined : {C D T U A : Type 0} (promise : C → Seat → Seat → T → Type 0) (further : D → Seat → Seat → U → Type 0) (z : Cell) (h : Hands C D U A)
+    (workers : Vec Seat Global) (s : Seat) (c c' : ThreadResults T U A) (over : Over A)
+    → h.workers.items ≡ workers.items ++ s ∷ [] → vec_len workers + 1 ≡ vec_len h.workers
+    → SameSeat s over.seat → IsJoined c over c' → CameBack promise further z (record h { workers = workers }) c → CameBack promise further z h c'
+came_joined {C} {D} {T} {U} {A} promise further z h workers s c c' over items len same j b = record {
   workers =
       subst (λ (xs : List Seat). AllZip SameSeat xs c'.workers.items) (sym items)
-      (subst (AllZip SameSeat (h'.workers.items ++ s ∷ [])) (sym j.workers) (AllZip-push SameSeat h'.workers.items c.workers.items s over.seat b.workers same));
-  sets = (let n = j.sets in let m = b.sets in let k = ap vec_len sets in omega arith);
-  company =
-      subst (λ (x : Company T U). HaveComeBack promise further z h.callers x) (sym j.company)
-      (subst (λ (x : Callers C D U). HaveComeBack promise further z x c.company) callers b.company);
+      (subst (AllZip SameSeat (workers.items ++ s ∷ [])) (sym j.workers) (AllZip-push SameSeat workers.items c.workers.items s over.seat b.workers same));
+  sets = (let n = j.sets in let m = b.sets in omega arith);
+  company = subst (λ (x : Company T U). HaveComeBack promise further z h.callers x) (sym j.company) b.company;
 }
 
 -- The close
 
 zip_numbers : (xs ys : List Seat) → AllZip SameSeat xs ys → numbers xs ≡ numbers ys
 zip_numbers [] [] a = refl
-zip_numbers [] (y ∷ ys) a = absurd a
-zip_numbers (x ∷ xs) [] a = absurd a
 zip_numbers (x ∷ xs) (y ∷ ys) a = ap (λ (n : ℕ). n ∷ numbers xs) (sym a.0.number) ∙ ap (λ (l : List ℕ). y.number ∷ l) (zip_numbers xs ys a.1)
+zip_numbers xs ys a = absurd a
 
 zip_cells : (z : Cell) (xs ys : List Seat) → AllZip SameSeat xs ys → all_of (λ (s : Seat). s.cell ≡ z.id) xs → all_of (λ (s : Seat). s.cell ≡ z.id) ys
 zip_cells z [] [] a b = tt
-zip_cells z [] (y ∷ ys) a b = absurd a
-zip_cells z (x ∷ xs) [] a b = absurd a
 zip_cells z (x ∷ xs) (y ∷ ys) a b = (a.0.cell ∙ b.0, zip_cells z xs ys a.1 b.1)
+zip_cells z xs ys a b = absurd a
 
 zip_behind : (xs ys us vs : List Seat) → AllZip SameSeat xs ys → AllZip SameSeat us vs → AllZip SameSeat (xs ++ us) (ys ++ vs)
 zip_behind [] [] us vs a b = b
-zip_behind [] (y ∷ ys) us vs a b = absurd a
-zip_behind (x ∷ xs) [] us vs a b = absurd a
 zip_behind (x ∷ xs) (y ∷ ys) us vs a b = (a.0, zip_behind xs ys us vs a.1 b)
-
-all_back : (F : Seat → Type 0) (xs ys : List Seat) → all_of F (xs ++ ys) → all_of F ys
-all_back F [] ys a = a
-all_back F (x ∷ xs) ys a = all_back F xs ys a.1
+zip_behind xs ys us vs a b = absurd a
 
 module _ {T U A : Type 0} (z : Cell) (c : ThreadResults T U A) (last : Seat) where
   -- all seats: the workers', main's, and the further callers'
@@ -454,7 +399,7 @@ module _ {T U A : Type 0} (z : Cell) (c : ThreadResults T U A) (last : Seat) whe
       ∙ (own ∙ (one.mine ∙ ap (λ (n : ℕ). c.company.main.seat.mine ++ entry n Final reply.Ok ∷ []) number))
 
   pub others_ended : (history : List NodeEntry) → all_of (IsSeatOf z.terms history) whole → all_of (IsSeatOf z.terms history) c.company.seats.items
-  others_ended history seats = all_back (IsSeatOf z.terms history) (c.workers.items ++ last ∷ []) c.company.seats.items seats
+  others_ended history seats = all_after (IsSeatOf z.terms history) (c.workers.items ++ last ∷ []) c.company.seats.items seats
 
 -- what main's seat is refused, said of the cell
 pub not_ended : {T U A : Type 0} (z : Cell) (c : ThreadResults T U A) (f : Failure) → HasAllSeats z c
@@ -489,17 +434,15 @@ have_called {D} {U} further z history who (d ∷ ds) bs us seats a =
           (suc who) ds a.1 a.3 own.1 a.7,
     )
 
-pub has_all : {C D T U A : Type 0} (promise : C → Seat → Seat → T → Type 0) (further : D → Seat → Seat → U
-    → Type 0) (z : Cell) (h : Hands C D U A) (c : ThreadResults T U A)
-    → z.terms.node.callers ≡ length h.callers.others.items + 1 → Dealt z (length h.callers.others.items) h.workers.items h.callers.main h.callers.seats.items
-    → CameBack promise further z h c → HasAllSeats z c
-has_all promise further z h c many d b =
+pub has_all : {C D T U A : Type 0} (promise : C → Seat → Seat → T → Type 0) (further : D → Seat → Seat → U → Type 0) (settings : NodeSettings) (z : Cell)
+    (h : Hands C D U A) (c : ThreadResults T U A) → Made settings z h → CameBack promise further z h c → HasAllSeats z c
+has_all promise further settings z h c d b =
     let w1 = z.terms.node.settings.workers + 1 in
     let o = b.company.others in
     let long : length c.company.seats.items ≡ length h.callers.others.items =
     told_length further z w1 h.callers.others.items c.company.seats.items c.company.told.items o in
     record {
-      callers = many ∙ ap (λ (n : ℕ). n + 1) (sym long);
+      callers = ap (λ (t : JournaledTerms). t.node.callers) d.terms ∙ ap (λ (n : ℕ). n + 1) (sym long);
       workers = subst (λ (xs : List Seat). AllZip SameSeat xs c.workers.items) d.workers_are b.workers;
       main = subst (λ (s : Seat). SameSeat s c.company.main.seat) d.main_is b.company.main.same;
       others =
@@ -507,65 +450,59 @@ has_all promise further z h c many d b =
           (told_same further z w1 h.callers.others.items c.company.seats.items c.company.told.items o);
     }
 
-pub sets_are : {C D T U A : Type 0} (promise : C → Seat → Seat → T → Type 0) (further : D → Seat → Seat → U
-    → Type 0) (n : ℕ) (z : Cell) (h : Hands C D U A) (c : ThreadResults T U A) (d : AllDone T U A)
-    → Dealt z (length h.callers.others.items) h.workers.items h.callers.main h.callers.seats.items → CameBack promise further z h c → HasEnded z c d
-    → vec_len h.sets ≡ 0 → z.terms.node.settings.workers ≡ n → vec_len d.sets ≡ n
-sets_are promise further n z h c d dealt came ended none few =
+pub sets_are : {C D T U A : Type 0} (promise : C → Seat → Seat → T → Type 0) (further : D → Seat → Seat → U → Type 0) (settings : NodeSettings) (z : Cell)
+    (h : Hands C D U A) (c : ThreadResults T U A) (d : AllDone T U A) → Made settings z h → CameBack promise further z h c → HasEnded z c d
+    → vec_len h.sets ≡ 0 → vec_len d.sets ≡ settings.workers
+sets_are promise further settings z h c d dealt came ended none =
     let same : vec_len d.sets ≡ vec_len c.sets = ap vec_len ended.sets in
     let given = came.sets in
+    let few : z.terms.node.settings.workers ≡ settings.workers = ap (λ (t : JournaledTerms). t.node.settings.workers) dealt.terms in
     let workers : length h.workers.items ≡ z.terms.node.settings.workers =
     ap (λ (xs : List Seat). length xs) dealt.workers_are ∙ fresh_length z 0 z.terms.node.settings.workers in
     omega arith
 
 -- the calls of main's client
-called_for : {C D T U A : Type 0} (promise : C → Seat → Seat → T → Type 0) (further : D → Seat → Seat → U
-    → Type 0) (client : C) (t : Terms) (z : Cell) (h : Hands C D U A) (c : ThreadResults T U A)
-    → z.terms.node ≡ t → h.callers.client ≡ client → Dealt z (length h.callers.others.items) h.workers.items h.callers.main h.callers.seats.items
-    → CameBack promise further z h c
-    → HasCalled MainOpens promise client t t.settings.workers c.company.main.told c.company.main.seat.mine
-called_for promise further client t z h c e1 e2 e3 e4 = grind (arith, nat_tests)
+called_for : {C D T U A : Type 0} (promise : C → Seat → Seat → T → Type 0) (further : D → Seat → Seat → U → Type 0) (t : Terms) (settings : NodeSettings)
+    (z : Cell) (h : Hands C D U A) (c : ThreadResults T U A) → z.terms.node ≡ t → Made settings z h → CameBack promise further z h c
+    → HasCalled MainOpens promise h.callers.client t t.settings.workers c.company.main.told c.company.main.seat.mine
+called_for promise further t settings z h c e1 e2 e3 = grind (arith, nat_tests)
 
-pub run_is : {C D T U A : Type 0} (promise : C → Seat → Seat → T → Type 0) (further : D → Seat → Seat → U
-    → Type 0) (client : C) (others : List D) (settings : NodeSettings) (z : Cell) (h : Hands C D U A) (c : ThreadResults T U A) (d : AllDone T U A)
-    → z.terms.node ≡ terms_among settings (length others) → h.callers.client ≡ client → h.callers.others.items ≡ others
-    → Dealt z (length h.callers.others.items) h.workers.items h.callers.main h.callers.seats.items → CameBack promise further z h c → HasEnded z c d
-    → IsRunOfAll promise further client others settings d.told d.others.items d.journal
-run_is {C} {D} {T} {U} promise further client others settings z h c d terms same list dealt came ended =
-    let t = terms_among settings (length others) in
+pub run_is : {C D T U A : Type 0} (promise : C → Seat → Seat → T → Type 0) (further : D → Seat → Seat → U → Type 0) (settings : NodeSettings) (z : Cell)
+    (h : Hands C D U A) (c : ThreadResults T U A) (d : AllDone T U A) → Made settings z h → CameBack promise further z h c → HasEnded z c d
+    → IsRunOfAll promise further h.callers.client h.callers.others.items settings d.told d.others.items d.journal
+run_is {C} {D} {T} {U} promise further settings z h c d dealt came ended =
+    let terms = ap (λ (t : JournaledTerms). t.node) dealt.terms in
+    let t = terms_among settings (length h.callers.others.items) in
     let w = z.terms.node.settings.workers in
-    let called = called_for promise further client t z h c terms same dealt came in
-    let each = have_called further z ended.history (w + 1) h.callers.others.items c.company.seats.items c.company.told.items ended.seats came.company.others in
+    let ds = h.callers.others.items in
+    let each = have_called further z ended.history (w + 1) ds c.company.seats.items c.company.told.items ended.seats came.company.others in
     record {
       history = ended.history;
       legal = subst (λ (u : Terms). Legal u ended.history) terms ended.legal;
       kept = subst (λ (u : Terms). KeptAs u d.journal ended.history) terms ended.kept;
       mine = c.company.main.seat.mine;
-      called = subst (λ (x : T). HasCalled MainOpens promise client t settings.workers x c.company.main.seat.mine) (sym ended.told) called;
+      called = subst (λ (x : T). HasCalled MainOpens promise h.callers.client t settings.workers x c.company.main.seat.mine) (sym ended.told)
+          (called_for promise further t settings z h c terms dealt came);
       ended = subst (λ (u : Terms). entries_of u.settings.workers ended.history
           ≡ c.company.main.seat.mine ++ entry u.settings.workers Final reply.Ok ∷ []) terms ended.ended;
       others_called =
-          subst (λ (us : List U). HaveCalled further t ended.history (settings.workers + 1) others us) (sym (ap (λ v. v.items) ended.others))
-          (subst (λ (ds : List D). HaveCalled further t ended.history (settings.workers + 1) ds c.company.told.items) list
-          (subst (λ (u : Terms). HaveCalled further u ended.history (u.settings.workers + 1) h.callers.others.items c.company.told.items) terms each));
+          subst (λ (us : List U). HaveCalled further t ended.history (settings.workers + 1) ds us) (sym (ap (λ v. v.items) ended.others))
+          (subst (λ (u : Terms). HaveCalled further u ended.history (u.settings.workers + 1) ds c.company.told.items) terms each);
     }
-
--- the terms of the cell are those of the settings
-pub terms_are : (u : Terms) (settings : NodeSettings) (k n : ℕ) → u ≡ terms_with Two settings k → k ≡ n + 1 → u ≡ terms_among settings n
-terms_are u settings k n e f = e ∙ ap (λ (j : ℕ). terms_with Two settings j) f
 
 -- Why it gave nothing back
 
 pub unopened_all : {C T : Type 0} (promise : C → Seat → Seat → T → Type 0) (client : C) (n m : ℕ) (settings : NodeSettings) (z : Cell) (f : Failure)
-    → z.terms.node ≡ terms_among settings n → m ≡ n → IfRefused f (AreRefused z.terms.node m) → IfRefused f (RefusesOne promise client n settings)
+    → z.terms.node ≡ terms_among settings m → n ≡ m → IfRefused f (AreRefused z.terms.node m) → IfRefused f (RefusesOne promise client n settings)
 unopened_all promise client n m settings z f e1 e2 e3 = grind (arith, nat_tests)
 
-pub unended_all : {C D T U A : Type 0} (promise : C → Seat → Seat → T → Type 0) (further : D → Seat → Seat → U
-    → Type 0) (client : C) (n : ℕ) (settings : NodeSettings) (z : Cell) (h : Hands C D U A) (c : ThreadResults T U A) (f : Failure)
-    → z.terms.node ≡ terms_among settings n → h.callers.client ≡ client
-    → Dealt z (length h.callers.others.items) h.workers.items h.callers.main h.callers.seats.items → CameBack promise further z h c
-    → IfRefused f (IsRefused z.terms.node z.terms.node.settings.workers c.company.main.seat.mine Final) → IfRefused f (RefusesOne promise client n settings)
-unended_all promise further client n settings z h c f e1 e2 e3 e4 e5 = grind (arith, nat_tests)
+pub unended_all : {C D T U A : Type 0} (promise : C → Seat → Seat → T → Type 0) (further : D → Seat → Seat → U → Type 0) (n : ℕ) (settings : NodeSettings)
+    (z : Cell) (h : Hands C D U A) (c : ThreadResults T U A) (f : Failure) → n ≡ length h.callers.others.items → Made settings z h
+    → CameBack promise further z h c → IfRefused f (IsRefused z.terms.node z.terms.node.settings.workers c.company.main.seat.mine Final)
+    → IfRefused f (RefusesOne promise h.callers.client n settings)
+unended_all promise further n settings z h c f e1 e2 e3 e4 =
+    let node : z.terms.node ≡ terms_among settings n = ap (λ (t : JournaledTerms). t.node) e2.terms ∙ ap (terms_among settings) (sym e1) in
+    grind (arith, nat_tests)
 
 -- Main alone
 

@@ -1,5 +1,5 @@
 -- What a node gives back.
-use Rattle.std.specs.Prelude.{◌≡◌, ◌⊎◌, ◌+◌, ℕ, suc, List, [], ◌∷◌, ◌++◌, length}
+use Rattle.std.specs.Prelude.{◌≡◌, ◌⊎◌, ◌+◌, ℕ, suc, true, List, [], ◌∷◌, ◌++◌, length}
 use Rattle.std.specs.List.{AllZip}
 use Rattle.history.specs.Histories.{entry, entries_of}
 use Rattle.turn_cell.specs.Lists.{all_of}
@@ -73,6 +73,13 @@ Refuses promise client settings status = IsNotOpened (terms_for settings) settin
 abbrev pub RefusesOne : {C T : Type 0} → (C → Seat → Seat → T → Type 0) → C → ℕ → NodeSettings → MtapiStatus → Type 0
 RefusesOne promise client others settings status =
     AreRefused (terms_among settings others) others status ⊎ IsNotEnded promise client (terms_among settings others) status
+
+-- a new cell of a node with these settings, main and so many further callers, and its seats: the workers', main's, and those of the further callers
+pub record IsMade (settings : NodeSettings) (n : ℕ) (z : Cell) (workers : List Seat) (main : Seat) (others : List Seat) : Type 0 where
+  pub terms : z.terms ≡ record { node = terms_among settings n; keeps = true }
+  pub workers_are : workers ≡ fresh_seats z.terms z.id 0 z.terms.node.settings.workers
+  pub main_is : main ≡ fresh_seat z.terms z.id z.terms.node.settings.workers
+  pub others_are : others ≡ fresh_seats z.terms z.id (z.terms.node.settings.workers + 1) n
 
 -- the crew has all seats of a new cell
 pub record HasAllSeats {T U A : Type 0} (z : Cell) (c : ThreadResults T U A) : Type 0 where

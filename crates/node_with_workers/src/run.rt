@@ -1,9 +1,9 @@
 //! The node, from its start to its journal.
 
-ghost use Rattle.std.specs.Prelude.{◌≡◌, ◌≤◌, ◌<◌, ◌-◌, true, [], ◌∷◌, ◌++◌, take, drop, IfOk, IfErr, vec_len};
+ghost use Rattle.std.specs.Prelude.{◌≡◌, ◌≤◌, ◌<◌, ◌-◌, ℕ, true, [], ◌∷◌, ◌++◌, take, drop, IfOk, IfErr, vec_len};
 ghost use Rattle.mtapi_machine.specs.declared.ops.Op.TheVariants.{Final};
 ghost use Rattle.node_with_workers.specs.Clients.{IfRefused, IsRefused};
-ghost use Rattle.node_with_workers.specs.Runs.{IsRun, IsRunOfAll, Refuses, RefusesOne, HasAllSeats, HasEnded};
+ghost use Rattle.node_with_workers.specs.Runs.{IsMade, IsRun, IsRunOfAll, Refuses, RefusesOne, HasAllSeats, HasEnded};
 
 use crate::callers::{Callers, Company};
 use crate::client::{Called, Client, ended};
@@ -66,6 +66,21 @@ fn deal(seats: Vec<TurnSeat<Journaled>>, others: usize) -> Result<Dealt, AllocEr
         main,
         others,
     })
+}
+
+// Makes the cell of a node with these settings, main and so many further callers, and deals its seats.
+fn made(
+    alloc: Global,
+    settings: NodeAttr,
+    others: usize,
+) -> Result<(TurnCell<Journaled>, Dealt), AllocError>
+    requires few { others ≤ 8 }
+    ensures { IfOk result (λ r. (n : ℕ) → n ≡ others → IsMade settings n r.0 r.1.workers.items r.1.main r.1.others.items) }
+{
+    let node = Node::init(alloc, settings, others as u32 + 1)?;
+    let (cell, seats) = TurnCell::new(alloc, Journaled::with(alloc, node))?;
+    let dealt = deal(seats, others)?;
+    Ok((cell, dealt))
 }
 
 // Ends the node, closes its cell, and takes the journal out of it. Where a worker's turns were used up it hasn't stopped, and the end is
@@ -136,9 +151,7 @@ where
     ensures sets { IfOk result (λ d. vec_len d.sets ≡ settings.workers) }
 {
     let count = others.len();
-    let node = Node::init(alloc, settings, count as u32 + 1)?;
-    let (cell, seats) = TurnCell::new(alloc, Journaled::with(alloc, node))?;
-    let dealt = deal(seats, count)?;
+    let (cell, dealt) = made(alloc, settings, count)?;
     let sets = Vec::with_capacity(alloc, dealt.workers.len())?;
     let told = Vec::with_capacity(alloc, count)?;
     let callers = Callers {
