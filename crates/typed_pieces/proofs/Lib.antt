@@ -1,3 +1,4 @@
+pub mod Names
 pub mod Callers
 pub mod Levels
 pub mod Mapping

@@ -1,33 +1,16 @@
 -- Of pieces that were made of items.
-use Rattle.std.proofs.Common.{◌≡◌, ℕ, List, [], ◌∷◌, Some, zero, suc, refl, ap, map, length, Result, Ok, Err, IfOk, arith, sym, subst, ◌∙◌}
-use Rattle.std.specs.List.{All, AllZip, AllByRecursion}
-use Rattle.std.proofs.lemmas.List.Elements.{All-from_recursion, recursion_from_All}
-use Rattle.typed_pieces.specs.Places.{AreKept}
-
-many_none : {n : ℕ} → suc n ≡ zero → ⊥
-many_none e = omega (arith, e)
-
-none_many : {n : ℕ} → zero ≡ suc n → ⊥
-none_many e = omega (arith, e)
-
-suc_same : {m n : ℕ} → suc m ≡ suc n → m ≡ n
-suc_same e = omega (arith, e)
-
-each_made : {T M : Type 0} (P : M → Type 0) (made : T → M) (xs : List T) → AllByRecursion (λ x. P (made x)) xs → AllByRecursion P (map made xs)
-each_made P made [] all = tt
-each_made P made (x ∷ xs) all = (all.0, each_made P made xs all.1)
+use Rattle.typed_pieces.proofs.Names.{◌≡◌, List, [], ◌∷◌, Some, suc, refl, ap, map, length, Result, Ok, Err, IfOk, arith, sym, subst, ◌∙◌, All, AllZip, All-map, AreKept}
 
 -- what holds of the piece of each item holds of each piece
 pub all_made : {T M : Type 0} (P : M → Type 0) (made : T → M) (xs : List T) (ms : List M) → ms ≡ map made xs → All (λ x. P (made x)) xs → All P ms
-all_made P made xs ms are all = subst (λ l. All P l) (sym are)
-    (All-from_recursion P (map made xs) (each_made P made xs (recursion_from_All (λ x. P (made x)) xs all)))
+all_made P made xs ms are all = subst (λ l. All P l) (sym are) (All-map P made xs all)
 
 zipped : {T M D : Type 0} (R : M → D → Type 0) (made : T → M) (xs : List T) (ds : List D) → length ds ≡ length (map made xs)
     → AreKept R (map made xs) (map Some ds) → AllZip (λ x d. R (made x) d) xs ds
 zipped R made [] [] many kept = tt
-zipped R made [] (d ∷ ds) many kept = absurd (many_none many)
-zipped R made (x ∷ xs) [] many kept = absurd (none_many many)
-zipped R made (x ∷ xs) (d ∷ ds) many kept = (kept 0 (made x) d refl refl, zipped R made xs ds (suc_same many) (λ i. kept (suc i)))
+zipped R made [] (d ∷ ds) many kept = absurd (omega arith)
+zipped R made (x ∷ xs) [] many kept = absurd (omega arith)
+zipped R made (x ∷ xs) (d ∷ ds) many kept = (kept 0 (made x) d refl refl, zipped R made xs ds (omega arith) (λ i. kept (suc i)))
 
 -- where each result is one that the piece of its place promises, and there are as many, each is one of the item of its place
 pub kept_made : {T M D : Type 0} (R : M → D → Type 0) (made : T → M) (xs : List T) (ms : List M) (ds : List D) → ms ≡ map made xs → length ds ≡ length ms

@@ -1,9 +1,6 @@
 -- What a write at a place, and a new table, keep.
-use Rattle.std.proofs.Common.{◌≡◌, ℕ, ◌⊎◌, List, [], ◌∷◌, Option, Some, None, zero, suc, refl, ap, subst, sym, ◌∙◌, inl, inr, ⊎_elim, slice_get, slice_set, map, IfSome}
-use Rattle.std.specs.List.{All}
-use Rattle.std.proofs.lemmas.Option.{same_Some, none-some, get_or_from_slice_get, slice_get_within}
+use Rattle.typed_pieces.proofs.Names.{◌≡◌, ℕ, ◌⊎◌, List, [], ◌∷◌, Option, Some, None, zero, suc, refl, ap, subst, sym, ◌∙◌, inl, inr, ⊎_elim, slice_get, slice_set, map, IfSome, All, same_Some, none-some, get_or_from_slice_get, slice_get_within, AreFrom, AreKept, IsKeptAt}
 use Rattle.std.proofs.Math.Logic.{∥∥₁_map}
-use Rattle.typed_pieces.specs.Places.{AreFrom, AreKept, IsKeptAt}
 
 -- what stands at a place after a write is what was written, or stood there before
 get_set : {X : Type 0} (xs : List X) (i k : ℕ) (x y : X) → slice_get (slice_set xs i x) k ≡ Some y → ((k ≡ i) × (x ≡ y)) ⊎ (slice_get xs k ≡ Some y)

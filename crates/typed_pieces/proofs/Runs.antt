@@ -1,56 +1,21 @@
 -- Of the run of a node, whatever its client promises, and of calls that were refused.
-use Rattle.std.proofs.Common.{◌≡◌, ℕ, ◌+◌, suc, pos, false, Option, Some, None, List, [], ◌∷◌, ◌++◌, length, Result, Ok, Err, inl, inr, refl, sym, ap, subst, ◌∙◌, append_assoc, take, arith}
-use Rattle.std.proofs.lemmas.List.{length-append}
-use Rattle.std.proofs.lemmas.Bool.Decides.{nat_tests}
-use Rattle.std.specs.Prelude.{IfErr, IfOk}
-use Rattle.history.specs.Histories.{entry}
-use Rattle.mtapi_values.specs.Attributes.{NodeSettings, TaskAttributes}
+use Rattle.typed_pieces.proofs.Names.{◌≡◌, ℕ, ◌+◌, suc, pos, false, Option, Some, None, List, [], ◌∷◌, ◌++◌, length, Result, Ok, Err, inl, inr, refl, sym, ap, subst, ◌∙◌, append_assoc, take, arith, length-append, nat_tests, entry, NodeSettings, TaskAttributes, TaskHandle, MtapiStatus, Reply, NodeEntry, Journal, Wanted, Answers, Called, Waited, start_of, with_number, done, handle, mtapi, SameSeat, Seat, GoesOn, IsRun, EndsRefused, HasAwaited, HasRun, HasStarted, RefusesPieces, every_worker, starts_of, IfOk, IfErr}
 use Rattle.mtapi_values.specs.declared.handles.ActionHandle.{ActionHandle}
 use Rattle.mtapi_values.specs.declared.handles.GroupHandle.{GroupHandle}
-use Rattle.mtapi_values.specs.declared.handles.TaskHandle.{TaskHandle}
 use Rattle.mtapi_values.specs.declared.kinds.Kind.TheVariants.{Echo}
-use Rattle.mtapi_values.specs.declared.statuses.MtapiStatus.{MtapiStatus}
 use Rattle.mtapi_machine.specs.declared.ops.Op.TheVariants.{ActionCreate, GroupCreate, TaskStart, AllLook}
-use Rattle.mtapi_machine.specs.declared.replies.Reply.{Reply}
 use Rattle.mtapi_machine.specs.declared.replies.Reply.TheVariants as reply
-use Rattle.mtapi_machine.specs.Legal.{NodeEntry}
-use Rattle.node_journals.specs.declared.entries.Journal.{Journal}
-use Rattle.workload_runs.specs.declared.calls.Wanted.{Wanted}
 use Rattle.workload_runs.specs.declared.calls.Wanted.TheVariants.{AllMembers}
 use Rattle.workload_runs.specs.Wants.{op_of}
-use Rattle.sched_workers.specs.Answers.{Answers, Called, Waited, start_of, with_number}
 use Rattle.workload_runners.specs.Looks.{pends}
-use Rattle.workload_runners.specs.Replies.{done, handle, mtapi}
-use Rattle.workload_runners.specs.Turns.{SameSeat, Seat}
-use Rattle.node_with_workers.specs.Clients.{GoesOn}
-use Rattle.node_with_workers.specs.Runs.{IsRun}
 use Rattle.node_with_workers.specs.Told.{WentOn}
 use Rattle.node_with_workers.proofs.Calls.{begins_more, begins_same}
 use Rattle.node_with_workers.proofs.Told.{then_given, went_none}
-use Rattle.typed_pieces.specs.Runs.{EndsRefused, HasAwaited, HasRun, HasRunAll, HasStarted, RefusesPieces, every_worker, starts_of}
+use Rattle.typed_pieces.proofs.Callers.{run_says}
 
 pub has_run : {C T : Type 0} (promise : C → Seat → Seat → T → Type 0) (client : C) (settings : NodeSettings) (told : T) (j : Journal)
     → IsRun promise client settings told j → HasRun settings j
-has_run promise client settings told j r =
-    let c = r.called in
-    record {
-      history = r.history;
-      legal = r.legal;
-      kept = r.kept;
-      mine = r.mine;
-      called = record {
-        before = c.before;
-        number = c.number;
-        terms = c.terms;
-        opened = c.opened;
-        after = c.after;
-        same = c.same;
-        goes_on = c.goes_on;
-        promised = tt;
-        begins = c.begins;
-      };
-      ended = r.ended;
-    }
+has_run promise client settings told j r = run_says {C = Unit {0}} {T = Unit {0}} (λ _ _ _ _. Unit {0}) promise tt client tt told settings j (λ a z p. tt) r
 
 refused_done : (r : Reply) (status : MtapiStatus) → Answers mtapi done r (Err status) → r ≡ reply.Mtapi status
 refused_done r status e1 = grind (arith, nat_tests)
@@ -136,25 +101,8 @@ AwaitsPieces places all old new told = IfOk told (λ _. HasAwaited (places all) 
 pub told_why : {C : Type 0} (places : C → ℕ) (client : C) (settings : NodeSettings) (told : Result (Unit {0}) MtapiStatus) (status : MtapiStatus) (j : Journal)
     → IsRun (AwaitsPieces places) client settings told j → told ≡ Err status → RefusesPieces settings status
 told_why places client settings told status j r is =
-    let c = r.called in
     inr (
       j,
-      record {
-        history = r.history;
-        legal = r.legal;
-        kept = r.kept;
-        mine = r.mine;
-        called = record {
-          before = c.before;
-          number = c.number;
-          terms = c.terms;
-          opened = c.opened;
-          after = c.after;
-          same = c.same;
-          goes_on = c.goes_on;
-          promised = subst (λ (x : Result (Unit {0}) MtapiStatus). IfErr x (λ s. EndsRefused s c.after)) is c.promised.1;
-          begins = c.begins;
-        };
-        ended = r.ended;
-      },
+      run_says {C = Unit {0}} {T = MtapiStatus} (λ _ _ s refused. EndsRefused refused s) (AwaitsPieces places) tt client status told settings j
+          (λ a z p. subst (λ (x : Result (Unit {0}) MtapiStatus). IfErr x (λ s. EndsRefused s z)) is p.1) r,
     )

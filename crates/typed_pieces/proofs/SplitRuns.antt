@@ -1,18 +1,8 @@
 -- Of the levels of work that splits.
-use Rattle.std.proofs.Common.{◌≡◌, ◌≤◌, ◌<◌, ℕ, ◌+◌, ◌∙◌, List, [], ◌∷◌, ◌++◌, ap, subst, sym, arith, length, map, Vec}
-use Rattle.std.proofs.lemmas.List.{map-append}
-use Rattle.std.specs.declared.alloc.Global.{Global}
-use Rattle.std.proofs.lemmas.List.Elements.{All-nil, All-push}
-use Rattle.std.proofs.lemmas.List.Sums.{sum_by-append}
-use Rattle.mtapi_values.specs.Attributes.{NodeSettings}
-use Rattle.typed_pieces.specs.Runs.{HasRunAll}
-use Rattle.typed_pieces.specs.Levels.{AreOpen}
-use Rattle.typed_pieces.specs.SplitRuns.{AreCounted, HaveRun, IsOver, SplitFails, pieces_of}
-use Rattle.typed_pieces.specs.declared.level.Pending.{Pending}
+use Rattle.typed_pieces.proofs.Names.{◌≡◌, ◌≤◌, ◌<◌, ℕ, ◌+◌, ◌∙◌, List, [], ◌∷◌, ◌++◌, ap, subst, sym, arith, length, map, Vec, map-append, Global, All-nil, All-push, sum_by-append, NodeSettings, HasRunAll, AreOpen, AreCounted, HaveRun, IsOver, SplitFails, pieces_of, Pending, LevelRun}
 use Rattle.typed_pieces.specs.declared.split_failure.SplitFailure.{SplitFailure}
 use Rattle.typed_pieces.specs.declared.split_failure.SplitFailure.TheVariants as failure
 use Rattle.typed_pieces.specs.declared.unfinished.Unfinished.{Unfinished}
-use Rattle.typed_pieces.specs.declared.split_run.LevelRun.{LevelRun}
 
 -- these levels have run, with so many pieces in all, which is at most so many
 pub record Ran (settings : NodeSettings) (most before : ℕ) (levels : List LevelRun) : Type 0 where

@@ -1,16 +1,8 @@
 -- What a wait for any member of a group says of places.
-use Rattle.std.proofs.Common.{◌≡◌, ◌<◌, ◌^◌, ℕ, ℤ, pos, negsuc, Option, Result, Ok, Err, inl, inr, refl, subst, sym, arith, OkIff, unsigned_abs}
+use Rattle.typed_pieces.proofs.Names.{◌≡◌, ◌<◌, ◌^◌, ℕ, ℤ, pos, negsuc, Option, Result, Ok, Err, inl, inr, refl, subst, sym, arith, OkIff, unsigned_abs, nat_tests, TaskHandle, MtapiStatus, Reply, Wanted, given, mtapi, Seat, Answers, Waited}
 use Rattle.std.specs.Int.{FitsUnsignedBits}
 use Rattle.std.specs.Result.{result_ok}
-use Rattle.std.proofs.lemmas.Bool.Decides.{nat_tests}
 use Rattle.mtapi_values.specs.declared.ends.TaskEnd.{TaskEnd}
-use Rattle.mtapi_values.specs.declared.handles.TaskHandle.{TaskHandle}
-use Rattle.mtapi_values.specs.declared.statuses.MtapiStatus.{MtapiStatus}
-use Rattle.mtapi_machine.specs.declared.replies.Reply.{Reply}
-use Rattle.workload_runs.specs.declared.calls.Wanted.{Wanted}
-use Rattle.workload_runners.specs.Replies.{given, mtapi}
-use Rattle.workload_runners.specs.Turns.{Seat}
-use Rattle.sched_workers.specs.Answers.{Answers, Waited}
 use Rattle.typed_pieces.specs.Told.{as_place, first_place, place_alone, place_of}
 
 -- what a conversion to 32 bits gives is the place

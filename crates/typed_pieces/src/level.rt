@@ -31,16 +31,6 @@ pub struct Level<P: Drop, D: Drop, J: Drop> {
     pub parts: Vec<P>,
 }
 
-// Moves all of these to the end.
-fn append<T: Drop>(to: &mut Vec<T>, items: Vec<T>) -> Result<(), AllocError>
-    ensures { IfOk result (λ _. to.new.items ≡ to.old.items ++ items.items) }
-{
-    for item in items {
-        to.push(item)?;
-    }
-    Ok(())
-}
-
 impl<P: Drop, D: Drop, J: Drop> Level<P, D, J> {
     // One more piece has run.
     fn add(&mut self, outcome: Outcome<P, D, J>) -> Result<(), AllocError>
@@ -49,9 +39,9 @@ impl<P: Drop, D: Drop, J: Drop> Level<P, D, J> {
     {
         match outcome {
             Outcome::Done(done) => self.pending.push(Pending::Done(done))?,
-            Outcome::Parts { parts, join } => {
+            Outcome::Parts { mut parts, join } => {
                 let count = parts.len();
-                append(&mut self.parts, parts)?;
+                self.parts.append(&mut parts)?;
                 self.pending.push(Pending::Joins { count, join })?;
             }
         }

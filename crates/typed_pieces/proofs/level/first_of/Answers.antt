@@ -1,4 +1,4 @@
-use Rattle.std.proofs.Common.{arith}
+use Rattle.typed_pieces.proofs.Names.{arith}
 use Rattle.typed_pieces.proofs.Levels.{moved_more}
 use Rattle.typed_pieces.proofs.level.first_of.Goals as goal
 

@@ -1,4 +1,4 @@
-use Rattle.std.proofs.Common.{◌≡◌, take, drop}
+use Rattle.typed_pieces.proofs.Names.{◌≡◌, take, drop}
 use Rattle.typed_pieces.proofs.level.first_of.Given as goal
 
 abbrev pub invariant-loop : goal.invariant-loop

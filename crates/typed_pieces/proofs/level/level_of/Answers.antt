@@ -1,4 +1,4 @@
-use Rattle.std.proofs.Common.{rules}
+use Rattle.typed_pieces.proofs.Names.{rules}
 use Rattle.typed_pieces.proofs.Levels.{running_all, running_more, running_none}
 use Rattle.typed_pieces.proofs.level.level_of.Goals as goal
 

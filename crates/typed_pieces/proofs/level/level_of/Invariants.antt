@@ -1,5 +1,4 @@
-use Rattle.std.proofs.Common.{List}
-use Rattle.typed_pieces.specs.Split.{AllKept, IsKeptBy}
+use Rattle.typed_pieces.proofs.Names.{List, AllKept, IsKeptBy}
 use Rattle.typed_pieces.proofs.Levels.{Running}
 use Rattle.typed_pieces.proofs.level.level_of.Given as goal
 

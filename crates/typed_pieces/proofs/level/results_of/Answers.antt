@@ -1,4 +1,4 @@
-use Rattle.std.proofs.Common.{rules}
+use Rattle.typed_pieces.proofs.Names.{rules}
 use Rattle.typed_pieces.proofs.Levels.{joining_all, joining_more, joining_none}
 use Rattle.typed_pieces.proofs.level.results_of.Goals as goal
 

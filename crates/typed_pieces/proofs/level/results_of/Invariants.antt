@@ -1,6 +1,4 @@
-use Rattle.std.proofs.Common.{List}
-use Rattle.typed_pieces.specs.Split.{AllKept}
-use Rattle.typed_pieces.specs.Levels.{Waits}
+use Rattle.typed_pieces.proofs.Names.{List, AllKept, Waits}
 use Rattle.typed_pieces.proofs.Levels.{Joining}
 use Rattle.typed_pieces.proofs.level.results_of.Given as goal
 

@@ -1,4 +1,4 @@
-use Rattle.std.proofs.Common.{rules}
+use Rattle.typed_pieces.proofs.Names.{rules}
 use Rattle.typed_pieces.proofs.Levels.{rises, risen}
 use Rattle.typed_pieces.proofs.level.results_up.Goals as goal
 

@@ -1,6 +1,4 @@
-use Rattle.std.proofs.Common.{List, [], vec_len}
-use Rattle.typed_pieces.specs.Split.{AllKept}
-use Rattle.typed_pieces.specs.Levels.{AreOpen}
+use Rattle.typed_pieces.proofs.Names.{List, [], vec_len, AllKept, AreOpen}
 use Rattle.typed_pieces.proofs.level.results_up.Given as goal
 
 abbrev pub invariant-loop-level : goal.invariant-loop-level

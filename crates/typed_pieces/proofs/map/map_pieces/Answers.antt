@@ -1,4 +1,4 @@
-use Rattle.std.proofs.Common.{rules}
+use Rattle.typed_pieces.proofs.Names.{rules}
 use Rattle.typed_pieces.proofs.Mapping.{all_made, if_ok, kept_made}
 use Rattle.typed_pieces.proofs.map.map_pieces.Goals as goal
 

@@ -1,4 +1,4 @@
-use Rattle.std.proofs.Common.{◌≡◌, map, ◌++◌}
+use Rattle.typed_pieces.proofs.Names.{◌≡◌, map, ◌++◌}
 use Rattle.typed_pieces.proofs.node.beside.Given as goal
 
 abbrev pub invariant-loop-client : goal.invariant-loop-client

@@ -1,7 +1,4 @@
-use Rattle.std.proofs.Common.{rules, sym, ◌∙◌, ap, length, vec_len}
-use Rattle.std.proofs.lemmas.List.{length-map}
-use Rattle.node_with_workers.specs.Clients.{IfRefused}
-use Rattle.node_with_workers.specs.Runs.{RefusesOne}
+use Rattle.typed_pieces.proofs.Names.{rules, sym, ◌∙◌, ap, length, vec_len, length-map, IfRefused, RefusesOne}
 use Rattle.typed_pieces.proofs.Callers.{passed_on, refused_of_all, run_of_all}
 use Rattle.typed_pieces.proofs.node.over.Goals as goal
 

@@ -1,7 +1,4 @@
-use Rattle.std.proofs.Common.{rules, subst, vec_len}
-use Rattle.node_with_workers.specs.Clients.{IfRefused}
-use Rattle.node_with_workers.specs.Runs.{IsRunOfAll, RefusesOne}
-use Rattle.typed_pieces.specs.Places.{AreKept}
+use Rattle.typed_pieces.proofs.Names.{rules, subst, vec_len, IfRefused, IsRunOfAll, RefusesOne, AreKept}
 use Rattle.typed_pieces.proofs.Callers.{passed_on}
 use Rattle.typed_pieces.proofs.node.with_handed.Goals as goal
 

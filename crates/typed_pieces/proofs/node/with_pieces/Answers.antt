@@ -1,5 +1,4 @@
-use Rattle.std.proofs.Common.{rules}
-use Rattle.node_with_workers.proofs.Lemmas.{run_alone, causes_alone}
+use Rattle.typed_pieces.proofs.Names.{rules, run_alone, causes_alone}
 use Rattle.typed_pieces.proofs.node.with_pieces.Goals as goal
 
 pub returns-clause-run : goal.returns-clause-run

@@ -1,4 +1,4 @@
-use Rattle.std.proofs.Common.{◌≡◌, Some, map, ◌++◌}
+use Rattle.typed_pieces.proofs.Names.{◌≡◌, Some, map, ◌++◌}
 use Rattle.typed_pieces.proofs.run.all_there.Given as goal
 
 abbrev pub invariant-loop-result : goal.invariant-loop-result

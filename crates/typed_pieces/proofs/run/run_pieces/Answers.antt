@@ -1,6 +1,4 @@
-use Rattle.std.proofs.Common.{◌∙◌, Some, ap, length, rules, subst, sym}
-use Rattle.std.proofs.lemmas.List.{length-map}
-use Rattle.typed_pieces.specs.Places.{AreKept}
+use Rattle.typed_pieces.proofs.Names.{◌∙◌, Some, ap, length, rules, subst, sym, length-map, AreKept}
 use Rattle.typed_pieces.proofs.Runs.{has_run, told_why}
 use Rattle.typed_pieces.proofs.run.run_pieces.Goals as goal
 

@@ -1,4 +1,4 @@
-use Rattle.std.proofs.Common.{◌≡◌, ◌++◌, map}
+use Rattle.typed_pieces.proofs.Names.{◌≡◌, ◌++◌, map}
 use Rattle.typed_pieces.proofs.split_run.as_pieces.Given as goal
 
 abbrev pub invariant-loop-piece : goal.invariant-loop-piece

@@ -1,7 +1,4 @@
-use Rattle.std.proofs.Common.{◌≡◌, ◌<◌, ◌^◌, ◌∙◌, arith, rules, refl, subst, sym, vec_len, IfOk, length}
-use Rattle.node_with_workers.specs.Clients.{IfRefused}
-use Rattle.typed_pieces.specs.Runs.{FailsBy, HasRunAll, RefusesPieces}
-use Rattle.typed_pieces.specs.SplitRuns.{IsOver, SplitFails}
+use Rattle.typed_pieces.proofs.Names.{◌≡◌, ◌<◌, ◌^◌, ◌∙◌, arith, rules, refl, subst, sym, vec_len, IfOk, length, IfRefused, FailsBy, HasRunAll, RefusesPieces, IsOver, SplitFails}
 use Rattle.typed_pieces.proofs.Levels.{open_end, open_next, open_none, waits_many}
 use Rattle.typed_pieces.proofs.SplitRuns.{counted_more, counted_none, is_over, ran_more, ran_none}
 use Rattle.typed_pieces.proofs.split_run.run_down.Goals as goal

@@ -1,6 +1,4 @@
-use Rattle.std.proofs.Common.{◌-◌, [], ◌∷◌}
-use Rattle.typed_pieces.specs.Levels.{AreOpen}
-use Rattle.typed_pieces.specs.SplitRuns.{AreCounted}
+use Rattle.typed_pieces.proofs.Names.{◌-◌, [], ◌∷◌, AreOpen, AreCounted}
 use Rattle.typed_pieces.proofs.SplitRuns.{Ran}
 use Rattle.typed_pieces.proofs.split_run.run_down.Given as goal
 

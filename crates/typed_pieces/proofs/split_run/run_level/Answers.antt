@@ -1,5 +1,4 @@
-use Rattle.std.proofs.Common.{rules}
-use Rattle.typed_pieces.specs.Split.{IsKeptBy}
+use Rattle.typed_pieces.proofs.Names.{rules, IsKeptBy}
 use Rattle.typed_pieces.proofs.Levels.{kept_at}
 use Rattle.typed_pieces.proofs.split_run.run_level.Goals as goal
 

@@ -1,4 +1,4 @@
-use Rattle.std.proofs.Common.{◌≡◌, [], ◌∷◌, arith, rules, length, vec_len}
+use Rattle.typed_pieces.proofs.Names.{◌≡◌, [], ◌∷◌, arith, rules, length, vec_len}
 use Rattle.typed_pieces.proofs.Levels.{kept_last, kept_one}
 use Rattle.typed_pieces.proofs.split_run.run_split_within.Goals as goal
 

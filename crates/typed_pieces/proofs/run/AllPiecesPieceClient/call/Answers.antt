@@ -1,4 +1,4 @@
-use Rattle.std.proofs.Common.{arith}
+use Rattle.typed_pieces.proofs.Names.{arith}
 use Rattle.typed_pieces.proofs.Runs.{awaited, goes_on, started_more, started_none, waited_refused}
 use Rattle.typed_pieces.proofs.run.AllPiecesPieceClient.call.Goals as goal
 

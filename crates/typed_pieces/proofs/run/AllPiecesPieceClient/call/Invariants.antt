@@ -1,6 +1,4 @@
-use Rattle.workload_runners.specs.Turns.{SameSeat}
-use Rattle.node_with_workers.specs.Clients.{GoesOn}
-use Rattle.typed_pieces.specs.Runs.{HasStarted}
+use Rattle.typed_pieces.proofs.Names.{SameSeat, GoesOn, HasStarted}
 use Rattle.typed_pieces.proofs.run.AllPiecesPieceClient.call.Given as goal
 
 abbrev pub invariant-loop-place : goal.invariant-loop-place

@@ -1,12 +1,6 @@
 -- The field says only that a proof of `AreKept` exists. An entailment is a proposition, so the proof may be opened in front of the walk that
 -- Rattle made.
-use seplogic.Bi.Basic.{Entails-prop}
-use mathlib.Core.Logic.{∥∥₁_elim}
-use base.Logic.{via, mono_r}
-use denote.Triple.Entry.{on_entry}
-use borrow.Fn.Kinds.{sig_of}
-use contract.Monad.{fact_mono}
-use Rattle.typed_pieces.specs.Places.{AreKept}
+use Rattle.typed_pieces.proofs.Names.{Entails-prop, ∥∥₁_elim, via, mono_r, on_entry, sig_of, fact_mono, AreKept}
 use Rattle.typed_pieces.proofs.table.Results.into_vec.Statement.{statement}
 use Rattle.typed_pieces.proofs.table.Results.into_vec.Lts as lts
 use Rattle.typed_pieces.proofs.table.Results.into_vec.Reads as reads

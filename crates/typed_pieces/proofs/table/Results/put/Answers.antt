@@ -1,5 +1,4 @@
-use Rattle.std.proofs.Common.{◌∙◌}
-use Rattle.std.proofs.lemmas.List.{length-set}
+use Rattle.typed_pieces.proofs.Names.{◌∙◌, length-set}
 use Rattle.typed_pieces.proofs.Places.{merely_kept_set}
 use Rattle.typed_pieces.proofs.table.Results.put.Goals as goal
 

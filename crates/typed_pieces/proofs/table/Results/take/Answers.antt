@@ -1,6 +1,4 @@
-use Rattle.std.proofs.Common.{◌≡◌, ◌∙◌, Some, ap, sym, length, rules}
-use Rattle.std.proofs.lemmas.List.{length-set}
-use Rattle.std.proofs.lemmas.Option.{slice_get_read}
+use Rattle.typed_pieces.proofs.Names.{◌≡◌, ◌∙◌, Some, ap, sym, length, rules, length-set, slice_get_read}
 use Rattle.typed_pieces.proofs.Places.{merely_kept_clear, taken_kept}
 use Rattle.typed_pieces.proofs.table.Results.take.Goals as goal
 

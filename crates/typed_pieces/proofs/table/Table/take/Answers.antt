@@ -1,5 +1,4 @@
-use Rattle.std.proofs.Common.{◌≡◌, ◌∙◌, Some, ap, sym, length, rules}
-use Rattle.std.proofs.lemmas.Option.{slice_get_read}
+use Rattle.typed_pieces.proofs.Names.{◌≡◌, ◌∙◌, Some, ap, sym, length, rules, slice_get_read}
 use Rattle.typed_pieces.proofs.Places.{taken_ready}
 use Rattle.typed_pieces.proofs.table.Table.take.Goals as goal
 
