@@ -1,7 +1,6 @@
 //! Whether a list of entries is a legal history.
 
 ghost use Rattle.std.specs.Prelude.{◌<◌, [], length, IfOk};
-ghost use Rattle.mtapi_values.specs.Attributes.{AreNodeSettings};
 ghost use Rattle.mtapi_machine.specs.State.{terms_with};
 ghost use Rattle.mtapi_machine.specs.Legal.{Legal};
 ghost use Rattle.journal_check.specs.Follow.{HasFollowed};
@@ -11,20 +10,6 @@ use crate::following::Following;
 use mtapi_machine::Entry;
 use mtapi_values::{Layout, NodeAttr};
 use std::alloc::{AllocError, Global};
-
-// What the type of a node's settings promises: each is in its range.
-fn read_ranges(settings: &NodeAttr)
-    ensures { AreNodeSettings settings.now }
-{
-    let _ = settings.workers();
-    let _ = settings.tasks();
-    let _ = settings.actions();
-    let _ = settings.groups();
-    let _ = settings.queues();
-    let _ = settings.objects();
-    let _ = settings.priorities();
-    let _ = settings.generations();
-}
 
 // The number, from 1, of the first of these entries that isn't legal; none where they are a legal history. The follower stands before them.
 fn first_refused(follower: &mut Following, entries: &[Entry]) -> Result<Option<u64>, AllocError>
@@ -54,7 +39,7 @@ pub(crate) fn first_illegal(
 ) -> Result<Option<u64>, AllocError>
     ensures { IfOk result (IsLegalOr (terms_with layout settings callers) entries.now) }
 {
-    read_ranges(&settings);
+    settings.is_kept();
     if entries.len() >= 4_294_967_295 {
         return Err(AllocError);
     }

@@ -2,7 +2,7 @@
 
 ghost use Rattle.std.specs.Prelude.{◌≡◌, ◌≤◌, true, false, Ok, Err, OnErr, if◌then◌else◌};
 ghost use Rattle.mtapi_values.specs.declared.statuses.MtapiStatus.TheVariants.{ErrParameter};
-ghost use Rattle.mtapi_values.specs.Attributes.{IsWithin};
+ghost use Rattle.mtapi_values.specs.Attributes.{IsWithin, AreNodeSettings};
 ghost use Rattle.mtapi_values.specs.AttributeTables.{set_answer, after_set, get_answer, is_within, is_one, node_attributes, action_attributes, task_attributes, queue_attributes, mutex_attributes};
 
 use crate::masks::Mask;
@@ -66,6 +66,13 @@ impl NodeAttr {
             priorities: 4,
             generations: 4294967295,
         }
+    }
+
+    /// Each attribute is in its range.
+    pub fn is_kept(&self)
+        ensures { AreNodeSettings self.now }
+    {
+        let _ = &self.workers;
     }
 
     /// The number of workers, 1 to 16.

@@ -1,7 +1,6 @@
 //! The node, and what it keeps beside its objects.
 
 ghost use Rattle.std.specs.Prelude.{◌≡◌, ◌^◌, ◌<◌, ◌≤◌, [], IfOk};
-ghost use Rattle.mtapi_values.specs.Attributes.{AreNodeSettings};
 ghost use Rattle.mtapi_values.specs.declared.handles.Layout.TheVariants.{One};
 ghost use Rattle.mtapi_renaming.specs.Ops.{renamed_op};
 ghost use Rattle.node_steps.specs.Stands.{Lists, Live, Steps, Stands, state_of, terms_of};
@@ -34,20 +33,6 @@ pub struct PoolNode {
     pub(crate) resources: Resources,
 }
 
-// What the readers of the settings promise: each is in its range.
-fn read_ranges(attr: &NodeAttr)
-    ensures { AreNodeSettings attr.now }
-{
-    let _ = attr.workers();
-    let _ = attr.tasks();
-    let _ = attr.actions();
-    let _ = attr.groups();
-    let _ = attr.queues();
-    let _ = attr.objects();
-    let _ = attr.priorities();
-    let _ = attr.generations();
-}
-
 impl PoolNode {
     /// Makes a new node with these settings, for 1 to 9 callers, main included, and takes all the
     /// memory that its objects will use. It fails for want of memory alone.
@@ -57,7 +42,7 @@ impl PoolNode {
         ensures terms { IfOk result (λ n. terms_of n ≡ record { layout = One; settings = attr; callers = callers }) }
         ensures stands { IfOk result (λ n. Stands n []) }
     {
-        read_ranges(&attr);
+        attr.is_kept();
         let scheduler = Scheduler::new(alloc, attr)?;
         let resources = Resources::init(alloc, attr)?;
         scheduler.is_kept();

@@ -8,7 +8,7 @@ pub first_refused-requires-clause-legal : goal.first_refused-requires-clause-leg
 first_refused-requires-clause-legal c =
     let terms : Terms = terms_with c.args.layout c.args.settings c.args.callers in
     subst (λ (t : Terms). Legal t []) (sym c.in_ok-follower.ensures.terms)
-    (empty_legal terms (record { settings = c.read_ranges.ensures; some_caller = c.if-callers-lt1.false; callers = c.if-callers-gt9.false }))
+    (empty_legal terms (record { settings = c.is_kept.ensures; some_caller = c.if-callers-lt1.false; callers = c.if-callers-gt9.false }))
 
 pub returns : goal.returns
 returns c = subst (λ (t : Terms). IfOk c.first_refused.result (IsLegalOr t c.args.entries.now)) c.in_ok-follower.ensures.terms c.first_refused.ensures

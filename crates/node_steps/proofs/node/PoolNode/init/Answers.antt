@@ -5,7 +5,7 @@ use Rattle.node_steps.proofs.node.PoolNode.init.Goals as goal
 
 pub returns-clause-stands : goal.returns-clause-stands
 returns-clause-stands c =
-    let settings = c.read_ranges.ensures in
+    let settings = c.is_kept.ensures in
     let b = c.in_ok-scheduler.scheduler in
     new_node c.args.attr c.args.callers b c.in_ok-resources.resources settings c.requires.some_caller c.requires.few_callers c.in_ok-scheduler.ensures.settings
     (holds_new c.args.attr.actions c.args.attr.generations b.actions settings.generations.0
@@ -20,4 +20,4 @@ returns-clause-stands c =
     (omega (arith, settings.queues.1)) c.in_ok-scheduler.ensures.queue_turns
     (records_new b.queues.pool c.args.attr.queues c.in_ok-scheduler.ensures.queue_slots))
     (c.in_ok-resources.ensures (record { layout = One; settings = c.args.attr; callers = c.args.callers }) refl)
-    c.in_ok-scheduler.ensures.starts c.in_ok-scheduler.ensures.ends c.is_kept.ensures
+    c.in_ok-scheduler.ensures.starts c.in_ok-scheduler.ensures.ends c.is_kept-2.ensures
