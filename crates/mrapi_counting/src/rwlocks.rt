@@ -87,10 +87,8 @@ impl Rwls {
         if limit == 0 || limit > MAX_READERS {
             return Some(MrapiStatus::ErrParameter);
         }
-        match self.get(id) {
-            Ok(_) => Some(MrapiStatus::ErrRwlExists),
-            Err(_) => None,
-        }
+        self.pool.find(u64::from(id))?;
+        Some(MrapiStatus::ErrRwlExists)
     }
 
     /// Tells how many locks are live.
@@ -121,10 +119,8 @@ impl Rwls {
         // An id has one live lock at most.
         ensures only { OneEach (λ x. x.id) self.now }
     {
-        match self.pool.find(u64::from(id)) {
-            Some(handle) => Ok(RwlHandle(handle)),
-            None => Err(MrapiStatus::ErrRwlIdInvalid),
-        }
+        let found = self.pool.find(u64::from(id));
+        Ok(RwlHandle(found.ok_or(MrapiStatus::ErrRwlIdInvalid)?))
     }
 
     /// Gives up a lock that nobody holds.
@@ -140,13 +136,9 @@ impl Rwls {
         ensures removed { OnOk result (self.new ≡ without self.old r.0) }
         ensures unchanged { OnErr result (self.new ≡ self.old) }
     {
-        match self.pool.get(r.0) {
-            None => return Err(MrapiStatus::ErrRwlInvalid),
-            Some(rwl) => {
-                if rwl.is_held() {
-                    return Err(MrapiStatus::ErrRwlLocked);
-                }
-            }
+        let rwl = self.pool.get(r.0).ok_or(MrapiStatus::ErrRwlInvalid)?;
+        if rwl.is_held() {
+            return Err(MrapiStatus::ErrRwlLocked);
         }
         let _ = self.pool.remove(r.0);
         Ok(())

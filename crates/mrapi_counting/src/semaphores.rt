@@ -87,10 +87,8 @@ impl Sems {
         if limit == 0 || limit > MAX_LIMIT {
             return Some(MrapiStatus::ErrParameter);
         }
-        match self.get(id) {
-            Ok(_) => Some(MrapiStatus::ErrSemExists),
-            Err(_) => None,
-        }
+        self.pool.find(u64::from(id))?;
+        Some(MrapiStatus::ErrSemExists)
     }
 
     /// Tells how many semaphores are live.
@@ -121,10 +119,8 @@ impl Sems {
         // An id has one live semaphore at most.
         ensures only { OneEach (λ x. x.id) self.now }
     {
-        match self.pool.find(u64::from(id)) {
-            Some(handle) => Ok(SemHandle(handle)),
-            None => Err(MrapiStatus::ErrSemIdInvalid),
-        }
+        let found = self.pool.find(u64::from(id));
+        Ok(SemHandle(found.ok_or(MrapiStatus::ErrSemIdInvalid)?))
     }
 
     /// Gives up a semaphore that nobody holds.
@@ -140,13 +136,9 @@ impl Sems {
         ensures removed { OnOk result (self.new ≡ without self.old s.0) }
         ensures unchanged { OnErr result (self.new ≡ self.old) }
     {
-        match self.pool.get(s.0) {
-            None => return Err(MrapiStatus::ErrSemInvalid),
-            Some(sem) => {
-                if sem.held() > 0 {
-                    return Err(MrapiStatus::ErrSemLocked);
-                }
-            }
+        let sem = self.pool.get(s.0).ok_or(MrapiStatus::ErrSemInvalid)?;
+        if sem.held() > 0 {
+            return Err(MrapiStatus::ErrSemLocked);
         }
         let _ = self.pool.remove(s.0);
         Ok(())

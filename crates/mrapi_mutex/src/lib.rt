@@ -80,10 +80,8 @@ impl Mutexes {
         ensures exists { IfSome result (λ c. (c ≡ ErrMutexExists) × SomeLive (slot_value self.now) (HasId id)) }
         ensures new_id { IsNone result → NoneLive (slot_value self.now) (HasId id) }
     {
-        match self.get(id) {
-            Ok(_) => Some(MrapiStatus::ErrMutexExists),
-            Err(_) => None,
-        }
+        self.find(u64::from(id))?;
+        Some(MrapiStatus::ErrMutexExists)
     }
 
     /// Tells how many mutexes are live.
@@ -114,10 +112,8 @@ impl Mutexes {
         // An id has one live mutex at most.
         ensures only { OneEach (λ x. x.id) self.now }
     {
-        match self.find(u64::from(id)) {
-            Some(mutex) => Ok(mutex),
-            None => Err(MrapiStatus::ErrMutexIdInvalid),
-        }
+        self.find(u64::from(id))
+            .ok_or(MrapiStatus::ErrMutexIdInvalid)
     }
 
     /// The live mutex of an id, which may be any number: none exactly where no live one has it.
@@ -128,10 +124,7 @@ impl Mutexes {
         // An id has one live mutex at most.
         ensures only { OneEach (λ x. x.id) self.now }
     {
-        match self.pool.find(id) {
-            Some(handle) => Some(MutexHandle(handle)),
-            None => None,
-        }
+        Some(MutexHandle(self.pool.find(id)?))
     }
 
     /// Finds the same, where an earlier call found `last`. If that mutex is live and has the id, nothing is searched.
@@ -163,10 +156,7 @@ impl Mutexes {
     pub fn is_owned(&self, m: MutexHandle) -> Option<bool>
         ensures { result ≡ option_map (λ x. is_some x.owner) (slot_value self.now m.0) }
     {
-        match self.pool.get(m.0) {
-            None => None,
-            Some(mutex) => Some(mutex.is_locked()),
-        }
+        Some(self.pool.get(m.0)?.is_locked())
     }
 
     /// Gives up a mutex that nobody owns.
@@ -182,13 +172,9 @@ impl Mutexes {
         ensures removed { OnOk result (self.new ≡ without self.old m.0) }
         ensures unchanged { OnErr result (self.new ≡ self.old) }
     {
-        match self.pool.get(m.0) {
-            None => return Err(MrapiStatus::ErrMutexInvalid),
-            Some(mutex) => {
-                if mutex.is_locked() {
-                    return Err(MrapiStatus::ErrMutexLocked);
-                }
-            }
+        let mutex = self.pool.get(m.0).ok_or(MrapiStatus::ErrMutexInvalid)?;
+        if mutex.is_locked() {
+            return Err(MrapiStatus::ErrMutexLocked);
         }
         let _ = self.pool.remove(m.0);
         Ok(())

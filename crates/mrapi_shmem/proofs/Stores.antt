@@ -1,18 +1,12 @@
 -- Each call keeps memory for each segment that may still be made.
-use Rattle.std.proofs.Common.{sym, subst, None, Option, ◌≡◌, ℕ, ◌+◌, ◌≤◌, ◌<◌, Some, replicate, arith}
+use Rattle.std.proofs.Common.{sym, subst, None, Option, ◌≡◌, ℕ, ◌+◌, ◌<◌, Some, arith}
 use Rattle.std.specs.Borrow.{MutBor}
 use Rattle.std.specs.Fn.{Once}
-use Rattle.handle_pool.specs.Slots.{Slots, free_slot, slot_value, live_count, retired_count, max_of, IsFull, Inserts, without}
-use Rattle.handle_pool.proofs.CountLemmas.{live_count-new, max_of-new, live_count-insert, max_of-insert, live_count-with_value, max_of-with_value, live_count-without, max_of-without}
+use Rattle.handle_pool.specs.Slots.{Slots, slot_value, Inserts, without}
+use Rattle.handle_pool.proofs.CountLemmas.{live_count-insert, max_of-insert, live_count-with_value, max_of-with_value, live_count-without, max_of-without}
 use Rattle.mtapi_objects.specs.Segments.{Segment}
 use Rattle.keyed_pool.specs.Keyed.{Updates}
 use Rattle.mrapi_shmem.specs.Calls.{IsStore}
-
-pub IsStore-new : (p : Slots Segment) (max spare room : ℕ) → p.slots ≡ replicate max (free_slot 1) → spare ≡ max → max ≤ room → IsStore p spare room
-IsStore-new p max spare room fresh all fits = record {
-  counted = omega (arith, live_count-new p max fresh, max_of-new p max fresh);
-  fits = omega (arith, max_of-new p max fresh);
-}
 
 pub IsStore-insert : (p new : Slots Segment) (h : ℕ) (s : Segment) (spare left room now : ℕ) → IsStore p spare room → Inserts p new h s → left + 1 ≡ spare
     → now ≡ room → IsStore new left now

@@ -105,10 +105,8 @@ impl Segments {
         if cells == 0 || cells > MAX_CELLS {
             return Some(MrapiStatus::ErrParameter);
         }
-        match self.get(id) {
-            Ok(_) => Some(MrapiStatus::ErrShmExists),
-            Err(_) => None,
-        }
+        self.find(u64::from(id))?;
+        Some(MrapiStatus::ErrShmExists)
     }
 
     /// Tells how many segments are live.
@@ -156,10 +154,7 @@ impl Segments {
         // An id has one live segment at most.
         ensures only { OneEach (λ x. x.id) self.now }
     {
-        match self.find(u64::from(id)) {
-            Some(segment) => Ok(segment),
-            None => Err(MrapiStatus::ErrShmIdInvalid),
-        }
+        self.find(u64::from(id)).ok_or(MrapiStatus::ErrShmIdInvalid)
     }
 
     /// The live segment of an id, which may be any number: none exactly where no live one has it.
@@ -170,10 +165,7 @@ impl Segments {
         // An id has one live segment at most.
         ensures only { OneEach (λ x. x.id) self.now }
     {
-        match self.pool.find(id) {
-            Some(handle) => Some(ShmemHandle(handle)),
-            None => None,
-        }
+        Some(ShmemHandle(self.pool.find(id)?))
     }
 
     /// Finds the same, where an earlier call found `last`. If that segment is live and has the id, nothing is searched.
@@ -205,10 +197,7 @@ impl Segments {
     pub fn cell_count(&self, s: ShmemHandle) -> Option<usize>
         ensures { result ≡ option_map (λ x. length x.cells) (slot_value self.now s.0) }
     {
-        match self.pool.get(s.0) {
-            None => None,
-            Some(segment) => Some(segment.cell_count()),
-        }
+        Some(self.pool.get(s.0)?.cell_count())
     }
 
     /// Gives up a segment to which nobody is attached.
@@ -224,13 +213,9 @@ impl Segments {
         ensures removed { OnOk result (self.new ≡ without self.old s.0) }
         ensures unchanged { OnErr result (self.new ≡ self.old) }
     {
-        match self.pool.get(s.0) {
-            None => return Err(MrapiStatus::ErrShmInvalid),
-            Some(segment) => {
-                if segment.is_attached() {
-                    return Err(MrapiStatus::ErrShmAttached);
-                }
-            }
+        let segment = self.pool.get(s.0).ok_or(MrapiStatus::ErrShmInvalid)?;
+        if segment.is_attached() {
+            return Err(MrapiStatus::ErrShmAttached);
         }
         if let Some(segment) = self.pool.remove(s.0) {
             self.spare.push_reserved(segment.into_room());
@@ -291,10 +276,8 @@ impl Segments {
         requires { who < 25 }
         ensures { result ≡ read_at who cell (slot_value self.now s.0) }
     {
-        match self.pool.get(s.0) {
-            None => Err(MrapiStatus::ErrShmInvalid),
-            Some(segment) => segment.read(who, cell),
-        }
+        let segment = self.pool.get(s.0).ok_or(MrapiStatus::ErrShmInvalid)?;
+        segment.read(who, cell)
     }
 
     /// Puts a number into a cell for the seat `who`, which is below 25. Cells are numbered from 0.
@@ -332,10 +315,7 @@ impl Segments {
     pub fn number(&self, s: ShmemHandle, cell: u64) -> Option<i64>
         ensures { result ≡ option_map (cell_of cell) (slot_value self.now s.0) }
     {
-        match self.pool.get(s.0) {
-            None => None,
-            Some(segment) => Some(segment.number(cell)),
-        }
+        Some(self.pool.get(s.0)?.number(cell))
     }
 
     /// Puts a number into a cell, counted from 0, for what the node itself does for a seat. Changes nothing past the last cell, and
