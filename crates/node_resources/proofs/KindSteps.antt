@@ -79,10 +79,9 @@ module _ (k : Sort) (is : IsResource k) (s : State) (who : ℕ) (op : Op) where
       → row s who op r ≡ mrapi s who (gets o s n)) (passes : None ≡ first (gate_refusals (is_up g.phase) who g.workers)) where
     answers : (r : Reply) → Leads k s (gets o s n) r (slots_of k is old) → Does s who op r now
     answers r leads =
-        let was = subst (λ (t : ResourceTable). Stands s t) (sym view) v in
+        let was = rw (← view) at v in
         let told = past_up k s g who a (gets o s n) r (slots_of k is old) passes leads in
-        subst (λ (t : ResourceTable). Does s who op r t) ((parts k is s old was).same
-        ∙ view) (kind_does r old was r (slots_of k is old) refl (subst (λ w. Leads k s w r (slots_of k is old)) (sym (in_row r)) told))
+        rw (← (parts k is s old was).same ∙ view) (kind_does r old was r (slots_of k is old) refl (rw (← in_row r) at told))
 
     held : HoldsList (all_of k) s.terms.settings (slots_of k is old) ((all_of k).list s)
     held = (parts k is s old (subst (λ (t : ResourceTable). Stands s t) (sym view) v)).holds

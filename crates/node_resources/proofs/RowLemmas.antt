@@ -7,7 +7,6 @@ use Rattle.mtapi_values.specs.declared.handles.Layout.TheVariants.{One}
 use Rattle.mtapi_values.specs.declared.handles.ObjectKind.{ObjectKind}
 use Rattle.mtapi_values.specs.Layouts.{names_kind}
 use Rattle.mtapi_machine.specs.declared.replies.Reply.TheVariants as reply
-use Rattle.mtapi_machine.specs.KeyedRows.{found as found_row}
 use Rattle.node_resources.specs.Replies.{done_reply, waits_reply, look_reply}
 use Rattle.node_resources.proofs.HoldsLemmas.{found, full_list, room_in, may_be, holds_insert, holds_changed, holds_remove, has_id, no_id, id_absent, id_found}
 
@@ -44,13 +43,17 @@ module _ (k : Sort) (s : State) where
       → HoldsList (all_of k) s.terms.settings p ((all_of k).list s) → Leads k s (mrapi_unless cs w) (reply.Mrapi c) p
   met [] c w p e v = absurd (cc)
   met ((true, x) ∷ cs) c w p e v = stays (mrapi_unless ((true, x) ∷ cs) w) (reply.Mrapi c) p v (cc) refl
-  met ((false, x) ∷ cs) c w p e v = let g = met cs c w p e v in record { allowed = g.allowed; list = g.list; leads = g.leads; holds = g.holds }
+  met ((false, x) ∷ cs) c w p e v =
+      let g = met cs c w p e v in
+      record { allowed = g.allowed; list = g.list; leads = g.leads; holds = g.holds }
 
   pub past : (cs : List (Bool × MrapiStatus)) (w : Row) (r : Reply) (q : Slots (Fields k)) → first cs ≡ None → Leads k s w r q
       → Leads k s (mrapi_unless cs w) r q
   past [] w r q e g = g
   past ((true, x) ∷ cs) w r q e g = absurd (cc)
-  past ((false, x) ∷ cs) w r q e g = let h = past cs w r q e g in record { allowed = h.allowed; list = h.list; leads = h.leads; holds = h.holds }
+  past ((false, x) ∷ cs) w r q e g =
+      let h = past cs w r q e g in
+      record { allowed = h.allowed; list = h.list; leads = h.leads; holds = h.holds }
 
   past_one : (b : Bool) (x : Reply) (w : Row) (r : Reply) (q : Slots (Fields k)) → b ≡ false → Leads k s w r q → Leads k s (unless b x w) r q
   past_one true x w r q e g = absurd (cc)
@@ -96,9 +99,7 @@ module _ (k : Sort) (s : State) where
     at_is o e = found _ _ p ((all_of k).list s) h o v e
 
     absent : (w : Fields k → Row) → slot_value p h ≡ None → Leads k s (on (all_of k) s h w) (reply.Mrapi invalid) p
-    absent w e =
-        subst (λ (o : Option (Fields k)). Leads k s (live o (says (all_of k).invalid) w) (reply.Mrapi invalid) p) (sym (at_is None e))
-        (stays (says (all_of k).invalid) (reply.Mrapi invalid) p v (sym is_invalid) refl)
+    absent w e = rw (at_is None e) (stays (says (all_of k).invalid) (reply.Mrapi invalid) p v (sym is_invalid) refl)
 
     present : (w : Fields k → Row) (x : Fields k) (r : Reply) (q : Slots (Fields k)) → slot_value p h ≡ Some x → Leads k s (w x) r q
         → Leads k s (on (all_of k) s h w) r q
@@ -128,18 +129,16 @@ module _ (k : Sort) (s : State) where
 
     refused : (causes : Fields k → List (Bool × MrapiStatus)) (w : Fields k → Row) (c : MrapiStatus) (o : Option (Fields k)) → slot_value p h ≡ o
         → Some c ≡ refusal causes o → Leads k s (on (all_of k) s h (λ x. mrapi_unless (causes x) (w x))) (reply.Mrapi c) p
-    refused causes w c None e is = let same_c : c ≡ invalid = cc in
-        subst (λ (d : MrapiStatus). Leads k s (on (all_of k) s h (λ x. mrapi_unless (causes x) (w x))) (reply.Mrapi d) p) (sym same_c)
-        (absent (λ x. mrapi_unless (causes x) (w x)) e)
+    refused causes w c None e is =
+        let same_c : c ≡ invalid = cc in
+        rw same_c (absent (λ x. mrapi_unless (causes x) (w x)) e)
     refused causes w c (Some x) e is = present (λ x. mrapi_unless (causes x) (w x)) x (reply.Mrapi c) p e (met (causes x) c (w x) p (sym is) v)
 
     -- a call that answers nothing else changes the object
     pub alters_does : (causes : Fields k → List (Bool × MrapiStatus)) (f : Fields k → Fields k) (r : Result Unit MrapiStatus) (q : Slots (Fields k))
         → result_err r ≡ refusal causes (slot_value p h) → q ≡ changed p h (after causes f) → OnErr r (q ≡ p) →
         Leads k s (alters_one k s h causes (λ x. reply.Ok) f) (done_reply r) q
-    alters_does causes f (Err c) q reported becomes kept =
-        subst (λ (y : Slots (Fields k)). Leads k s (alters_one k s h causes (λ x. reply.Ok) f) (reply.Mrapi c) y) (sym kept)
-        (refused causes (λ x. gives reply.Ok (alters k h f ∷ [])) c (slot_value p h) refl reported)
+    alters_does causes f (Err c) q reported becomes kept = rw kept (refused causes (λ x. gives reply.Ok (alters k h f ∷ [])) c (slot_value p h) refl reported)
     alters_does causes f (Ok u) q reported becomes kept = by_found (slot_value p h) refl
       where
         by_found : (o : Option (Fields k)) → slot_value p h ≡ o → Leads k s (alters_one k s h causes (λ x. reply.Ok) f) reply.Ok q
@@ -153,9 +152,7 @@ module _ (k : Sort) (s : State) where
     -- the object stops being live
     pub deletes_does : (causes : Fields k → List (Bool × MrapiStatus)) (r : Result Unit MrapiStatus) (q : Slots (Fields k))
         → result_err r ≡ refusal causes (slot_value p h) → OnOk r (q ≡ without p h) → OnErr r (q ≡ p) → Leads k s (deletes k s h causes) (done_reply r) q
-    deletes_does causes (Err c) q reported removed kept =
-        subst (λ (y : Slots (Fields k)). Leads k s (deletes k s h causes) (reply.Mrapi c) y) (sym kept)
-        (refused causes (λ x. gives reply.Ok (removes k h ∷ [])) c (slot_value p h) refl reported)
+    deletes_does causes (Err c) q reported removed kept = rw kept (refused causes (λ x. gives reply.Ok (removes k h ∷ [])) c (slot_value p h) refl reported)
     deletes_does causes (Ok u) q reported removed kept = by_found (slot_value p h) refl
       where
         gone : (x : Fields k) → slot_value p h ≡ Some x → Leads k s (gives reply.Ok (removes k h ∷ [])) reply.Ok q
@@ -191,9 +188,7 @@ module _ (k : Sort) (s : State) where
       pub looks_does : (F : Fields k → Fields k) → ((x : Fields k) → is_got (answer (first (causes x)) (busy x) (value x)) ≡ true → F x ≡ f x)
           → (l : Look X) (q : Slots (Fields k)) → l ≡ look_of (slot_value p h) → q ≡ changed p h F → (is_got l ≡ false → q ≡ p) →
           Leads k s (looks_one k s h last causes busy (λ x. got (value x)) f) (look_reply got last l) q
-      looks_does F once l q reported becomes kept =
-          subst (λ (m : Look X). Leads k s (on (all_of k) s h (λ x. mrapi_unless (causes x) (rest x))) (look_reply got last m) q) (sym reported)
-          (by_found (slot_value p h) refl (λ e. kept (ap is_got reported ∙ e)))
+      looks_does F once l q reported becomes kept = rw reported (by_found (slot_value p h) refl (λ e. kept (ap is_got reported ∙ e)))
         where
           by_busy : (x : Fields k) → slot_value p h ≡ Some x → first (causes x) ≡ None → (b : Bool) → busy x ≡ b
               → (is_got (answer None b (value x)) ≡ false → q ≡ p) → Leads k s (rest x) (look_reply got last (answer None b (value x))) q
@@ -282,8 +277,7 @@ module _ (k : Sort) (s : State) where
 
     pub refuses_does : (exists limit : MrapiStatus) → o.exists ≡ reply.Mrapi exists → (all_of k).limit ≡ reply.Mrapi limit
         → (x : Fields k) (n : ℕ) (c : MrapiStatus) → o.id x ≡ n → MakesNone exists limit n c → Leads k s (creates_keyed o s (reply.Mrapi c) x) (reply.Mrapi c) p
-    refuses_does exists limit is_exists is_limit x n c is why =
-        subst (λ (m : ℕ). Leads k s (created (reply.Mrapi c) m x) (reply.Mrapi c) p) (sym is) (by_why why)
+    refuses_does exists limit is_exists is_limit x n c is why = rw is (by_why why)
       where
         told_as : (w : Row) (r : Reply) → r ≡ reply.Mrapi c → Leads k s w r p → Leads k s w (reply.Mrapi c) p
         told_as w r e g = subst (λ (y : Reply). Leads k s w y p) e g
@@ -307,12 +301,9 @@ module _ (k : Sort) (s : State) where
 
     -- the handle of an id
     pub gets_does : (n h : ℕ) → OneEach o.id p → HasLive p h (λ y. o.id y ≡ n) → Leads k s (gets o s n) (reply.Handle h) p
-    gets_does n h each has =
-        subst (λ (y : Option ℕ). Leads k s (found_row y o.absent) (reply.Handle h) p) (sym (id_found _ _ p ((all_of k).list s) o.id n v h each has))
-        (stays (says (reply.Handle h)) (reply.Handle h) p v refl refl)
+    gets_does n h each has = rw (id_found _ _ p ((all_of k).list s) o.id n v h each has) (stays (says (reply.Handle h)) (reply.Handle h) p v refl refl)
 
     pub gets_none : (absent : MrapiStatus) → o.absent ≡ reply.Mrapi absent → (n : ℕ) (c : MrapiStatus) → c ≡ absent → NoneLive (slot_value p) (λ y. o.id y ≡ n)
         → Leads k s (gets o s n) (reply.Mrapi c) p
-    gets_none absent is n c e none =
-        subst (λ (y : Option ℕ). Leads k s (found_row y o.absent) (reply.Mrapi c) p) (sym (id_absent _ _ p ((all_of k).list s) o.id n v none))
+    gets_none absent is n c e none = rw (id_absent _ _ p ((all_of k).list s) o.id n v none)
         (stays (says o.absent) (reply.Mrapi c) p v (ap reply.Mrapi e ∙ sym is) refl)

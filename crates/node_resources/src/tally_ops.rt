@@ -84,20 +84,14 @@ impl Resources {
         ensures { (y : Segment) → slot_value self.now.segments segment.0 ≡ Some y
             → nat_lt cell (length y.cells) ≡ result }
     {
-        match self.segments.cell_count(segment) {
-            Some(count) => cell < count as u64,
-            None => false,
-        }
+        self.segments.cell_count(segment).unwrap_or(0) as u64 > cell
     }
 
     // Whether a seat owns a live mutex.
     fn is_owned(&self, mutex: MutexHandle) -> bool
         ensures { (x : Mutex) → slot_value self.now.mutexes mutex.0 ≡ Some x → is_some x.owner ≡ result }
     {
-        match self.mutexes.is_owned(mutex) {
-            Some(owned) => owned,
-            None => false,
-        }
+        self.mutexes.is_owned(mutex).unwrap_or(false)
     }
 
     // Has a seat own a free mutex and attaches it to a segment.
@@ -117,10 +111,7 @@ impl Resources {
         ensures reads { (s : State) (y : Segment) → Stands s self.now → live_object s.segments segment.0 ≡ Some y
             → result ≡ cell_of cell y }
     {
-        match self.segments.number(segment, cell) {
-            Some(number) => number,
-            None => 0,
-        }
+        self.segments.number(segment, cell).unwrap_or(0)
     }
 
     /// Puts a number into a cell of a tally's segment.

@@ -1,4 +1,4 @@
-use Rattle.node_resources.proofs.Names.{refl, sym, ◌∙◌, subst, ErrMutexInvalid, mutex_delete_refusals, Mutexes, ResourceTable, Stands, the_view}
+use Rattle.node_resources.proofs.Names.{refl, sym, ◌∙◌, ErrMutexInvalid, mutex_delete_refusals, Mutexes, the_view}
 use Rattle.mtapi_machine.specs.declared.ops.Op.TheVariants as op
 use Rattle.node_resources.proofs.KindSteps.{kind_does}
 use Rattle.node_resources.proofs.RowLemmas.{past_open, deletes_does}
@@ -6,8 +6,8 @@ use Rattle.node_resources.proofs.Resources.mutex_delete.Goals as goal
 
 pub returns : goal.returns
 returns c s a v =
-    let w = subst (λ (t : ResourceTable). Stands s t) (sym c.self.view_is) v in
+    let w = rw (← c.self.view_is) at v in
     kind_does Mutexes tt s c.args.who (op.MutexDelete c.args.mutex) _ (the_view c.self.inside) w c.done.result c.delete.new.self c.done.ensures
-    (past_open Mutexes s c.args.gate c.args.who a _ _ _ (sym c.in_default.is ∙ c.open_refusal.ensures)
-    (deletes_does Mutexes s c.self.inside.mutexes w.mutexes ErrMutexInvalid refl c.args.mutex.0 mutex_delete_refusals c.delete.result c.delete.new.self
-    c.delete.ensures.refused c.delete.ensures.removed c.delete.ensures.unchanged))
+    (past_open Mutexes s c.args.gate c.args.who a _ _ _ (sym c.in_default.is
+    ∙ c.open_refusal.ensures) (deletes_does Mutexes s c.self.inside.mutexes w.mutexes ErrMutexInvalid refl c.args.mutex.0 mutex_delete_refusals
+    c.delete.result c.delete.new.self c.delete.ensures.refused c.delete.ensures.removed c.delete.ensures.unchanged))

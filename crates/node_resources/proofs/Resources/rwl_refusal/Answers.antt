@@ -1,4 +1,4 @@
-use Rattle.node_resources.proofs.Names.{[], ◌∷◌, ◌++◌, sym, ◌∙◌, subst, ◌==◌, any_listed, ErrRwlExists, rwl_create_refusals, ResourceTable, Stands, the_view}
+use Rattle.node_resources.proofs.Names.{[], ◌∷◌, ◌++◌, sym, ◌∙◌, ◌==◌, any_listed, ErrRwlExists, rwl_create_refusals, the_view}
 use Rattle.node_resources.proofs.RefusalLemmas.{gate_met, gate_past, told_after}
 use Rattle.node_resources.proofs.Resources.rwl_refusal.Goals as goal
 
@@ -9,9 +9,9 @@ returns-in-Some c s a v = gate_met s c.args.gate c.args.who a (rwl_create_refusa
 pub returns : goal.returns
 returns c s a v =
     let t = the_view c.self.inside in
-    let w = subst (λ (t : ResourceTable). Stands s t) (sym c.self.view_is) v in
+    let w = rw (← c.self.view_is) at v in
     gate_past s c.args.gate c.args.who a (rwl_create_refusals c.args.limit ++ (any_listed (λ x. x.id == c.args.id) s.rwls, ErrRwlExists)
-    ∷ []) c.create_refusal.result (sym c.in_default.is ∙ c.open_refusal.ensures)
-    (told_after _ _ t.rwls s.rwls (λ x. x.id) c.args.id ErrRwlExists w.rwls
+    ∷ []) c.create_refusal.result (sym c.in_default.is
+    ∙ c.open_refusal.ensures) (told_after _ _ t.rwls s.rwls (λ x. x.id) c.args.id ErrRwlExists w.rwls
     (rwl_create_refusals c.args.limit) c.create_refusal.result c.create_refusal.ensures.refused c.create_refusal.ensures.in_range
     c.create_refusal.ensures.new_id)

@@ -1,4 +1,4 @@
-use Rattle.node_resources.proofs.Names.{◌≡◌, Bool, true, false, cond, refl, sym, ◌∙◌, subst, [], None, ErrSemInvalid, Sem, sem_busy, sem_taken, Sems, ResourceTable, Stands, the_view, answer, is_got, ℕ}
+use Rattle.node_resources.proofs.Names.{◌≡◌, Bool, true, false, cond, refl, sym, ◌∙◌, [], None, ErrSemInvalid, Sem, sem_busy, sem_taken, Sems, the_view, answer, is_got, ℕ}
 use Rattle.mrapi_counting.specs.SemCalls.{sem_after_look}
 use Rattle.mtapi_machine.specs.declared.replies.Reply.TheVariants as reply
 use Rattle.mtapi_machine.specs.declared.ops.Op.TheVariants as op
@@ -12,9 +12,9 @@ takes who x false e = refl
 
 pub returns : goal.returns
 returns c s a v =
-    let w = subst (λ (t : ResourceTable). Stands s t) (sym c.self.view_is) v in
+    let w = rw (← c.self.view_is) at v in
     kind_does Sems tt s c.args.who (op.SemLook c.args.sem c.args.last) _ (the_view c.self.inside) w c.looked.result c.look.new.self c.looked.ensures
-    (past_up Sems s c.args.gate c.args.who a _ _ _ (sym c.in_default.is ∙ c.refusal.ensures)
-    (looks_does Sems s c.self.inside.sems w.sems ErrSemInvalid refl c.args.sem.0 (λ u. reply.Ok) (λ x. tt) (λ x. []) sem_busy (sem_taken c.args.who) c.args.last
-    (sem_after_look c.args.who) (λ x e. takes c.args.who x (sem_busy x) e)
-    c.look.result c.look.new.self c.look.ensures.reply c.look.ensures.new c.look.ensures.unchanged))
+    (past_up Sems s c.args.gate c.args.who a _ _ _ (sym c.in_default.is
+    ∙ c.refusal.ensures) (looks_does Sems s c.self.inside.sems w.sems ErrSemInvalid refl c.args.sem.0 (λ u. reply.Ok) (λ x. tt) (λ x. []) sem_busy
+    (sem_taken c.args.who) c.args.last (sem_after_look c.args.who)
+    (λ x e. takes c.args.who x (sem_busy x) e) c.look.result c.look.new.self c.look.ensures.reply c.look.ensures.new c.look.ensures.unchanged))

@@ -1,4 +1,4 @@
-use Rattle.node_resources.proofs.Names.{refl, sym, ◌∙◌, subst, ErrSemInvalid, sem_unlock_refusals, sem_given, Sems, ResourceTable, Stands, the_view}
+use Rattle.node_resources.proofs.Names.{refl, sym, ◌∙◌, ErrSemInvalid, sem_unlock_refusals, sem_given, Sems, the_view}
 use Rattle.mtapi_machine.specs.declared.ops.Op.TheVariants as op
 use Rattle.node_resources.proofs.KindSteps.{kind_does}
 use Rattle.node_resources.proofs.RowLemmas.{past_up, alters_does}
@@ -6,8 +6,8 @@ use Rattle.node_resources.proofs.Resources.sem_unlock.Goals as goal
 
 pub returns : goal.returns
 returns c s a v =
-    let w = subst (λ (t : ResourceTable). Stands s t) (sym c.self.view_is) v in
+    let w = rw (← c.self.view_is) at v in
     kind_does Sems tt s c.args.who (op.SemUnlock c.args.sem) _ (the_view c.self.inside) w c.done.result c.unlock.new.self c.done.ensures
-    (past_up Sems s c.args.gate c.args.who a _ _ _ (sym c.in_default.is ∙ c.refusal.ensures)
-    (alters_does Sems s c.self.inside.sems w.sems ErrSemInvalid refl c.args.sem.0 (sem_unlock_refusals c.args.who)
+    (past_up Sems s c.args.gate c.args.who a _ _ _ (sym c.in_default.is
+    ∙ c.refusal.ensures) (alters_does Sems s c.self.inside.sems w.sems ErrSemInvalid refl c.args.sem.0 (sem_unlock_refusals c.args.who)
     (sem_given c.args.who) c.unlock.result c.unlock.new.self c.unlock.ensures.refused c.unlock.ensures.new c.unlock.ensures.unchanged))

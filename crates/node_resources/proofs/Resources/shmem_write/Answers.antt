@@ -1,4 +1,4 @@
-use Rattle.node_resources.proofs.Names.{◌≡◌, ℤ, refl, sym, ◌∙◌, subst, ErrShmInvalid, cell_refusals, with_cell, w64, to_z-of_z, changed, after_write, Segments, ResourceTable, Stands, the_view}
+use Rattle.node_resources.proofs.Names.{refl, sym, ◌∙◌, ErrShmInvalid, cell_refusals, with_cell, w64, to_z-of_z, Segments, the_view}
 use Rattle.mtapi_machine.specs.declared.ops.Op.TheVariants as op
 use Rattle.node_resources.proofs.KindSteps.{kind_does}
 use Rattle.node_resources.proofs.RowLemmas.{past_up, alters_does}
@@ -6,11 +6,10 @@ use Rattle.node_resources.proofs.Resources.shmem_write.Goals as goal
 
 pub returns : goal.returns
 returns c s a v =
-    let w = subst (λ (t : ResourceTable). Stands s t) (sym c.self.view_is) v in
+    let w = rw (← c.self.view_is) at v in
     kind_does Segments tt s c.args.who (op.ShmemWrite c.args.shmem c.args.cell c.args.value) _
     (the_view c.self.inside) w c.done.result c.write.new.self c.done.ensures
-    (past_up Segments s c.args.gate c.args.who a _ _ _ (sym c.in_default.is ∙ c.refusal.ensures)
-    (alters_does Segments s c.self.inside.segments w.segments ErrShmInvalid refl c.args.shmem.0 (cell_refusals c.args.who c.args.cell)
+    (past_up Segments s c.args.gate c.args.who a _ _ _ (sym c.in_default.is
+    ∙ c.refusal.ensures) (alters_does Segments s c.self.inside.segments w.segments ErrShmInvalid refl c.args.shmem.0 (cell_refusals c.args.who c.args.cell)
     (with_cell c.args.cell c.args.value) c.write.result c.write.new.self c.write.ensures.refused
-    (subst (λ (z : ℤ). c.write.new.self ≡ changed c.self.inside.segments c.args.shmem.0 (after_write c.args.who c.args.cell z))
-    (to_z-of_z w64 c.args.value c.ranges.value) c.write.ensures.new) c.write.ensures.unchanged))
+    (rw (to_z-of_z w64 c.args.value c.ranges.value) at c.write.ensures.new) c.write.ensures.unchanged))

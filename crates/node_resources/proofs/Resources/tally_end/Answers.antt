@@ -1,4 +1,4 @@
-use Rattle.node_resources.proofs.Names.{◌≡◌, sym, subst, [], ◌∷◌, false, changed, unlocked, with_attached, after_unlock, after_detach, Mutexes, Segments, alters, after_moves, ResourceTable, Stands, the_view}
+use Rattle.node_resources.proofs.Names.{sym, subst, [], ◌∷◌, false, unlocked, with_attached, Mutexes, Segments, alters, after_moves, ResourceTable, Stands, the_view}
 use Rattle.node_resources.proofs.TallyLemmas.{gives_stand}
 use Rattle.node_resources.proofs.Resources.tally_end.Goals as goal
 
@@ -14,11 +14,4 @@ returns-clause-ends c s x v f o d =
 pub returns-clause-new : goal.returns-clause-new
 returns-clause-new c =
     let p = c.self.inside in
-    subst
-    (λ (t : ResourceTable).
-    the_view (record p { mutexes = c.unlock.new.self; segments = c.detach.new.self })
-    ≡ record t {
-      mutexes = changed t.mutexes c.args.mutex.0 (after_unlock c.args.who 1);
-      segments = changed t.segments c.args.segment.0 (after_detach c.args.who);
-    }) c.self.view_is
-    (λ i. record (the_view p) { mutexes = c.unlock.ensures.new i; segments = c.detach.ensures.new i })
+    rw (← c.self.view_is) (λ i. record (the_view p) { mutexes = c.unlock.ensures.new i; segments = c.detach.ensures.new i })
