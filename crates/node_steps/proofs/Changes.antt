@@ -8,33 +8,13 @@ module _ {T : Type 0} where
       → ((r : Listed T) → r.live ≡ true → r.fields ≡ v → f r ≡ g r) → change h f l ≡ change h g l
   unfolding live_of change
   change-as h f g v [] a k = refl
-  change-as h f g v (r ∷ rs) a k = by_live (λ m. change-as h f g v rs m k) r.live refl a
-    where
-      by_handle : (live_object rs h ≡ Some v → change h f rs ≡ change h g rs) → r.live ≡ true → (b : Bool) → cond b (Some r.fields) (live_object rs h) ≡ Some v
-          → cond b (f r ∷ rs) (r ∷ change h f rs) ≡ cond b (g r ∷ rs) (r ∷ change h g rs)
-      by_handle rest d true m = ap (λ (x : Listed T). x ∷ rs) (k r d (same_Some _ _ m))
-      by_handle rest d false m = ap (λ (x : List (Listed T)). r ∷ x) (rest m)
-
-      by_live : (live_object rs h ≡ Some v → change h f rs ≡ change h g rs) → (a : Bool) → r.live ≡ a
-          → lookup (cond a ((r.handle, r.fields) ∷ live_of rs) (live_of rs)) h ≡ Some v
-          → cond (r.live && (r.handle == h)) (f r ∷ rs) (r ∷ change h f rs) ≡ cond (r.live && (r.handle == h)) (g r ∷ rs) (r ∷ change h g rs)
-      by_live rest true d m =
-          (λ i. cond (d i && (r.handle == h)) (f r ∷ rs) (r ∷ change h f rs))
-          ∙ (by_handle rest d (r.handle == h) m ∙ (λ i. cond (sym d i && (r.handle == h)) (g r ∷ rs) (r ∷ change h g rs)))
-      by_live rest false d m =
-          (λ i. cond (d i && (r.handle == h)) (f r ∷ rs) (r ∷ change h f rs))
-          ∙ (ap (λ (x : List (Listed T)). r ∷ x) (rest m) ∙ (λ i. cond (sym d i && (r.handle == h)) (g r ∷ rs) (r ∷ change h g rs)))
+  change-as h f g v (r ∷ rs) a k = grind (arith, nat_tests, change-as h f g v rs, change)
 
   -- fields that change, and then the end of the object's life
   pub retire-update : (h : ℕ) (f : T → T) (l : List (Listed T)) → retire h (update h f l) ≡ change h (λ r. gone (with_fields f r)) l
   unfolding change
   retire-update h f [] = refl
-  retire-update h f (r ∷ rs) = by_test (retire-update h f rs) (r.live && (r.handle == h)) refl
-    where
-      by_test : retire h (update h f rs) ≡ change h (λ r. gone (with_fields f r)) rs → (b : Bool) → (r.live && (r.handle == h)) ≡ b
-          → retire h (cond b (with_fields f r ∷ rs) (r ∷ update h f rs)) ≡ cond b (gone (with_fields f r) ∷ rs) (r ∷ change h (λ r. gone (with_fields f r)) rs)
-      by_test rest true d = λ i. cond (d i) (gone (with_fields f r) ∷ rs) (with_fields f r ∷ retire h rs)
-      by_test rest false d = (λ i. cond (d i) (gone r ∷ update h f rs) (r ∷ retire h (update h f rs))) ∙ ap (λ (x : List (Listed T)). r ∷ x) rest
+  retire-update h f (r ∷ rs) = grind (arith, nat_tests, retire-update h f rs, change, gone)
 
 stays_live : (a d : Bool) → d ≡ false → (a && not d) ≡ a
 stays_live a d e1 = grind (arith, nat_tests)
@@ -45,12 +25,7 @@ not_live a d e1 = grind (arith, nat_tests)
 -- the end of a task that isn't detached, and of one that is
 ended-kept : (h : ℕ) (e : TaskEnd) (n : ℕ) (t : Task) (l : List (Listed Task)) → live_object l h ≡ Some t → t.notes.detached ≡ false
     → change h (ended e n) l ≡ update h (with_state (Ended e n)) l
-ended-kept h e n t l a d = change-as h (ended e n) (with_fields (with_state (Ended e n))) t l a
-    (λ r live is i. record {
-      handle = r.handle;
-      live = stays_live r.live r.fields.notes.detached (ap (λ (u : Task). u.notes.detached) is ∙ d) i;
-      fields = with_state (Ended e n) r.fields;
-    })
+ended-kept h e n t l a d = grind (arith, nat_tests, change-as, ended, stays_live)
 
 ended-gone : (h : ℕ) (e : TaskEnd) (n : ℕ) (t : Task) (l : List (Listed Task)) → live_object l h ≡ Some t → t.notes.detached ≡ true
     → change h (ended e n) l ≡ retire h (update h (with_state (Ended e n)) l)

@@ -15,24 +15,7 @@ module _ {T : Type 0} where
       → ((r : Listed T) → r.live ≡ true → r.fields ≡ v → ((f r).live && p (f r).fields) ≡ false) → change_all p f (change h f l) ≡ change_all p f l
   unfolding live_of change change_all
   change_all-absorbs p f h v [] a passes off = refl
-  change_all-absorbs p f h v (r ∷ rs) a passes off = by_live (λ m. change_all-absorbs p f h v rs m passes off) r.live refl a
-    where
-      here : r.live ≡ true → r.fields ≡ v → change_all p f (f r ∷ rs) ≡ change_all p f (r ∷ rs)
-      here d is =
-          (λ i. cond (off r d is i) (f (f r)) (f r) ∷ change_all p f rs)
-          ∙ sym (λ i. cond ((ap (λ (b : Bool). b && p r.fields) d ∙ ap p is ∙ passes) i) (f r) r ∷ change_all p f rs)
-
-      by_handle : (live_object rs h ≡ Some v → change_all p f (change h f rs) ≡ change_all p f rs) → r.live ≡ true → (b : Bool)
-          → cond b (Some r.fields) (live_object rs h) ≡ Some v → change_all p f (cond b (f r ∷ rs) (r ∷ change h f rs)) ≡ change_all p f (r ∷ rs)
-      by_handle rest d true m = here d (same_Some _ _ m)
-      by_handle rest d false m = ap (λ (x : List (Listed T)). cond (r.live && p r.fields) (f r) r ∷ x) (rest m)
-
-      by_live : (live_object rs h ≡ Some v → change_all p f (change h f rs) ≡ change_all p f rs) → (a : Bool) → r.live ≡ a
-          → lookup (cond a ((r.handle, r.fields) ∷ live_of rs) (live_of rs)) h ≡ Some v
-          → change_all p f (cond (r.live && (r.handle == h)) (f r ∷ rs) (r ∷ change h f rs)) ≡ change_all p f (r ∷ rs)
-      by_live rest true d m = (λ i. change_all p f (cond (d i && (r.handle == h)) (f r ∷ rs) (r ∷ change h f rs))) ∙ by_handle rest d (r.handle == h) m
-      by_live rest false d m = (λ i. change_all p f (cond (d i && (r.handle == h)) (f r ∷ rs) (r ∷ change h f rs)))
-          ∙ ap (λ (x : List (Listed T)). cond (r.live && p r.fields) (f r) r ∷ x) (rest m)
+  change_all-absorbs p f h v (r ∷ rs) a passes off = grind (arith, nat_tests, change_all-absorbs p f h v rs, change)
 
 -- what is moved one after the other in the pool is moved at once in the list
 each-holds : (p : Task → Bool) (move : Slots Task → ℕ → Task → Slots Task) (f : Listed Task → Listed Task) (size turns : ℕ)
@@ -101,11 +84,7 @@ holds_all_let_go size turns g = each-holds (is_member g) lets_go let_go size tur
 
 without-absent : (h : ℕ) (hs : List ℕ) → has_handle h hs ≡ false → without_handle h hs ≡ hs
 without-absent h [] off = refl
-without-absent h (x ∷ xs) off = by_test (x == h) off (without-absent h xs)
-  where
-    by_test : (b : Bool) → (b || has_handle h xs) ≡ false → (has_handle h xs ≡ false → without_handle h xs ≡ xs) → cond b xs (x ∷ without_handle h xs) ≡ x ∷ xs
-    by_test true e rest = absurd (false≢true (sym e))
-    by_test false e rest = ap (λ (l : List ℕ). x ∷ l) (rest e)
+without-absent h (x ∷ xs) off = grind (arith, nat_tests, without-absent h xs, false≢true)
 
 more-test : (a b : ℕ) → b < a → nat_lt a b ≡ false
 more-test a b e = grind (arith, nat_tests)

@@ -15,12 +15,10 @@ use Rattle.node_steps.proofs.GroupLists.{holds_all_freed, holds_all_let_go, endi
 -- a group that is live on the scheduler, and one that isn't
 group_found : (n : PoolNode) (l : Lists) (g : ℕ) (x : Members) → Live n l → slot_value n.scheduler.groups.pool g ≡ Some x
     → live_object l.groups g ≡ Some new_group
-group_found n l g x v live = found _ _ (group_slots n.scheduler) l.groups g (Some new_group) v.groups
-    (value-mapped (λ (y : Members). new_group) n.scheduler.groups.pool g ∙ ap (option_map (λ (y : Members). new_group)) live)
+group_found n l g x v live = grind (arith, nat_tests, found, value-mapped)
 
 group_absent : (n : PoolNode) (l : Lists) (g : ℕ) → Live n l → slot_value n.scheduler.groups.pool g ≡ None → live_object l.groups g ≡ None
-group_absent n l g v dead = found _ _ (group_slots n.scheduler) l.groups g None v.groups (value-mapped (λ (y : Members). new_group) n.scheduler.groups.pool g
-    ∙ ap (option_map (λ (y : Members). new_group)) dead)
+group_absent n l g v dead = grind (arith, nat_tests, found, value-mapped)
 
 -- what the counts of a group tell
 pub no_counts : (o : Option Members) → None ≡ option_map counts_of o → o ≡ None
@@ -151,15 +149,11 @@ module _ (n : PoolNode) (l : Lists) (who : ℕ) (g : GroupHandle) (last : Bool) 
         ∙ (λ i. Some (record { unended = no-items x.unended (omega (arith, none)) i; ended = no-items x.ended (omega (arith, none)) i }))))))))
 
     some : 0 < length x.unended + length x.ended → x ≡ no_members → ⊥
-    some less is = let u : length x.unended ≡ 0 = ap (λ (y : Members). length y.unended) is in let e : length x.ended ≡ 0 =
-        ap (λ (y : Members). length y.ended) is in omega (arith, less, u, e)
+    some less is = grind (arith, nat_tests)
 
     any_row : (r : Reply) (t : State) (es : List Ending) → 0 < length x.unended + length x.ended → endings g.0 (live_of l.tasks) ≡ es
         → Gives (state_of n l) (gives_first (state_of n l) last es) r t → Gives (state_of n l) (row (state_of n l) who (op.AnyLook g last) r) r t
-    any_row r t es less is w =
-        past _ _ _ _ _ _ (not_true _ up) (at_some _ _ _ new_group _ _ _ (group_found n l g.0 x v live)
-        (past _ _ _ _ _ _ (ap not (some-listed n.scheduler l.tasks g.0 x k v.tasks.stands live (some less)))
-        (subst (λ (y : List Ending). Gives (state_of n l) (gives_first (state_of n l) last y) r t) (sym is) w)))
+    any_row r t es less is w = grind (arith, nat_tests, past, not_true, at_some, group_found, some-listed, some)
 
     pub any_look_early : 0 < length x.unended + length x.ended → NoneTaken n.scheduler n.scheduler g.0 → Steps n l who (op.AnyLook g last) (early last) n
     any_look_early less none =

@@ -141,9 +141,7 @@ module _ (n : PoolNode) (l : Lists) (v : Live n l) (k : IsScheduler n.scheduler)
       hs = list_at n.scheduler.waiting.lists 0
 
   queues_are : (q : ℕ) (x : HeldQueue) → slot_value n.scheduler.queues.pool q ≡ Some x → ListsByStart (state_of n l) (is_unended_in q) x.tasks
-  queues_are q x live =
-      lists (is_unended_in q) x.tasks (of-list n l v k q x live) (in-list n l v k q x live)
-      (seen-order x.tasks (λ h e. let s = k.queued.names h q x live e in (s.0, s.1)) (k.queued.ordered q x live))
+  queues_are q x live = grind (arith, nat_tests, lists, of-list, in-list, seen-order)
 
   members_are : (g : ℕ) (m : Members) → slot_value n.scheduler.groups.pool g ≡ Some m → ListsByStart (state_of n l) (is_unended_member g) m.unended
   members_are g m live =

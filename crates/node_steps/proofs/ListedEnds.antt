@@ -82,13 +82,7 @@ step-behind p e r h s e1 = grind (arith, nat_tests, live-behind, live_object, ch
 each-behind : (p : Task → Bool) (e : TaskEnd) (r : Listed Task) (hs : List ℕ) (s : ℕ × List (Listed Task)) → IsApart r hs
     → each_listed p e hs (behind r s) ≡ behind r (each_listed p e hs s)
 each-behind p e r [] s k = refl
-each-behind p e r (h ∷ hs) s k =
-    ap (each_listed p e hs) (step-behind p e r h s (k h (ap (λ (b : Bool). b || has_handle h hs) (eq-eqb h h refl))))
-    ∙ each-behind p e r hs (step_listed p e h s) (λ j m. k j (later j (h == j) m))
-  where
-    later : (j : ℕ) (b : Bool) → has_handle j hs ≡ true → (b || has_handle j hs) ≡ true
-    later j true m = refl
-    later j false m = m
+each-behind p e r (h ∷ hs) s k = grind (arith, nat_tests, each-behind p e r hs, step-behind)
 
 -- the object in front has its turn
 step-own : (p : Task → Bool) (e : TaskEnd) (r : Listed Task) (n : ℕ) (rs : List (Listed Task)) (c : Bool) → r.live ≡ true → p r.fields ≡ c
@@ -110,14 +104,11 @@ module _ (p : Task → Bool) (e : TaskEnd) where
 
   more : (r : Listed Task) (n : ℕ) (rs : List (Listed Task)) (z : ℕ × List (Listed Task)) → z ≡ ends_at_once n rs
       → behind r z ≡ (n + (0 + count_listed both_pass rs), r ∷ end_each both_pass e n rs)
-  more r n rs z is = ap (behind r) is ∙ (let same : n + count_listed both_pass rs ≡ n + (0 + count_listed both_pass rs) = omega arith in
-      ap (λ (k : ℕ). (k, r ∷ end_each both_pass e n rs)) same)
+  more r n rs z is = grind (arith, nat_tests)
 
   one-more : (r : Listed Task) (n : ℕ) (rs : List (Listed Task)) (z : ℕ × List (Listed Task)) → z ≡ ends_at_once (n + 1) rs
       → behind r z ≡ (n + (1 + count_listed both_pass rs), r ∷ end_each both_pass e (n + 1) rs)
-  one-more r n rs z is = ap (behind r) is
-      ∙ (let same : n + 1 + count_listed both_pass rs ≡ n + (1 + count_listed both_pass rs) = omega arith in
-      ap (λ (k : ℕ). (k, r ∷ end_each both_pass e (n + 1) rs)) same)
+  one-more r n rs z is = grind (arith, nat_tests)
 
   -- in the order of the list they end as they end at once
   pub at-once : (n : ℕ) (l : List (Listed Task)) → Distinct (live_of l)

@@ -10,15 +10,17 @@ abbrev OfHandle : (ℕ → State → Type 0) → Reply → State → Type 0
 OfHandle P (Handle h) t = P h t
 OfHandle P r t = Unit {0}
 
--- P of each handle that the row gives, and of the state that it leads to
+-- P of each handle that the row gives, and of the state that it leads to; no row refuses with a handle
 abbrev AllOfHandle : (ℕ → State → Type 0) → State → Row → Type 0
-AllOfHandle P s (unless c x w) = OfHandle P x s × AllOfHandle P s w
+AllOfHandle P s (unless c (Handle h) w) = ⊥
+AllOfHandle P s (unless c x w) = AllOfHandle P s w
 AllOfHandle P s (gives x ms) = OfHandle P x (after_moves ms s)
 AllOfHandle P s never = Unit {0}
 
 of_allowed : (P : ℕ → State → Type 0) (s : State) (w : Row) (r : Reply) → AllOfHandle P s w → Allows w r → OfHandle P r (after_row s w)
-of_allowed P s (unless true x w) r g a = subst (λ (y : Reply). OfHandle P y s) (sym a) g.0
-of_allowed P s (unless false x w) r g a = of_allowed P s w r g.1 a
+of_allowed P s (unless c (Handle h) w) r g a = absurd g
+of_allowed P s (unless true x w) r g a = subst (λ (y : Reply). OfHandle P y s) (sym a) tt
+of_allowed P s (unless false x w) r g a = of_allowed P s w r g a
 of_allowed P s (gives x ms) r g a = subst (λ (y : Reply). OfHandle P y (after_moves ms s)) (sym a) g
 of_allowed P s never r g a = absurd a
 
@@ -54,169 +56,36 @@ module _ (n m : PoolNode) (l : Lists) (who : ℕ) (o : Op) (r : Reply) (s : Step
 
 pub issues_small : (n m : PoolNode) (l : Lists) (who : ℕ) (o : Op) (r : Reply) → Steps n l who o r m → IssuesSmall o r
 issues_small n m l who (op.ActionCreate job x cores) r s =
-    small n m l who (op.ActionCreate job x cores) r s actions (
-      tt,
-      (
-        tt,
-        (
-          tt,
-          new_made actions (state_of n l) r (λ h. makes_action h (new_action job x cores.0))
-              (issued (handle_of r) (new_action job x cores.0) l.actions),
-        ),
-      ),
-    )
-    (λ h. has_room h s.1.live.actions)
+    small n m l who (op.ActionCreate job x cores) r s actions
+    (new_made actions (state_of n l) r (λ h. makes_action h (new_action job x cores.0)) (issued _ _ l.actions)) (λ h. has_room h s.1.live.actions)
 issues_small n m l who (op.TaskStart job args priority cores detached group) r s =
-    small n m l who (op.TaskStart job args priority cores detached group) r s tasks (
-      tt,
-      (
-        tt,
-        (
-          tt,
-          (
-            tt,
-            (
-              tt,
-              (
-                tt,
-                (
-                  tt,
-                  new_made tasks (state_of n l) r (λ h. starts_task h (asked_for job args priority cores detached group))
-                      (issued (handle_of r) (new_task (asked_for job args priority cores detached group) n.scheduler.tasks.starts) l.tasks),
-                ),
-              ),
-            ),
-          ),
-        ),
-      ),
-    )
+    small n m l who (op.TaskStart job args priority cores detached group) r s tasks
+    (new_made tasks (state_of n l) r (λ h. starts_task h (asked_for job args priority cores detached group)) (issued _ _ l.tasks))
     (λ h. has_room h s.1.live.tasks)
 issues_small n m l who (op.TaskEnqueue q args cores detached group) r s =
-    small n m l who (op.TaskEnqueue q args cores detached group) r s tasks (
-      tt,
-      (
-        tt,
-        of_live (Made tasks) (state_of n l) (live_object l.queues q.0) _ _ tt
-            (λ x. (
-              tt,
-              (
-                tt,
-                (
-                  tt,
-                  (
-                    tt,
-                    (
-                      tt,
-                      (
-                        tt,
-                        (
-                          tt,
-                          new_made tasks (state_of n l) r (λ h. starts_task h (asked_of q.0 x args cores detached group))
-                              (issued (handle_of r) (new_task (asked_of q.0 x args cores detached group) n.scheduler.tasks.starts) l.tasks),
-                        ),
-                      ),
-                    ),
-                  ),
-                ),
-              ),
-            )),
-      ),
-    )
+    small n m l who (op.TaskEnqueue q args cores detached group) r s tasks
+    (of_live (Made tasks) (state_of n l) (live_object l.queues q.0) _ _ tt
+    (λ x. new_made tasks (state_of n l) r (λ h. starts_task h (asked_of q.0 x args cores detached group)) (issued _ _ l.tasks)))
     (λ h. has_room h s.1.live.tasks)
 issues_small n m l who op.GroupCreate r s =
-    small n m l who op.GroupCreate r s groups
-    (tt, (tt, new_made groups (state_of n l) r (λ h. makes Groups h new_group) (issued (handle_of r) new_group l.groups)))
+    small n m l who op.GroupCreate r s groups (new_made groups (state_of n l) r (λ h. makes Groups h new_group) (issued _ _ l.groups))
     (λ h. has_room h s.1.live.groups)
 issues_small n m l who (op.QueueCreate id job priority limit ordered retain) r s =
-    small n m l who (op.QueueCreate id job priority limit ordered retain) r s queues (
-      tt,
-      (
-        tt,
-        (
-          tt,
-          (
-            tt,
-            (
-              tt,
-              new_made queues (state_of n l) r (λ h. makes Queues h (new_queue id job priority limit ordered retain))
-                  (issued (handle_of r) (new_queue id job priority limit ordered retain) l.queues),
-            ),
-          ),
-        ),
-      ),
-    )
+    small n m l who (op.QueueCreate id job priority limit ordered retain) r s queues
+    (new_made queues (state_of n l) r (λ h. makes Queues h (new_queue id job priority limit ordered retain)) (issued _ _ l.queues))
     (λ h. has_room h s.1.live.queues)
 issues_small n m l who (op.MutexCreate id recursive) r s =
-    small n m l who (op.MutexCreate id recursive) r s mutexes (
-      tt,
-      (
-        tt,
-        (
-          tt,
-          (
-            tt,
-            new_made mutexes (state_of n l) r (λ h. makes Mutexes h (new_mutex id recursive))
-                (issued (handle_of r) (new_mutex id recursive) l.resources.mutexes),
-          ),
-        ),
-      ),
-    )
+    small n m l who (op.MutexCreate id recursive) r s mutexes
+    (new_made mutexes (state_of n l) r (λ h. makes Mutexes h (new_mutex id recursive)) (issued _ _ l.resources.mutexes))
     (λ h. has_room h s.1.live.resources.mutexes)
 issues_small n m l who (op.SemCreate id limit) r s =
-    small n m l who (op.SemCreate id limit) r s sems (
-      tt,
-      (
-        tt,
-        (
-          tt,
-          (
-            tt,
-            (
-              tt,
-              new_made sems (state_of n l) r (λ h. makes Sems h (new_sem id limit))
-                  (issued (handle_of r) (new_sem id limit) l.resources.sems),
-            ),
-          ),
-        ),
-      ),
-    )
-    (λ h. has_room h s.1.live.resources.sems)
+    small n m l who (op.SemCreate id limit) r s sems
+    (new_made sems (state_of n l) r (λ h. makes Sems h (new_sem id limit)) (issued _ _ l.resources.sems)) (λ h. has_room h s.1.live.resources.sems)
 issues_small n m l who (op.RwlCreate id limit) r s =
-    small n m l who (op.RwlCreate id limit) r s rwls (
-      tt,
-      (
-        tt,
-        (
-          tt,
-          (
-            tt,
-            (
-              tt,
-              new_made rwls (state_of n l) r (λ h. makes Rwls h (new_rwl id limit))
-                  (issued (handle_of r) (new_rwl id limit) l.resources.rwls),
-            ),
-          ),
-        ),
-      ),
-    )
-    (λ h. has_room h s.1.live.resources.rwls)
+    small n m l who (op.RwlCreate id limit) r s rwls
+    (new_made rwls (state_of n l) r (λ h. makes Rwls h (new_rwl id limit)) (issued _ _ l.resources.rwls)) (λ h. has_room h s.1.live.resources.rwls)
 issues_small n m l who (op.ShmemCreate id cells) r s =
-    small n m l who (op.ShmemCreate id cells) r s segments (
-      tt,
-      (
-        tt,
-        (
-          tt,
-          (
-            tt,
-            (
-              tt,
-              new_made segments (state_of n l) r (λ h. makes Segments h (new_segment id cells))
-                  (issued (handle_of r) (new_segment id cells) l.resources.segments),
-            ),
-          ),
-        ),
-      ),
-    )
+    small n m l who (op.ShmemCreate id cells) r s segments
+    (new_made segments (state_of n l) r (λ h. makes Segments h (new_segment id cells)) (issued _ _ l.resources.segments))
     (λ h. has_room h s.1.live.resources.segments)
 issues_small n m l who o r s = tt

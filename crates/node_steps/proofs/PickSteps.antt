@@ -49,20 +49,7 @@ module _ (n : PoolNode) (l : Lists) (w : ℕ) (v : Live n l) (k : IsScheduler n.
   pub takeable : (h : ℕ) (t : Task) → slot_value n.scheduler.tasks.pool h ≡ Some t → can_take (state_of n l) w t ≡ true
       → Takeable n.scheduler.actions (lets_in h) w t
   unfolding can_take
-  takeable h t g e =
-      let ready = (and_parts (is_ready (state_of n l) t) _ e).0 in
-      let a = any-some n.scheduler.actions l.actions (is_eligible worker_count w t.job t.cores) v.actions.stands
-      (and_parts (is_ready (state_of n l) t) _ e).1 in (
-        a.0,
-        a.1,
-        a.2,
-        record {
-          unstarted = ready_unstarted t ready;
-          queue = ready_let h t g ready;
-          core = (and_parts (has_enabled_job t.job a.1 && nat_lt w worker_count && in_mask w a.1.cores) (in_mask w t.cores) a.3).1;
-          action = runs_in worker_count w t.job t.cores a.1 a.3;
-        },
-      )
+  takeable h t g e = grind (arith, nat_tests, any-some, ready_unstarted, ready_let, runs_in)
 
   -- nothing can be taken
   pub none_takes : NoneTakeable n.scheduler.actions n.scheduler.tasks.pool n.scheduler.queues.pool w → any_listed (can_take (state_of n l) w) l.tasks ≡ false

@@ -158,12 +158,7 @@ order-once at (h ∷ hs) live o = (by_test (has_handle h hs) refl, order-once at
 
 none-pass : (q : Task → Bool) (es : List (ℕ × Task)) → any_live q es ≡ false → how_many (λ e. q e.1) es ≡ 0
 none-pass q [] e = refl
-none-pass q (x ∷ es) e = by_test (q x.1) e (none-pass q es)
-  where
-    by_test : (b : Bool) → cond b true (any_live q es) ≡ false → (any_live q es ≡ false → how_many (λ e. q e.1) es ≡ 0)
-        → cond b 1 0 + how_many (λ e. q e.1) es ≡ 0
-    by_test true e rest = absurd (cc)
-    by_test false e rest = let r = rest e in omega (arith, r)
+none-pass q (x ∷ es) e = grind (arith, nat_tests, none-pass q es)
 
 count-list : (q : Task → Bool) (hs : List ℕ) (es : List (ℕ × Task)) → Distinct es → Once hs
     → ((h : ℕ) → has_handle h hs ≡ true → (t : Task) × (lookup es h ≡ Some t) × (q t ≡ true))
@@ -200,18 +195,8 @@ count-list q (h ∷ hs) es d o there back =
 how_many-live : (q : Task → Bool) (l : List (Listed Task)) → count_listed q l ≡ how_many (λ e. q e.1) (live_of l)
 unfolding live_of
 how_many-live q [] = refl
-how_many-live q (r ∷ rs) = pick r.live (how_many-live q rs)
-  where
-    pick : (b : Bool) → count_listed q rs ≡ how_many (λ e. q e.1) (live_of rs)
-        → cond (b && q r.fields) 1 0 + count_listed q rs ≡ how_many (λ e. q e.1) (cond b ((r.handle, r.fields) ∷ live_of rs) (live_of rs))
-    pick true more = ap (λ n. cond (q r.fields) 1 0 + n) more
-    pick false more = omega (arith, more)
+how_many-live q (r ∷ rs) = grind (arith, nat_tests, how_many-live q rs)
 
 pub count-queued : (n : PoolNode) (l : Lists) → Live n l → IsScheduler n.scheduler → (q : ℕ) (x : HeldQueue) → slot_value n.scheduler.queues.pool q ≡ Some x
     → count_listed (is_unended_in q) l.tasks ≡ length x.tasks
-count-queued n l v k q x live =
-    how_many-live (is_unended_in q) l.tasks
-    ∙ count-list (is_unended_in q) x.tasks (live_of l.tasks) v.tasks.stands.distinct
-    (order-once (seen_in n.scheduler.tasks.pool) x.tasks (λ h e. let s = k.queued.names h q x live e in (s.0, s.1)) (k.queued.ordered q x live))
-    (λ h e. let t = of-list n l v k q x live h e in (t.0, sym (v.tasks.stands.found h) ∙ t.1, t.2))
-    (λ h t g p. in-list n l v k q x live h t (v.tasks.stands.found h ∙ g) p)
+count-queued n l v k q x live = grind (arith, nat_tests, how_many-live, count-list, order-once, of-list, in-list)

@@ -1,5 +1,5 @@
 -- The ops on queues are steps of the machine.
-use Rattle.node_steps.proofs.Names.{◌≡◌, ℕ, ◌+◌, ◌<◌, ◌≤◌, Bool, true, false, not, cond, List, [], ◌∷◌, ◌++◌, Option, Some, None, Result, Ok, Err, refl, sym, ◌∙◌, ap, subst, arith, ◌&&◌, ◌||◌, ◌==◌, nat_lt, nat_le, ℤ, option_map, nat_tests, TaskEnd, Cancelled, Mask, GroupHandle, QueueHandle, TaskHandle, MtapiStatus, first, Slots, slot_value, IsFull, Inserts, without, changed, SomeLive, NoneLive, Listed, live_of, any_listed, count_listed, first_handle, issue, update, retire, any-none, any-live, first_live-only, first_live-absent, has_job, Task, NewTask, new_task, is_unstarted, end_each, Queue, opened, is_in, is_unended_in, put_refusals, TaskTable, HeldQueue, QueueTable, held, HasId, Finds, live_reply, facts_of, with_opened, QueueFacts, SchedulerTable, IsScheduler, Becomes, BecomesWith, records_of, GroupTable, without_members, EndsWaiting, mapped-insert, mapped-without, mapped-changed, IsFull-mapped, Op, Reply, State, is_open, is_up, end_tasks, Move, Queues, alters, ends_waiting, gives, row, new_queue, start_refusals, is_detached_member, IsHonest, PoolNode, Lists, Holds, Live, Steps, state_of, Sound, none-some}
+use Rattle.node_steps.proofs.Names.{◌≡◌, ℕ, ◌+◌, ◌<◌, ◌≤◌, Bool, true, false, not, cond, List, [], ◌∷◌, ◌++◌, Option, Some, None, Result, Ok, Err, refl, sym, ◌∙◌, ap, subst, arith, ◌&&◌, ◌||◌, ◌==◌, nat_lt, nat_le, ℤ, option_map, nat_tests, TaskEnd, Cancelled, Mask, GroupHandle, QueueHandle, TaskHandle, MtapiStatus, first, Slots, slot_value, IsFull, Inserts, without, changed, SomeLive, NoneLive, Listed, live_of, any_listed, count_listed, first_handle, issue, update, retire, any-none, any-live, first_live-only, first_live-absent, has_job, Task, NewTask, new_task, is_unstarted, end_each, Queue, opened, is_in, is_unended_in, put_refusals, TaskTable, HeldQueue, QueueTable, held, HasId, Finds, live_reply, facts_of, with_opened, QueueFacts, SchedulerTable, IsScheduler, Becomes, BecomesWith, records_of, GroupTable, without_members, EndsWaiting, mapped-insert, mapped-without, mapped-changed, IsFull-mapped, Op, Reply, State, is_open, is_up, end_tasks, Move, Queues, alters, ends_waiting, gives, row, new_queue, asked_for, start_refusals, is_detached_member, IsHonest, PoolNode, Lists, Holds, Live, Steps, state_of, Sound, none-some}
 use Rattle.mtapi_values.specs.declared.ends.TaskEnd.TheVariants.{Failed}
 use Rattle.mtapi_values.specs.declared.statuses.MtapiStatus.TheVariants as m
 use Rattle.task_core.specs.Table.{Adds}
@@ -9,7 +9,8 @@ use Rattle.mtapi_machine.specs.declared.ops.Op.TheVariants as op
 use Rattle.mtapi_machine.specs.declared.replies.Reply.TheVariants as reply
 use Rattle.mtapi_machine.specs.KeyedRows.{found as found_row}
 use Rattle.mtapi_machine.specs.TaskRows.{asked_of}
-use Rattle.node_steps.proofs.Gives.{Gives, gives_this, says_this, allows, met, past, met_in, past_all, at_some, at_none, steps, stays, lands_to}
+use Rattle.node_steps.specs.Refusals.{MayPut}
+use Rattle.node_steps.proofs.Gives.{Gives, gives_this, says_this, allows, met, past, met_in, past_all, at_some, at_none, steps, stays, lands, lands_to}
 use Rattle.node_steps.proofs.Moves.{found, full_list, room_in, may_be, holds_insert, holds_changed, holds_remove}
 use Rattle.node_steps.proofs.ActionSteps.{not_true}
 use Rattle.node_steps.proofs.TaskSteps.{task_steps, reported, add_reply}
@@ -330,7 +331,20 @@ module _ (n : PoolNode) (l : Lists) (who : ℕ) (q : QueueHandle) (args : List �
       enqueue_failed t m.ErrTaskLimit a = reported n l t n.scheduler.tasks who enqueue _ a.1 (enqueue_full a.0)
       enqueue_failed t c a = absurd a
 
-      pub enqueue_steps : (t : TaskTable) (r : Result TaskHandle MtapiStatus) (y : NewTask) → y ≡ asks → Adds n.scheduler.tasks y r t
+      enqueue_steps : (t : TaskTable) (r : Result TaskHandle MtapiStatus) → Adds n.scheduler.tasks asks r t
           → Steps n l who enqueue (add_reply r) (record n { scheduler = record n.scheduler { tasks = t } })
-      enqueue_steps t (Ok h) y is a = let b = subst (λ (z : NewTask). Adds n.scheduler.tasks z (Ok h) t) is a in enqueue_made t h.0 b.0 b.1 b.2 b.3
-      enqueue_steps t (Err c) y is a = enqueue_failed t c (subst (λ (z : NewTask). Adds n.scheduler.tasks z (Err c) t) is a)
+      enqueue_steps t (Ok h) a = enqueue_made t h.0 a.0 a.1 a.2 a.3
+      enqueue_steps t (Err c) a = enqueue_failed t c a
+
+-- what was told of a put, with a copy of the arguments
+pub enqueue_told : (n : PoolNode) (l : Lists) (who : ℕ) (q : QueueHandle) (args : List ℤ) (cores : Mask) (detached : Bool) (group : Option GroupHandle)
+    → Live n l → IsScheduler n.scheduler → (f : QueueFacts) → MayPut n q.0 cores detached group f → (b : SchedulerTable) (copy : List ℤ)
+    (s r : Result TaskHandle MtapiStatus) → copy ≡ args → s ≡ r → Becomes n.scheduler b n.scheduler.actions b.tasks
+    → Adds n.scheduler.tasks (record (asked_for f.job copy f.priority cores detached group) { queue = Some q.0 }) s b.tasks
+    → Steps n l who (op.TaskEnqueue q args cores detached group) (add_reply r) (record n { scheduler = b })
+enqueue_told n l who q args cores detached group v kept f may b copy s r same is new adds =
+    let x = facts_found (slot_value n.scheduler.queues.pool q.0) f may.found in
+    lands n l who _ _ b _ b.tasks new
+    (enqueue_steps n l who q args cores detached group v may.opened kept may.alone x.0 x.1
+    (causes_are n l who q args cores detached group v may.opened kept may.alone x.0 x.1 f None x.2 (may.none l args f.priority v)) b.tasks r
+    (rw (same, is, x.2) at adds))

@@ -1,5 +1,5 @@
 -- Why an op that makes an object is refused before it is asked whether there is room, by the conditions of its row.
-use Rattle.node_steps.proofs.Names.{arith, nat_tests, ◌≡◌, ℕ, Bool, true, false, not, cond, List, [], ◌∷◌, ◌++◌, Option, Some, None, refl, sym, ◌∙◌, ap, subst, ◌&&◌, ◌||◌, ◌==◌, nat_lt, nat_le, ℤ, IsNone, option_map, IfSome, first, GroupHandle, QueueHandle, Kind, Mask, MtapiStatus, slot_value, SomeLive, NoneLive, any_listed, live_object, count_listed, any-none, any-live, new_action, has_job, action_create_refusals, new_group, Queue, is_unended_in, put_refusals, new_mutex, new_sem, new_rwl, new_segment, Op, Reply, State, is_open, actions, tasks, groups, queues, mutexes, sems, rwls, segments, Move, Groups, Queues, Mutexes, Sems, Rwls, Segments, makes_action, starts_task, makes, Row, says, live, creates, mtapi_unless, Allows, row, new_queue, asked_for, start_refusals, is_detached_member, IsHonest, makes_or_not, refusal_in, refusal_of, CanAnswer, HeldQueue, HasId, facts_of, QueueFacts, IsScheduler, records_of, PoolNode, Lists, Live, Steps, state_of, not-false}
+use Rattle.node_steps.proofs.Names.{arith, nat_tests, ◌≡◌, ℕ, Bool, true, false, not, cond, List, [], ◌∷◌, ◌++◌, Option, Some, None, refl, sym, ◌∙◌, ap, subst, ◌&&◌, ◌||◌, ◌==◌, nat_lt, nat_le, ℤ, IsNone, option_map, IfSome, first, GroupHandle, QueueHandle, Kind, Mask, MtapiStatus, slot_value, SomeLive, NoneLive, any_listed, live_object, count_listed, any-none, any-live, new_action, has_job, action_create_refusals, new_group, Queue, is_unended_in, put_refusals, Op, Reply, State, Objects, is_open, actions, tasks, groups, queues, Move, Groups, Queues, makes_action, starts_task, makes, Row, says, live, creates, mtapi_unless, Allows, row, new_queue, asked_for, start_refusals, is_detached_member, IsHonest, makes_or_not, refusal_in, refusal_of, CanAnswer, HeldQueue, HasId, facts_of, QueueFacts, IsScheduler, records_of, PoolNode, Lists, Live, Steps, state_of, not-false}
 use Rattle.mtapi_values.specs.declared.handles.ObjectKind.{ObjectKind}
 use Rattle.mtapi_values.specs.declared.statuses.MtapiStatus.TheVariants as m
 use Rattle.mtapi_values.specs.declared.statuses.MrapiStatus.{MrapiStatus}
@@ -10,7 +10,6 @@ use Rattle.mtapi_machine.specs.TaskRows.{asked_of}
 use Rattle.mtapi_renaming.specs.Kinds.{made_kind}
 use Rattle.mtapi_renaming.proofs.Refusals.{creates_none, refusals_stay}
 use Rattle.mtapi_renaming.proofs.Tells.{refusals_tell}
-use Rattle.node_resources.specs.Refusals.{mutex_refusals, sem_refusals, rwl_refusals, shmem_refusals}
 use Rattle.node_steps.specs.Refusals.{open_refusals, task_refusals, queue_causes, queue_refusals, MayPut}
 use Rattle.node_steps.proofs.Gives.{stays}
 use Rattle.node_steps.proofs.Moves.{found}
@@ -140,25 +139,10 @@ module _ (n : PoolNode) (l : Lists) (who : ℕ) where
         let r = first_fails jobless m.ErrJobInvalid [] q.1 in
         (not-false (is_open n.core.phase) p.0, q.0, not-false (any_listed (has_job job) l.actions) r.0)
 
-  pub mutex_told : (id : ℕ) (recursive : Bool) → refusal_of s who (op.MutexCreate id recursive) ≡ option_map reply.Mrapi (first (mutex_refusals s who id))
-  mutex_told id recursive =
-      let make : ℕ → Move = λ h. makes Mutexes h (new_mutex id recursive) in
-      in_mrapi (mutex_refusals s who id) (creates mutexes s reply.Ok make) refl (creates_none mutexes s make)
-
-  pub sem_told : (id limit : ℕ) → refusal_of s who (op.SemCreate id limit) ≡ option_map reply.Mrapi (first (sem_refusals s who id limit))
-  sem_told id limit =
-      let make : ℕ → Move = λ h. makes Sems h (new_sem id limit) in
-      in_mrapi (sem_refusals s who id limit) (creates sems s reply.Ok make) refl (creates_none sems s make)
-
-  pub rwl_told : (id limit : ℕ) → refusal_of s who (op.RwlCreate id limit) ≡ option_map reply.Mrapi (first (rwl_refusals s who id limit))
-  rwl_told id limit =
-      let make : ℕ → Move = λ h. makes Rwls h (new_rwl id limit) in
-      in_mrapi (rwl_refusals s who id limit) (creates rwls s reply.Ok make) refl (creates_none rwls s make)
-
-  pub shmem_told : (id cells : ℕ) → refusal_of s who (op.ShmemCreate id cells) ≡ option_map reply.Mrapi (first (shmem_refusals s who id cells))
-  shmem_told id cells =
-      let make : ℕ → Move = λ h. makes Segments h (new_segment id cells) in
-      in_mrapi (shmem_refusals s who id cells) (creates segments s reply.Ok make) refl (creates_none segments s make)
+  -- a row that makes a resource after these conditions
+  pub makes_told : {T : Type 0} (k : Objects T) (cs : List (Bool × MrapiStatus)) (make : ℕ → Move)
+      → refusal_in (mrapi_unless cs (creates k s reply.Ok make)) ≡ option_map reply.Mrapi (first cs)
+  makes_told k cs make = in_mrapi cs (creates k s reply.Ok make) refl (creates_none k s make)
 
   -- a put of a task into a queue: its row, and then what it is refused for, one after the other
   module _ (q : QueueHandle) (args : List ℤ) (cores : Mask) (detached : Bool) (group : Option GroupHandle) where

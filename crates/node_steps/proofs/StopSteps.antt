@@ -5,22 +5,7 @@ use Rattle.node_steps.proofs.Names.{◌≡◌, ℕ, ◌+◌, Bool, true, false, 
 any-count : {T : Type 0} (q : T → Bool) (l : List (Listed T)) → any_listed q l ≡ not (count_listed q l == 0)
 unfolding live_of
 any-count q [] = refl
-any-count q (r ∷ rs) = by_live r.live (any-count q rs)
-  where
-    more : (n : ℕ) → not (1 + n == 0) ≡ true
-    more n = grind (arith, nat_tests)
-
-    less : (n : ℕ) → not (0 + n == 0) ≡ not (n == 0)
-    less n = grind (arith, nat_tests)
-
-    by_test : (b : Bool) → any_listed q rs ≡ not (count_listed q rs == 0) → cond b true (any_listed q rs) ≡ not (cond b 1 0 + count_listed q rs == 0)
-    by_test true e = sym (more (count_listed q rs))
-    by_test false e = e ∙ sym (less (count_listed q rs))
-
-    by_live : (a : Bool) → any_listed q rs ≡ not (count_listed q rs == 0)
-        → any_live q (cond a ((r.handle, r.fields) ∷ live_of rs) (live_of rs)) ≡ not (cond (a && q r.fields) 1 0 + count_listed q rs == 0)
-    by_live true e = by_test (q r.fields) e
-    by_live false e = e ∙ sym (less (count_listed q rs))
+any-count q (r ∷ rs) = grind (arith, nat_tests, any-count q rs)
 
 pub stop_told : (n : PoolNode) (l : Lists) (k : ℕ) → Live n l → k ≡ unended_count n.scheduler.tasks.pool
     → is_stop (state_of n l) ≡ (is_past_open n.core.phase && (k == 0))

@@ -43,22 +43,7 @@ module _ (s : State) (w : ℕ) (t : TaskHandle) (a : ActionHandle) (k : Kind) (a
     by_test : (x : Task) (y : Action) → live_object s.tasks t.0 ≡ Some x → live_object s.actions a.0 ≡ Some y → (b : Bool) → tests x y ≡ b
         → Allows (only b (takes x y)) told → CanPick s w t a k args
     by_test x y found_x found_y false e allowed = absurd allowed
-    by_test x y found_x found_y true e allowed =
-        let kind : k ≡ y.kind = cc in
-        let args_are : args ≡ x.args = cc in
-        record {
-          worker = worker;
-          free = free;
-          started = started;
-          goes_on = goes_on;
-          x = x;
-          y = y;
-          task = found_x;
-          action = found_y;
-          may = e;
-          kind = kind;
-          args_are = args_are;
-        }
+    by_test x y found_x found_y true e allowed = grind (arith, nat_tests)
 
     by_action : (x : Task) → live_object s.tasks t.0 ≡ Some x → (o : Option Action) → live_object s.actions a.0 ≡ o
         → Allows (live o never (λ y. only (tests x y) (takes x y))) told → CanPick s w t a k args

@@ -50,15 +50,7 @@ same-starts p e (h ∷ hs) q = same-starts p e hs (ended_if p e h q) ∙ by_test
 above-live : (a : ℕ) (l : List (Listed Task)) (h : ℕ) (t : Task) → AreAbove a (start_numbers l) → live_object l h ≡ Some t → a < t.start
 unfolding live_of
 above-live a [] h t k g = absurd (none-some _ g)
-above-live a (r ∷ rs) h t k g = by_live r.live g (above-live a rs h t k.1)
-  where
-    by_handle : (b : Bool) → cond b (Some r.fields) (live_object rs h) ≡ Some t → (live_object rs h ≡ Some t → a < t.start) → a < t.start
-    by_handle true f m = subst (λ (u : Task). a < u.start) (some_same f) k.0
-    by_handle false f m = m f
-
-    by_live : (b : Bool) → lookup (cond b ((r.handle, r.fields) ∷ live_of rs) (live_of rs)) h ≡ Some t → (live_object rs h ≡ Some t → a < t.start) → a < t.start
-    by_live true f m = by_handle (r.handle == h) f m
-    by_live false f m = m f
+above-live a (r ∷ rs) h t k g = grind (arith, nat_tests, above-live a rs h t k.1, some_same)
 
 -- by each handle of these objects its task is seen
 abbrev Shows : (ℕ → Option Seen) → List (ℕ × Task) → Type 0

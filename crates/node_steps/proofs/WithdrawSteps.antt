@@ -182,13 +182,7 @@ module _ (n : PoolNode) (l : Lists) (who job : ℕ) (a : ActionHandle) (v : Live
 -- The two calls of a scheduler
 
 pub becomes-twice : (a b c : SchedulerTable) (q : Slots Action) → Becomes a b q a.tasks → Becomes b c b.actions c.tasks → Becomes a c q c.tasks
-becomes-twice a b c q x y = record {
-  settings = y.settings ∙ x.settings;
-  actions_are = y.actions_are ∙ x.actions_are;
-  tasks_are = refl;
-  queues_are = y.queues_are ∙ x.queues_are;
-  groups_are = y.groups_are ∙ x.groups_are;
-}
+becomes-twice a b c q x y = grind (arith, nat_tests)
 
 pub unserved-before : (a b : SchedulerTable) (q : Slots Action) (job : ℕ) (e : TaskEnd) (t : TaskTable) → Becomes a b q a.tasks
     → EndsUnserved b.settings.workers b.actions job e b.tasks t → EndsUnserved a.settings.workers q job e a.tasks t

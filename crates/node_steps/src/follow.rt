@@ -24,19 +24,13 @@ use mtapi_values::{
 fn mtapi(status: Option<MtapiStatus>) -> Option<Reply>
     ensures { option_map reply.Mtapi status ≡ result }
 {
-    match status {
-        Some(status) => Some(Reply::Mtapi(status)),
-        None => None,
-    }
+    Some(Reply::Mtapi(status?))
 }
 
 fn mrapi(status: Option<MrapiStatus>) -> Option<Reply>
     ensures { option_map reply.Mrapi status ≡ result }
 {
-    match status {
-        Some(status) => Some(Reply::Mrapi(status)),
-        None => None,
-    }
+    Some(Reply::Mrapi(status?))
 }
 
 impl PoolNode {

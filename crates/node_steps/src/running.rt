@@ -32,10 +32,7 @@ fn kind_number(kind: Kind) -> u32
 pub(crate) fn is_seat(who: u32, seat: Option<u32>) -> bool
     ensures { is_seat who seat ≡ result }
 {
-    match seat {
-        None => false,
-        Some(other) => other == who,
-    }
+    seat == Some(who)
 }
 
 // Whether the task runs on the worker, with this kind.

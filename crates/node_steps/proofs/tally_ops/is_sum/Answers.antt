@@ -6,4 +6,4 @@ pub returns-in-None-clause-other : goal.returns-in-None-clause-other
 returns-in-None-clause-other c e =
     let kept_fits : FitsSigned w64 c.args.kept = c.ranges.kept in
     let number_fits : FitsSigned w64 c.args.number = c.ranges.number in
-    none_fits (c.args.kept +ℤ c.args.number) (simp to_z-of_z at c.in-None.ensures) (subst (λ (z : ℤ). fits z ≡ true) e (fits_from c.args.value c.ranges.value))
+    none_fits (c.args.kept +ℤ c.args.number) (simp to_z-of_z at c.in-None.ensures) (rw (← e) (fits_from c.args.value c.ranges.value))

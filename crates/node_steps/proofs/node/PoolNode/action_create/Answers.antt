@@ -10,20 +10,16 @@ use Rattle.node_steps.proofs.RefusedSteps.{first_fails, refused, action_told}
 use Rattle.node_steps.proofs.node.PoolNode.action_create.Goals as goal
 
 pub returns-in-Ok : goal.returns-in-Ok
-returns-in-Ok c l who v =
-    lands c.args.self.now l who _ _ c.create_action.new.self c.create_action.new.self.actions c.args.self.now.scheduler.tasks c.create_action.ensures.new
-    (create_steps c.args.self.now c.create_action.new.self.actions l who c.args.job c.args.kind c.args.cores (Ok c.in-Ok.action) v
+returns-in-Ok c l who v = lands c.args.self.now l who _ _ c.create_action.new.self c.create_action.new.self.actions c.args.self.now.scheduler.tasks
+    c.create_action.ensures.new (create_steps c.args.self.now c.create_action.new.self.actions l who c.args.job c.args.kind c.args.cores (Ok c.in-Ok.action) v
     (not-false _ (first_fails _ m.ErrNodeNotinit (action_create_refusals c.args.job) (sym c.action_refusal.ensures ∙ c.in_default.is)).0)
-    (subst (λ (x : Result ActionHandle MtapiStatus). Creates c.args.self.now.scheduler.actions c.args.job c.args.kind c.args.cores.0 x
-    c.create_action.new.self.actions) c.in-Ok.is c.create_action.ensures.creates))
+    (rw c.in-Ok.is at c.create_action.ensures.creates))
 
 pub returns-in-Err : goal.returns-in-Err
-returns-in-Err c l who v =
-    lands c.args.self.now l who _ _ c.create_action.new.self c.create_action.new.self.actions c.args.self.now.scheduler.tasks c.create_action.ensures.new
-    (create_steps c.args.self.now c.create_action.new.self.actions l who c.args.job c.args.kind c.args.cores (Err c.in-Err.status) v
+returns-in-Err c l who v = lands c.args.self.now l who _ _ c.create_action.new.self c.create_action.new.self.actions c.args.self.now.scheduler.tasks
+    c.create_action.ensures.new (create_steps c.args.self.now c.create_action.new.self.actions l who c.args.job c.args.kind c.args.cores (Err c.in-Err.status) v
     (not-false _ (first_fails _ m.ErrNodeNotinit (action_create_refusals c.args.job) (sym c.action_refusal.ensures ∙ c.in_default.is)).0)
-    (subst (λ (x : Result ActionHandle MtapiStatus). Creates c.args.self.now.scheduler.actions c.args.job c.args.kind c.args.cores.0 x
-    c.create_action.new.self.actions) c.in-Err.is c.create_action.ensures.creates))
+    (rw c.in-Err.is at c.create_action.ensures.creates))
 
 pub returns-in-Some : goal.returns-in-Some
 returns-in-Some c l who v =

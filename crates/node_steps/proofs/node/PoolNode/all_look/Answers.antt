@@ -6,15 +6,12 @@ use Rattle.node_steps.proofs.node.PoolNode.all_look.Goals as goal
 pub returns-then-all-ended : goal.returns-then-all-ended
 returns-then-all-ended c l who v =
     let x = counted (slot_value c.args.self.now.scheduler.groups.pool c.args.group.0) c.in-Some.all c.in-Some.ended c.in-Some.ensures in
-    subst (λ (r : Reply). Steps c.args.self.now l who (op.AllLook c.args.group c.args.last) r c.args.self.now) (sym c.early.ensures)
-    (all_look_early c.args.self.now l who c.args.group c.args.last v (sym c.if-not-is_up.ensures) c.is_kept.ensures x.x x.is
+    rw c.early.ensures (all_look_early c.args.self.now l who c.args.group c.args.last v (sym c.if-not-is_up.ensures) c.is_kept.ensures x.x x.is
     (omega (arith, c.if-all-ended.true, x.all_is, x.ended_is)))
 
 pub returns : goal.returns
 returns c l who v =
     let x = counted (slot_value c.args.self.now.scheduler.groups.pool c.args.group.0) c.in-Some.all c.in-Some.ended c.in-Some.ensures in
-    subst (λ (r : Reply). Steps c.args.self.now l who (op.AllLook c.args.group c.args.last) r
-    (record c.args.self.now { scheduler = c.free_members.new.scheduler })) (sym c.verdict.ensures)
-    (all_look_freed c.args.self.now l who c.args.group c.args.last v
+    rw c.verdict.ensures (all_look_freed c.args.self.now l who c.args.group c.args.last v
     (sym c.if-not-is_up.ensures) c.is_kept.ensures x.x x.is c.free_members.new.scheduler c.free_members.result
     (omega (arith, c.if-all-ended.false, x.all_is, x.ended_is)) c.free_members.ensures.freed c.free_members.ensures.none)

@@ -19,9 +19,6 @@ returns-in-Some-take_first c l who v =
 pub returns-in-None : goal.returns-in-None
 returns-in-None c l who v =
     let x = counted (slot_value c.args.self.now.scheduler.groups.pool c.args.group.0) c.in-Some.all c.in-Some.field-0-1 c.in-Some.ensures in
-    subst (λ (r : Reply). Steps c.args.self.now l who (op.AnyLook c.args.group c.args.last) r (record c.args.self.now { scheduler = c.take_first.new.self }))
-    (sym c.early.ensures)
-    (subst (λ (b : SchedulerTable). Steps c.args.self.now l who (op.AnyLook c.args.group c.args.last) (early c.args.last)
-    (record c.args.self.now { scheduler = b })) (sym c.in-None.ensures.0)
+    rw c.early.ensures (rw c.in-None.ensures.0
     (any_look_early c.args.self.now l who c.args.group c.args.last v (sym c.if-not-is_up.ensures) c.is_kept.ensures x.x x.is
     (omega (arith, c.if-all-eq0.false, x.all_is)) (refl, c.in-None.ensures.1)))

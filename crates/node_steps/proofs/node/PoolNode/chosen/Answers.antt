@@ -6,10 +6,8 @@ pub returns-in_default-choice_of-clause-toward : goal.returns-in_default-choice_
 returns-in_default-choice_of-clause-toward c task action e d is by x better =
     let n = c.args.self.now in
     let wants = sym c.in-Some-wanted.is ∙ e in
-    let best = subst (λ (o : Option Choice). IsBest n.scheduler.actions n.scheduler.tasks.pool n.scheduler.queues.pool c.args.who o) c.in-Some.is
-    c.best.ensures in
-    let found = subst (λ (o : Option Choice). IsChoiceOf n.scheduler.actions n.scheduler.tasks.pool n.scheduler.queues.pool c.args.who c.in-Some-wanted.task
-    c.in-Some-wanted.action o) c.in-Some-choice_of.is c.choice_of.ensures in
+    let best = rw c.in-Some.is at c.best.ensures in
+    let found = rw c.in-Some-choice_of.is at c.choice_of.ensures in
     absurd (c.if-choice-best.false (same_priority n c.args.who c.in-Some-choice_of.choice d (found.0 ∙ wanted_task wants ∙ sym is) found.2 x
     ∙ one_priority n c.args.who c.in-Some.best d best x better))
 
@@ -17,6 +15,5 @@ pub returns-in_default-choice_of-2-clause-toward : goal.returns-in_default-choic
 returns-in_default-choice_of-2-clause-toward c task action e d is by x better =
     let n = c.args.self.now in
     let wants = sym c.in-Some-wanted.is ∙ e in
-    let none = subst (λ (o : Option Choice). IsChoiceOf n.scheduler.actions n.scheduler.tasks.pool n.scheduler.queues.pool c.args.who c.in-Some-wanted.task
-    c.in-Some-wanted.action o) c.in_default-choice_of.is c.choice_of.ensures in
+    let none = rw c.in_default-choice_of.is at c.choice_of.ensures in
     absurd (none d (is ∙ sym (wanted_task wants)) (by ∙ sym (wanted_action wants)) x)

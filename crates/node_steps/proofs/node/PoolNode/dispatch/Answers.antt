@@ -3,231 +3,99 @@ use Rattle.mtapi_machine.specs.declared.ops.Op.TheVariants as op
 use Rattle.node_steps.proofs.node.PoolNode.dispatch.Goals as goal
 
 pub returns-in-Initialize : goal.returns-in-Initialize
-returns-in-Initialize g c l v k =
-    subst (λ (o : Op). Steps c.args.self.now l c.args.who (renamed_op (g.R.Rename.renaming c.args.names.now) o) c.initialize.result c.initialize.new.self)
-    (sym c.in-Initialize.is)
-    (c.initialize.ensures l c.args.who v)
+returns-in-Initialize g c l v k = rw c.in-Initialize.is (c.initialize.ensures l c.args.who v)
 
 pub returns-in-Release : goal.returns-in-Release
-returns-in-Release g c l v k =
-    subst (λ (o : Op). Steps c.args.self.now l c.args.who (renamed_op (g.R.Rename.renaming c.args.names.now) o) c.release.result c.release.new.self)
-    (sym c.in-Release.is)
-    (c.release.ensures l c.args.who v)
+returns-in-Release g c l v k = rw c.in-Release.is (c.release.ensures l c.args.who v)
 
 pub returns-in-Enter : goal.returns-in-Enter
-returns-in-Enter g c l v k =
-    subst (λ (o : Op). Steps c.args.self.now l c.args.who (renamed_op (g.R.Rename.renaming c.args.names.now) o) c.enter.result c.args.self.now)
-    (sym c.in-Enter.is)
-    (c.enter.ensures l c.args.who v)
+returns-in-Enter g c l v k = rw c.in-Enter.is (c.enter.ensures l c.args.who v)
 
 pub returns-in-Close : goal.returns-in-Close
-returns-in-Close g c l v k =
-    subst (λ (o : Op). Steps c.args.self.now l c.args.who (renamed_op (g.R.Rename.renaming c.args.names.now) o) c.close.result c.close.new.self)
-    (sym c.in-Close.is)
-    (c.close.ensures l c.args.who v k)
+returns-in-Close g c l v k = rw c.in-Close.is (c.close.ensures l c.args.who v k)
 
 pub returns-in-Final : goal.returns-in-Final
-returns-in-Final g c l v k =
-    subst (λ (o : Op). Steps c.args.self.now l c.args.who (renamed_op (g.R.Rename.renaming c.args.names.now) o) c.finalize.result c.finalize.new.self)
-    (sym c.in-Final.is)
-    (c.finalize.ensures l c.args.who v)
+returns-in-Final g c l v k = rw c.in-Final.is (c.finalize.ensures l c.args.who v)
 
 pub returns-in-JobGet : goal.returns-in-JobGet
-returns-in-JobGet g c l v k =
-    subst (λ (o : Op). Steps c.args.self.now l c.args.who (renamed_op (g.R.Rename.renaming c.args.names.now) o) c.job_get.result c.args.self.now)
-    (sym c.in-JobGet.is)
-    (c.job_get.ensures l c.args.who v)
+returns-in-JobGet g c l v k = rw c.in-JobGet.is (c.job_get.ensures l c.args.who v)
 
 pub returns-in-ActionCreate : goal.returns-in-ActionCreate
-returns-in-ActionCreate g c l v k =
-    subst (λ (o : Op). Steps c.args.self.now l c.args.who (renamed_op (g.R.Rename.renaming c.args.names.now) o) c.action_create.result c.action_create.new.self)
-    (sym c.in-ActionCreate.is)
-    (c.action_create.ensures l c.args.who v)
+returns-in-ActionCreate g c l v k = rw c.in-ActionCreate.is (c.action_create.ensures l c.args.who v)
 
 pub returns-in-ActionDelete : goal.returns-in-ActionDelete
-returns-in-ActionDelete g c l v k =
-    subst (λ (o : Op). Steps c.args.self.now l c.args.who (renamed_op (g.R.Rename.renaming c.args.names.now) o) c.action_delete.result c.action_delete.new.self)
-    (sym c.in-ActionDelete.is)
-    (subst (λ (h : ActionHandle). Steps c.args.self.now l c.args.who (op.ActionDelete h) c.action_delete.result c.action_delete.new.self) c.other_action.ensures
-    (c.action_delete.ensures l c.args.who v k))
+returns-in-ActionDelete g c l v k = rw (c.in-ActionDelete.is, ← c.other_action.ensures) (c.action_delete.ensures l c.args.who v k)
 
 pub returns-in-ActionDisable : goal.returns-in-ActionDisable
-returns-in-ActionDisable g c l v k =
-    subst (λ (o : Op). Steps c.args.self.now l c.args.who
-    (renamed_op (g.R.Rename.renaming c.args.names.now) o) c.action_disable.result c.action_disable.new.self) (sym c.in-ActionDisable.is)
-    (subst (λ (h : ActionHandle). Steps c.args.self.now l c.args.who
-    (op.ActionDisable h) c.action_disable.result c.action_disable.new.self) c.other_action-in-ActionDisable.ensures
-    (c.action_disable.ensures l c.args.who v k))
+returns-in-ActionDisable g c l v k = rw (c.in-ActionDisable.is, ← c.other_action-in-ActionDisable.ensures) (c.action_disable.ensures l c.args.who v k)
 
 pub returns-in-ActionEnable : goal.returns-in-ActionEnable
-returns-in-ActionEnable g c l v k =
-    subst (λ (o : Op). Steps c.args.self.now l c.args.who (renamed_op (g.R.Rename.renaming c.args.names.now) o) c.action_enable.result c.action_enable.new.self)
-    (sym c.in-ActionEnable.is)
-    (subst (λ (h : ActionHandle). Steps c.args.self.now l c.args.who
-    (op.ActionEnable h) c.action_enable.result c.action_enable.new.self) c.other_action-in-ActionEnable.ensures
-    (c.action_enable.ensures l c.args.who v))
+returns-in-ActionEnable g c l v k = rw (c.in-ActionEnable.is, ← c.other_action-in-ActionEnable.ensures) (c.action_enable.ensures l c.args.who v)
 
 pub returns-in-TaskStart : goal.returns-in-TaskStart
-returns-in-TaskStart g c l v k =
-    subst (λ (o : Op). Steps c.args.self.now l c.args.who (renamed_op (g.R.Rename.renaming c.args.names.now) o) c.task_start.result c.task_start.new.self)
-    (sym c.in-TaskStart.is)
-    (subst (λ (h : Option GroupHandle). Steps c.args.self.now l c.args.who
-    (op.TaskStart c.in-TaskStart.job c.in-TaskStart.args c.in-TaskStart.priority c.in-TaskStart.cores c.in-TaskStart.detached h) c.task_start.result
-    c.task_start.new.self) c.other_member.ensures
-    (c.task_start.ensures l c.args.who v))
+returns-in-TaskStart g c l v k = rw (c.in-TaskStart.is, ← c.other_member.ensures) (c.task_start.ensures l c.args.who v)
 
 pub returns-in-TaskEnqueue : goal.returns-in-TaskEnqueue
-returns-in-TaskEnqueue g c l v k =
-    subst (λ (o : Op). Steps c.args.self.now l c.args.who (renamed_op (g.R.Rename.renaming c.args.names.now) o) c.task_enqueue.result c.task_enqueue.new.self)
-    (sym c.in-TaskEnqueue.is)
-    (subst (λ (h : Option GroupHandle). Steps c.args.self.now l c.args.who
-    (op.TaskEnqueue (other_queue (g.R.Rename.renaming c.args.names.now) c.in-TaskEnqueue.queue) c.in-TaskEnqueue.args c.in-TaskEnqueue.cores
-    c.in-TaskEnqueue.detached h) c.task_enqueue.result c.task_enqueue.new.self) c.other_member-in-TaskEnqueue.ensures
-    (subst (λ (h : QueueHandle). Steps c.args.self.now l c.args.who
-    (op.TaskEnqueue h c.in-TaskEnqueue.args c.in-TaskEnqueue.cores c.in-TaskEnqueue.detached c.other_member-in-TaskEnqueue.result) c.task_enqueue.result
-    c.task_enqueue.new.self) c.other_queue.ensures
-    (c.task_enqueue.ensures l c.args.who v)))
+returns-in-TaskEnqueue g c l v k = rw (c.in-TaskEnqueue.is, ← c.other_member-in-TaskEnqueue.ensures, ← c.other_queue.ensures)
+    (c.task_enqueue.ensures l c.args.who v)
 
 pub returns-in-TaskLook : goal.returns-in-TaskLook
-returns-in-TaskLook g c l v k =
-    subst (λ (o : Op). Steps c.args.self.now l c.args.who (renamed_op (g.R.Rename.renaming c.args.names.now) o) c.task_look.result c.task_look.new.self)
-    (sym c.in-TaskLook.is)
-    (subst (λ (h : TaskHandle). Steps c.args.self.now l c.args.who
-    (op.TaskLook h c.in-TaskLook.last) c.task_look.result c.task_look.new.self) c.other_task.ensures
-    (c.task_look.ensures l v))
+returns-in-TaskLook g c l v k = rw (c.in-TaskLook.is, ← c.other_task.ensures) (c.task_look.ensures l v)
 
 pub returns-in-TaskCancel : goal.returns-in-TaskCancel
-returns-in-TaskCancel g c l v k =
-    subst (λ (o : Op). Steps c.args.self.now l c.args.who (renamed_op (g.R.Rename.renaming c.args.names.now) o) c.task_cancel.result c.task_cancel.new.self)
-    (sym c.in-TaskCancel.is)
-    (subst (λ (h : TaskHandle). Steps c.args.self.now l c.args.who
-    (op.TaskCancel h) c.task_cancel.result c.task_cancel.new.self) c.other_task-in-TaskCancel.ensures
-    (c.task_cancel.ensures l c.args.who v))
+returns-in-TaskCancel g c l v k = rw (c.in-TaskCancel.is, ← c.other_task-in-TaskCancel.ensures) (c.task_cancel.ensures l c.args.who v)
 
 pub returns-in-GroupCreate : goal.returns-in-GroupCreate
-returns-in-GroupCreate g c l v k =
-    subst (λ (o : Op). Steps c.args.self.now l c.args.who (renamed_op (g.R.Rename.renaming c.args.names.now) o) c.group_create.result c.group_create.new.self)
-    (sym c.in-GroupCreate.is)
-    (c.group_create.ensures l c.args.who v)
+returns-in-GroupCreate g c l v k = rw c.in-GroupCreate.is (c.group_create.ensures l c.args.who v)
 
 pub returns-in-GroupDelete : goal.returns-in-GroupDelete
-returns-in-GroupDelete g c l v k =
-    subst (λ (o : Op). Steps c.args.self.now l c.args.who (renamed_op (g.R.Rename.renaming c.args.names.now) o) c.group_delete.result c.group_delete.new.self)
-    (sym c.in-GroupDelete.is)
-    (subst (λ (h : GroupHandle). Steps c.args.self.now l c.args.who (op.GroupDelete h) c.group_delete.result c.group_delete.new.self) c.other_group.ensures
-    (c.group_delete.ensures l c.args.who v))
+returns-in-GroupDelete g c l v k = rw (c.in-GroupDelete.is, ← c.other_group.ensures) (c.group_delete.ensures l c.args.who v)
 
 pub returns-in-AllLook : goal.returns-in-AllLook
-returns-in-AllLook g c l v k =
-    subst (λ (o : Op). Steps c.args.self.now l c.args.who (renamed_op (g.R.Rename.renaming c.args.names.now) o) c.all_look.result c.all_look.new.self)
-    (sym c.in-AllLook.is)
-    (subst (λ (h : GroupHandle). Steps c.args.self.now l c.args.who
-    (op.AllLook h c.in-AllLook.last) c.all_look.result c.all_look.new.self) c.other_group-in-AllLook.ensures
-    (c.all_look.ensures l c.args.who v))
+returns-in-AllLook g c l v k = rw (c.in-AllLook.is, ← c.other_group-in-AllLook.ensures) (c.all_look.ensures l c.args.who v)
 
 pub returns-in-AnyLook : goal.returns-in-AnyLook
-returns-in-AnyLook g c l v k =
-    subst (λ (o : Op). Steps c.args.self.now l c.args.who (renamed_op (g.R.Rename.renaming c.args.names.now) o) c.any_look.result c.any_look.new.self)
-    (sym c.in-AnyLook.is)
-    (subst (λ (h : GroupHandle). Steps c.args.self.now l c.args.who
-    (op.AnyLook h c.in-AnyLook.last) c.any_look.result c.any_look.new.self) c.other_group-in-AnyLook.ensures
-    (c.any_look.ensures l c.args.who v))
+returns-in-AnyLook g c l v k = rw (c.in-AnyLook.is, ← c.other_group-in-AnyLook.ensures) (c.any_look.ensures l c.args.who v)
 
 pub returns-in-QueueCreate : goal.returns-in-QueueCreate
-returns-in-QueueCreate g c l v k =
-    subst (λ (o : Op). Steps c.args.self.now l c.args.who (renamed_op (g.R.Rename.renaming c.args.names.now) o) c.queue_create.result c.queue_create.new.self)
-    (sym c.in-QueueCreate.is)
-    (c.queue_create.ensures l c.args.who v)
+returns-in-QueueCreate g c l v k = rw c.in-QueueCreate.is (c.queue_create.ensures l c.args.who v)
 
 pub returns-in-QueueGet : goal.returns-in-QueueGet
-returns-in-QueueGet g c l v k =
-    subst (λ (o : Op). Steps c.args.self.now l c.args.who (renamed_op (g.R.Rename.renaming c.args.names.now) o) c.queue_get.result c.args.self.now)
-    (sym c.in-QueueGet.is)
-    (c.queue_get.ensures l c.args.who v)
+returns-in-QueueGet g c l v k = rw c.in-QueueGet.is (c.queue_get.ensures l c.args.who v)
 
 pub returns-in-QueueEnable : goal.returns-in-QueueEnable
-returns-in-QueueEnable g c l v k =
-    subst (λ (o : Op). Steps c.args.self.now l c.args.who (renamed_op (g.R.Rename.renaming c.args.names.now) o) c.queue_enable.result c.queue_enable.new.self)
-    (sym c.in-QueueEnable.is)
-    (subst (λ (h : QueueHandle). Steps c.args.self.now l c.args.who
-    (op.QueueEnable h) c.queue_enable.result c.queue_enable.new.self) c.other_queue-in-QueueEnable.ensures
-    (c.queue_enable.ensures l c.args.who v))
+returns-in-QueueEnable g c l v k = rw (c.in-QueueEnable.is, ← c.other_queue-in-QueueEnable.ensures) (c.queue_enable.ensures l c.args.who v)
 
 pub returns-in-QueueDisable : goal.returns-in-QueueDisable
-returns-in-QueueDisable g c l v k =
-    subst (λ (o : Op). Steps c.args.self.now l c.args.who (renamed_op (g.R.Rename.renaming c.args.names.now) o) c.queue_disable.result c.queue_disable.new.self)
-    (sym c.in-QueueDisable.is)
-    (subst (λ (h : QueueHandle). Steps c.args.self.now l c.args.who
-    (op.QueueDisable h) c.queue_disable.result c.queue_disable.new.self) c.other_queue-in-QueueDisable.ensures
-    (c.queue_disable.ensures l c.args.who v k))
+returns-in-QueueDisable g c l v k = rw (c.in-QueueDisable.is, ← c.other_queue-in-QueueDisable.ensures) (c.queue_disable.ensures l c.args.who v k)
 
 pub returns-in-QueueDelete : goal.returns-in-QueueDelete
-returns-in-QueueDelete g c l v k =
-    subst (λ (o : Op). Steps c.args.self.now l c.args.who (renamed_op (g.R.Rename.renaming c.args.names.now) o) c.queue_delete.result c.queue_delete.new.self)
-    (sym c.in-QueueDelete.is)
-    (subst (λ (h : QueueHandle). Steps c.args.self.now l c.args.who
-    (op.QueueDelete h) c.queue_delete.result c.queue_delete.new.self) c.other_queue-in-QueueDelete.ensures
-    (c.queue_delete.ensures l c.args.who v k))
+returns-in-QueueDelete g c l v k = rw (c.in-QueueDelete.is, ← c.other_queue-in-QueueDelete.ensures) (c.queue_delete.ensures l c.args.who v k)
 
 pub returns-in-Pick : goal.returns-in-Pick
-returns-in-Pick g c l v k =
-    subst (λ (o : Op). Steps c.args.self.now l c.args.who (renamed_op (g.R.Rename.renaming c.args.names.now) o) c.pick_wanted.result c.pick_wanted.new.self)
-    (sym c.in-Pick.is)
-    (c.pick_wanted.ensures.steps l v)
+returns-in-Pick g c l v k = rw c.in-Pick.is (c.pick_wanted.ensures.steps l v)
 
 pub returns-in-Finish : goal.returns-in-Finish
-returns-in-Finish g c l v k =
-    subst (λ (o : Op). Steps c.args.self.now l c.args.who (renamed_op (g.R.Rename.renaming c.args.names.now) o) c.finish.result c.finish.new.self)
-    (sym c.in-Finish.is)
-    (subst (λ (h : TaskHandle). Steps c.args.self.now l c.args.who
-    (op.Finish h c.in-Finish.done) c.finish.result c.finish.new.self) c.other_task-in-Finish.ensures
-    (c.finish.ensures l v))
+returns-in-Finish g c l v k = rw (c.in-Finish.is, ← c.other_task-in-Finish.ensures) (c.finish.ensures l v)
 
 pub returns-in-Asked : goal.returns-in-Asked
-returns-in-Asked g c l v k =
-    subst (λ (o : Op). Steps c.args.self.now l c.args.who (renamed_op (g.R.Rename.renaming c.args.names.now) o) c.asked.result c.asked.new.self)
-    (sym c.in-Asked.is)
-    (subst (λ (h : TaskHandle). Steps c.args.self.now l c.args.who (op.Asked h) c.asked.result c.asked.new.self) c.other_task-in-Asked.ensures
-    (c.asked.ensures l v))
+returns-in-Asked g c l v k = rw (c.in-Asked.is, ← c.other_task-in-Asked.ensures) (c.asked.ensures l v)
 
 pub returns-in-WatchEnd : goal.returns-in-WatchEnd
-returns-in-WatchEnd g c l v k =
-    subst (λ (o : Op). Steps c.args.self.now l c.args.who (renamed_op (g.R.Rename.renaming c.args.names.now) o) c.watch_end.result c.watch_end.new.self)
-    (sym c.in-WatchEnd.is)
-    (subst (λ (h : TaskHandle). Steps c.args.self.now l c.args.who (op.WatchEnd h) c.watch_end.result c.watch_end.new.self) c.other_task-in-WatchEnd.ensures
-    (c.watch_end.ensures l v))
+returns-in-WatchEnd g c l v k = rw (c.in-WatchEnd.is, ← c.other_task-in-WatchEnd.ensures) (c.watch_end.ensures l v)
 
 pub returns-in-TallyLock : goal.returns-in-TallyLock
-returns-in-TallyLock g c l v k =
-    subst (λ (o : Op). Steps c.args.self.now l c.args.who (renamed_op (g.R.Rename.renaming c.args.names.now) o) c.tally_lock.result c.tally_lock.new.self)
-    (sym c.in-TallyLock.is)
-    (subst (λ (h : TaskHandle). Steps c.args.self.now l c.args.who (op.TallyLock h) c.tally_lock.result c.tally_lock.new.self) c.other_task-in-TallyLock.ensures
-    (c.tally_lock.ensures l v))
+returns-in-TallyLock g c l v k = rw (c.in-TallyLock.is, ← c.other_task-in-TallyLock.ensures) (c.tally_lock.ensures l v)
 
 pub returns-in-TallyRead : goal.returns-in-TallyRead
-returns-in-TallyRead g c l v k =
-    subst (λ (o : Op). Steps c.args.self.now l c.args.who (renamed_op (g.R.Rename.renaming c.args.names.now) o) c.tally_read.result c.tally_read.new.self)
-    (sym c.in-TallyRead.is)
-    (subst (λ (h : TaskHandle). Steps c.args.self.now l c.args.who (op.TallyRead h) c.tally_read.result c.tally_read.new.self) c.other_task-in-TallyRead.ensures
-    (c.tally_read.ensures l v k))
+returns-in-TallyRead g c l v k = rw (c.in-TallyRead.is, ← c.other_task-in-TallyRead.ensures) (c.tally_read.ensures l v k)
 
 pub returns-in-TallyWrite : goal.returns-in-TallyWrite
-returns-in-TallyWrite g c l v k =
-    let fits : FitsSigned w64 c.in-TallyWrite.value = search rules in
-    subst (λ (o : Op). Steps c.args.self.now l c.args.who (renamed_op (g.R.Rename.renaming c.args.names.now) o) c.tally_write.result c.tally_write.new.self)
-    (sym c.in-TallyWrite.is)
-    (subst (λ (h : TaskHandle). Steps c.args.self.now l c.args.who
-    (op.TallyWrite h c.in-TallyWrite.value) c.tally_write.result c.tally_write.new.self) c.other_task-in-TallyWrite.ensures
-    (subst (λ (z : ℤ). Steps c.args.self.now l c.args.who (op.TallyWrite c.other_task-in-TallyWrite.result z) c.tally_write.result c.tally_write.new.self)
-    (to_z-of_z w64 c.in-TallyWrite.value fits)
-    (c.tally_write.ensures l v k)))
+returns-in-TallyWrite g c l v k = rw (c.in-TallyWrite.is, ← c.other_task-in-TallyWrite.ensures, ← to_z-of_z w64 c.in-TallyWrite.value (search rules))
+    (c.tally_write.ensures l v k)
 
 pub returns-in-TallyEnd : goal.returns-in-TallyEnd
-returns-in-TallyEnd g c l v k =
-    subst (λ (o : Op). Steps c.args.self.now l c.args.who (renamed_op (g.R.Rename.renaming c.args.names.now) o) c.tally_end.result c.tally_end.new.self)
-    (sym c.in-TallyEnd.is)
-    (subst (λ (h : TaskHandle). Steps c.args.self.now l c.args.who (op.TallyEnd h) c.tally_end.result c.tally_end.new.self) c.other_task-in-TallyEnd.ensures
-    (c.tally_end.ensures l v k))
+returns-in-TallyEnd g c l v k = rw (c.in-TallyEnd.is, ← c.other_task-in-TallyEnd.ensures) (c.tally_end.ensures l v k)
 
 pub resource_op-requires-clause-resource : goal.resource_op-requires-clause-resource
 resource_op-requires-clause-resource g c = by_op c.args.op.now refl

@@ -15,12 +15,9 @@ pub returns-in-Written : goal.returns-in-Written
 returns-in-Written c l v sound =
     let sum_fits : FitsSigned w64 c.noted-in-Written.result = record { sfits = c.noted-in-Written.type_inv } in
     let sum : c.args.tally.state ≡ Written c.in-Written.mutex c.in-Written.segment c.noted-in-Written.result =
-    c.in-Written.is ∙ ap (Written c.in-Written.mutex c.in-Written.segment) (sym (c.noted-in-Written.ensures ∙ ap noted_in c.in-Written.is))
-    in
+    c.in-Written.is ∙ ap (Written c.in-Written.mutex c.in-Written.segment) (sym (c.noted-in-Written.ensures ∙ ap noted_in c.in-Written.is)) in
     end_written c.args.self.now l c.args.who c.args.task c.args.tally v c.requires.tally sound c.in-Written.mutex c.in-Written.segment c.noted-in-Written.result
-    c.give_back-in-Written.result c.give_back-in-Written.new.self sum
-    (subst (λ (xs : List ℤ). GivesBack c.args.self.now c.args.who c.args.task.0 c.in-Written.mutex.0 c.in-Written.segment.0
-    (Completed xs) c.give_back-in-Written.result c.give_back-in-Written.new.self) (simp to_z-of_z at c.one.ensures) c.give_back-in-Written.ensures)
+    c.give_back-in-Written.result c.give_back-in-Written.new.self sum (rw (simp to_z-of_z at c.one.ensures) at c.give_back-in-Written.ensures)
 
 pub returns-in-Failed : goal.returns-in-Failed
 returns-in-Failed c l v sound = end_failed c.args.self.now l c.args.who c.args.task c.args.tally v c.requires.tally c.in-Failed.status c.end_with.new.self

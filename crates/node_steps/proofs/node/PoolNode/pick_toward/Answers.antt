@@ -12,6 +12,4 @@ returns-clause-stands c L st = goes_on c.args.self.now c.pick_wanted-reply.new.s
     (c.pick_wanted-reply.ensures.steps st.lists st.live) c.is_kept.ensures
 
 pub returns-clause-toward : goal.returns-clause-toward
-returns-clause-toward c L kind args st m =
-    c.pick_wanted-reply.ensures.toward c.args.task c.args.action st.lists kind args refl st.live
-    (subst (λ (s : State). MayPick s c.args.who c.args.task c.args.action kind args) st.state m)
+returns-clause-toward c L kind args st m = c.pick_wanted-reply.ensures.toward c.args.task c.args.action st.lists kind args refl st.live (rw st.state at m)

@@ -5,24 +5,17 @@ use Rattle.node_steps.proofs.node.PoolNode.pick_wanted.Goals as goal
 
 pub take-requires-clause-choice : goal.take-requires-clause-choice
 take-requires-clause-choice c =
-    let best = subst (λ (o : Option Choice). IsBest c.args.self.now.scheduler.actions c.args.self.now.scheduler.tasks.pool c.args.self.now.scheduler.queues.pool
-    c.args.who o) c.in-Some.is c.chosen.ensures.best in
+    let best = rw c.in-Some.is at c.chosen.ensures.best in
     best.0
 
 pub returns-in-None-clause-steps : goal.returns-in-None-clause-steps
-returns-in-None-clause-steps c l v =
-    pick_idle c.args.self.now l c.args.who v c.is_kept.ensures (omega arith) (c.runs_any.ensures.reported l v
-    ∙ c.if-runs_any.false) (sym c.if-is_new.ensures) (c.stops.ensures l v ∙ c.if-stops.false)
-    (subst (λ (o : Option Choice). IsBest c.args.self.now.scheduler.actions c.args.self.now.scheduler.tasks.pool c.args.self.now.scheduler.queues.pool
-    c.args.who o) c.in-None.is c.chosen.ensures.best)
+returns-in-None-clause-steps c l v = pick_idle c.args.self.now l c.args.who v c.is_kept.ensures (omega arith) (c.runs_any.ensures.reported l v
+    ∙ c.if-runs_any.false) (sym c.if-is_new.ensures) (c.stops.ensures l v ∙ c.if-stops.false) (rw c.in-None.is at c.chosen.ensures.best)
 
 pub returns-in-Some-clause-steps : goal.returns-in-Some-clause-steps
-returns-in-Some-clause-steps c l v =
-    pick_takes c.args.self.now l c.args.who v c.is_kept.ensures (omega arith) (c.runs_any.ensures.reported l v
-    ∙ c.if-runs_any.false) (sym c.if-is_new.ensures) (c.stops.ensures l v ∙ c.if-stops.false) c.in-Some.choice c.take.result c.take.new.self
-    (subst (λ (o : Option Choice). IsBest c.args.self.now.scheduler.actions c.args.self.now.scheduler.tasks.pool c.args.self.now.scheduler.queues.pool
-    c.args.who o) c.in-Some.is c.chosen.ensures.best)
-    c.take.ensures
+returns-in-Some-clause-steps c l v = pick_takes c.args.self.now l c.args.who v c.is_kept.ensures (omega arith) (c.runs_any.ensures.reported l v
+    ∙ c.if-runs_any.false) (sym c.if-is_new.ensures) (c.stops.ensures l v
+    ∙ c.if-stops.false) c.in-Some.choice c.take.result c.take.new.self (rw c.in-Some.is at c.chosen.ensures.best) c.take.ensures
 
 pub returns-in-None-clause-toward : goal.returns-in-None-clause-toward
 returns-in-None-clause-toward c task action l kind args e v m =
@@ -37,4 +30,4 @@ returns-in-Some-clause-toward c task action l kind args e v m =
     let n = c.args.self.now in
     let p = can_pick (state_of n l) c.args.who task action kind args m in
     is_taken n l c.args.who v c.is_kept.ensures (omega arith) task action kind args p c.in-Some.choice c.take.result c.take.new.self
-    (subst (λ (o : Option Choice). IsToward n c.args.who task action o) c.in-Some.is (c.chosen.ensures.toward task action e)) c.take.ensures
+    (rw (← c.in-Some.is) (c.chosen.ensures.toward task action e)) c.take.ensures

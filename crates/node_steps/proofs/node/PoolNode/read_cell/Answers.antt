@@ -9,12 +9,7 @@ returns c l v sound =
     let kept = c.tally_read-kept.result in
     let fits : FitsSigned w64 kept = record { sfits = c.tally_read-kept.type_inv } in
     let b = c.args.self.now.scheduler in
-    let noted =
-    subst (λ (z : ℤ). Becomes b c.note_tally.new.self b.actions
-    (record b.tasks { pool = changed b.tasks.pool c.args.task.0 (tallied (Read c.in-Locked.mutex c.in-Locked.segment z)) }))
-    (to_z-of_z w64 kept fits) c.note_tally.ensures
-    in
-    subst (λ (z : ℤ). Steps c.args.self.now l c.args.who (op.TallyRead c.args.task) (reply.Number z)
-    (record c.args.self.now { scheduler = c.note_tally.new.self })) (sym (to_z-of_z w64 kept fits))
-    (reads c.args.self.now l c.args.who c.args.task c.args.tally v c.requires.tally sound c.in-Locked.mutex c.in-Locked.segment c.cell.result kept
-    c.note_tally.new.self c.in-Locked.is c.cell.ensures (λ y e. c.tally_read-kept.ensures.reads (state_of c.args.self.now l) y v.resources e) noted)
+    let noted = rw (to_z-of_z w64 kept fits) at c.note_tally.ensures in
+    rw (to_z-of_z w64 kept fits) (reads c.args.self.now l c.args.who c.args.task c.args.tally v c.requires.tally sound c.in-Locked.mutex c.in-Locked.segment
+    c.cell.result kept c.note_tally.new.self c.in-Locked.is c.cell.ensures
+    (λ y e. c.tally_read-kept.ensures.reads (state_of c.args.self.now l) y v.resources e) noted)

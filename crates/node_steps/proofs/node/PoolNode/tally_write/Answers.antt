@@ -3,6 +3,4 @@ use Rattle.mtapi_machine.specs.declared.ops.Op.TheVariants as op
 use Rattle.node_steps.proofs.node.PoolNode.tally_write.Goals as goal
 
 pub returns-in-Ok : goal.returns-in-Ok
-returns-in-Ok c l v sound =
-    subst (λ (z : ℤ). Steps c.args.self.now l c.args.who (op.TallyWrite c.args.task z) c.write_cell.result c.write_cell.new.self)
-    (to_z-of_z w64 c.args.value c.ranges.value) (c.write_cell.ensures l v sound)
+returns-in-Ok c l v sound = rw (← to_z-of_z w64 c.args.value c.ranges.value) (c.write_cell.ensures l v sound)

@@ -6,9 +6,7 @@ use Rattle.node_steps.proofs.Gives.{lands}
 use Rattle.node_steps.proofs.node.PoolNode.watch_end.Goals as goal
 
 pub returns-in-Ok : goal.returns-in-Ok
-returns-in-Ok c l v =
-    subst (λ (e : TaskEnd). Steps c.args.self.now l c.args.who (op.WatchEnd c.args.task) (reply.Ended e)
-    (record c.args.self.now { scheduler = c.end_with.new.self })) (sym c.again-answer.ensures)
+returns-in-Ok c l v = rw c.again-answer.ensures
     (lands c.args.self.now l c.args.who _ _ c.end_with.new.self _ _ c.end_with.ensures
     (watch_ended c.args.self.now l c.args.who c.args.task v (omega arith) c.in-Ok.end _ (slot_value c.args.self.now.scheduler.tasks.pool c.args.task.0) refl
     (sym c.watch_end.ensures ∙ c.in-Ok.is) refl))

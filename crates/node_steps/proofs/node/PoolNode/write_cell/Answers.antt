@@ -20,12 +20,7 @@ returns c l v sound =
     let kept : c.args.tally.state ≡ Read c.in-Read.mutex c.in-Read.segment c.noted.result =
     c.in-Read.is ∙ ap (Read c.in-Read.mutex c.in-Read.segment) (sym (c.noted.ensures ∙ ap noted_in c.in-Read.is)) in
     let b = c.args.self.now.scheduler in
-    let noted =
-    subst (λ (z : ℤ). Becomes b c.note_tally.new.self b.actions
-    (record b.tasks { pool = changed b.tasks.pool c.args.task.0 (tallied (Written c.in-Read.mutex c.in-Read.segment z)) }))
-    (to_z-of_z w64 c.args.value value_fits) c.note_tally.ensures
-    in
+    let noted = rw (to_z-of_z w64 c.args.value value_fits) at c.note_tally.ensures in
     writes c.args.self.now l c.args.who c.args.task c.args.tally v c.requires.tally c.in-Read.mutex c.in-Read.segment c.noted.result c.number.result kept
     c.number.ensures sound c.cell.result c.args.value c.tally_write.new.self c.note_tally.new.self c.cell.ensures
-    (simp to_z-of_z at c.if-not-is_sum.ensures.same)
-    (simp to_z-of_z at (c.tally_write.ensures (state_of c.args.self.now l) v.resources)) noted
+    (simp to_z-of_z at c.if-not-is_sum.ensures.same) (simp to_z-of_z at (c.tally_write.ensures (state_of c.args.self.now l) v.resources)) noted
