@@ -61,8 +61,7 @@ create_made n q l who job kind cores h v up f room i =
 as_was : (n : PoolNode) (q : Slots Action) (l : Lists) (who job : ℕ) (kind : Kind) (cores : Mask) (r : Reply) → q ≡ n.scheduler.actions
     → Steps n l who (op.ActionCreate job kind cores) r n
     → Steps n l who (op.ActionCreate job kind cores) r (record n { scheduler = record n.scheduler { actions = q } })
-as_was n q l who job kind cores r e s =
-    subst (λ (p : Slots Action). Steps n l who (op.ActionCreate job kind cores) r (record n { scheduler = record n.scheduler { actions = p } })) (sym e) s
+as_was n q l who job kind cores r e s = grind (arith, nat_tests)
 
 create_failed : (n : PoolNode) (q : Slots Action) (l : Lists) (who job : ℕ) (kind : Kind) (cores : Mask) (c : MtapiStatus) → Live n l
     → is_open n.core.phase ≡ true → Creates n.scheduler.actions job kind cores.0 (Err c) q

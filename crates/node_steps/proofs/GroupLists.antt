@@ -23,13 +23,9 @@ each-holds : (p : Task → Bool) (move : Slots Task → ℕ → Task → Slots T
     → Holds size turns (move q h t) (change h f l)) → ((r : Listed Task) → ((f r).live && p (f r).fields) ≡ false)
     → (hs : List ℕ) (old new : Slots Task) (l : List (Listed Task)) → Holds size turns old l → Each p move hs old new
     → NoneLive (slot_value new) (λ t. p t ≡ true) → Holds size turns new (change_all p f l)
-each-holds p move f size turns moves off [] old new l s e none =
-    subst (λ (q : Slots Task). Holds size turns q (change_all p f l)) (sym e)
-    (subst (λ (k : List (Listed Task)). Holds size turns old k)
-    (sym (change_all-none p f l (any-none old l p s.stands (subst (λ (q : Slots Task). NoneLive (slot_value q) (λ t. p t ≡ true)) e none)))) s)
+each-holds p move f size turns moves off [] old new l s e none = rw e (rw (← change_all-none p f l (any-none old l p s.stands (rw e at none))) at s)
 each-holds p move f size turns moves off (h ∷ hs) old new l s e none =
-    subst (λ (k : List (Listed Task)). Holds size turns new k)
-    (change_all-absorbs p f h e.0 l (found size turns old l h (Some e.0) s e.1) e.2 (λ r live is. off r))
+    rw (← change_all-absorbs p f h e.0 l (found size turns old l h (Some e.0) s e.1) e.2 (λ r live is. off r))
     (each-holds p move f size turns moves off hs (move old h e.0) new (change h f l) (moves old l h e.0 s e.1 e.2) e.3 none)
 
 -- a freed task

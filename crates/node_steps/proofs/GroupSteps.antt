@@ -73,8 +73,7 @@ group_create_steps n l who b (Ok g) v up c e =
     refl (omega arith) tt)
 group_create_steps n l who b (Err m.ErrGroupLimit) v up c e =
     regroups_to n l who op.GroupCreate (reply.Mtapi m.ErrGroupLimit) b n.scheduler.tasks e
-    (subst (λ (t : _). Steps n l who op.GroupCreate (reply.Mtapi m.ErrGroupLimit) (record n { scheduler = record n.scheduler { groups = t } })) (sym c.1)
-    (stays n l who op.GroupCreate (reply.Mtapi m.ErrGroupLimit) v tt
+    (rw c.1 (stays n l who op.GroupCreate (reply.Mtapi m.ErrGroupLimit) v tt
     (past _ _ _ _ _ _ (not_true _ up) (met _ _ _ _
     (full_list _ _ (group_slots n.scheduler) l.groups v.groups ((IsFull-mapped (λ (y : Members). new_group) n.scheduler.groups.pool).1 c.0))))))
 group_create_steps n l who b (Err x) v up c e = absurd c
@@ -127,8 +126,7 @@ module _ (n : PoolNode) (l : Lists) (who : ℕ) (g : GroupHandle) (last : Bool) 
     pub all_look_freed : (b : SchedulerTable) (fault : Option MtapiStatus) → length x.unended ≡ 0 → FreesAll n.scheduler b g.0 fault
         → NoneLive (slot_value b.tasks.pool) (λ t. is_ended_member g.0 t ≡ true)
         → Steps n l who (op.AllLook g last) (verdict fault) (record n { scheduler = b })
-    all_look_freed b fault none f left =
-        subst (λ (o : Option MtapiStatus). Steps n l who (op.AllLook g last) (verdict o) (record n { scheduler = b })) (sym same)
+    all_look_freed b fault none f left = rw same
         (lands n l who (op.AllLook g last) _ b n.scheduler.actions (record n.scheduler.tasks { pool = b.tasks.pool }) f.becomes
         (task_steps n l (record n.scheduler.tasks { pool = b.tasks.pool }) (change_all (is_ended_member g.0) freed l.tasks) who (op.AllLook g last)
         (verdict (first_fault (endings g.0 (live_of l.tasks)))) v
@@ -163,15 +161,13 @@ module _ (n : PoolNode) (l : Lists) (who : ℕ) (g : GroupHandle) (last : Bool) 
 
     pub any_look_taken : (b : SchedulerTable) (h : ℕ) (e : TaskEnd) → 0 < length x.unended + length x.ended → Takes n.scheduler b g.0 h e
         → Steps n l who (op.AnyLook g last) (reply.Given (record { 0 = h }) e) (record n { scheduler = b })
-    any_look_taken b h e less f =
-        lands n l who (op.AnyLook g last) (reply.Given (record { 0 = h }) e) b n.scheduler.actions
+    any_look_taken b h e less f = lands n l who (op.AnyLook g last) (reply.Given (record { 0 = h }) e) b n.scheduler.actions
         (record n.scheduler.tasks { pool = without n.scheduler.tasks.pool h }) f.parts.becomes
         (task_steps n l (record n.scheduler.tasks { pool = without n.scheduler.tasks.pool h }) (retire h (update h (with_notes in_no_group) l.tasks)) who
         (op.AnyLook g last) (reply.Given (record { 0 = h }) e) v
-        (any_row _ _ _ less list
-        (at_some _ _ _ f.t _ _ _ (found _ _ n.scheduler.tasks.pool l.tasks h (Some f.t) v.tasks f.parts.task)
-        (subst (λ (y : TaskState). Gives (state_of n l) (gives_end h y) (reply.Given (record { 0 = h }) e) _) (sym f.state) (gives_this _ _ _))))
-        (holds_change_and_remove _ _ n.scheduler.tasks.pool l.tasks h (with_notes in_no_group) f.t v.tasks f.parts.task) (omega arith) tt)
+        (any_row _ _ _ less list (at_some _ _ _ f.t _ _ _ (found _ _ n.scheduler.tasks.pool l.tasks h (Some f.t) v.tasks f.parts.task)
+        (rw f.state (gives_this _ _ _)))) (holds_change_and_remove _ _ n.scheduler.tasks.pool l.tasks h (with_notes in_no_group) f.t v.tasks f.parts.task)
+        (omega arith) tt)
       where
         list : endings g.0 (live_of l.tasks) ≡ record { task = h; end = e; number = f.number } ∷ endings_of (slot_value n.scheduler.tasks.pool) f.rest
         list =

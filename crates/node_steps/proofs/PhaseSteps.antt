@@ -1,5 +1,5 @@
 -- The ops on phases are steps of the machine.
-use Rattle.node_steps.proofs.Names.{◌≡◌, ℕ, Bool, false, not, refl, sym, subst, arith, ◌&&◌, Cancelled, holds, Closing, is_past_open, end_tasks, Task, is_unstarted, end_each, is_shut_in, TaskTable, records_of, is_shut, EndsWaiting, PoolNode, Lists, Live, Steps, state_of, Sound}
+use Rattle.node_steps.proofs.Names.{nat_tests, ◌≡◌, ℕ, Bool, false, not, refl, sym, subst, arith, ◌&&◌, Cancelled, holds, Closing, is_past_open, end_tasks, Task, is_unstarted, end_each, is_shut_in, TaskTable, records_of, is_shut, EndsWaiting, PoolNode, Lists, Live, Steps, state_of, Sound}
 use Rattle.mtapi_machine.specs.declared.ops.Op.TheVariants as op
 use Rattle.mtapi_machine.specs.declared.replies.Reply.TheVariants as reply
 use Rattle.node_steps.proofs.Gives.{past, steps}

@@ -31,9 +31,7 @@ queue_steps n l q k who o r v g h i = steps n (with_queues n q) l (record l { qu
 holds_opened : (n : PoolNode) (l : Lists) (q : ℕ) (on : Bool) → Live n l
     → Holds n.scheduler.settings.queues n.scheduler.settings.generations (records_of (changed n.scheduler.queues.pool q (with_opened on)))
     (update q (opened on) l.queues)
-holds_opened n l q on v =
-    subst (λ (p : Slots Queue). Holds n.scheduler.settings.queues n.scheduler.settings.generations p (update q (opened on) l.queues))
-    (sym (mapped-changed (λ (x : HeldQueue). x.queue) n.scheduler.queues.pool q (with_opened on) (opened on) (λ x. refl)))
+holds_opened n l q on v = rw (mapped-changed (λ (x : HeldQueue). x.queue) n.scheduler.queues.pool q (with_opened on) (opened on) (λ x. refl))
     (holds_changed _ _ (records_of n.scheduler.queues.pool) l.queues q (opened on) v.queues)
 
 -- Creating
@@ -106,10 +104,7 @@ module _ (n : PoolNode) (l : Lists) (who id job priority limit : ℕ) (ordered r
 
 pub get_steps : (n : PoolNode) (l : Lists) (who id : ℕ) (r : Result QueueHandle MtapiStatus) → Live n l → is_up n.core.phase ≡ true
     → Finds n.scheduler.queues.pool id r → Steps n l who (op.QueueGet id) (handle_reply r) n
-get_steps n l who id (Ok q) v up f =
-    stays n l who (op.QueueGet id) (reply.Handle q.0) v tt
-    (past _ _ _ _ _ _ (not_true _ up)
-    (subst (λ (o : Option ℕ). Gives (state_of n l) (found_row o (reply.Mtapi m.ErrQueueInvalid)) (reply.Handle q.0) (state_of n l)) (sym one) (says_this _ _)))
+get_steps n l who id (Ok q) v up f = stays n l who (op.QueueGet id) (reply.Handle q.0) v tt (past _ _ _ _ _ _ (not_true _ up) (rw one (says_this _ _)))
   where
     one : first_handle (λ y. y.id == id) (live_of l.queues) ≡ Some q.0
     one =
@@ -117,10 +112,7 @@ get_steps n l who id (Ok q) v up f =
         (record-value n.scheduler.queues.pool q.0 f.0.0 f.0.1) f.0.2
         (λ h y g e. let x = record-found n.scheduler.queues.pool h y g in f.1 h x.0 x.1 (ap (λ (z : Queue). z.id == id) x.2 ∙ e))
 get_steps n l who id (Err m.ErrQueueInvalid) v up f =
-    stays n l who (op.QueueGet id) (reply.Mtapi m.ErrQueueInvalid) v tt
-    (past _ _ _ _ _ _ (not_true _ up)
-    (subst (λ (o : Option ℕ). Gives (state_of n l) (found_row o (reply.Mtapi m.ErrQueueInvalid)) (reply.Mtapi m.ErrQueueInvalid) (state_of n l)) (sym none)
-    (says_this _ _)))
+    stays n l who (op.QueueGet id) (reply.Mtapi m.ErrQueueInvalid) v tt (past _ _ _ _ _ _ (not_true _ up) (rw none (says_this _ _)))
   where
     none : first_handle (λ y. y.id == id) (live_of l.queues) ≡ None
     none =
@@ -183,15 +175,14 @@ module _ (n : PoolNode) (l : Lists) (who : ℕ) (q : QueueHandle) (v : Live n l)
       → Gives (state_of n l) (row (state_of n l) who o reply.Ok) reply.Ok
       (record (end_tasks (λ x. is_unstarted x && is_in q.0 x) e (state_of n l)) { queues = k }) → Steps n l who o reply.Ok (ended_with p t)
   ended_steps o p k e t sound ends holds honest g =
-      let once = ends-at-once n.scheduler.settings.tasks n.scheduler.settings.generations
-      (is_in q.0) e n.scheduler.tasks t l.tasks v.tasks sound.ordered ends in
+      let once = ends-at-once n.scheduler.settings.tasks n.scheduler.settings.generations (is_in q.0) e n.scheduler.tasks t l.tasks v.tasks sound.ordered ends in
       let tasks : List (Listed Task) = end_each (λ x. is_unstarted x && is_in q.0 x) e n.scheduler.tasks.ends l.tasks in
       let path : record (end_tasks (λ x. is_unstarted x && is_in q.0 x) e (state_of n l)) { queues = k }
       ≡ state_of (ended_with p t) (record l { tasks = tasks; queues = k }) =
       (λ i. record (state_of (ended_with p t) (record l { tasks = tasks; queues = k })) { starts = sym once.starts i; ends = sym once.ends i }) in
-      steps n (ended_with p t) l (record l { tasks = tasks; queues = k }) who o reply.Ok
-      (subst (λ (s : State). Gives (state_of n l) (row (state_of n l) who o reply.Ok) reply.Ok s) path g)
-      (record { actions = v.actions; tasks = once.holds; groups = v.groups; queues = holds; resources = v.resources }) refl (omega (arith, once.starts)) honest
+      steps n (ended_with p t) l (record l { tasks = tasks; queues = k }) who o reply.Ok (rw path at g)
+      (record { actions = v.actions; tasks = once.holds; groups = v.groups; queues = holds; resources = v.resources }) refl
+      (omega (arith, once.starts)) honest
 
   cancelled : (b : Bool) → b ≡ false → Gives (state_of n l)
       (gives reply.Ok (alters Queues q.0 (opened false) ∷ cond b [] (ends_waiting (is_in q.0) Cancelled ∷ []))) reply.Ok
@@ -214,8 +205,7 @@ module _ (n : PoolNode) (l : Lists) (who : ℕ) (q : QueueHandle) (v : Live n l)
   delete_ended x t live sound ends =
       let record_live = record-value n.scheduler.queues.pool q.0 x live in
       ended_steps (op.QueueDelete q) (without n.scheduler.queues.pool q.0) (retire q.0 l.queues) (Failed m.ErrQueueDeleted) t sound ends
-      (subst (λ (p : Slots Queue). Holds n.scheduler.settings.queues n.scheduler.settings.generations p (retire q.0 l.queues))
-      (sym (mapped-without (λ (y : HeldQueue). y.queue) n.scheduler.queues.pool q.0))
+      (rw (mapped-without (λ (y : HeldQueue). y.queue) n.scheduler.queues.pool q.0)
       (holds_remove _ _ (records_of n.scheduler.queues.pool) l.queues q.0 x.queue v.queues record_live)) tt
       (past _ _ _ _ _ _ (not_true _ up) (at_some _ _ _ x.queue _ _ _
       (found _ _ (records_of n.scheduler.queues.pool) l.queues q.0 (Some x.queue) v.queues record_live) (gives_this _ _ _)))
@@ -285,22 +275,13 @@ module _ (n : PoolNode) (l : Lists) (who : ℕ) (q : QueueHandle) (args : List �
     pub causes_are : (f : QueueFacts) (o : Option MtapiStatus) → f ≡ facts_of x
         → first ((not f.enabled && not f.retain, m.ErrQueueDisabled) ∷ start_refusals (state_of n l) (record asks { job = f.job; priority = f.priority })
         ++ (f.unended == f.limit, m.ErrQueueLimit) ∷ []) ≡ o → first causes ≡ o
-    causes_are f o is e =
-        ap (λ (k : ℕ). first (put_refusals x.queue ++ start_refusals (state_of n l) asks ++ (k == x.queue.limit, m.ErrQueueLimit) ∷ []))
-        (count-queued n l v kept q.0 x live)
-        ∙ ap (λ (g : QueueFacts). first ((not g.enabled && not g.retain, m.ErrQueueDisabled)
-        ∷ start_refusals (state_of n l) (record asks { job = g.job; priority = g.priority }) ++ (g.unended == g.limit, m.ErrQueueLimit) ∷ [])) (sym is)
-        ∙ e
+    causes_are f o is e = grind (arith, nat_tests, first, count-queued)
 
     record_live : slot_value (records_of n.scheduler.queues.pool) q.0 ≡ Some x.queue
     record_live = record-value n.scheduler.queues.pool q.0 x live
 
     pub enqueue_refused : (c : MtapiStatus) → first causes ≡ Some c → Steps n l who enqueue (reply.Mtapi c) n
-    enqueue_refused c e =
-        stays n l who enqueue (reply.Mtapi c) v tt
-        (past _ _ _ _ _ _ (not_true _ up) (past _ _ _ _ _ _ w
-        (at_some _ _ _ x.queue _ _ _ (found _ _ (records_of n.scheduler.queues.pool) l.queues q.0 (Some x.queue) v.queues record_live)
-        (met_in _ causes c _ e))))
+    enqueue_refused c e = grind (arith, nat_tests, stays, past, not_true, at_some, found, record_live, met_in)
 
     module _ (none : first causes ≡ None) where
       enqueue_full : IsFull n.scheduler.tasks.pool → Steps n l who enqueue (reply.Mtapi m.ErrTaskLimit) n

@@ -107,15 +107,11 @@ module _ (n : PoolNode) (l : Lists) (who : ℕ) where
 
     pub task_past : first (task_refusals s job args priority cores detached group) ≡ None
         → (is_open n.core.phase ≡ true) × (wrong ≡ false) × (first last ≡ None)
-    task_past e =
-        let p = first_fails (not (is_open n.core.phase)) m.ErrNodeNotinit ((wrong, m.ErrParameter) ∷ last) e in
-        let q = first_fails wrong m.ErrParameter last p.1 in
-        (not-false (is_open n.core.phase) p.0, q.0, q.1)
+    task_past e = grind (arith, nat_tests, first_fails, not-false)
 
     pub task_last : (o : Option MtapiStatus) → is_open n.core.phase ≡ true → wrong ≡ false → first last ≡ o
         → first (task_refusals s job args priority cores detached group) ≡ o
-    task_last o up right e = first_goes (not (is_open n.core.phase)) m.ErrNodeNotinit ((wrong, m.ErrParameter)
-        ∷ last) o (ap not up) (first_goes wrong m.ErrParameter last o right e)
+    task_last o up right e = grind (arith, nat_tests, first_goes)
 
   pub queue_told : (id job priority limit : ℕ) (ordered retain : Bool)
       → refusal_of s who (op.QueueCreate id job priority limit ordered retain) ≡ option_map reply.Mtapi (first (queue_refusals s id job priority limit))
@@ -133,11 +129,7 @@ module _ (n : PoolNode) (l : Lists) (who : ℕ) where
 
     pub queue_past : first (queue_causes s job priority limit) ≡ None
         → (is_open n.core.phase ≡ true) × (out ≡ false) × (any_listed (has_job job) l.actions ≡ true)
-    queue_past e =
-        let p = first_fails (not (is_open n.core.phase)) m.ErrNodeNotinit ((out, m.ErrParameter) ∷ (jobless, m.ErrJobInvalid) ∷ []) e in
-        let q = first_fails out m.ErrParameter ((jobless, m.ErrJobInvalid) ∷ []) p.1 in
-        let r = first_fails jobless m.ErrJobInvalid [] q.1 in
-        (not-false (is_open n.core.phase) p.0, q.0, not-false (any_listed (has_job job) l.actions) r.0)
+    queue_past e = grind (arith, nat_tests, first_fails, not-false, actions)
 
   -- a row that makes a resource after these conditions
   pub makes_told : {T : Type 0} (k : Objects T) (cs : List (Bool × MrapiStatus)) (make : ℕ → Move)
@@ -164,11 +156,7 @@ module _ (n : PoolNode) (l : Lists) (who : ℕ) where
         × (refusal_in (live o (says (reply.Mtapi m.ErrQueueInvalid)) into) ≡ put_told o)
     unfolding refusal_in
     put_row None = (refl, refl)
-    put_row (Some x) =
-        let make : ℕ → Move = λ h. starts_task h (asked_of q.0 x args cores detached group) in (
-          goes_on (causes_of x) (creates tasks s reply.Ok make) refl,
-          in_mtapi (causes_of x) (creates tasks s reply.Ok make) refl (creates_none tasks s make),
-        )
+    put_row (Some x) = grind (arith, nat_tests, goes_on, tasks, in_mtapi, creates_none)
 
     abbrev earlier : List (Bool × MtapiStatus)
     earlier = open_refusals n.core.phase ((is_detached_member detached group, m.ErrParameter) ∷ [])

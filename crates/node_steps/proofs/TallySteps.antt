@@ -115,8 +115,7 @@ module _ (n : PoolNode) (l : Lists) (who : ℕ) (t : TaskHandle) (r : RunningTal
     -- the rest of the row
     locking : (a : Option Adds) (y : Reply) (z : State) → a ≡ tally_args x.args → Gives s (locks s who t.0 x.args a) y z
         → Gives s (row s who (op.TallyLock t) y) y z
-    locking a y z e g = on_it _ _ _ (past _ _ _ _ _ _ (ap not (stage_of Begun begun 0))
-        (subst (λ (o : Option Adds). Gives s (locks s who t.0 x.args o) y z) e g))
+    locking a y z e g = grind (arith, nat_tests, on_it, past, stage_of)
 
     fails_so : (c : MtapiStatus) → notes_of x.args (Failed c) ≡ tally_failed c x.notes.tally
     fails_so c = ap (tally_failed c) (sym (notes_are Begun begun))
@@ -144,27 +143,19 @@ module _ (n : PoolNode) (l : Lists) (who : ℕ) (t : TaskHandle) (r : RunningTal
       pub lock_both : (p : MutexHandle) (q : ShmemHandle) (new : ResourceTable) (b : SchedulerTable) → Locks s who a.mutex a.segment a.cell (Both p q) new
           → Becomes n.scheduler b n.scheduler.actions (record n.scheduler.tasks { pool = changed pool t.0 (tallied (Locked p q)) })
           → Steps n l who (op.TallyLock t) (reply.Asked true) (record n { scheduler = b; resources = new })
-      lock_both p q new b h d =
-          noted (op.TallyLock t) (reply.Asked true) (Locked p q) (tally_has p.0 q.0) new (after_lock who (Both p q) s) b
+      lock_both p q new b h d = noted (op.TallyLock t) (reply.Asked true) (Locked p q) (tally_has p.0 q.0) new (after_lock who (Both p q) s) b
           (ap (tally_has p.0 q.0) (sym (notes_are Begun begun))) h.stands tt
-          (locking (Some (adds_of a)) (reply.Asked true) (got p q) args_are
-          (subst (λ (w : Row). Gives s w (reply.Asked true) (got p q)) (sym (h.row t.0)) (gives_this _ _ _))) d
+          (locking (Some (adds_of a)) (reply.Asked true) (got p q) args_are (rw (h.row t.0) (gives_this _ _ _))) d
 
       pub lock_owned : (new : ResourceTable) → Locks s who a.mutex a.segment a.cell Owned new
           → Steps n l who (op.TallyLock t) reply.Pending (record n { resources = new })
-      lock_owned new h =
-          steps n (record n { resources = new }) l l who (op.TallyLock t) reply.Pending
-          (locking (Some (adds_of a)) reply.Pending s args_are (subst (λ (w : Row). Gives s w reply.Pending s) (sym (h.row t.0)) (gives_this _ _ _)))
-          (record { actions = v.actions; tasks = v.tasks; groups = v.groups; queues = v.queues; resources = h.stands }) refl (omega arith) tt
+      lock_owned new h = grind (arith, nat_tests, steps, locking, args_are, gives_this)
 
       pub lock_absent : (new : ResourceTable) (b : SchedulerTable) → Locks s who a.mutex a.segment a.cell Absent new
           → Becomes n.scheduler b n.scheduler.actions (record n.scheduler.tasks { pool = changed pool t.0 (tallied (Failed m.ErrActionFailed)) })
           → Steps n l who (op.TallyLock t) (reply.Asked false) (record n { scheduler = b; resources = new })
-      lock_absent new b h d =
-          noted (op.TallyLock t) (reply.Asked false) (Failed m.ErrActionFailed) (tally_failed m.ErrActionFailed) new s b
-          (fails_so m.ErrActionFailed) h.stands tt
-          (locking (Some (adds_of a)) (reply.Asked false) gave_up args_are
-          (subst (λ (w : Row). Gives s w (reply.Asked false) gave_up) (sym (h.row t.0)) (gives_this _ _ _))) d
+      lock_absent new b h d = noted (op.TallyLock t) (reply.Asked false) (Failed m.ErrActionFailed) (tally_failed m.ErrActionFailed) new s b
+          (fails_so m.ErrActionFailed) h.stands tt (locking (Some (adds_of a)) (reply.Asked false) gave_up args_are (rw (h.row t.0) (gives_this _ _ _))) d
 
   -- What it holds
 
@@ -192,8 +183,7 @@ module _ (n : PoolNode) (l : Lists) (who : ℕ) (t : TaskHandle) (r : RunningTal
       → cell ≡ cell_in (option_map adds_of r.args) → ((y : Segment) → live_object s.segments q.0 ≡ Some y → z ≡ cell_of cell y)
       → Becomes n.scheduler b n.scheduler.actions (record n.scheduler.tasks { pool = changed pool t.0 (tallied (Read p q z)) })
       → Steps n l who (op.TallyRead t) (reply.Number z) (record n { scheduler = b })
-  reads sound p q cell z b is c told d =
-      subst (λ (i : ℤ). Steps n l who (op.TallyRead t) (reply.Number i) (record n { scheduler = b })) (sym same)
+  reads sound p q cell z b is c told d = rw same
       (noted (op.TallyRead t) (reply.Number number) (Read p q z) (tally_read number) n.resources s b
       (λ i. tally_read (same i) (sym (notes_are (Locked p q) is) i)) v.resources tt
       (on_it _ _ _ (past _ _ _ _ _ _ (ap not (stage_of (Locked p q) is 1)) (at_some _ _ _ g.0 never _ _ g.1 (gives_this _ _ _)))) d)
@@ -272,13 +262,10 @@ module _ (n : PoolNode) (l : Lists) (who : ℕ) (t : TaskHandle) (r : RunningTal
   pub end_failed : (c : MtapiStatus) (b : SchedulerTable) → r.state ≡ Failed c
       → Becomes n.scheduler b n.scheduler.actions (ended_tasks n t.0 (EndFailed c) (slot_value pool t.0))
       → Steps n l who (op.TallyEnd t) (reply.Ended (EndFailed c)) (record n { scheduler = b })
-  end_failed c b is d =
-      ended_so (reply.Ended (EndFailed c)) (EndFailed c) n.resources s b v.resources
-      (on_it _ _ _ (past _ _ _ _ _ _ (λ i. nat_lt (notes_are (Failed c) is i).stage 2 || (stage_of (Failed c) is 2 i && fits (added x)))
-      (then_row _ _ _ _ _ _ (stage_of (Failed c) is 4)
-      (subst (λ (e : TaskEnd). Gives s (gives (reply.Ended e) (ends_task t.0 e ∷ [])) (reply.Ended (EndFailed c))
-      (record s { tasks = change t.0 (ended (EndFailed c) s.ends) l.tasks; ends = s.ends + 1 }))
-      (ap (λ (z : TallyNotes). z.verdict) (sym (notes_are (Failed c) is))) (gives_this _ _ _))))) d
+  end_failed c b is d = ended_so (reply.Ended (EndFailed c)) (EndFailed c) n.resources s b v.resources
+      (on_it _ _ _ (past _ _ _ _ _ _ (λ i. nat_lt (notes_are (Failed c) is i).stage 2
+      || (stage_of (Failed c) is 2 i && fits (added x)))
+      (then_row _ _ _ _ _ _ (stage_of (Failed c) is 4) (rw (← ap (λ (z : TallyNotes). z.verdict) (sym (notes_are (Failed c) is))) (gives_this _ _ _))))) d
 
   -- it gives both back
   module _ (sound : Sound s) (y : TallyState) (is : r.state ≡ y) (both : got_both (notes_of x.args y)

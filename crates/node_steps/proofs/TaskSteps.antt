@@ -57,9 +57,7 @@ module _ (n : PoolNode) (l : Lists) (who job : ℕ) (args : List ℤ) (priority 
   start_made : (q : TaskTable) (h : ℕ) → wrong ≡ false → first (start_refusals (state_of n l) asks) ≡ None → (IsFull n.scheduler.tasks.pool → ⊥)
       → Inserts n.scheduler.tasks.pool q.pool h (new_task asks n.scheduler.tasks.starts) → q.starts ≡ n.scheduler.tasks.starts + 1
       → q.ends ≡ n.scheduler.tasks.ends → Steps n l who start (reply.Handle h) (record n { scheduler = record n.scheduler { tasks = q } })
-  start_made q h w f room i s e =
-      task_steps n l q (issue h (new_task asks n.scheduler.tasks.starts) l.tasks) who start (reply.Handle h) v
-      (subst (λ (t : State). Gives (state_of n l) (row (state_of n l) who start (reply.Handle h)) (reply.Handle h) t) counts issued)
+  start_made q h w f room i s e = task_steps n l q (issue h (new_task asks n.scheduler.tasks.starts) l.tasks) who start (reply.Handle h) v (rw counts at issued)
       (holds_insert _ _ n.scheduler.tasks.pool q.pool l.tasks h (new_task asks n.scheduler.tasks.starts) v.tasks i) (omega arith) tt
     where
       counts : record (state_of n l) { tasks = issue h (new_task asks n.scheduler.tasks.starts) l.tasks; starts = n.scheduler.tasks.starts + 1 }
@@ -98,20 +96,16 @@ module _ (n : PoolNode) (l : Lists) (who : ℕ) (t : TaskHandle) (last : Bool) (
       → first (task_look_refusals who x) ≡ None → x.state ≡ s → Gives (state_of n l) (looks_at who t.0 last s) r (record (state_of n l) { tasks = k })
       → Holds n.scheduler.settings.tasks n.scheduler.settings.generations p k
       → Steps n l who looks r (record n { scheduler = record n.scheduler { tasks = with_pool n p } })
-  looked x s r p k g f e w h =
-      task_steps n l (with_pool n p) k who looks r v
+  looked x s r p k g f e w h = task_steps n l (with_pool n p) k who looks r v
       (past _ _ _ _ _ _ (not_true _ up) (at_some _ _ _ x _ _ _ (found _ _ n.scheduler.tasks.pool l.tasks t.0 (Some x) v.tasks g)
-      (past_all _ _ (task_look_refusals who x) _ _ f
-      (subst (λ (y : TaskState). Gives (state_of n l) (looks_at who t.0 last y) r (record (state_of n l) { tasks = k })) (sym e) w))))
-      h (omega arith) tt
+      (past_all _ _ (task_look_refusals who x) _ _ f (rw (← e) at w)))) h (omega arith) tt
 
   look_refused : (x : Task) (c : MtapiStatus) → slot_value n.scheduler.tasks.pool t.0 ≡ Some x → first (task_look_refusals who x) ≡ Some c
       → Steps n l who looks (reply.Mtapi c) n
   look_refused x c e1 e2 = grind (arith, nat_tests)
 
   look_absent : slot_value n.scheduler.tasks.pool t.0 ≡ None → Steps n l who looks (reply.Mtapi m.ErrTaskInvalid) n
-  look_absent g = stays n l who looks (reply.Mtapi m.ErrTaskInvalid) v tt
-      (past _ _ _ _ _ _ (not_true _ up) (at_none _ _ _ _ (found _ _ n.scheduler.tasks.pool l.tasks t.0 None v.tasks g)))
+  look_absent g = grind (arith, nat_tests, stays, past, not_true, at_none, found)
 
 -- a look at a task that hasn't ended: the last one, and an earlier one
 waited : (n : PoolNode) (l : Lists) (who : ℕ) (t : TaskHandle) (last : Bool) (v : Live n l) (up : is_up n.core.phase ≡ true) (x : Task) (s : TaskState)
@@ -177,14 +171,7 @@ pub look_told : (n : PoolNode) (l : Lists) (who : ℕ) (t : TaskHandle) (last : 
     → x ≡ look_reply who last (slot_value n.scheduler.tasks.pool t.0)
     → q ≡ with_pool n (looked_in n.scheduler.tasks.pool t.0 who last (slot_value n.scheduler.tasks.pool t.0))
     → Steps n l who (op.TaskLook t last) (look_said x) (record n { scheduler = record n.scheduler { tasks = q } })
-look_told n l who t last q x v up e d =
-    reported n l q _ who _ _ d (subst (λ (y : TaskLook). Steps n l who (op.TaskLook t last) (look_said y)
-    (record n {
-      scheduler = record n.scheduler {
-        tasks = with_pool n (looked_in n.scheduler.tasks.pool t.0 who last (slot_value n.scheduler.tasks.pool t.0));
-      };
-    })) (sym e)
-    (look_steps n l who t last v up (slot_value n.scheduler.tasks.pool t.0) refl))
+look_told n l who t last q x v up e d = reported n l q _ who _ _ d (rw e (look_steps n l who t last v up (slot_value n.scheduler.tasks.pool t.0) refl))
 
 -- Ending
 

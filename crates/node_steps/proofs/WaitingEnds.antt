@@ -28,9 +28,7 @@ module _ (size turns : ℕ) (p : Task → Bool) (e : TaskEnd) where
       by_test false = k
 
   stood-step : (h : ℕ) (q : TaskTable) (s : ℕ × List (Listed Task)) → Stood size turns q s → Stood size turns (ended_if p e h q) (step_listed p e h s)
-  stood-step h q s k =
-      subst (λ (o : Option Task). Stood size turns (ended_if p e h q) (cond (holds p o) (s.0 + 1, change h (ended e s.0) s.1) s)) (k.holds.stands.found h)
-      (stood-found h q s (slot_value q.pool h) refl k)
+  stood-step h q s k = rw (← k.holds.stands.found h) (stood-found h q s (slot_value q.pool h) refl k)
 
   stood-each : (hs : List ℕ) (q : TaskTable) (s : ℕ × List (Listed Task)) → Stood size turns q s → Stood size turns (ended_each p e hs q) (each_listed p e hs s)
   stood-each [] q s k = k

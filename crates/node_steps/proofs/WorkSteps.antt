@@ -54,8 +54,7 @@ module _ (n : PoolNode) (l : Lists) (who : ℕ) (t : TaskHandle) (v : Live n l) 
   asks = op.Asked t
 
   asked_none : slot_value n.scheduler.tasks.pool t.0 ≡ None → Steps n l who asks (reply.Mtapi m.ErrTaskInvalid) n
-  asked_none g = stays n l who asks (reply.Mtapi m.ErrTaskInvalid) v tt
-      (past _ _ _ _ _ _ (is_worker who _ w) (at_none _ _ _ _ (found _ _ n.scheduler.tasks.pool l.tasks t.0 None v.tasks g)))
+  asked_none g = grind (arith, nat_tests, stays, past, is_worker, at_none, found)
 
   asked_refused : (x : Task) (c : MtapiStatus) → slot_value n.scheduler.tasks.pool t.0 ≡ Some x → first (asked_refusals who x) ≡ Some c
       → Steps n l who asks (reply.Mtapi c) n
@@ -74,15 +73,11 @@ module _ (n : PoolNode) (l : Lists) (who : ℕ) (t : TaskHandle) (v : Live n l) 
   asked_at : (x : Task) (f : Option MtapiStatus) → slot_value n.scheduler.tasks.pool t.0 ≡ Some x → first (asked_refusals who x) ≡ f
       → Steps n l who asks (asked_said (unless_refused f x.notes.requested))
       (record n { scheduler = record n.scheduler { tasks = with_pool n (changed n.scheduler.tasks.pool t.0 (after_asked who)) } })
-  asked_at x (Some c) g f =
-      task_steps n l (with_pool n (changed n.scheduler.tasks.pool t.0 (after_asked who))) l.tasks who asks (reply.Mtapi c) v
+  asked_at x (Some c) g f = task_steps n l (with_pool n (changed n.scheduler.tasks.pool t.0 (after_asked who))) l.tasks who asks (reply.Mtapi c) v
       (past _ _ _ _ _ _ (is_worker who _ w) (at_some _ _ _ x _ _ _ (found _ _ n.scheduler.tasks.pool l.tasks t.0 (Some x) v.tasks g)
       (met_in _ (asked_refusals who x) c _ f)))
-      (subst (λ (k : List (Listed Task)). Holds n.scheduler.settings.tasks n.scheduler.settings.generations
-      (changed n.scheduler.tasks.pool t.0 (after_asked who)) k)
-      (update-same t.0 (after_asked who) x l.tasks (found _ _ n.scheduler.tasks.pool l.tasks t.0 (Some x) v.tasks g) same)
-      (holds_changed _ _ n.scheduler.tasks.pool l.tasks t.0 (after_asked who) v.tasks))
-      (omega arith) tt
+      (rw (← update-same t.0 (after_asked who) x l.tasks (found _ _ n.scheduler.tasks.pool l.tasks t.0 (Some x) v.tasks g) same)
+      (holds_changed _ _ n.scheduler.tasks.pool l.tasks t.0 (after_asked who) v.tasks)) (omega arith) tt
     where
       same : after_asked who x ≡ x
       same = ap (λ (o : Option MtapiStatus). cond (is_none o) (with_notes asked_once x) x) f
@@ -101,18 +96,14 @@ module _ (n : PoolNode) (l : Lists) (who : ℕ) (t : TaskHandle) (v : Live n l) 
   asked_steps : (o : Option Task) → slot_value n.scheduler.tasks.pool t.0 ≡ o
       → Steps n l who asks (asked_said (asked_of who o))
       (record n { scheduler = record n.scheduler { tasks = with_pool n (changed n.scheduler.tasks.pool t.0 (after_asked who)) } })
-  asked_steps None g = reported n l _ n.scheduler.tasks who asks _
-      (ap (λ (o : Option Task). with_pool n (put n.scheduler.tasks.pool t.0 (option_map (after_asked who) o))) g) (asked_none g)
+  asked_steps None g = grind (arith, nat_tests, reported, put, asked_none)
   asked_steps (Some x) g = asked_at x (first (asked_refusals who x)) g refl
 
   -- what the tasks told of an ask
   pub asked_says : (q : TaskTable) (x : Result Bool MtapiStatus) → x ≡ asked_of who (slot_value n.scheduler.tasks.pool t.0)
       → q ≡ with_pool n (changed n.scheduler.tasks.pool t.0 (after_asked who))
       → Steps n l who asks (asked_said x) (record n { scheduler = record n.scheduler { tasks = q } })
-  asked_says q x e d =
-      reported n l q _ who asks _ d (subst (λ (y : Result Bool MtapiStatus). Steps n l who asks (asked_said y)
-      (record n { scheduler = record n.scheduler { tasks = with_pool n (changed n.scheduler.tasks.pool t.0 (after_asked who)) } })) (sym e)
-      (asked_steps (slot_value n.scheduler.tasks.pool t.0) refl))
+  asked_says q x e d = reported n l q _ who asks _ d (rw e (asked_steps (slot_value n.scheduler.tasks.pool t.0) refl))
 
 -- Ending a watch
 
@@ -134,8 +125,6 @@ module _ (n : PoolNode) (l : Lists) (who : ℕ) (t : TaskHandle) (v : Live n l) 
   watch_ended e q (Some x) g k d =
       let s = watch_told who x e (first (watch_end_refusals who x)) refl k in
       reported n l q (ended_tasks n t.0 e (Some x)) who ends _ d
-      (subst (λ (y : TaskEnd). Steps n l who ends (reply.Ended y) (record n { scheduler = record n.scheduler { tasks = ended_tasks n t.0 y (Some x) } }))
-      (sym s.1)
-      (end_steps n l who ends (reply.Ended (watch_end x)) t.0 (watch_end x) x v g tt
+      (rw s.1 (end_steps n l who ends (reply.Ended (watch_end x)) t.0 (watch_end x) x v g tt
       (past _ _ _ _ _ _ (is_worker who _ w) (at_some _ _ _ x _ _ _ (found _ _ n.scheduler.tasks.pool l.tasks t.0 (Some x) v.tasks g)
       (past_all _ _ (watch_end_refusals who x) _ _ s.0 (gives_this _ _ _))))))

@@ -1,4 +1,4 @@
-use Rattle.node_steps.proofs.Names.{◌≡◌, true, subst, FitsSigned, w64, ℤ, ◌+ℤ◌, to_z-of_z, fits, fits_from}
+use Rattle.node_steps.proofs.Names.{FitsSigned, w64, ◌+ℤ◌, to_z-of_z, fits_from}
 use Rattle.node_steps.proofs.TallySteps.{none_fits}
 use Rattle.node_steps.proofs.tally_ops.is_sum.Goals as goal
 

@@ -1,5 +1,4 @@
-use Rattle.node_steps.proofs.Names.{sym, subst, arith, slot_value, Reply, Steps}
-use Rattle.mtapi_machine.specs.declared.ops.Op.TheVariants as op
+use Rattle.node_steps.proofs.Names.{sym, arith, slot_value}
 use Rattle.node_steps.proofs.GroupSteps.{counted, all_look_early, all_look_freed}
 use Rattle.node_steps.proofs.node.PoolNode.all_look.Goals as goal
 

@@ -1,6 +1,5 @@
-use Rattle.node_steps.proofs.Names.{refl, sym, subst, arith, slot_value, Reply, SchedulerTable, Steps}
-use Rattle.mtapi_machine.specs.declared.ops.Op.TheVariants as op
-use Rattle.node_steps.proofs.GroupSteps.{early, counted, any_look_done, any_look_early, any_look_taken}
+use Rattle.node_steps.proofs.Names.{refl, sym, arith, slot_value}
+use Rattle.node_steps.proofs.GroupSteps.{counted, any_look_done, any_look_early, any_look_taken}
 use Rattle.node_steps.proofs.node.PoolNode.any_look.Goals as goal
 
 pub returns-then-all-eq0 : goal.returns-then-all-eq0

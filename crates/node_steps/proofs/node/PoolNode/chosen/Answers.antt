@@ -1,4 +1,4 @@
-use Rattle.node_steps.proofs.Names.{sym, ◌∙◌, subst, Option, Choice, IsBest, IsChoiceOf}
+use Rattle.node_steps.proofs.Names.{sym, ◌∙◌}
 use Rattle.node_steps.proofs.TowardSteps.{wanted_task, wanted_action, one_priority, same_priority}
 use Rattle.node_steps.proofs.node.PoolNode.chosen.Goals as goal
 

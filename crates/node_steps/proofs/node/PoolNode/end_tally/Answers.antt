@@ -1,4 +1,4 @@
-use Rattle.node_steps.proofs.Names.{◌≡◌, sym, ◌∙◌, ap, subst, List, ℤ, FitsSigned, w64, to_z-of_z, Completed, Read, Written, GivesBack, noted_in}
+use Rattle.node_steps.proofs.Names.{◌≡◌, sym, ◌∙◌, ap, FitsSigned, w64, to_z-of_z, Read, Written, noted_in}
 use Rattle.node_steps.proofs.TallySteps.{end_too_large, end_written, end_failed}
 use Rattle.node_steps.proofs.node.PoolNode.end_tally.Goals as goal
 

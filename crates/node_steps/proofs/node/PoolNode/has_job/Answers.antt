@@ -1,4 +1,3 @@
-use Rattle.node_steps.proofs.Names.{subst, Covers, Cover}
 use Rattle.node_steps.proofs.ActionSteps.{covers_none, covers_some, some_cover}
 use Rattle.node_steps.proofs.node.PoolNode.has_job.Goals as goal
 

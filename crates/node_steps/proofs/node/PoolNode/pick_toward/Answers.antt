@@ -1,4 +1,4 @@
-use Rattle.node_steps.proofs.Names.{refl, subst, State, MayPick}
+use Rattle.node_steps.proofs.Names.{refl}
 use Rattle.mtapi_machine.specs.declared.ops.Op.TheVariants.{Pick}
 use Rattle.node_steps.proofs.InitSteps.{goes_on, same_terms}
 use Rattle.node_steps.proofs.node.PoolNode.pick_toward.Goals as goal

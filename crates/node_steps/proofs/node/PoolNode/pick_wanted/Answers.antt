@@ -1,4 +1,4 @@
-use Rattle.node_steps.proofs.Names.{sym, subst, ◌∙◌, arith, Option, Choice, IsBest, IsToward, state_of}
+use Rattle.node_steps.proofs.Names.{sym, ◌∙◌, arith, state_of}
 use Rattle.node_steps.proofs.PickSteps.{pick_idle, pick_takes}
 use Rattle.node_steps.proofs.TowardSteps.{can_pick, is_found, is_taken}
 use Rattle.node_steps.proofs.node.PoolNode.pick_wanted.Goals as goal

@@ -1,5 +1,4 @@
-use Rattle.node_steps.proofs.Names.{Result, sym, ap, subst, ◌∙◌, MtapiStatus, slot_value, without, live_reply, BecomesWith}
-use Rattle.std.specs.Result.{OnOk}
+use Rattle.node_steps.proofs.Names.{sym, ap, ◌∙◌, slot_value, live_reply}
 use Rattle.task_board.proofs.EndLemmas.{none-left}
 use Rattle.node_steps.proofs.QueueSteps.{facts_found, live_after, delete_ended, delete_lands}
 use Rattle.node_steps.proofs.node.PoolNode.queue_delete.Goals as goal

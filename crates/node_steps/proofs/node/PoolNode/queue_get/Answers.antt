@@ -1,4 +1,4 @@
-use Rattle.node_steps.proofs.Names.{Ok, Err, Result, sym, subst, QueueHandle, MtapiStatus, Finds}
+use Rattle.node_steps.proofs.Names.{Ok, Err, sym}
 use Rattle.node_steps.proofs.QueueSteps.{get_steps}
 use Rattle.node_steps.proofs.node.PoolNode.queue_get.Goals as goal
 

@@ -1,6 +1,4 @@
-use Rattle.node_steps.proofs.Names.{sym, subst, FitsSigned, w64, ℤ, to_z-of_z, changed, tallied, Read, Becomes, Steps, state_of}
-use Rattle.mtapi_machine.specs.declared.ops.Op.TheVariants as op
-use Rattle.mtapi_machine.specs.declared.replies.Reply.TheVariants as reply
+use Rattle.node_steps.proofs.Names.{FitsSigned, w64, to_z-of_z, state_of}
 use Rattle.node_steps.proofs.TallySteps.{reads}
 use Rattle.node_steps.proofs.node.PoolNode.read_cell.Goals as goal
 

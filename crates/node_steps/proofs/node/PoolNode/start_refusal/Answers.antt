@@ -1,4 +1,4 @@
-use Rattle.node_steps.proofs.Names.{sym, subst, ◌∙◌, ap, ◌&&◌, ℕ, in_mask, some_below, Covers, Cover, AllDisabled, Cores}
+use Rattle.node_steps.proofs.Names.{sym, ◌∙◌, ap, ◌&&◌, ℕ, in_mask, some_below, AllDisabled, Cores}
 use Rattle.node_steps.proofs.StartSteps.{refused_job, refused_group, refused_disabled, refused_core, refused_none, disabled_not_none, cores_not_none}
 use Rattle.node_steps.proofs.node.PoolNode.start_refusal.Goals as goal
 

@@ -1,5 +1,4 @@
-use Rattle.node_steps.proofs.Names.{subst, ℤ, w64, to_z-of_z, Steps}
-use Rattle.mtapi_machine.specs.declared.ops.Op.TheVariants as op
+use Rattle.node_steps.proofs.Names.{w64, to_z-of_z}
 use Rattle.node_steps.proofs.node.PoolNode.tally_write.Goals as goal
 
 pub returns-in-Ok : goal.returns-in-Ok

@@ -1,6 +1,4 @@
-use Rattle.node_steps.proofs.Names.{sym, ◌∙◌, subst, refl, arith, TaskEnd, slot_value, Steps}
-use Rattle.mtapi_machine.specs.declared.ops.Op.TheVariants as op
-use Rattle.mtapi_machine.specs.declared.replies.Reply.TheVariants as reply
+use Rattle.node_steps.proofs.Names.{sym, ◌∙◌, refl, arith, slot_value}
 use Rattle.node_steps.proofs.WorkSteps.{watch_failed, watch_ended}
 use Rattle.node_steps.proofs.Gives.{lands}
 use Rattle.node_steps.proofs.node.PoolNode.watch_end.Goals as goal

@@ -1,4 +1,4 @@
-use Rattle.node_steps.proofs.Names.{◌≡◌, sym, ◌∙◌, ap, subst, FitsSigned, w64, ℤ, to_z-of_z, changed, tallied, Read, Written, Becomes, state_of, noted_in}
+use Rattle.node_steps.proofs.Names.{◌≡◌, sym, ◌∙◌, ap, FitsSigned, w64, to_z-of_z, Read, state_of, noted_in}
 use Rattle.node_steps.proofs.TallySteps.{write_other, writes}
 use Rattle.node_steps.proofs.node.PoolNode.write_cell.Goals as goal
 
