@@ -1,6 +1,6 @@
 -- One look more.
-use Rattle.turn_looks.proofs.Names.{◌≡◌, ◌≢◌, ℕ, ◌+◌, ◌<◌, Bool, true, false, List, [], ◌∷◌, ◌++◌, Option, refl, sym, ◌∙◌, ap, subst, arith, append_assoc, ◌==◌, MatchOption, nat_tests, Entry, entry, SeatView, SameSeat, Turned, Unturned, pends, Pended, Looked, StillLooking}
-use Rattle.std.proofs.lemmas.List.{replicate_more, append-nil}
+use Rattle.turn_looks.proofs.Names.{◌≡◌, ◌≢◌, ℕ, ◌+◌, ◌<◌, Bool, true, false, List, [], ◌∷◌, ◌++◌, Option, ◌∙◌, ap, subst, arith, append_assoc, ◌==◌, MatchOption, nat_tests, Entry, entry, SeatView, SameSeat, Turned, Unturned, pends, Pended, Looked, StillLooking}
+use Rattle.std.proofs.lemmas.List.{replicate_more}
 
 module _ {T P Q : Type 0} (legal : T → List (Entry P Q) → Type 0) (op_of : Bool → P) (waits : Q) where
   pub same_then : (a b c : SeatView T P Q) → SameSeat a b → SameSeat b c → SameSeat a c
@@ -41,12 +41,7 @@ module _ {T P Q : Type 0} (legal : T → List (Entry P Q) → Type 0) (op_of : B
 
   pub still : (limit : Option ℕ) (n : ℕ) (a b c : SeatView T P Q) → Pended legal op_of waits a n b → Unturned b c → MatchOption limit (Unit {0}) (λ m. n < m)
       → StillLooking legal op_of waits limit a c
-  still limit n a b c p u bound = record {
-    pending = n;
-    pended = record { same = same_then a b c p.same u.same; mine = u.mine ∙ p.mine };
-    bound = bound;
-    shown = u.shown;
-  }
+  still limit n a b c p u bound = grind (arith, nat_tests, same_then)
 
 pub unequal : {A : Type 0} (a b : ℕ) → a ≡ b → (a == b) ≡ false → A
 unequal a b e f = absurd (grind (arith, nat_tests))

@@ -1,5 +1,5 @@
 -- A seat's entries in what it has seen.
-use Rattle.turn_looks.proofs.Names.{◌≡◌, ℕ, Bool, true, false, cond, List, [], ◌∷◌, ◌++◌, Result, Ok, Err, length, length-append, refl, sym, ◌∙◌, ap, subst, arith, ◌==◌, ◌≤◌, ◌^◌, IfOk, IfErr, OnErr, nat_tests, Entry, entry, entries_of, Extends, SeatView, SameSeat, Turned, Unturned}
+use Rattle.turn_looks.proofs.Names.{◌≡◌, ℕ, true, cond, List, [], ◌∷◌, ◌++◌, Result, Ok, Err, length, length-append, refl, sym, ◌∙◌, ap, subst, arith, ◌==◌, ◌≤◌, ◌^◌, IfOk, IfErr, OnErr, nat_tests, Entry, entry, entries_of, Extends, SeatView, SameSeat, Turned, Unturned}
 
 pub self_is : (w : ℕ) → (w == w) ≡ true
 self_is w = grind (arith, nat_tests)
@@ -11,12 +11,7 @@ empty (x ∷ xs) e = absurd (omega arith)
 module _ {P Q : Type 0} where
   pub entries-append : (w : ℕ) (L M : List (Entry P Q)) → entries_of w (L ++ M) ≡ entries_of w L ++ entries_of w M
   entries-append w [] M = refl
-  entries-append w (e ∷ L) M = by_seat (e.who == w) (entries-append w L M)
-    where
-      by_seat : (b : Bool) → entries_of w (L ++ M) ≡ entries_of w L ++ entries_of w M
-          → cond b (e ∷ entries_of w (L ++ M)) (entries_of w (L ++ M)) ≡ cond b (e ∷ entries_of w L) (entries_of w L) ++ entries_of w M
-      by_seat true k = ap (λ (l : List (Entry P Q)). e ∷ l) k
-      by_seat false k = k
+  entries-append w (e ∷ L) M = grind (arith, nat_tests, entries-append w L M)
 
   -- where a seat's own entries grew by its last one alone, others made those between
   between_others : (w : ℕ) (a b mine : List (Entry P Q)) (e : Entry P Q) → e.who ≡ w → entries_of w a ≡ mine
@@ -41,17 +36,7 @@ module _ {P Q : Type 0} where
       → entries_of old.number old.seen ≡ old.mine → Extends old.seen (entry old.number op reply) new.seen
       → new.mine ≡ old.mine ++ entry old.number op reply ∷ []
       → entries_of new.number new.seen ≡ new.mine → legal new.terms new.seen → Turned legal old op reply new
-  turned legal old new op reply same was x mine own lawful = record {
-    same = same;
-    before = was;
-    mine = mine;
-    between = x.0;
-    others =
-        between_others old.number old.seen x.0 old.mine (entry old.number op reply) refl was
-        (ap (λ (l : List (Entry P Q)). entries_of old.number l) (sym x.1) ∙ (ap (λ (n : ℕ). entries_of n new.seen) (sym same.number) ∙ (own ∙ mine)));
-    seen = x.1;
-    legal = lawful;
-  }
+  turned legal old new op reply same was x mine own lawful = grind (arith, nat_tests, between_others)
 
   -- the same of what a call gave, whatever that is
   pub turned_if : {T E : Type 0} (legal : T → List (Entry P Q) → Type 0) (old new : SeatView T P Q) (op : P) (r : Result Q E) → SameSeat old new
