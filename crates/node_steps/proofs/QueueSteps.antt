@@ -175,7 +175,8 @@ module _ (n : PoolNode) (l : Lists) (who : ℕ) (q : QueueHandle) (v : Live n l)
       → Gives (state_of n l) (row (state_of n l) who o reply.Ok) reply.Ok
       (record (end_tasks (λ x. is_unstarted x && is_in q.0 x) e (state_of n l)) { queues = k }) → Steps n l who o reply.Ok (ended_with p t)
   ended_steps o p k e t sound ends holds honest g =
-      let once = ends-at-once n.scheduler.settings.tasks n.scheduler.settings.generations (is_in q.0) e n.scheduler.tasks t l.tasks v.tasks sound.ordered ends in
+      let once = ends-at-once n.scheduler.settings.tasks n.scheduler.settings.generations
+      (is_in q.0) e n.scheduler.tasks t l.tasks v.tasks sound.ordered ends in
       let tasks : List (Listed Task) = end_each (λ x. is_unstarted x && is_in q.0 x) e n.scheduler.tasks.ends l.tasks in
       let path : record (end_tasks (λ x. is_unstarted x && is_in q.0 x) e (state_of n l)) { queues = k }
       ≡ state_of (ended_with p t) (record l { tasks = tasks; queues = k }) =
