@@ -1,15 +1,6 @@
 -- What becomes of every task that was accepted.
 use Rattle.std.specs.Prelude.{◌≡◌, ℕ, List, [], ◌∷◌, ◌++◌, Option, Some, None, IsSome}
-use Rattle.mtapi_values.specs.declared.ends.TaskEnd.{TaskEnd}
-use Rattle.handle_pool.specs.Issued.{listed}
-use Rattle.mtapi_machine.specs.declared.ops.Op.{Op}
-use Rattle.mtapi_machine.specs.declared.ops.Op.TheVariants.{TaskStart, TaskEnqueue, Final}
-use Rattle.mtapi_machine.specs.declared.replies.Reply.{Reply}
-use Rattle.mtapi_machine.specs.declared.replies.Reply.TheVariants.{Ok, Handle}
-use Rattle.mtapi_machine.specs.declared.terms.Terms.{Terms}
-use Rattle.history.specs.Histories.{entry}
-use Rattle.mtapi_machine.specs.Legal.{NodeEntry, Legal, after}
-use Rattle.mtapi_machine.specs.Ends.{end_at}
+use Rattle.history_law.specs.Names.{TaskEnd, listed, Op, TaskStart, TaskEnqueue, Final, Reply, Ok, Handle, Terms, entry, NodeEntry, Legal, after, end_at}
 
 -- the handle that a reply issues
 abbrev pub issued_by : Reply → Option ℕ

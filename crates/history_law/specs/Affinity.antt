@@ -1,15 +1,8 @@
 -- Where tasks run.
 use Rattle.std.specs.Prelude.{◌≡◌, ℕ, true, List, ◌∷◌, ◌++◌, ℤ, length, Option, Some, None}
-use Rattle.mtapi_values.specs.declared.kinds.Kind.{Kind}
+use Rattle.history_law.specs.Names.{Kind, TaskHandle, ActionHandle, entry, Op, ActionCreate, TaskStart, TaskEnqueue, Pick, Picked, NodeEntry}
 use Rattle.mtapi_values.specs.declared.handles.ObjectKind.TheVariants as kind
-use Rattle.mtapi_values.specs.declared.handles.TaskHandle.{TaskHandle}
-use Rattle.mtapi_values.specs.declared.handles.ActionHandle.{ActionHandle}
 use Rattle.mtapi_values.specs.Masks.{in_mask}
-use Rattle.history.specs.Histories.{entry}
-use Rattle.mtapi_machine.specs.declared.ops.Op.{Op}
-use Rattle.mtapi_machine.specs.declared.ops.Op.TheVariants.{ActionCreate, TaskStart, TaskEnqueue, Pick}
-use Rattle.mtapi_machine.specs.declared.replies.Reply.TheVariants.{Picked}
-use Rattle.mtapi_machine.specs.Legal.{NodeEntry}
 use Rattle.history_law.specs.Words.{some_entry, issues}
 
 -- the mask with which an op starts a task, and the one with which it makes an action

@@ -1,23 +1,6 @@
 -- Why a task ended: the op that ended it, and what it found.
 use Rattle.std.specs.Prelude.{◌≡◌, ℕ, true, false, ◌==◌, List, [], ◌∷◌, ◌++◌, Some}
-use Rattle.mtapi_values.specs.declared.ends.TaskEnd.{TaskEnd}
-use Rattle.mtapi_values.specs.declared.ends.TaskEnd.TheVariants.{Completed, Cancelled, Failed}
-use Rattle.mtapi_values.specs.declared.statuses.MtapiStatus.TheVariants.{ErrActionDeleted, ErrActionDisabled, ErrActionFailed, ErrQueueDeleted}
-use Rattle.mtapi_values.specs.declared.handles.TaskHandle.{TaskHandle}
-use Rattle.mtapi_values.specs.declared.handles.ActionHandle.{ActionHandle}
-use Rattle.mtapi_values.specs.declared.handles.QueueHandle.{QueueHandle}
-use Rattle.action_fn.specs.Answers.{Answered, fits}
-use Rattle.handle_pool.specs.Issued.{Listed, live_of, change, gone, with_fields}
-use Rattle.mtapi_objects.specs.Actions.{Action, with_enabled, has_worker}
-use Rattle.mtapi_objects.specs.Tasks.{Task, is_unstarted, watch_end, added}
-use Rattle.mtapi_objects.specs.Queues.{is_in, is_shut_in}
-use Rattle.mtapi_machine.specs.declared.ops.Op.{Op}
-use Rattle.mtapi_machine.specs.declared.ops.Op.TheVariants.{ActionDelete, ActionDisable, TaskCancel, QueueDisable, QueueDelete, Close, Finish, WatchEnd, TallyEnd}
-use Rattle.mtapi_machine.specs.declared.terms.Terms.{Terms}
-use Rattle.mtapi_machine.specs.State.{State, opening, workers}
-use Rattle.mtapi_machine.specs.WorkRows.{task_end}
-use Rattle.mtapi_machine.specs.Legal.{NodeEntry, after_from, after}
-use Rattle.mtapi_machine.specs.Ends.{end_at}
+use Rattle.history_law.specs.Names.{TaskEnd, Completed, Cancelled, Failed, ErrActionDeleted, ErrActionDisabled, ErrActionFailed, ErrQueueDeleted, TaskHandle, ActionHandle, QueueHandle, Answered, fits, Listed, live_of, change, gone, with_fields, Action, with_enabled, has_worker, Task, is_unstarted, watch_end, added, is_in, is_shut_in, Op, ActionDelete, ActionDisable, TaskCancel, QueueDisable, QueueDelete, Close, Finish, WatchEnd, TallyEnd, Terms, State, opening, workers, task_end, NodeEntry, after_from, after, end_at}
 use Rattle.history_law.specs.Quiet.{task_at}
 
 -- the task hasn't begun, and with these actions no worker can take it

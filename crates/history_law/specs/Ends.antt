@@ -1,13 +1,6 @@
 -- The ends of one task.
 use Rattle.std.specs.Prelude.{◌≡◌, ℕ, ◌≤◌, List, ◌∷◌, ◌++◌, Some}
-use Rattle.mtapi_values.specs.declared.ends.TaskEnd.{TaskEnd}
-use Rattle.mtapi_machine.specs.declared.ops.Op.TheVariants.{Final}
-use Rattle.mtapi_machine.specs.declared.replies.Reply.TheVariants.{Ok}
-use Rattle.mtapi_machine.specs.declared.terms.Terms.{Terms}
-use Rattle.history.specs.Histories.{entry}
-use Rattle.handle_pool.specs.Issued.{listed}
-use Rattle.mtapi_machine.specs.Legal.{NodeEntry, after}
-use Rattle.mtapi_machine.specs.Ends.{end_at}
+use Rattle.history_law.specs.Names.{TaskEnd, Final, Ok, Terms, entry, listed, NodeEntry, after, end_at}
 use Rattle.history_law.specs.Accepted.{accepted, EndsOnce}
 
 -- At most one record is listed under the handle. An end that a prefix shows of it is the end that every longer prefix shows.

@@ -1,18 +1,8 @@
 -- Mutexes, semaphores and reader-writer locks: how often looks got them, less how often they were given back.
 use Rattle.std.specs.Prelude.{◌≡◌, ℕ, ◌+◌, ◌≤◌, ◌<◌, Bool, true, false, not, ◌==◌, ◌&&◌, List, [], ◌∷◌, ◌++◌, Option, Some, None, ◌⊎◌, if◌then◌else◌}
-use Rattle.mtapi_values.specs.declared.handles.ObjectKind.{ObjectKind}
+use Rattle.history_law.specs.Names.{ObjectKind, TaskHandle, entry, live_object, Task, Op, TallyLock, TallyEnd, MutexLook, MutexUnlock, SemCreate, SemLook, SemUnlock, RwlCreate, RwlLook, RwlUnlock, Reply, Number, Terms, State, NodeEntry, after}
 use Rattle.mtapi_values.specs.declared.handles.ObjectKind.TheVariants as kind
-use Rattle.mtapi_values.specs.declared.handles.TaskHandle.{TaskHandle}
-use Rattle.history.specs.Histories.{entry}
-use Rattle.handle_pool.specs.Issued.{live_object}
-use Rattle.mtapi_objects.specs.Tasks.{Task}
-use Rattle.mtapi_machine.specs.declared.ops.Op.{Op}
-use Rattle.mtapi_machine.specs.declared.ops.Op.TheVariants.{TallyLock, TallyEnd, MutexLook, MutexUnlock, SemCreate, SemLook, SemUnlock, RwlCreate, RwlLook, RwlUnlock}
-use Rattle.mtapi_machine.specs.declared.replies.Reply.{Reply}
-use Rattle.mtapi_machine.specs.declared.replies.Reply.TheVariants.{Number, Ended, Asked}
-use Rattle.mtapi_machine.specs.declared.terms.Terms.{Terms}
-use Rattle.mtapi_machine.specs.State.{State}
-use Rattle.mtapi_machine.specs.Legal.{NodeEntry, after}
+use Rattle.mtapi_machine.specs.declared.replies.Reply.TheVariants.{Ended, Asked}
 use Rattle.history_law.specs.Words.{some_entry, entries_that, issues}
 use Rattle.history_law.specs.Seats.{says_ok}
 

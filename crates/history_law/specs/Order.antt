@@ -1,14 +1,7 @@
 -- The order in which a group gives its members.
 use Rattle.std.specs.Prelude.{◌≡◌, ℕ, ◌<◌, Bool, true, false, ◌==◌, ◌&&◌, List, [], ◌∷◌, ◌++◌, Option, Some, None, if◌then◌else◌}
-use Rattle.handle_pool.specs.Issued.{Listed}
-use Rattle.mtapi_objects.specs.Tasks.{Task, TaskState, Scheduled, Running, Ended}
-use Rattle.mtapi_machine.specs.declared.ops.Op.{Op}
-use Rattle.mtapi_machine.specs.declared.ops.Op.TheVariants.{AnyLook}
-use Rattle.mtapi_machine.specs.declared.replies.Reply.{Reply}
-use Rattle.mtapi_machine.specs.declared.replies.Reply.TheVariants.{Given}
-use Rattle.mtapi_machine.specs.declared.terms.Terms.{Terms}
-use Rattle.mtapi_machine.specs.State.{State}
-use Rattle.mtapi_machine.specs.Legal.{NodeEntry, after}
+use Rattle.history_law.specs.Names.{Listed, Task, TaskState, Scheduled, Running, Op, AnyLook, Reply, Given, Terms, State, NodeEntry, after}
+use Rattle.mtapi_objects.specs.Tasks.{Ended}
 
 -- the op looks for any end of this group, and the reply gives this task
 abbrev pub looks_for_any : ℕ → Op → Bool

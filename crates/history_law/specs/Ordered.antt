@@ -1,12 +1,6 @@
 -- The runs of an ordered queue.
 use Rattle.std.specs.Prelude.{◌≡◌, ℕ, Bool, true, false, ◌==◌, ◌&&◌, List, ◌∷◌, ◌++◌, IsSome}
-use Rattle.mtapi_machine.specs.declared.ops.Op.{Op}
-use Rattle.mtapi_machine.specs.declared.ops.Op.TheVariants.{TaskEnqueue, QueueCreate, Pick}
-use Rattle.mtapi_machine.specs.declared.replies.Reply.{Reply}
-use Rattle.mtapi_machine.specs.declared.replies.Reply.TheVariants.{Picked}
-use Rattle.mtapi_machine.specs.declared.terms.Terms.{Terms}
-use Rattle.mtapi_machine.specs.Legal.{NodeEntry, after}
-use Rattle.mtapi_machine.specs.Ends.{end_at}
+use Rattle.history_law.specs.Names.{Op, TaskEnqueue, QueueCreate, Pick, Reply, Picked, Terms, NodeEntry, after, end_at}
 use Rattle.history_law.specs.Words.{some_entry, is_handle}
 
 -- the entry makes this queue, as an ordered one

@@ -2,20 +2,9 @@
 use Rattle.std.specs.Prelude.{◌≡◌, ℕ, Bool, true, false, List, [], ◌∷◌, Some, None, pos}
 use Rattle.mtapi_values.specs.declared.kinds.Kind.TheVariants as kind
 use Rattle.mtapi_values.specs.declared.statuses.MtapiStatus.TheVariants as status
-use Rattle.mtapi_values.specs.declared.ends.TaskEnd.{TaskEnd}
-use Rattle.mtapi_values.specs.declared.ends.TaskEnd.TheVariants.{Completed, Cancelled, Failed}
-use Rattle.mtapi_values.specs.declared.handles.QueueHandle.{QueueHandle}
-use Rattle.action_fn.specs.declared.finished.ActEnd.TheVariants.{Done}
-use Rattle.action_fn.specs.Answers.{Answered}
-use Rattle.handle_pool.specs.Issued.{Listed}
-use Rattle.mtapi_objects.specs.Actions.{Action, new_action}
-use Rattle.mtapi_objects.specs.Queues.{Queue}
-use Rattle.mtapi_objects.specs.Tasks.{Task, Running, new_task, with_state, with_notes, no_tally}
-use Rattle.mtapi_machine.specs.declared.ops.Op.{Op}
+use Rattle.history_law.specs.Names.{TaskEnd, Completed, Cancelled, Failed, QueueHandle, Done, Answered, Listed, Action, new_action, Queue, Task, Running, new_task, with_state, with_notes, no_tally, Op, State, opening, NodeEntry, after_from, usual, first_handle, next_handle, the_action, one_task}
 use Rattle.mtapi_machine.specs.declared.ops.Op.TheVariants as op
-use Rattle.mtapi_machine.specs.State.{State, opening}
-use Rattle.mtapi_machine.specs.Legal.{NodeEntry, after_from}
-use Rattle.mtapi_machine.specs.Worked.{usual, first_handle, next_handle, task, the_action, one_task}
+use Rattle.mtapi_machine.specs.Worked.{task}
 use Rattle.history_law.specs.Quiet.{task_at}
 use Rattle.history_law.specs.Causes.{Cause, HasCause, EndHasItsCause}
 

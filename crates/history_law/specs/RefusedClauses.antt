@@ -1,17 +1,11 @@
 -- For each further clause of a law a list that it refuses; and where no list of entries breaks a clause, what it says of a list.
 use Rattle.std.specs.Prelude.{◌≡◌, ℕ, ◌≤◌, false, List, [], ◌∷◌, ◌++◌, Some, None, pos}
 use Rattle.mtapi_values.specs.declared.kinds.Kind.TheVariants as kind
-use Rattle.mtapi_values.specs.declared.ends.TaskEnd.TheVariants.{Cancelled}
+use Rattle.history_law.specs.Names.{Cancelled, Two, listed, Terms, Op, NodeEntry, after, end_at, usual, main, worker, first_handle, next_handle, the_action, every_core, add_task, picks_first}
 use Rattle.mtapi_values.specs.declared.handles.ObjectKind.TheVariants as object
-use Rattle.mtapi_values.specs.declared.handles.Layout.TheVariants.{Two}
-use Rattle.handle_pool.specs.Issued.{listed}
-use Rattle.mtapi_machine.specs.declared.terms.Terms.{Terms}
-use Rattle.mtapi_machine.specs.declared.ops.Op.{Op}
 use Rattle.mtapi_machine.specs.declared.ops.Op.TheVariants as op
 use Rattle.mtapi_machine.specs.declared.replies.Reply.TheVariants as reply
-use Rattle.mtapi_machine.specs.Legal.{NodeEntry, after}
-use Rattle.mtapi_machine.specs.Ends.{end_at}
-use Rattle.mtapi_machine.specs.Worked.{usual, main, worker, first_handle, next_handle, task, the_action, every_core, add_task, picks_first}
+use Rattle.mtapi_machine.specs.Worked.{task}
 use Rattle.history_law.specs.Accepted.{EndsOnce}
 use Rattle.history_law.specs.Ends.{OneEnd}
 use Rattle.history_law.specs.Affinity.{ObeysMasks}

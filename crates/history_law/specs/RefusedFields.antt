@@ -2,13 +2,7 @@
 -- can be had.
 use Rattle.std.specs.Prelude.{◌≡◌, ℕ, true, false, List, [], ◌∷◌, ◌++◌, pos}
 use Rattle.mtapi_values.specs.declared.kinds.Kind.TheVariants as kind
-use Rattle.mtapi_values.specs.declared.handles.ObjectKind.{ObjectKind}
-use Rattle.handle_pool.specs.Issued.{Listed}
-use Rattle.mtapi_objects.specs.Tasks.{Task, Running, with_state, no_tally}
-use Rattle.mtapi_machine.specs.declared.terms.Terms.{Terms}
-use Rattle.mtapi_machine.specs.State.{State}
-use Rattle.mtapi_machine.specs.Legal.{NodeEntry, after}
-use Rattle.mtapi_machine.specs.Worked.{usual, first_handle, next_handle}
+use Rattle.history_law.specs.Names.{ObjectKind, Listed, Task, Running, with_state, no_tally, Terms, State, NodeEntry, after, usual, first_handle, next_handle}
 use Rattle.history_law.specs.Words.{is_live}
 use Rattle.history_law.specs.Reuse.{StaysGone}
 use Rattle.history_law.specs.Seats.{Work, Holds, WorkerKeeps}

@@ -2,26 +2,18 @@
 -- moves the phase, or the entry of the seat itself. Some laws refuse a state, or a reply.
 use Rattle.std.specs.Prelude.{true, false, List, [], ◌∷◌, ◌++◌, None, pos, replicate, slice_set}
 use Rattle.mtapi_values.specs.declared.kinds.Kind.TheVariants as kind
-use Rattle.mtapi_values.specs.declared.ends.TaskEnd.TheVariants.{Cancelled}
-use Rattle.mtapi_values.specs.declared.statuses.MtapiStatus.TheVariants.{Timeout, ErrTaskInvalid}
-use Rattle.action_fn.specs.declared.finished.ActEnd.TheVariants.{Fails}
-use Rattle.handle_pool.specs.Issued.{Listed}
-use Rattle.mtapi_objects.specs.Tasks.{Task, Ended, new_task, with_notes, with_state, no_tally}
+use Rattle.history_law.specs.Names.{Cancelled, Timeout, ErrTaskInvalid, Fails, Listed, Task, new_task, with_notes, with_state, no_tally, entry, State, opening, seats, NodeEntry, after, usual, main, worker, first_handle, add_task, picks_first, finishes_first, Op, h1}
+use Rattle.mtapi_objects.specs.Tasks.{Ended}
 use Rattle.mtapi_machine.specs.declared.ops.Op.TheVariants as op
 use Rattle.mtapi_machine.specs.declared.replies.Reply.TheVariants as reply
-use Rattle.history.specs.Histories.{entry}
-use Rattle.mtapi_machine.specs.State.{State, opening, seats}
-use Rattle.mtapi_machine.specs.Legal.{NodeEntry, after}
-use Rattle.mtapi_machine.specs.Worked.{usual, main, worker, first_handle, task, add_task, picks_first, finishes_first}
+use Rattle.mtapi_machine.specs.Worked.{task}
 use Rattle.history_law.specs.Accepted.{TasksEndOnce}
 use Rattle.history_law.specs.Seats.{OnceListed, KeepsWaiter, WorkerKeeps, EndsInTime, KeepsPhase, KeepsRelease, KeepsEarly, AreUntouched, KeepsStops, BySeats, EntersBehindRelease, FinalsBehindStops, KeepsOnce, Work, HasMarks}
 use Rattle.history_law.specs.Refused.{makes_action, too_early, final_first}
-use Rattle.mtapi_machine.specs.declared.ops.Op.{Op}
 use Rattle.history_law.specs.Quiet.{EndsPlainly}
 use Rattle.history_law.specs.Served.{Serves}
 use Rattle.history_law.specs.TallyHolds.{TalliesHold}
 use Rattle.history_law.specs.WorkedSum.{two_workers, gets_both, begins}
-use Rattle.mtapi_machine.specs.Tables.{h1}
 
 -- a node with a task
 unfoldable pub started : List NodeEntry

@@ -1,11 +1,8 @@
 -- Handles: none is used again, and in layout two none names objects of two kinds.
 use Rattle.std.specs.Prelude.{◌≡◌, ℕ, ◌≤◌, true, false, ◌==◌, List, ◌++◌}
-use Rattle.mtapi_values.specs.declared.handles.ObjectKind.{ObjectKind}
+use Rattle.history_law.specs.Names.{ObjectKind, Two, Terms, NodeEntry, after}
 use Rattle.mtapi_values.specs.declared.handles.Layout.{Layout}
-use Rattle.mtapi_values.specs.declared.handles.Layout.TheVariants.{Two}
 use Rattle.mtapi_values.specs.Layouts.{object_number}
-use Rattle.mtapi_machine.specs.declared.terms.Terms.{Terms}
-use Rattle.mtapi_machine.specs.Legal.{NodeEntry, after}
 use Rattle.history_law.specs.Words.{some_entry, times, is_live, issues}
 
 -- what holds of a handle after entries that came behind its end: it isn't live, and none of them issued it

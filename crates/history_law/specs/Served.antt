@@ -1,15 +1,8 @@
 -- What a worker may ask of the task that it has.
 use Rattle.std.specs.Prelude.{◌≡◌, ℕ, ◌<◌}
 use Rattle.mtapi_values.specs.declared.kinds.Kind.TheVariants.{Watch, Tally}
-use Rattle.mtapi_values.specs.declared.statuses.MtapiStatus.TheVariants.{ErrTaskInvalid}
-use Rattle.mtapi_values.specs.declared.handles.TaskHandle.{TaskHandle}
-use Rattle.history.specs.Histories.{entry}
-use Rattle.mtapi_machine.specs.declared.ops.Op.{Op}
-use Rattle.mtapi_machine.specs.declared.ops.Op.TheVariants.{Finish, Asked, WatchEnd, TallyLock, TallyRead, TallyWrite, TallyEnd}
-use Rattle.mtapi_machine.specs.declared.replies.Reply.{Reply}
-use Rattle.mtapi_machine.specs.declared.replies.Reply.TheVariants.{Ok, Mtapi}
-use Rattle.mtapi_machine.specs.State.{State, workers}
-use Rattle.mtapi_machine.specs.Legal.{IsNext}
+use Rattle.history_law.specs.Names.{ErrTaskInvalid, TaskHandle, entry, Op, Finish, WatchEnd, TallyLock, TallyRead, TallyWrite, TallyEnd, Reply, Ok, Mtapi, State, workers, IsNext}
+use Rattle.mtapi_machine.specs.declared.ops.Op.TheVariants.{Asked}
 use Rattle.history_law.specs.Seats.{Work, Holds}
 
 -- the op asks this of the task: to finish it, with its own kind and arguments, or a step of a watch or of a tally

@@ -1,17 +1,7 @@
 -- What tallies add to a cell of a segment.
 use Rattle.std.specs.Prelude.{◌≡◌, ℕ, ◌<◌, Bool, true, false, not, ◌&&◌, ◌==◌, List, [], ◌∷◌, ◌++◌, length, ℤ, pos, ◌+ℤ◌, Option, Some, None, if◌then◌else◌}
-use Rattle.mtapi_values.specs.declared.ends.TaskEnd.{TaskEnd}
-use Rattle.mtapi_values.specs.declared.ends.TaskEnd.TheVariants.{Completed}
-use Rattle.mtapi_values.specs.declared.handles.TaskHandle.{TaskHandle}
-use Rattle.history.specs.Histories.{entry}
-use Rattle.handle_pool.specs.Issued.{Listed, live_object}
-use Rattle.mtapi_objects.specs.Tasks.{Task, TaskState, Ended, Adds, tally_args, cell_in, number_in}
-use Rattle.mtapi_objects.specs.Segments.{Segment, cell_of}
-use Rattle.mtapi_machine.specs.declared.ops.Op.{Op}
-use Rattle.mtapi_machine.specs.declared.ops.Op.TheVariants.{Final, ShmemWrite}
-use Rattle.mtapi_machine.specs.declared.replies.Reply.TheVariants.{Ok}
-use Rattle.mtapi_machine.specs.declared.terms.Terms.{Terms}
-use Rattle.mtapi_machine.specs.Legal.{NodeEntry, after}
+use Rattle.history_law.specs.Names.{TaskEnd, Completed, TaskHandle, entry, Listed, live_object, Task, TaskState, Adds, tally_args, cell_in, number_in, Segment, cell_of, Op, Final, ShmemWrite, Ok, Terms, NodeEntry, after}
+use Rattle.mtapi_objects.specs.Tasks.{Ended}
 use Rattle.history_law.specs.Words.{some_entry}
 use Rattle.history_law.specs.Seats.{says_ok}
 use Rattle.history_law.specs.Exclusion.{tally_got}

@@ -1,13 +1,7 @@
 -- What a running tally holds.
 use Rattle.std.specs.Prelude.{◌≡◌, ℕ, Bool, true, not, ◌&&◌, ◌==◌, List, Option, Some, None}
-use Rattle.mtapi_values.specs.Seats.{marked}
-use Rattle.handle_pool.specs.Issued.{live_object}
-use Rattle.mtapi_objects.specs.Tasks.{Task, TallyNotes, runs_on}
+use Rattle.history_law.specs.Names.{marked, live_object, Task, TallyNotes, runs_on, Segment, Terms, State, NodeEntry, Legal, after}
 use Rattle.mtapi_objects.specs.Mutexes.{Mutex}
-use Rattle.mtapi_objects.specs.Segments.{Segment}
-use Rattle.mtapi_machine.specs.declared.terms.Terms.{Terms}
-use Rattle.mtapi_machine.specs.State.{State}
-use Rattle.mtapi_machine.specs.Legal.{NodeEntry, Legal, after}
 
 -- the tally has got its mutex and its segment: it has begun and hasn't failed
 abbrev pub got_both : TallyNotes → Bool

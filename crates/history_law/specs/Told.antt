@@ -1,14 +1,7 @@
 -- The ends that entries tell.
 use Rattle.std.specs.Prelude.{◌≡◌, ℕ, ◌==◌, List, ◌∷◌, ◌++◌, Option, Some, None, if◌then◌else◌}
-use Rattle.mtapi_values.specs.declared.ends.TaskEnd.{TaskEnd}
-use Rattle.mtapi_machine.specs.declared.ops.Op.{Op}
-use Rattle.mtapi_machine.specs.declared.ops.Op.TheVariants.{TaskLook, AnyLook, Finish, WatchEnd, TallyEnd}
-use Rattle.mtapi_machine.specs.declared.replies.Reply.{Reply}
-use Rattle.mtapi_machine.specs.declared.replies.Reply.TheVariants.{Ok, Ended, Given}
-use Rattle.mtapi_machine.specs.declared.terms.Terms.{Terms}
-use Rattle.mtapi_machine.specs.WorkRows.{task_end}
-use Rattle.mtapi_machine.specs.Legal.{NodeEntry, after}
-use Rattle.mtapi_machine.specs.Ends.{end_at}
+use Rattle.history_law.specs.Names.{TaskEnd, Op, TaskLook, AnyLook, Finish, WatchEnd, TallyEnd, Reply, Ok, Given, Terms, task_end, NodeEntry, after, end_at}
+use Rattle.mtapi_machine.specs.declared.replies.Reply.TheVariants.{Ended}
 
 -- the end in a reply; the one that is given with this task; this end, where the reply is Ok
 abbrev pub end_told : Reply → Option TaskEnd

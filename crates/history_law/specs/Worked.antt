@@ -1,7 +1,6 @@
 -- A worked history: a task that is started, runs and is looked at, on a node that is closed then.
 use Rattle.std.specs.Prelude.{◌≡◌, [], ◌∷◌, pos}
-use Rattle.mtapi_values.specs.declared.ends.TaskEnd.TheVariants.{Completed}
-use Rattle.mtapi_machine.specs.Worked.{usual, first_handle, one_task}
+use Rattle.history_law.specs.Names.{Completed, usual, first_handle, one_task}
 use Rattle.history_law.specs.Accepted.{EndsOnce}
 
 -- its one task ends once, completed with 5

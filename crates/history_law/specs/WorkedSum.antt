@@ -1,16 +1,10 @@
 -- A worked history of two tallies: on a node with two workers they add 5 and 7 to one cell under one mutex, and the node is closed.
 use Rattle.std.specs.Prelude.{◌≡◌, ℕ, true, false, List, [], ◌∷◌, ◌++◌, ℤ, pos, Some}
 use Rattle.mtapi_values.specs.declared.kinds.Kind.TheVariants as kind
-use Rattle.mtapi_values.specs.declared.ends.TaskEnd.TheVariants.{Completed}
-use Rattle.history.specs.Histories.{entry}
-use Rattle.mtapi_objects.specs.Segments.{Segment, cell_of}
-use Rattle.mtapi_machine.specs.declared.terms.Terms.{Terms}
-use Rattle.mtapi_machine.specs.declared.ops.Op.{Op}
+use Rattle.history_law.specs.Names.{Completed, entry, Segment, cell_of, Terms, Op, Reply, NodeEntry, Legal, after, node_of, h1, h2, action_of, start, picked}
 use Rattle.mtapi_machine.specs.declared.ops.Op.TheVariants as op
-use Rattle.mtapi_machine.specs.declared.replies.Reply.{Reply}
 use Rattle.mtapi_machine.specs.declared.replies.Reply.TheVariants as reply
-use Rattle.mtapi_machine.specs.Legal.{NodeEntry, Legal, after}
-use Rattle.mtapi_machine.specs.Tables.{node_of, h1, h2, task, action_of, start, picked}
+use Rattle.mtapi_machine.specs.Tables.{task}
 use Rattle.history_law.specs.Words.{some_entry}
 use Rattle.history_law.specs.Tally.{record_of, sum_of, number_added, writes_to, NamesOneMutex}
 

@@ -6,19 +6,11 @@ use Rattle.mtapi_values.specs.declared.kinds.Kind.TheVariants as kind
 use Rattle.mtapi_values.specs.declared.handles.ObjectKind.TheVariants as object
 use Rattle.mtapi_values.specs.declared.statuses.MtapiStatus.TheVariants as status
 use Rattle.mtapi_values.specs.declared.statuses.MrapiStatus.TheVariants.{ErrSemLocked}
-use Rattle.mtapi_values.specs.declared.ends.TaskEnd.{TaskEnd}
-use Rattle.mtapi_values.specs.declared.ends.TaskEnd.TheVariants.{Completed, Cancelled, Failed}
-use Rattle.mtapi_values.specs.declared.masks.Mask.{Mask}
-use Rattle.action_fn.specs.declared.finished.ActEnd.TheVariants.{Done}
-use Rattle.history.specs.Histories.{entry}
-use Rattle.handle_pool.specs.Issued.{Listed}
-use Rattle.mtapi_objects.specs.Tasks.{Task, Scheduled, Running, Ended, new_task, with_state, with_notes, no_tally}
-use Rattle.mtapi_machine.specs.declared.ops.Op.{Op}
+use Rattle.history_law.specs.Names.{TaskEnd, Completed, Cancelled, Failed, Mask, Done, entry, Listed, Task, Scheduled, Running, new_task, with_state, with_notes, no_tally, Op, Reply, NodeEntry, action, group, queue, mutex, sem, rwl, segment}
+use Rattle.mtapi_objects.specs.Tasks.{Ended}
 use Rattle.mtapi_machine.specs.declared.ops.Op.TheVariants as op
-use Rattle.mtapi_machine.specs.declared.replies.Reply.{Reply}
 use Rattle.mtapi_machine.specs.declared.replies.Reply.TheVariants as reply
-use Rattle.mtapi_machine.specs.Legal.{NodeEntry}
-use Rattle.mtapi_machine.specs.Tables.{action, task, group, queue, mutex, sem, rwl, segment}
+use Rattle.mtapi_machine.specs.Tables.{task}
 use Rattle.history_law.specs.Words.{some_entry, entries_that, makes_object, is_handle, issues}
 use Rattle.history_law.specs.Accepted.{accepted_by, issued_by}
 use Rattle.history_law.specs.Affinity.{task_mask, action_mask}

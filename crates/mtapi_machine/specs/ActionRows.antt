@@ -1,12 +1,9 @@
 -- The rows of the ops on jobs and actions.
 use Rattle.std.specs.Prelude.{ℕ, false, not, [], ◌∷◌, pos}
-use Rattle.mtapi_values.specs.declared.kinds.Kind.{Kind}
-use Rattle.mtapi_values.specs.declared.masks.Mask.{Mask}
+use Rattle.mtapi_machine.specs.Names.{Kind, Mask, any_listed, gone, with_fields, new_action, action_create_refusals, has_job, with_enabled}
 use Rattle.mtapi_values.specs.declared.statuses.MtapiStatus.TheVariants as m
 use Rattle.mtapi_machine.specs.declared.replies.Reply.{Reply}
 use Rattle.mtapi_machine.specs.declared.replies.Reply.TheVariants.{Ok, Number, Mtapi}
-use Rattle.handle_pool.specs.Issued.{any_listed, gone, with_fields}
-use Rattle.mtapi_objects.specs.Actions.{new_action, action_create_refusals, has_job, with_enabled}
 use Rattle.mtapi_machine.specs.State.{State, actions}
 use Rattle.mtapi_machine.specs.Moves.{makes_action, enables, withdraws}
 use Rattle.mtapi_machine.specs.Row.{Row, unless, says, gives, mtapi_unless, mtapi, mtapi_open, on, creates}

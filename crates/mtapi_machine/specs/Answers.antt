@@ -2,34 +2,10 @@
 -- entries matches on these, and walks over no row.
 use Rattle.std.specs.Prelude.{◌≡◌, ℕ, ◌+◌, Bool, true, false, not, ◌&&◌, ◌||◌, ◌==◌, nat_lt, List, [], ◌∷◌, length, ℤ, pos, Option, Some, None, is_some, if◌then◌else◌}
 use Rattle.std.specs.Ordering.{int_eq}
-use Rattle.mtapi_values.specs.declared.kinds.Kind.{Kind}
+use Rattle.mtapi_machine.specs.Names.{Kind, Mask, MtapiStatus, MrapiStatus, TaskEnd, Completed, Cancelled, Failed, TaskHandle, ActionHandle, GroupHandle, QueueHandle, MutexHandle, SemHandle, RwlHandle, ShmemHandle, all_marked, Answered, fits, live_object, live_of, any_listed, count_listed, first_handle, gone, with_fields, Action, new_action, with_enabled, has_job, is_eligible, Task, NewTask, Scheduled, Running, Ended, is_unended, runs_on, runs_as, with_waiter, cancel_requested, task_look_refusals, finish_refusals, asked_refusals, asked_once, watch_end_refusals, watch_end, Adds, tally_args, cell_in, added, with_tally, tally_failed, tally_has, tally_read, tally_written, Group, new_group, is_unended_member, Ending, endings, first_fault, in_no_group, Queue, opened, is_in, is_unended_in, put_refusals, is_shut_in, Mutex, new_mutex, mutex_delete_refusals, mutex_look_refusals, mutex_busy, locked_by, mutex_unlock_refusals, unlocked, Sem, new_sem, sem_delete_refusals, sem_busy, sem_taken, sem_unlock_refusals, sem_given, Rwl, new_rwl, rwl_delete_refusals, rwl_look_refusals, rwl_busy, rwl_taken, rwl_unlock_refusals, rwl_given, Segment, new_segment, shmem_delete_refusals, attach_refusals, detach_refusals, with_attached, cell_refusals, cell_of, with_cell}
 use Rattle.mtapi_values.specs.declared.kinds.Kind.TheVariants as kinds
-use Rattle.mtapi_values.specs.declared.masks.Mask.{Mask}
-use Rattle.mtapi_values.specs.declared.statuses.MtapiStatus.{MtapiStatus}
 use Rattle.mtapi_values.specs.declared.statuses.MtapiStatus.TheVariants as m
-use Rattle.mtapi_values.specs.declared.statuses.MrapiStatus.{MrapiStatus}
 use Rattle.mtapi_values.specs.declared.statuses.MrapiStatus.TheVariants as c
-use Rattle.mtapi_values.specs.declared.ends.TaskEnd.{TaskEnd}
-use Rattle.mtapi_values.specs.declared.ends.TaskEnd.TheVariants.{Completed, Cancelled, Failed}
-use Rattle.mtapi_values.specs.declared.handles.TaskHandle.{TaskHandle}
-use Rattle.mtapi_values.specs.declared.handles.ActionHandle.{ActionHandle}
-use Rattle.mtapi_values.specs.declared.handles.GroupHandle.{GroupHandle}
-use Rattle.mtapi_values.specs.declared.handles.QueueHandle.{QueueHandle}
-use Rattle.mtapi_values.specs.declared.handles.MutexHandle.{MutexHandle}
-use Rattle.mtapi_values.specs.declared.handles.SemHandle.{SemHandle}
-use Rattle.mtapi_values.specs.declared.handles.RwlHandle.{RwlHandle}
-use Rattle.mtapi_values.specs.declared.handles.ShmemHandle.{ShmemHandle}
-use Rattle.mtapi_values.specs.Seats.{all_marked}
-use Rattle.action_fn.specs.Answers.{Answered, fits}
-use Rattle.handle_pool.specs.Issued.{live_object, live_of, any_listed, count_listed, first_handle, gone, with_fields}
-use Rattle.mtapi_objects.specs.Actions.{Action, new_action, with_enabled, has_job, is_eligible}
-use Rattle.mtapi_objects.specs.Tasks.{Task, NewTask, Scheduled, Running, Ended, is_unended, runs_on, runs_as, with_waiter, cancel_requested, task_look_refusals, finish_refusals, asked_refusals, asked_once, watch_end_refusals, watch_end, Adds, tally_args, cell_in, added, with_tally, tally_failed, tally_has, tally_read, tally_written}
-use Rattle.mtapi_objects.specs.Groups.{Group, new_group, is_unended_member, Ending, endings, first_fault, in_no_group}
-use Rattle.mtapi_objects.specs.Queues.{Queue, opened, is_in, is_unended_in, put_refusals, is_shut_in}
-use Rattle.mtapi_objects.specs.Mutexes.{Mutex, new_mutex, mutex_delete_refusals, mutex_look_refusals, mutex_busy, locked_by, mutex_unlock_refusals, unlocked}
-use Rattle.mtapi_objects.specs.Sems.{Sem, new_sem, sem_delete_refusals, sem_busy, sem_taken, sem_unlock_refusals, sem_given}
-use Rattle.mtapi_objects.specs.Rwls.{Rwl, new_rwl, rwl_delete_refusals, rwl_look_refusals, rwl_busy, rwl_taken, rwl_unlock_refusals, rwl_given}
-use Rattle.mtapi_objects.specs.Segments.{Segment, new_segment, shmem_delete_refusals, attach_refusals, detach_refusals, with_attached, cell_refusals, cell_of, with_cell}
 use Rattle.mtapi_machine.specs.declared.ops.Op.{Op}
 use Rattle.mtapi_machine.specs.declared.ops.Op.TheVariants as op
 use Rattle.mtapi_machine.specs.declared.replies.Reply.{Reply}

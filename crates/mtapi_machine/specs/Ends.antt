@@ -1,8 +1,6 @@
 -- How a task of a state ended.
 use Rattle.std.specs.Prelude.{ℕ, ◌==◌, List, [], ◌∷◌, Option, Some, None, if◌then◌else◌}
-use Rattle.mtapi_values.specs.declared.ends.TaskEnd.{TaskEnd}
-use Rattle.handle_pool.specs.Issued.{Listed}
-use Rattle.mtapi_objects.specs.Tasks.{Task, TaskState, Scheduled, Running, Ended}
+use Rattle.mtapi_machine.specs.Names.{TaskEnd, Listed, Task, TaskState, Scheduled, Running, Ended}
 
 -- the end of a task in this state: completed, cancelled or failed
 abbrev pub end_in : TaskState → Option TaskEnd

@@ -1,12 +1,9 @@
 -- The rows of the ops on groups.
 use Rattle.std.specs.Prelude.{ℕ, Bool, not, List, [], ◌∷◌, Option, Some, None, if◌then◌else◌}
-use Rattle.mtapi_values.specs.declared.statuses.MtapiStatus.{MtapiStatus}
+use Rattle.mtapi_machine.specs.Names.{MtapiStatus, live_of, any_listed, TaskState, Ended, new_group, is_member, is_unended_member, Ending, endings, first_fault, in_no_group}
 use Rattle.mtapi_values.specs.declared.statuses.MtapiStatus.TheVariants as m
 use Rattle.mtapi_machine.specs.declared.replies.Reply.{Reply}
 use Rattle.mtapi_machine.specs.declared.replies.Reply.TheVariants.{Ok, Given, Mtapi}
-use Rattle.handle_pool.specs.Issued.{live_of, any_listed}
-use Rattle.mtapi_objects.specs.Tasks.{TaskState, Ended}
-use Rattle.mtapi_objects.specs.Groups.{new_group, is_member, is_unended_member, Ending, endings, first_fault, in_no_group}
 use Rattle.mtapi_machine.specs.State.{State, tasks, groups}
 use Rattle.mtapi_machine.specs.Moves.{Groups, notes, leaves, frees_members, lets_members_go, makes, removes}
 use Rattle.mtapi_machine.specs.Row.{Row, unless, gives, never, not_yet, mtapi, mtapi_open, on, chosen, creates}

@@ -1,8 +1,6 @@
 -- What a journal keeps of a history, and the numbers beside its entries.
 use Rattle.std.specs.Prelude.{ℕ, ◌+◌, Bool, true, false, List, [], ◌∷◌, replicate, slice_index, slice_set, if◌then◌else◌}
-use Rattle.mtapi_values.specs.Conditions.{holds}
-use Rattle.mtapi_values.specs.Seats.{is_seat}
-use Rattle.handle_pool.specs.Issued.{live_object}
+use Rattle.mtapi_machine.specs.Names.{holds, is_seat, live_object}
 use Rattle.mtapi_machine.specs.declared.ops.Op.{Op}
 use Rattle.mtapi_machine.specs.declared.ops.Op.TheVariants.{TaskLook}
 use Rattle.mtapi_machine.specs.declared.replies.Reply.{Reply}

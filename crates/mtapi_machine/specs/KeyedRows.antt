@@ -1,11 +1,10 @@
 -- What the rows of queues and of the four kinds of resources share: their objects are found by an id.
 use Rattle.std.specs.Prelude.{ℕ, Bool, ◌==◌, nat_lt, not, List, [], ◌∷◌, Option, Some, None, if◌then◌else◌}
 use Rattle.mtapi_values.specs.declared.statuses.MtapiStatus.TheVariants as m
-use Rattle.mtapi_values.specs.declared.statuses.MrapiStatus.{MrapiStatus}
+use Rattle.mtapi_machine.specs.Names.{MrapiStatus, live_of, any_listed, first_handle}
 use Rattle.mtapi_values.specs.declared.statuses.MrapiStatus.TheVariants as c
 use Rattle.mtapi_machine.specs.declared.replies.Reply.{Reply}
 use Rattle.mtapi_machine.specs.declared.replies.Reply.TheVariants.{Ok, Handle, Mtapi, Mrapi}
-use Rattle.handle_pool.specs.Issued.{live_of, any_listed, first_handle}
 use Rattle.mtapi_machine.specs.State.{State, workers, is_open, is_up}
 use Rattle.mtapi_machine.specs.Moves.{Sort, Queues, Mutexes, Sems, Rwls, Segments, Fields, all_of, makes, alters, removes}
 use Rattle.mtapi_machine.specs.Row.{Row, unless, says, gives, not_yet, on, creates}

@@ -3,8 +3,7 @@ use Rattle.std.specs.Prelude.{◌≤◌, List}
 use Rattle.history.specs.declared.entries.Entry.{Entry}
 use Rattle.history.specs.Legal as of
 use Rattle.history.specs.Legal.{Machine}
-use Rattle.action_fn.specs.Answers.{IsAnswered}
-use Rattle.mtapi_values.specs.Attributes.{AreNodeSettings}
+use Rattle.mtapi_machine.specs.Names.{IsAnswered, AreNodeSettings}
 use Rattle.mtapi_machine.specs.declared.ops.Op.{Op}
 use Rattle.mtapi_machine.specs.declared.ops.Op.TheVariants.{Finish}
 use Rattle.mtapi_machine.specs.declared.replies.Reply.{Reply}

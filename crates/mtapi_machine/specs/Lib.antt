@@ -1,3 +1,4 @@
+pub mod Names
 pub mod State
 pub mod Ends
 pub mod Moves

@@ -1,11 +1,9 @@
 -- The rows of the ops on the phase of a node.
 use Rattle.std.specs.Prelude.{not, ◌&&◌, [], ◌∷◌}
 use Rattle.mtapi_values.specs.declared.statuses.MtapiStatus.TheVariants as m
-use Rattle.mtapi_values.specs.declared.ends.TaskEnd.TheVariants.{Cancelled}
-use Rattle.mtapi_values.specs.Seats.{all_marked}
+use Rattle.mtapi_machine.specs.Names.{Cancelled, all_marked, is_shut_in}
 use Rattle.mtapi_machine.specs.declared.terms.Phase.TheVariants.{Open, Closing, Closed}
 use Rattle.mtapi_machine.specs.declared.replies.Reply.TheVariants.{Ok, Pending, Mtapi}
-use Rattle.mtapi_objects.specs.Queues.{is_shut_in}
 use Rattle.mtapi_machine.specs.State.{State, workers, is_new, is_past_open}
 use Rattle.mtapi_machine.specs.Moves.{phase_is, released, ends_waiting}
 use Rattle.mtapi_machine.specs.Row.{Row, unless, says, gives, mtapi, mtapi_open}

@@ -1,12 +1,9 @@
 -- The rows of the ops on queues.
 use Rattle.std.specs.Prelude.{ℕ, Bool, true, false, not, ◌&&◌, ◌||◌, nat_lt, nat_le, [], ◌∷◌, if◌then◌else◌}
 use Rattle.mtapi_values.specs.declared.statuses.MtapiStatus.TheVariants as m
-use Rattle.mtapi_values.specs.declared.ends.TaskEnd.TheVariants.{Cancelled, Failed}
+use Rattle.mtapi_machine.specs.Names.{Cancelled, Failed, any_listed, has_job, Queue, opened, is_in}
 use Rattle.mtapi_machine.specs.declared.replies.Reply.{Reply}
 use Rattle.mtapi_machine.specs.declared.replies.Reply.TheVariants.{Ok}
-use Rattle.handle_pool.specs.Issued.{any_listed}
-use Rattle.mtapi_objects.specs.Actions.{has_job}
-use Rattle.mtapi_objects.specs.Queues.{Queue, opened, is_in}
 use Rattle.mtapi_machine.specs.State.{State, queues}
 use Rattle.mtapi_machine.specs.Moves.{Queues, ends_waiting, alters, removes}
 use Rattle.mtapi_machine.specs.Row.{Row, gives, mtapi_unless, mtapi, mtapi_open, on}

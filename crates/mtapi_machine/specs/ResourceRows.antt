@@ -2,10 +2,7 @@
 use Rattle.std.specs.Prelude.{ℕ, ◌+◌, Bool, true, false, [], ℤ, pos}
 use Rattle.mtapi_machine.specs.declared.replies.Reply.{Reply}
 use Rattle.mtapi_machine.specs.declared.replies.Reply.TheVariants.{Ok, Number}
-use Rattle.mtapi_objects.specs.Mutexes.{new_mutex, mutex_delete_refusals, mutex_look_refusals, mutex_busy, locked_by, mutex_unlock_refusals, unlocked}
-use Rattle.mtapi_objects.specs.Sems.{new_sem, sem_create_refusals, sem_delete_refusals, sem_busy, sem_taken, sem_unlock_refusals, sem_given}
-use Rattle.mtapi_objects.specs.Rwls.{new_rwl, rwl_create_refusals, rwl_delete_refusals, rwl_look_refusals, rwl_busy, rwl_taken, rwl_unlock_refusals, rwl_given}
-use Rattle.mtapi_objects.specs.Segments.{new_segment, shmem_create_refusals, shmem_delete_refusals, attach_refusals, detach_refusals, with_attached, cell_refusals, cell_of, with_cell}
+use Rattle.mtapi_machine.specs.Names.{new_mutex, mutex_delete_refusals, mutex_look_refusals, mutex_busy, locked_by, mutex_unlock_refusals, unlocked, new_sem, sem_create_refusals, sem_delete_refusals, sem_busy, sem_taken, sem_unlock_refusals, sem_given, new_rwl, rwl_create_refusals, rwl_delete_refusals, rwl_look_refusals, rwl_busy, rwl_taken, rwl_unlock_refusals, rwl_given, new_segment, shmem_create_refusals, shmem_delete_refusals, attach_refusals, detach_refusals, with_attached, cell_refusals, cell_of, with_cell}
 use Rattle.mtapi_machine.specs.State.{State, segments}
 use Rattle.mtapi_machine.specs.Moves.{Mutexes, Sems, Rwls, Segments}
 use Rattle.mtapi_machine.specs.Row.{Row, says, on}

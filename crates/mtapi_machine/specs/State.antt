@@ -2,26 +2,15 @@
 use Rattle.std.specs.Prelude.{ℕ, ◌+◌, Bool, true, false, not, ◌&&◌, List, []}
 use Rattle.mtapi_values.specs.declared.statuses.MtapiStatus.TheVariants as m
 use Rattle.mtapi_values.specs.declared.statuses.MrapiStatus.TheVariants as c
-use Rattle.mtapi_values.specs.Attributes.{NodeSettings}
+use Rattle.mtapi_machine.specs.Names.{NodeSettings, no_marks, TaskEnd, Listed, any_listed, count_listed, change, update, retire, Action, Task, is_unended, end_each, ended, Group, Queue, Mutex, Sem, Rwl, Segment}
 use Rattle.mtapi_values.specs.declared.handles.ObjectKind.{ObjectKind}
 use Rattle.mtapi_values.specs.declared.handles.ObjectKind.TheVariants as kind
 use Rattle.mtapi_values.specs.declared.handles.Layout.{Layout}
-use Rattle.mtapi_values.specs.Seats.{no_marks}
-use Rattle.mtapi_values.specs.declared.ends.TaskEnd.{TaskEnd}
 use Rattle.mtapi_machine.specs.declared.terms.Phase.{Phase}
 use Rattle.mtapi_machine.specs.declared.terms.Phase.TheVariants.{New, Open, Closing}
 use Rattle.mtapi_machine.specs.declared.terms.Terms.{Terms}
 use Rattle.mtapi_machine.specs.declared.replies.Reply.{Reply}
 use Rattle.mtapi_machine.specs.declared.replies.Reply.TheVariants.{Mtapi, Mrapi}
-use Rattle.handle_pool.specs.Issued.{Listed, any_listed, count_listed, change, update, retire}
-use Rattle.mtapi_objects.specs.Actions.{Action}
-use Rattle.mtapi_objects.specs.Tasks.{Task, is_unended, end_each, ended}
-use Rattle.mtapi_objects.specs.Groups.{Group}
-use Rattle.mtapi_objects.specs.Queues.{Queue}
-use Rattle.mtapi_objects.specs.Mutexes.{Mutex}
-use Rattle.mtapi_objects.specs.Sems.{Sem}
-use Rattle.mtapi_objects.specs.Rwls.{Rwl}
-use Rattle.mtapi_objects.specs.Segments.{Segment}
 
 -- what no op changes, the phase, whether main has released, which workers have stopped, how many tasks were started and how many
 -- have ended, and of each kind the objects that were ever made

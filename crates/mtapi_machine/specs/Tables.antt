@@ -2,21 +2,7 @@
 -- one a family of ops. Each is a legal history of a small node, and so is the table up to each of its lines. Beside a line stand
 -- replies that aren't legal in its place.
 use Rattle.std.specs.Prelude.{ℕ, true, false, List, [], ◌∷◌, ◌++◌, Some, None, ℤ}
-use Rattle.mtapi_values.specs.declared.kinds.Kind.{Kind}
-use Rattle.mtapi_values.specs.declared.statuses.MtapiStatus.{MtapiStatus}
-use Rattle.mtapi_values.specs.declared.statuses.MrapiStatus.{MrapiStatus}
-use Rattle.mtapi_values.specs.declared.masks.Mask.{Mask}
-use Rattle.mtapi_values.specs.declared.handles.Layout.TheVariants.{One}
-use Rattle.mtapi_values.specs.declared.handles.ActionHandle.{ActionHandle}
-use Rattle.mtapi_values.specs.declared.handles.TaskHandle.{TaskHandle}
-use Rattle.mtapi_values.specs.declared.handles.GroupHandle.{GroupHandle}
-use Rattle.mtapi_values.specs.declared.handles.QueueHandle.{QueueHandle}
-use Rattle.mtapi_values.specs.declared.handles.MutexHandle.{MutexHandle}
-use Rattle.mtapi_values.specs.declared.handles.SemHandle.{SemHandle}
-use Rattle.mtapi_values.specs.declared.handles.RwlHandle.{RwlHandle}
-use Rattle.mtapi_values.specs.declared.handles.ShmemHandle.{ShmemHandle}
-use Rattle.action_fn.specs.declared.finished.ActEnd.{ActEnd}
-use Rattle.history.specs.Histories.{entry}
+use Rattle.mtapi_machine.specs.Names.{Kind, MtapiStatus, MrapiStatus, Mask, One, ActionHandle, TaskHandle, GroupHandle, QueueHandle, MutexHandle, SemHandle, RwlHandle, ShmemHandle, ActEnd, entry}
 use Rattle.mtapi_machine.specs.declared.terms.Terms.{Terms}
 use Rattle.mtapi_machine.specs.declared.ops.Op.{Op}
 use Rattle.mtapi_machine.specs.declared.ops.Op.TheVariants as op

@@ -2,16 +2,9 @@
 use Rattle.std.specs.Prelude.{ℕ, true, false, not, ◌&&◌, ◌||◌, ◌==◌, nat_lt, List, [], ◌∷◌, length, ℤ, Option, Some, None, is_some, if◌then◌else◌}
 use Rattle.std.specs.Ordering.{int_eq}
 use Rattle.mtapi_values.specs.declared.kinds.Kind.TheVariants.{Tally}
-use Rattle.mtapi_values.specs.declared.statuses.MtapiStatus.{MtapiStatus}
+use Rattle.mtapi_machine.specs.Names.{MtapiStatus, TaskEnd, Completed, Failed, fits, live_of, live_object, first_handle, Task, runs_as, with_tally, Adds, tally_args, cell_in, added, tally_failed, tally_has, tally_read, tally_written, locked_by, unlocked, with_attached, cell_of, with_cell}
 use Rattle.mtapi_values.specs.declared.statuses.MtapiStatus.TheVariants as m
-use Rattle.mtapi_values.specs.declared.ends.TaskEnd.{TaskEnd}
-use Rattle.mtapi_values.specs.declared.ends.TaskEnd.TheVariants.{Completed, Failed}
-use Rattle.action_fn.specs.Answers.{fits}
 use Rattle.mtapi_machine.specs.declared.replies.Reply.TheVariants.{Ok, Number, Ended, Pending, Asked, Mtapi}
-use Rattle.handle_pool.specs.Issued.{live_of, live_object, first_handle}
-use Rattle.mtapi_objects.specs.Tasks.{Task, runs_as, with_tally, Adds, tally_args, cell_in, added, tally_failed, tally_has, tally_read, tally_written}
-use Rattle.mtapi_objects.specs.Mutexes.{locked_by, unlocked}
-use Rattle.mtapi_objects.specs.Segments.{with_attached, cell_of, with_cell}
 use Rattle.mtapi_machine.specs.State.{State, tasks, mutexes, segments}
 use Rattle.mtapi_machine.specs.Moves.{Mutexes, Segments, ends_task, notes, alters}
 use Rattle.mtapi_machine.specs.Row.{Row, unless, says, gives, work, live, on, chosen}

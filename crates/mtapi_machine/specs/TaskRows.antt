@@ -1,18 +1,10 @@
 -- The rows of the ops by which callers start tasks, look at them and cancel them.
 use Rattle.std.specs.Prelude.{ℕ, Bool, not, ◌&&◌, ◌||◌, ◌==◌, nat_lt, List, [], ◌∷◌, ◌++◌, ℤ, Option, Some, None, is_some, is_none, option_map, if◌then◌else◌}
-use Rattle.mtapi_values.specs.declared.statuses.MtapiStatus.{MtapiStatus}
+use Rattle.mtapi_machine.specs.Names.{MtapiStatus, Cancelled, GroupHandle, Mask, holds, live_object, any_listed, count_listed, has_job, has_enabled_job, NewTask, TaskState, Scheduled, Running, Ended, cancel_requested, task_look_refusals, with_waiter, Queue, is_unended_in, put_refusals}
 use Rattle.mtapi_values.specs.declared.statuses.MtapiStatus.TheVariants as m
-use Rattle.mtapi_values.specs.declared.ends.TaskEnd.TheVariants.{Cancelled}
-use Rattle.mtapi_values.specs.declared.handles.GroupHandle.{GroupHandle}
-use Rattle.mtapi_values.specs.declared.masks.Mask.{Mask}
-use Rattle.mtapi_values.specs.Conditions.{holds}
 use Rattle.mtapi_machine.specs.declared.replies.Reply.{Reply}
 use Rattle.mtapi_machine.specs.declared.replies.Reply.TheVariants.{Ok, Pending, Mtapi}
 use Rattle.mtapi_machine.specs.declared.replies.Reply.TheVariants as reply
-use Rattle.handle_pool.specs.Issued.{live_object, any_listed, count_listed}
-use Rattle.mtapi_objects.specs.Actions.{has_job, has_enabled_job}
-use Rattle.mtapi_objects.specs.Tasks.{NewTask, TaskState, Scheduled, Running, Ended, cancel_requested, task_look_refusals, with_waiter}
-use Rattle.mtapi_objects.specs.Queues.{Queue, is_unended_in, put_refusals}
 use Rattle.mtapi_machine.specs.State.{State, tasks, queues}
 use Rattle.mtapi_machine.specs.Moves.{starts_task, ends_task, notes, leaves, is_served}
 use Rattle.mtapi_machine.specs.Row.{Row, unless, says, gives, mtapi_unless, mtapi, mtapi_open, on, creates}

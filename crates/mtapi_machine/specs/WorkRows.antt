@@ -1,18 +1,9 @@
 -- The rows of the ops by which workers take tasks and end them.
 use Rattle.std.specs.Prelude.{ℕ, Bool, not, ◌&&◌, ◌||◌, nat_lt, [], ◌∷◌, is_none, if◌then◌else◌}
 use Rattle.mtapi_values.specs.declared.statuses.MtapiStatus.TheVariants as m
-use Rattle.mtapi_values.specs.declared.ends.TaskEnd.{TaskEnd}
-use Rattle.mtapi_values.specs.declared.ends.TaskEnd.TheVariants.{Completed, Failed}
-use Rattle.mtapi_values.specs.Conditions.{holds}
-use Rattle.action_fn.specs.declared.finished.ActEnd.{ActEnd}
-use Rattle.action_fn.specs.declared.finished.ActEnd.TheVariants.{Done, Fails}
-use Rattle.action_fn.specs.Answers.{Answered}
+use Rattle.mtapi_machine.specs.Names.{TaskEnd, Completed, Failed, holds, ActEnd, Done, Fails, Answered, live_of, live_object, any_listed, is_eligible, Task, is_unstarted, runs_on, finish_refusals, asked_refusals, asked_once, watch_end_refusals, watch_end, lets}
 use Rattle.mtapi_machine.specs.declared.replies.Reply.{Reply}
 use Rattle.mtapi_machine.specs.declared.replies.Reply.TheVariants.{Ok, Ended, Picked, Idle, Stop, Asked, Mtapi}
-use Rattle.handle_pool.specs.Issued.{live_of, live_object, any_listed}
-use Rattle.mtapi_objects.specs.Actions.{is_eligible}
-use Rattle.mtapi_objects.specs.Tasks.{Task, is_unstarted, runs_on, finish_refusals, asked_refusals, asked_once, watch_end_refusals, watch_end}
-use Rattle.mtapi_objects.specs.Queues.{lets}
 use Rattle.mtapi_machine.specs.State.{State, workers, is_new, is_stop, actions, tasks}
 use Rattle.mtapi_machine.specs.Moves.{stops, runs_task, ends_task, notes}
 use Rattle.mtapi_machine.specs.Row.{Row, unless, says, gives, only, mtapi_unless, work, on, chosen}

@@ -2,13 +2,7 @@
 -- worked histories stand in the other files of this name.
 use Rattle.std.specs.Prelude.{ℕ, false, List, [], ◌∷◌, None, pos}
 use Rattle.mtapi_values.specs.declared.kinds.Kind.TheVariants as kind
-use Rattle.mtapi_values.specs.declared.masks.Mask.{Mask}
-use Rattle.mtapi_values.specs.declared.handles.TaskHandle.{TaskHandle}
-use Rattle.mtapi_values.specs.declared.handles.ActionHandle.{ActionHandle}
-use Rattle.mtapi_values.specs.declared.ends.TaskEnd.TheVariants.{Completed}
-use Rattle.action_fn.specs.declared.finished.ActEnd.TheVariants.{Done}
-use Rattle.history.specs.Histories.{entry}
-use Rattle.mtapi_values.specs.declared.handles.Layout.TheVariants.{One}
+use Rattle.mtapi_machine.specs.Names.{Mask, TaskHandle, ActionHandle, Completed, Done, entry, One}
 use Rattle.mtapi_machine.specs.declared.terms.Terms.{Terms}
 use Rattle.mtapi_machine.specs.declared.ops.Op.{Op}
 use Rattle.mtapi_machine.specs.declared.ops.Op.TheVariants as op

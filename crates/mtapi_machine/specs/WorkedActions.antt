@@ -2,8 +2,7 @@
 use Rattle.std.specs.Prelude.{true, false, List, [], ◌∷◌, pos}
 use Rattle.mtapi_values.specs.declared.kinds.Kind.TheVariants as kind
 use Rattle.mtapi_values.specs.declared.statuses.MtapiStatus.TheVariants as status
-use Rattle.mtapi_values.specs.declared.ends.TaskEnd.TheVariants.{Completed, Failed}
-use Rattle.action_fn.specs.declared.finished.ActEnd.TheVariants.{Done}
+use Rattle.mtapi_machine.specs.Names.{Completed, Failed, Done}
 use Rattle.mtapi_machine.specs.declared.ops.Op.TheVariants as op
 use Rattle.mtapi_machine.specs.declared.replies.Reply.TheVariants as reply
 use Rattle.mtapi_machine.specs.Tables.{Line, Works, node_of, small, line, worker, main, main_not, refused, h1, h2, h3, again1, again2, action, task, group, queue, every_core, first_core, second_core, action_of, start, start_in, put_in, look, picked, finish}

@@ -4,8 +4,7 @@ use Rattle.std.specs.Prelude.{ℕ, zero, suc, ◌+◌, false, true, List, [], �
 use Rattle.mtapi_values.specs.declared.kinds.Kind.TheVariants as kind
 use Rattle.mtapi_values.specs.declared.statuses.MtapiStatus.TheVariants as status
 use Rattle.mtapi_values.specs.declared.statuses.MrapiStatus.TheVariants as code
-use Rattle.mtapi_values.specs.declared.handles.Layout.TheVariants.{One}
-use Rattle.mtapi_values.specs.Attributes.{NodeSettings}
+use Rattle.mtapi_machine.specs.Names.{One, NodeSettings}
 use Rattle.mtapi_machine.specs.declared.terms.Terms.{Terms}
 use Rattle.mtapi_machine.specs.declared.ops.Op.{Op}
 use Rattle.mtapi_machine.specs.declared.ops.Op.TheVariants as op

@@ -2,9 +2,7 @@
 use Rattle.std.specs.Prelude.{true, false, List, [], ◌∷◌, Some, None, pos}
 use Rattle.mtapi_values.specs.declared.kinds.Kind.TheVariants as kind
 use Rattle.mtapi_values.specs.declared.statuses.MtapiStatus.TheVariants as status
-use Rattle.mtapi_values.specs.declared.ends.TaskEnd.TheVariants.{Completed, Cancelled}
-use Rattle.mtapi_values.specs.declared.handles.Layout.TheVariants.{One}
-use Rattle.action_fn.specs.declared.finished.ActEnd.TheVariants.{Done}
+use Rattle.mtapi_machine.specs.Names.{Completed, Cancelled, One, Done}
 use Rattle.mtapi_machine.specs.declared.terms.Terms.{Terms}
 use Rattle.mtapi_machine.specs.declared.ops.Op.TheVariants as op
 use Rattle.mtapi_machine.specs.declared.replies.Reply.TheVariants as reply

@@ -1,18 +1,7 @@
 -- When a handle may be given and when a kind has no room, by counts alone, and how the counts change.
 use Rattle.std.specs.Prelude.{◌≡◌, ℕ, ◌+◌, ◌<◌, Bool, ◌&&◌, ◌==◌, nat_le, List, length, None, Some, if◌then◌else◌}
-use Rattle.mtapi_values.specs.declared.handles.ObjectKind.{ObjectKind}
-use Rattle.mtapi_values.specs.declared.handles.ObjectKind.TheVariants.{Action, Task, Group, Queue, Mutex, Sem, Rwl, Shmem}
-use Rattle.mtapi_values.specs.Layouts.{names_kind}
-use Rattle.handle_pool.specs.Slots.{slot_of, generation_of}
-use Rattle.handle_pool.specs.Issued.{issued_at}
-use Rattle.mtapi_machine.specs.declared.terms.Terms.{Terms}
-use Rattle.mtapi_machine.specs.declared.ops.Op.{Op}
-use Rattle.mtapi_machine.specs.declared.replies.Reply.{Reply}
-use Rattle.mtapi_machine.specs.declared.replies.Reply.TheVariants.{Handle}
-use Rattle.mtapi_machine.specs.State.{State, objects_of, actions, tasks, groups, queues, mutexes, sems, rwls, segments}
-use Rattle.mtapi_machine.specs.Row.{Allows, after_row}
-use Rattle.mtapi_machine.specs.Rows.{row}
-use Rattle.mtapi_machine.specs.Legal.{NodeEntry, after}
+use Rattle.mtapi_renaming.specs.Names.{ObjectKind, Action, Group, Queue, Mutex, Sem, Rwl, Shmem, names_kind, slot_of, generation_of, issued_at, Terms, Op, Reply, Handle, State, objects_of, actions, tasks, groups, queues, mutexes, sems, rwls, segments, Allows, after_row, row, NodeEntry, after}
+use Rattle.mtapi_values.specs.declared.handles.ObjectKind.TheVariants.{Task}
 use Rattle.mtapi_renaming.specs.Kinds.{made_kind, live_in, is_full_of, is_fresh_of}
 
 -- how many objects of the kind were made

@@ -1,11 +1,9 @@
 -- Renamings that have just the handles that were issued in a state.
 use Rattle.std.specs.Prelude.{◌≡◌, ◌⊎◌, ℕ, ◌≤◌, List, [], ◌∷◌}
 use Rattle.std.specs.Option.{IfSome}
-use Rattle.mtapi_values.specs.declared.handles.ObjectKind.{ObjectKind}
+use Rattle.mtapi_renaming.specs.Names.{ObjectKind, Listed, listed, Notes, TallyNotes, State, objects_of}
 use Rattle.mtapi_values.specs.declared.handles.ObjectKind.TheVariants as kind
-use Rattle.handle_pool.specs.Issued.{Listed, listed}
-use Rattle.mtapi_objects.specs.Tasks.{Task, Notes, TallyNotes}
-use Rattle.mtapi_machine.specs.State.{State, objects_of}
+use Rattle.mtapi_objects.specs.Tasks.{Task}
 use Rattle.mtapi_renaming.specs.Renaming.{Renaming, Has, IsOneToOne}
 
 -- no handle, or one that has another

@@ -1,10 +1,6 @@
 -- How many objects of a kind are live no more: all were made, none of them is live again, and where one ends there is one more.
 use Rattle.std.specs.Prelude.{◌≡◌, ℕ, ◌+◌, ◌≤◌, ◌==◌, true, false, List, length, if◌then◌else◌}
-use Rattle.mtapi_values.specs.declared.handles.ObjectKind.{ObjectKind}
-use Rattle.handle_pool.specs.Slots.{generation_of}
-use Rattle.mtapi_machine.specs.declared.terms.Terms.{Terms}
-use Rattle.mtapi_machine.specs.State.{State}
-use Rattle.mtapi_machine.specs.Legal.{NodeEntry, next, after}
+use Rattle.mtapi_renaming.specs.Names.{ObjectKind, generation_of, Terms, State, NodeEntry, next, after}
 use Rattle.mtapi_renaming.specs.Kinds.{live_in, is_live_of}
 use Rattle.mtapi_renaming.specs.Counts.{made_in}
 use Rattle.mtapi_renaming.specs.Lasts.{lasts_of, gone_of}

@@ -1,16 +1,9 @@
 -- Which ops make objects, and when an object of a kind can be made.
 use Rattle.std.specs.Prelude.{◌≡◌, ℕ, Bool, true, false, Option, Some, None, is_some, length}
 use Rattle.std.specs.Bool.{MatchBool}
-use Rattle.mtapi_values.specs.declared.handles.ObjectKind.{ObjectKind}
-use Rattle.mtapi_values.specs.declared.handles.ObjectKind.TheVariants.{Action, Task, Group, Queue, Mutex, Sem, Rwl, Shmem}
-use Rattle.handle_pool.specs.Issued.{live_of, live_object, is_full}
-use Rattle.mtapi_machine.specs.declared.ops.Op.{Op}
-use Rattle.mtapi_machine.specs.declared.ops.Op.TheVariants.{Pick, ActionCreate, TaskStart, TaskEnqueue, GroupCreate, QueueCreate, MutexCreate, SemCreate, RwlCreate, ShmemCreate}
-use Rattle.mtapi_machine.specs.declared.replies.Reply.{Reply}
-use Rattle.mtapi_machine.specs.declared.replies.Reply.TheVariants.{Handle, Picked}
-use Rattle.mtapi_machine.specs.State.{State, Objects, objects_of, actions, tasks, groups, queues, mutexes, sems, rwls, segments}
+use Rattle.mtapi_renaming.specs.Names.{ObjectKind, Action, Group, Queue, Mutex, Sem, Rwl, Shmem, live_of, live_object, is_full, Op, Pick, ActionCreate, TaskStart, TaskEnqueue, GroupCreate, QueueCreate, MutexCreate, SemCreate, RwlCreate, ShmemCreate, Reply, Handle, Picked, State, Objects, objects_of, actions, tasks, groups, queues, mutexes, sems, rwls, segments, handle_of}
+use Rattle.mtapi_values.specs.declared.handles.ObjectKind.TheVariants.{Task}
 use Rattle.mtapi_machine.specs.Moves.{is_fresh}
-use Rattle.mtapi_machine.specs.Row.{handle_of}
 
 -- the kind of the object that the op makes
 abbrev pub made_kind : Op → Option ObjectKind

@@ -1,16 +1,6 @@
 -- The handles of a kind that were the last of their slots, from which it is told how many slots have retired.
 use Rattle.std.specs.Prelude.{◌≡◌, ℕ, ◌+◌, ◌≤◌, not, ◌==◌, List, [], ◌∷◌, ◌++◌, Some, None, if◌then◌else◌}
-use Rattle.mtapi_values.specs.declared.handles.ObjectKind.{ObjectKind}
-use Rattle.handle_pool.specs.Slots.{generation_of}
-use Rattle.handle_pool.specs.Issued.{Listed, how_many}
-use Rattle.mtapi_machine.specs.declared.terms.Terms.{Terms}
-use Rattle.mtapi_machine.specs.declared.ops.Op.{Op}
-use Rattle.mtapi_machine.specs.declared.replies.Reply.{Reply}
-use Rattle.mtapi_machine.specs.declared.replies.Reply.TheVariants.{Handle}
-use Rattle.mtapi_machine.specs.State.{State, objects_of}
-use Rattle.mtapi_machine.specs.Row.{Allows, after_row}
-use Rattle.mtapi_machine.specs.Rows.{row}
-use Rattle.mtapi_machine.specs.Legal.{NodeEntry, after}
+use Rattle.mtapi_renaming.specs.Names.{ObjectKind, generation_of, Listed, how_many, Terms, Op, Reply, Handle, State, objects_of, Allows, after_row, row, NodeEntry, after}
 use Rattle.mtapi_renaming.specs.Kinds.{made_kind, live_in, is_live_of, is_full_of}
 use Rattle.mtapi_renaming.specs.Counts.{most_of}
 

@@ -1,13 +1,6 @@
 -- Two nodes that differ in their handles and in their limits alone, step by step.
 use Rattle.std.specs.Prelude.{◌≡◌, ◌↔◌, ℕ, true, false, None, Some}
-use Rattle.mtapi_values.specs.declared.handles.ObjectKind.{ObjectKind}
-use Rattle.mtapi_machine.specs.declared.terms.Terms.{Terms}
-use Rattle.mtapi_machine.specs.declared.ops.Op.{Op}
-use Rattle.mtapi_machine.specs.declared.replies.Reply.{Reply}
-use Rattle.mtapi_machine.specs.declared.replies.Reply.TheVariants.{Handle}
-use Rattle.mtapi_machine.specs.State.{State, opening}
-use Rattle.mtapi_machine.specs.Row.{Row, Allows, after_row}
-use Rattle.mtapi_machine.specs.Rows.{row}
+use Rattle.mtapi_renaming.specs.Names.{ObjectKind, Terms, Op, Reply, Handle, State, opening, Row, Allows, after_row, row}
 use Rattle.mtapi_renaming.specs.Renaming.{Renaming, nothing, with_pair}
 use Rattle.mtapi_renaming.specs.Renamed.{Room, terms_in, renamed}
 use Rattle.mtapi_renaming.specs.Follows.{Follows}

@@ -1,3 +1,4 @@
+pub mod Names
 pub mod Renaming
 pub mod Renamed
 pub mod Follows

@@ -2,8 +2,8 @@
 use Rattle.std.specs.Prelude.{ℕ}
 use Rattle.std.specs.Ordering.{nat_cmp}
 use Rattle.std.specs.BTreeMap.{BTreeMap, get}
-use Rattle.mtapi_values.specs.declared.handles.ObjectKind.{ObjectKind}
-use Rattle.mtapi_values.specs.declared.handles.ObjectKind.TheVariants.{Action, Task, Group, Queue, Mutex, Sem, Rwl, Shmem}
+use Rattle.mtapi_renaming.specs.Names.{ObjectKind, Action, Group, Queue, Mutex, Sem, Rwl, Shmem}
+use Rattle.mtapi_values.specs.declared.handles.ObjectKind.TheVariants.{Task}
 use Rattle.mtapi_renaming.specs.declared.maps.OtherHandles.{OtherHandles}
 use Rattle.mtapi_renaming.specs.Renaming.{or_zero, Renaming}
 

@@ -1,19 +1,14 @@
 -- An op and a reply with other handles.
 use Rattle.std.specs.Prelude.{ℕ, Option, Some, None, option_map}
-use Rattle.mtapi_values.specs.declared.handles.ActionHandle.{ActionHandle}
-use Rattle.mtapi_values.specs.declared.handles.TaskHandle.{TaskHandle}
+use Rattle.mtapi_renaming.specs.Names.{ActionHandle, TaskHandle, ObjectKind, Op, ActionCreate, ActionDelete, ActionDisable, ActionEnable, TaskStart, TaskEnqueue, TaskLook, TaskCancel, GroupCreate, GroupDelete, AllLook, AnyLook, QueueCreate, QueueGet, QueueEnable, QueueDisable, QueueDelete, Finish, WatchEnd, TallyLock, TallyRead, TallyWrite, TallyEnd, MutexCreate, MutexGet, MutexDelete, MutexLook, MutexUnlock, SemCreate, SemGet, SemDelete, SemLook, SemUnlock, RwlCreate, RwlGet, RwlDelete, RwlLook, RwlUnlock, ShmemCreate, ShmemGet, ShmemDelete, ShmemAttach, ShmemDetach, ShmemRead, ShmemWrite, Reply, Handle, Given, Picked}
 use Rattle.mtapi_values.specs.declared.handles.GroupHandle.{GroupHandle}
 use Rattle.mtapi_values.specs.declared.handles.QueueHandle.{QueueHandle}
 use Rattle.mtapi_values.specs.declared.handles.MutexHandle.{MutexHandle}
 use Rattle.mtapi_values.specs.declared.handles.SemHandle.{SemHandle}
 use Rattle.mtapi_values.specs.declared.handles.RwlHandle.{RwlHandle}
 use Rattle.mtapi_values.specs.declared.handles.ShmemHandle.{ShmemHandle}
-use Rattle.mtapi_values.specs.declared.handles.ObjectKind.{ObjectKind}
 use Rattle.mtapi_values.specs.declared.handles.ObjectKind.TheVariants as kind
-use Rattle.mtapi_machine.specs.declared.ops.Op.{Op}
-use Rattle.mtapi_machine.specs.declared.ops.Op.TheVariants.{ActionCreate, ActionDelete, ActionDisable, ActionEnable, TaskStart, TaskEnqueue, TaskLook, TaskCancel, GroupCreate, GroupDelete, AllLook, AnyLook, QueueCreate, QueueGet, QueueEnable, QueueDisable, QueueDelete, Finish, Asked, WatchEnd, TallyLock, TallyRead, TallyWrite, TallyEnd, MutexCreate, MutexGet, MutexDelete, MutexLook, MutexUnlock, SemCreate, SemGet, SemDelete, SemLook, SemUnlock, RwlCreate, RwlGet, RwlDelete, RwlLook, RwlUnlock, ShmemCreate, ShmemGet, ShmemDelete, ShmemAttach, ShmemDetach, ShmemRead, ShmemWrite}
-use Rattle.mtapi_machine.specs.declared.replies.Reply.{Reply}
-use Rattle.mtapi_machine.specs.declared.replies.Reply.TheVariants.{Handle, Given, Picked}
+use Rattle.mtapi_machine.specs.declared.ops.Op.TheVariants.{Asked}
 use Rattle.mtapi_renaming.specs.Renaming.{Renaming}
 
 -- the other handles of those that an op names

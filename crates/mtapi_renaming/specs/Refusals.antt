@@ -1,16 +1,7 @@
 -- What an op that makes an object is refused for before it is asked whether there is room, and what it may answer then.
 use Rattle.std.specs.Prelude.{◌≡◌, ◌↔◌, ℕ, Bool, true, false, Option, Some, None, List, if◌then◌else◌, ℤ}
 use Rattle.mtapi_values.specs.declared.kinds.Kind.{Kind}
-use Rattle.mtapi_values.specs.declared.handles.ObjectKind.{ObjectKind}
-use Rattle.mtapi_values.specs.declared.handles.TaskHandle.{TaskHandle}
-use Rattle.mtapi_values.specs.declared.handles.ActionHandle.{ActionHandle}
-use Rattle.mtapi_machine.specs.declared.ops.Op.{Op}
-use Rattle.mtapi_machine.specs.declared.ops.Op.TheVariants.{Pick}
-use Rattle.mtapi_machine.specs.declared.replies.Reply.{Reply}
-use Rattle.mtapi_machine.specs.declared.replies.Reply.TheVariants.{Ok, Picked}
-use Rattle.mtapi_machine.specs.State.{State}
-use Rattle.mtapi_machine.specs.Row.{Row, unless, gives, never, Allows, after_row}
-use Rattle.mtapi_machine.specs.Rows.{row}
+use Rattle.mtapi_renaming.specs.Names.{ObjectKind, TaskHandle, ActionHandle, Op, Pick, Reply, Ok, Picked, State, Row, unless, gives, never, Allows, after_row, row}
 use Rattle.mtapi_renaming.specs.Renaming.{Renaming}
 use Rattle.mtapi_renaming.specs.Renamed.{Room, renamed}
 use Rattle.mtapi_renaming.specs.Follows.{Follows}

@@ -3,11 +3,9 @@ use Rattle.std.specs.Prelude.{ℕ, List, option_map}
 use Rattle.mtapi_values.specs.declared.handles.ObjectKind.TheVariants as kind
 use Rattle.mtapi_values.specs.declared.handles.Layout.{Layout}
 use Rattle.mtapi_values.specs.Attributes.{NodeSettings}
-use Rattle.handle_pool.specs.Issued.{Listed}
+use Rattle.mtapi_renaming.specs.Names.{Listed, Notes, TallyNotes, Terms, State}
 use Rattle.handle_pool.specs.Inside.{inside}
-use Rattle.mtapi_objects.specs.Tasks.{Task, Notes, TallyNotes}
-use Rattle.mtapi_machine.specs.declared.terms.Terms.{Terms}
-use Rattle.mtapi_machine.specs.State.{State}
+use Rattle.mtapi_objects.specs.Tasks.{Task}
 use Rattle.mtapi_renaming.specs.Renaming.{Renaming}
 
 -- how handles are made, how many objects of each kind there may be, and how often a slot is used: all of the terms that no reply

@@ -1,7 +1,6 @@
 -- Other handles for the objects of a node.
 use Rattle.std.specs.Prelude.{◌≡◌, ℕ, ◌≤◌, ◌&&◌, ◌==◌, Option, Some, None, if◌then◌else◌}
-use Rattle.mtapi_values.specs.declared.handles.ObjectKind.{ObjectKind}
-use Rattle.mtapi_values.specs.Layouts.{object_number}
+use Rattle.mtapi_renaming.specs.Names.{ObjectKind, object_number}
 
 -- 0, which no pool issues, where there is none
 abbrev pub or_zero : Option ℕ → ℕ

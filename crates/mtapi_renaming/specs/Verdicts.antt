@@ -5,18 +5,10 @@ use Rattle.std.specs.Ordering.{int_eq}
 use Rattle.std.specs.Cmp.Lexicographic.{pointwise}
 use Rattle.mtapi_values.specs.Statuses.{mtapi_number, mrapi_number}
 use Rattle.mtapi_values.specs.declared.ends.TaskEnd.{TaskEnd}
-use Rattle.mtapi_values.specs.declared.ends.TaskEnd.TheVariants.{Completed, Cancelled, Failed}
+use Rattle.mtapi_renaming.specs.Names.{Completed, Cancelled, Failed, Done, Fails, kind_number, Terms, Op, Finish, Reply, Ok, Handle, Number, Ended, Given, Pending, Picked, Idle, Stop, Mtapi, Mrapi, State, opening, seats, NodeEntry, row_of, next, Fits, Legal}
 use Rattle.action_fn.specs.declared.finished.ActEnd.{ActEnd}
-use Rattle.action_fn.specs.declared.finished.ActEnd.TheVariants.{Done, Fails}
 use Rattle.action_fn.specs.Answers.{is_pure, answer_of}
-use Rattle.mtapi_objects.specs.Tasks.{kind_number}
-use Rattle.mtapi_machine.specs.declared.terms.Terms.{Terms}
-use Rattle.mtapi_machine.specs.declared.ops.Op.{Op}
-use Rattle.mtapi_machine.specs.declared.ops.Op.TheVariants.{Finish}
-use Rattle.mtapi_machine.specs.declared.replies.Reply.{Reply}
-use Rattle.mtapi_machine.specs.declared.replies.Reply.TheVariants.{Ok, Handle, Number, Ended, Given, Pending, Picked, Idle, Stop, Asked, Mtapi, Mrapi}
-use Rattle.mtapi_machine.specs.State.{State, opening, seats}
-use Rattle.mtapi_machine.specs.Legal.{NodeEntry, row_of, next, Fits, Legal}
+use Rattle.mtapi_machine.specs.declared.replies.Reply.TheVariants.{Asked}
 use Rattle.mtapi_machine.specs.Replay.{answer}
 
 -- two ends of a task are the same

@@ -4,17 +4,12 @@ use Rattle.std.specs.Prelude.{◌≡◌, ℕ, true, false, List, [], ◌∷◌, 
 use Rattle.mtapi_values.specs.declared.kinds.Kind.TheVariants as kinds
 use Rattle.mtapi_values.specs.declared.handles.ObjectKind.TheVariants as kind
 use Rattle.mtapi_values.specs.declared.handles.Layout.TheVariants.{One, Two}
-use Rattle.mtapi_values.specs.declared.ends.TaskEnd.TheVariants.{Completed}
+use Rattle.mtapi_renaming.specs.Names.{Completed, Done, Terms, Op, State, opening, NodeEntry, after}
 use Rattle.mtapi_values.specs.declared.statuses.MtapiStatus.TheVariants as status
 use Rattle.mtapi_values.specs.declared.statuses.MrapiStatus.TheVariants as cause
-use Rattle.action_fn.specs.declared.finished.ActEnd.TheVariants.{Done}
 use Rattle.history.specs.Histories.{entry}
-use Rattle.mtapi_machine.specs.declared.terms.Terms.{Terms}
-use Rattle.mtapi_machine.specs.declared.ops.Op.{Op}
 use Rattle.mtapi_machine.specs.declared.ops.Op.TheVariants as op
 use Rattle.mtapi_machine.specs.declared.replies.Reply.TheVariants as reply
-use Rattle.mtapi_machine.specs.State.{State, opening}
-use Rattle.mtapi_machine.specs.Legal.{NodeEntry, after}
 use Rattle.mtapi_machine.specs.Tables.{node_of, small, h1, h2, h3, again1, action, task, mutex, action_of, start, put_in, look, finish}
 use Rattle.mtapi_renaming.specs.Renaming.{Renaming, nothing, with_pair}
 use Rattle.mtapi_renaming.specs.Renamed.{Room, terms_in, renamed}

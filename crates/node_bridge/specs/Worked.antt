@@ -1,17 +1,12 @@
 -- Worked histories of a served node with one worker, two clients and room for one task: their images, and which are legal.
 use Rattle.std.specs.Prelude.{◌≡◌, ℕ, false, List, [], ◌∷◌, ◌++◌, None, ℤ, pos}
-use Rattle.history.specs.Histories.{entry}
+use Rattle.node_bridge.specs.Names.{entry, Completed, ActionHandle, TaskHandle, Answered, NodeEntry}
 use Rattle.mtapi_values.specs.declared.kinds.Kind.TheVariants as kind
-use Rattle.mtapi_values.specs.declared.ends.TaskEnd.TheVariants.{Completed}
 use Rattle.mtapi_values.specs.declared.statuses.MtapiStatus.TheVariants as status
 use Rattle.mtapi_values.specs.declared.handles.Layout.TheVariants.{Two}
-use Rattle.mtapi_values.specs.declared.handles.ActionHandle.{ActionHandle}
-use Rattle.mtapi_values.specs.declared.handles.TaskHandle.{TaskHandle}
-use Rattle.action_fn.specs.Answers.{Answered}
 use Rattle.action_fn.specs.declared.finished.ActEnd.TheVariants as act
 use Rattle.mtapi_machine.specs.declared.ops.Op.TheVariants as op
 use Rattle.mtapi_machine.specs.declared.replies.Reply.TheVariants as reply
-use Rattle.mtapi_machine.specs.Legal.{NodeEntry}
 use Rattle.node_bridge.specs.declared.ops.BridgeOp.TheVariants.{Start, Look, Pick, Finish, Close}
 use Rattle.node_bridge.specs.declared.ops.BridgeReply.TheVariants.{Ok, Handle, Done, Pending, Picked, Stop, Refused}
 use Rattle.node_bridge.specs.declared.terms.ServedTerms.{ServedTerms}

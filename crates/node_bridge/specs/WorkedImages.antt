@@ -1,12 +1,8 @@
 -- Worked rows of a served node: what each op asks of the node inside, what each reply tells, and which entries a bridge and a worker add, with
 -- values that all differ. Each is decided by computing.
 use Rattle.std.specs.Prelude.{◌≡◌, true, false, [], ◌∷◌, map, pos, Some, None, Ok as right, Err as wrong}
-use Rattle.history.specs.Histories.{entry}
+use Rattle.node_bridge.specs.Names.{entry, ErrTaskLimit, ErrActionFailed, Completed, Failed, TaskHandle, Answered}
 use Rattle.mtapi_values.specs.declared.kinds.Kind.TheVariants as kind
-use Rattle.mtapi_values.specs.declared.statuses.MtapiStatus.TheVariants.{ErrTaskLimit, ErrActionFailed}
-use Rattle.mtapi_values.specs.declared.ends.TaskEnd.TheVariants.{Completed, Failed}
-use Rattle.mtapi_values.specs.declared.handles.TaskHandle.{TaskHandle}
-use Rattle.action_fn.specs.Answers.{Answered}
 use Rattle.action_fn.specs.declared.finished.ActEnd.TheVariants as act
 use Rattle.mtapi_machine.specs.declared.ops.Op.TheVariants as op
 use Rattle.mtapi_machine.specs.declared.replies.Reply.TheVariants as reply

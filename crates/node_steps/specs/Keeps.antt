@@ -1,18 +1,9 @@
 -- What a scheduler keeps beside its pools, as the machine's state says it.
 use Rattle.std.specs.Prelude.{◌≡◌, ◌↔◌, ℕ, ◌<◌, Bool, true, ◌&&◌, ◌==◌, List, map, Some, slice_get}
-use Rattle.mtapi_values.specs.Conditions.{holds}
-use Rattle.mtapi_values.specs.declared.handles.TaskHandle.{TaskHandle}
-use Rattle.handle_pool.specs.Slots.{slot_value, used_at}
-use Rattle.handle_pool.specs.Issued.{live_of, live_object}
+use Rattle.node_steps.specs.Names.{holds, TaskHandle, slot_value, used_at, live_of, live_object, Task, is_unstarted, runs_on, Ending, is_unended_member, endings, is_unended_in, HeldQueue, SchedulerTable, running_on, State, workers}
 use Rattle.linked_places.specs.Lists.{list_at, has_handle}
 use Rattle.ready_index.specs.Marks.{mark_at, is_for_at}
-use Rattle.mtapi_objects.specs.Tasks.{Task, is_unstarted, runs_on}
-use Rattle.mtapi_objects.specs.Groups.{Ending, is_unended_member, endings}
-use Rattle.mtapi_objects.specs.Queues.{is_unended_in}
-use Rattle.queue_core.specs.Held.{HeldQueue}
 use Rattle.group_core.specs.Members.{Members}
-use Rattle.task_board.specs.Scheduler.{SchedulerTable, running_on}
-use Rattle.mtapi_machine.specs.State.{State, workers}
 use Rattle.mtapi_machine.specs.WorkRows.{can_take}
 
 -- the list has exactly the live tasks that pass, in the order of their starts

@@ -1,3 +1,4 @@
+pub mod Names
 pub mod Keeps
 pub mod Stands
 pub mod Picks

@@ -1,19 +1,11 @@
 -- What a worker takes.
 use Rattle.std.specs.Prelude.{◌≡◌, ℕ, ℤ, List, Option, Some}
 use Rattle.mtapi_values.specs.declared.handles.ActionHandle.{ActionHandle}
-use Rattle.mtapi_values.specs.declared.handles.TaskHandle.{TaskHandle}
+use Rattle.node_steps.specs.Names.{TaskHandle, slot_value, changed, Task, Running, with_state, Becomes, State, Allows, row, Reply, Picked}
 use Rattle.mtapi_values.specs.declared.kinds.Kind.{Kind}
-use Rattle.handle_pool.specs.Slots.{slot_value, changed}
-use Rattle.mtapi_objects.specs.Tasks.{Task, Running, with_state}
 use Rattle.task_board.specs.declared.scheduler.Choice.{Choice}
-use Rattle.task_board.specs.Scheduler.{Becomes}
 use Rattle.task_board.specs.Picks.{IsChoice, NoneBetter}
 use Rattle.mtapi_machine.specs.declared.ops.Op.TheVariants.{Pick}
-use Rattle.mtapi_machine.specs.State.{State}
-use Rattle.mtapi_machine.specs.Row.{Allows}
-use Rattle.mtapi_machine.specs.Rows.{row}
-use Rattle.mtapi_machine.specs.declared.replies.Reply.{Reply}
-use Rattle.mtapi_machine.specs.declared.replies.Reply.TheVariants.{Picked}
 use Rattle.node_steps.specs.declared.node.PoolNode.{PoolNode}
 
 -- the worker takes what was chosen: the reply says what it is, and the task runs on the worker; all else is as it was

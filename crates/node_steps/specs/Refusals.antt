@@ -1,18 +1,11 @@
 -- What an op that makes an object is refused for before it is asked whether there is room, in the order of its row.
 use Rattle.std.specs.Prelude.{◌≡◌, ℕ, ℤ, Bool, not, nat_lt, nat_le, ◌&&◌, ◌||◌, ◌==◌, false, true, List, [], ◌∷◌, ◌++◌, Option, Some, None}
 use Rattle.std.specs.Option.{option_map}
-use Rattle.mtapi_values.specs.Conditions.{first}
+use Rattle.node_steps.specs.Names.{first, MtapiStatus, ErrNodeNotinit, ErrParameter, ErrJobInvalid, ErrQueueDisabled, ErrQueueExists, ErrQueueLimit, slot_value, any_listed, has_job, State, is_open, facts_of}
 use Rattle.mtapi_values.specs.declared.handles.GroupHandle.{GroupHandle}
 use Rattle.mtapi_values.specs.declared.masks.Mask.{Mask}
-use Rattle.mtapi_values.specs.declared.statuses.MtapiStatus.{MtapiStatus}
-use Rattle.mtapi_values.specs.declared.statuses.MtapiStatus.TheVariants.{ErrNodeNotinit, ErrParameter, ErrJobInvalid, ErrQueueDisabled, ErrQueueExists, ErrQueueLimit}
-use Rattle.handle_pool.specs.Slots.{slot_value}
-use Rattle.handle_pool.specs.Issued.{any_listed}
-use Rattle.mtapi_objects.specs.Actions.{has_job}
 use Rattle.mtapi_machine.specs.declared.terms.Phase.{Phase}
-use Rattle.mtapi_machine.specs.State.{State, is_open}
 use Rattle.mtapi_machine.specs.TaskRows.{asked_for, start_refusals, is_detached_member, number_of}
-use Rattle.queue_core.specs.Held.{facts_of}
 use Rattle.queue_core.specs.declared.facts.QueueFacts.{QueueFacts}
 use Rattle.task_board.specs.Members.{names_dead}
 use Rattle.node_steps.specs.declared.node.PoolNode.{PoolNode}

@@ -1,22 +1,11 @@
 -- What it means that a node stands for a history.
 use Rattle.std.specs.Prelude.{◌≡◌, ℕ, ◌+◌, ◌≤◌, List, length}
 use Rattle.mtapi_values.specs.Attributes.{NodeSettings}
-use Rattle.handle_pool.specs.Slots.{Slots}
-use Rattle.handle_pool.specs.Issued.{Listed}
-use Rattle.mtapi_objects.specs.Actions.{Action}
-use Rattle.mtapi_objects.specs.Tasks.{Task}
-use Rattle.mtapi_objects.specs.Queues.{Queue}
-use Rattle.task_board.specs.Scheduler.{records_of, group_slots}
-use Rattle.mtapi_objects.specs.Groups.{Group}
+use Rattle.node_steps.specs.Names.{Slots, Listed, Action, Task, Queue, records_of, group_slots, Group, Reply, State, terms_with as node_terms, Allows, after_row, row, ResourceTable, ResourceLists, HoldsAll}
 use Rattle.mtapi_values.specs.declared.handles.Layout.TheVariants.{One}
 use Rattle.mtapi_machine.specs.declared.terms.Terms.{Terms}
 use Rattle.mtapi_machine.specs.declared.ops.Op.{Op}
-use Rattle.mtapi_machine.specs.declared.replies.Reply.{Reply}
-use Rattle.mtapi_machine.specs.State.{State, terms_with as node_terms}
-use Rattle.mtapi_machine.specs.Row.{Allows, after_row}
-use Rattle.mtapi_machine.specs.Rows.{row}
 use Rattle.mtapi_machine.specs.Legal.{NodeEntry, IsHonest, Legal, after}
-use Rattle.node_resources.specs.Holds.{ResourceTable, ResourceLists, HoldsAll}
 pub use Rattle.node_resources.specs.Holds.{Holds}
 use Rattle.node_steps.specs.declared.node.PoolNode.{PoolNode}
 use Rattle.node_steps.specs.Keeps.{Keeps}

@@ -2,24 +2,15 @@
 use Rattle.std.specs.Prelude.{◌≡◌, ◌⊎◌, ℕ, ◌+◌, ◌<◌, ◌≤◌, true, false, ◌==◌, [], ◌∷◌, length, Some, ℤ, pos}
 use Rattle.std.specs.Option.{option_map}
 use Rattle.mtapi_values.specs.declared.kinds.Kind.TheVariants.{Tally}
-use Rattle.mtapi_values.specs.declared.statuses.MtapiStatus.{MtapiStatus}
-use Rattle.mtapi_values.specs.declared.statuses.MtapiStatus.TheVariants.{ErrParameter, ErrTaskInvalid}
+use Rattle.node_steps.specs.Names.{MtapiStatus, ErrParameter, ErrTaskInvalid, slot_value, live_object, Task, runs_as, tally_args, Becomes, Reply, Ended, State, Stands}
 use Rattle.mtapi_values.specs.declared.ends.TaskEnd.{TaskEnd}
-use Rattle.handle_pool.specs.Slots.{slot_value}
-use Rattle.handle_pool.specs.Issued.{live_object}
-use Rattle.mtapi_objects.specs.Tasks.{Task, runs_as, tally_args}
 use Rattle.mtapi_objects.specs.Mutexes.{Mutex, unlocked}
 use Rattle.mtapi_objects.specs.Segments.{with_attached}
 use Rattle.task_core.specs.declared.tallies.TallyState.{TallyState}
 use Rattle.task_core.specs.declared.tallies.TallyState.TheVariants.{Read, Written}
 use Rattle.task_core.specs.Tallies.{adds_of, notes_of}
 use Rattle.task_core.specs.Table.{ended_in}
-use Rattle.task_board.specs.Scheduler.{Becomes}
-use Rattle.mtapi_machine.specs.declared.replies.Reply.{Reply}
-use Rattle.mtapi_machine.specs.declared.replies.Reply.TheVariants.{Ended}
-use Rattle.mtapi_machine.specs.State.{State}
 use Rattle.mtapi_machine.specs.Moves.{Mutexes, Segments, alters, after_moves}
-use Rattle.node_resources.specs.Holds.{Stands}
 use Rattle.node_steps.specs.declared.node.PoolNode.{PoolNode}
 use Rattle.node_steps.specs.declared.tally_ops.RunningTally.{RunningTally}
 

@@ -1,13 +1,8 @@
 -- What the report says of a statement, by the reply to it.
 use Rattle.std.specs.Prelude.{ℕ, ◌==◌, ◌&&◌, List, [], ◌∷◌, ◌++◌, Bool, true, false, Option, Some, None, if◌then◌else◌}
 use Rattle.std.specs.Fmt.{decimal, signed_decimal}
-use Rattle.mtapi_values.specs.Statuses.{mtapi_name, mrapi_name}
-use Rattle.mtapi_values.specs.declared.ends.TaskEnd.{TaskEnd}
-use Rattle.workload_file.specs.declared.workload.Deed.{Deed}
+use Rattle.run_report.specs.Names.{mtapi_name, mrapi_name, TaskEnd, Deed, Statement, name_text, Reply}
 use Rattle.workload_file.specs.declared.workload.Deed.TheVariants as deed
-use Rattle.workload_file.specs.declared.workload.Statement.{Statement}
-use Rattle.workload_file.specs.Reading.{name_text}
-use Rattle.mtapi_machine.specs.declared.replies.Reply.{Reply}
 use Rattle.mtapi_machine.specs.declared.replies.Reply.TheVariants as reply
 use Rattle.run_report.specs.declared.sorts.Shown.{Shown}
 use Rattle.run_report.specs.declared.sorts.Shown.TheVariants as shows

@@ -1,10 +1,9 @@
 -- What an entry changes in what decides how tasks end, by its op and its reply alone.
 use Rattle.std.specs.Prelude.{ℕ, Bool, true, None}
 use Rattle.mtapi_values.specs.declared.kinds.Kind.{Kind}
-use Rattle.mtapi_values.specs.declared.masks.Mask.{Mask}
+use Rattle.run_report.specs.Names.{Mask, Reply}
 use Rattle.mtapi_machine.specs.declared.ops.Op.{Op}
 use Rattle.mtapi_machine.specs.declared.ops.Op.TheVariants as op
-use Rattle.mtapi_machine.specs.declared.replies.Reply.{Reply}
 use Rattle.mtapi_machine.specs.declared.replies.Reply.TheVariants as reply
 use Rattle.mtapi_machine.specs.WorkRows.{task_end}
 use Rattle.run_report.specs.declared.changes.EndEffect.{EndEffect}

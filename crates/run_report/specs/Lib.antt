@@ -1,3 +1,4 @@
+pub mod Names
 pub mod Replies
 pub mod Tasks
 pub mod Calls

@@ -1,8 +1,6 @@
 -- The places at which the tasks of a part were made, by their handles.
 use Rattle.std.specs.Prelude.{◌≡◌, true, ℕ, ◌+◌, ◌==◌, List, [], ◌∷◌, Bool, false, Option, Some, None, slice_get, if◌then◌else◌}
-use Rattle.workload_file.specs.declared.workload.Statement.{Statement}
-use Rattle.workload_file.specs.Reading.{name_text}
-use Rattle.mtapi_machine.specs.declared.replies.Reply.{Reply}
+use Rattle.run_report.specs.Names.{Statement, name_text, Reply}
 use Rattle.run_report.specs.declared.sorts.Shown.{Shown}
 use Rattle.run_report.specs.declared.sorts.Shown.TheVariants as shows
 use Rattle.run_report.specs.Calls.{makes, shown_of, task_name, call_lines_of}

@@ -1,11 +1,8 @@
 -- The reply to each statement of a run.
 use Rattle.std.specs.Prelude.{ℕ, ◌+◌, ◌==◌, ◌&&◌, Bool, not, List, [], ◌∷◌, length, take, drop, map, if◌then◌else◌}
 use denote.Ref.{Bor}
-use Rattle.workload_file.specs.declared.workload.Statement.{Statement}
-use Rattle.workload_file.specs.declared.workload.Part.{Part}
-use Rattle.mtapi_machine.specs.declared.replies.Reply.{Reply}
+use Rattle.run_report.specs.Names.{Statement, Part, Reply, NodeEntry}
 use Rattle.mtapi_machine.specs.Kept.{is_pending}
-use Rattle.mtapi_machine.specs.Legal.{NodeEntry}
 use Rattle.workload_runs.specs.Parts.{has_begin}
 
 -- the replies behind a list of references

@@ -1,13 +1,8 @@
 -- The report of a run.
 use Rattle.std.specs.Prelude.{ℕ, List, ◌++◌, length, Option}
 use Rattle.std.specs.List.{flat_map}
-use Rattle.mtapi_values.specs.declared.ends.TaskEnd.{TaskEnd}
-use Rattle.workload_file.specs.declared.workload.Workload.{Workload}
-use Rattle.mtapi_values.specs.declared.handles.Layout.{Layout}
+use Rattle.run_report.specs.Names.{TaskEnd, Workload, Layout, terms_with, end_at, NodeEntry, after}
 use Rattle.mtapi_machine.specs.declared.terms.Terms.{Terms}
-use Rattle.mtapi_machine.specs.State.{terms_with}
-use Rattle.mtapi_machine.specs.Ends.{end_at}
-use Rattle.mtapi_machine.specs.Legal.{NodeEntry, after}
 use Rattle.run_report.specs.Replies.{Told, all_told}
 use Rattle.run_report.specs.Calls.{task_lines, call_lines}
 

@@ -1,7 +1,6 @@
 -- Which replies the report of a run reads.
 use Rattle.std.specs.Prelude.{◌≡◌, ℕ, List, length, map}
-use Rattle.workload_file.specs.declared.workload.Workload.{Workload}
-use Rattle.mtapi_machine.specs.Legal.{NodeEntry}
+use Rattle.run_report.specs.Names.{Workload, NodeEntry}
 use Rattle.workload_runs.specs.RunOf.{RunOf}
 use Rattle.run_report.specs.Report.{parts_told}
 

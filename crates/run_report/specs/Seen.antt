@@ -1,18 +1,12 @@
 -- What of the machine's state decides how its tasks end, and how a change leaves it.
 use Rattle.std.specs.Prelude.{◌≡◌, ℕ, ◌==◌, ◌&&◌, not, true, false, Bool, List, [], ◌∷◌, ◌++◌, Option, Some, None, is_some, option_map, if◌then◌else◌}
-use Rattle.mtapi_values.specs.declared.ends.TaskEnd.{TaskEnd}
-use Rattle.mtapi_values.specs.declared.ends.TaskEnd.TheVariants.{Cancelled, Failed}
-use Rattle.mtapi_values.specs.declared.masks.Mask.{Mask}
+use Rattle.run_report.specs.Names.{TaskEnd, Cancelled, Failed, Mask, Action, with_enabled, has_worker, State, end_at, NodeEntry}
 use Rattle.mtapi_values.specs.declared.statuses.MtapiStatus.{MtapiStatus}
 use Rattle.mtapi_values.specs.declared.statuses.MtapiStatus.TheVariants.{ErrActionDeleted, ErrActionDisabled, ErrQueueDeleted}
 use Rattle.mtapi_values.specs.Conditions.{holds}
 use Rattle.handle_pool.specs.Issued.{Listed, live_of, live_object}
-use Rattle.mtapi_objects.specs.Actions.{Action, with_enabled, has_worker}
 use Rattle.mtapi_objects.specs.Queues.{Queue}
 use Rattle.mtapi_objects.specs.Tasks.{Task, is_unstarted}
-use Rattle.mtapi_machine.specs.State.{State}
-use Rattle.mtapi_machine.specs.Ends.{end_at}
-use Rattle.mtapi_machine.specs.Legal.{NodeEntry}
 use Rattle.run_report.specs.declared.changes.Unstarted.{Unstarted}
 use Rattle.run_report.specs.declared.changes.LiveAction.{LiveAction}
 use Rattle.run_report.specs.declared.changes.LiveQueue.{LiveQueue}

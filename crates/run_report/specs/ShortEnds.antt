@@ -1,7 +1,6 @@
 -- The short form in which the report keeps the end of a task.
 use Rattle.std.specs.Prelude.{[], ◌∷◌}
-use Rattle.mtapi_values.specs.declared.ends.TaskEnd.{TaskEnd}
-use Rattle.mtapi_values.specs.declared.ends.TaskEnd.TheVariants.{Completed, Cancelled, Failed}
+use Rattle.run_report.specs.Names.{TaskEnd, Completed, Cancelled, Failed}
 use Rattle.run_report.specs.declared.short_ends.Short.{Short}
 use Rattle.run_report.specs.declared.short_ends.Short.TheVariants as short
 

@@ -1,10 +1,7 @@
 -- What the report says of a task.
 use Rattle.std.specs.Prelude.{ℕ, ℤ, List, [], ◌∷◌, ◌++◌, codes, Option, Some, None}
 use Rattle.number_text.specs.Lists.{list_text}
-use Rattle.mtapi_values.specs.Statuses.{mtapi_name}
-use Rattle.mtapi_values.specs.declared.ends.TaskEnd.{TaskEnd}
-use Rattle.mtapi_values.specs.declared.ends.TaskEnd.TheVariants.{Completed, Cancelled, Failed}
-use Rattle.mtapi_machine.specs.declared.replies.Reply.{Reply}
+use Rattle.run_report.specs.Names.{mtapi_name, TaskEnd, Completed, Cancelled, Failed, Reply}
 use Rattle.mtapi_machine.specs.declared.replies.Reply.TheVariants as reply
 
 -- numbers behind a space, with commas between them; nothing, where there is none

@@ -6,15 +6,10 @@ use Rattle.mtapi_values.specs.declared.handles.Layout.TheVariants.{One}
 use Rattle.mtapi_values.specs.declared.timeouts.Timeout.TheVariants as timeout
 use Rattle.mtapi_values.specs.declared.statuses.MtapiStatus.TheVariants as mtapi
 use Rattle.mtapi_values.specs.declared.statuses.MrapiStatus.TheVariants as mrapi
-use Rattle.mtapi_values.specs.declared.ends.TaskEnd.TheVariants.{Completed}
-use Rattle.workload_file.specs.declared.workload.Deed.{Deed}
+use Rattle.run_report.specs.Names.{Completed, Deed, Statement, Workload, NodeEntry, main, task, first_handle, next_handle, every_core, add_task, picks_first, finishes_first, closed, one_task}
 use Rattle.workload_file.specs.declared.workload.Deed.TheVariants as deed
-use Rattle.workload_file.specs.declared.workload.Statement.{Statement}
-use Rattle.workload_file.specs.declared.workload.Workload.{Workload}
 use Rattle.mtapi_machine.specs.declared.ops.Op.TheVariants as op
 use Rattle.mtapi_machine.specs.declared.replies.Reply.TheVariants as reply
-use Rattle.mtapi_machine.specs.Legal.{NodeEntry}
-use Rattle.mtapi_machine.specs.Worked.{main, task, first_handle, next_handle, every_core, add_task, picks_first, finishes_first, closed, one_task}
 use Rattle.run_report.specs.Replies.{Told}
 use Rattle.run_report.specs.Calls.{call_lines}
 use Rattle.run_report.specs.Report.{report}

@@ -4,18 +4,11 @@ use Rattle.mtapi_values.specs.declared.kinds.Kind.TheVariants as kind
 use Rattle.mtapi_values.specs.declared.timeouts.Timeout.TheVariants as timeout
 use Rattle.mtapi_values.specs.declared.statuses.MtapiStatus.TheVariants as mtapi
 use Rattle.mtapi_values.specs.declared.statuses.MrapiStatus.TheVariants as mrapi
-use Rattle.mtapi_values.specs.declared.ends.TaskEnd.{TaskEnd}
-use Rattle.mtapi_values.specs.declared.ends.TaskEnd.TheVariants.{Completed, Cancelled, Failed}
+use Rattle.run_report.specs.Names.{TaskEnd, Completed, Cancelled, Failed, Deed, Statement, Workload, Reply, NodeEntry, task, every_core}
 use Rattle.history.specs.Histories.{entry}
-use Rattle.workload_file.specs.declared.workload.Deed.{Deed}
 use Rattle.workload_file.specs.declared.workload.Deed.TheVariants as deed
-use Rattle.workload_file.specs.declared.workload.Statement.{Statement}
-use Rattle.workload_file.specs.declared.workload.Workload.{Workload}
 use Rattle.mtapi_machine.specs.declared.ops.Op.TheVariants as op
-use Rattle.mtapi_machine.specs.declared.replies.Reply.{Reply}
 use Rattle.mtapi_machine.specs.declared.replies.Reply.TheVariants as reply
-use Rattle.mtapi_machine.specs.Legal.{NodeEntry}
-use Rattle.mtapi_machine.specs.Worked.{task, every_core}
 use Rattle.run_report.specs.Replies.{Told}
 use Rattle.run_report.specs.Calls.{task_lines, call_lines}
 use Rattle.run_report.specs.Report.{parts_told}

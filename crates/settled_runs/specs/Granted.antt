@@ -1,27 +1,11 @@
 -- What a quiet history grants: what was made stays as it was made, and calls are not refused.
 use Rattle.std.specs.Prelude.{◌≡◌, ℕ, ◌<◌, ◌≤◌, ◌==◌, Bool, true, false, ◌&&◌, List, [], ◌∷◌, ◌++◌, ℤ, Option, Some, None}
-use Rattle.mtapi_values.specs.declared.kinds.Kind.{Kind}
-use Rattle.mtapi_values.specs.declared.masks.Mask.{Mask}
-use Rattle.mtapi_values.specs.declared.handles.GroupHandle.{GroupHandle}
+use Rattle.settled_runs.specs.Names.{Kind, Mask, GroupHandle, entry, live_object, new_action, is_job, new_group, Op, Initialize, ActionCreate, TaskStart, TaskEnqueue, GroupCreate, QueueCreate, Reply, Ok, Handle, Terms, State, objects_of, new_queue, NodeEntry, Legal, after, NoClose, AreQuiet}
 use Rattle.mtapi_values.specs.declared.handles.QueueHandle.{QueueHandle}
 use Rattle.mtapi_values.specs.declared.handles.ObjectKind.{ObjectKind}
 use Rattle.mtapi_values.specs.declared.handles.ObjectKind.TheVariants as kinds
 use Rattle.mtapi_values.specs.Masks.{in_mask}
-use Rattle.history.specs.Histories.{entry}
-use Rattle.handle_pool.specs.Issued.{live_object}
-use Rattle.mtapi_objects.specs.Actions.{new_action, is_job}
-use Rattle.mtapi_objects.specs.Groups.{new_group}
-use Rattle.mtapi_machine.specs.declared.ops.Op.{Op}
-use Rattle.mtapi_machine.specs.declared.ops.Op.TheVariants.{Initialize, ActionCreate, TaskStart, TaskEnqueue, GroupCreate, QueueCreate}
-use Rattle.mtapi_machine.specs.declared.replies.Reply.{Reply}
-use Rattle.mtapi_machine.specs.declared.replies.Reply.TheVariants.{Ok, Handle}
-use Rattle.mtapi_machine.specs.declared.terms.Terms.{Terms}
-use Rattle.mtapi_machine.specs.State.{State, objects_of}
-use Rattle.mtapi_machine.specs.QueueRows.{new_queue}
-use Rattle.mtapi_machine.specs.Legal.{NodeEntry, Legal, after}
 use Rattle.history_law.specs.Words.{makes_object, some_entry, entries_that}
-use Rattle.history_law.specs.Seats.{NoClose}
-use Rattle.history_law.specs.Quiet.{AreQuiet}
 
 -- What was made
 

@@ -2,21 +2,9 @@
 use Rattle.std.specs.Prelude.{ℕ, ◌==◌, List, [], ◌∷◌, ◌++◌, Option, Some, None, slice_get, option_and_then, if◌then◌else◌}
 use Rattle.std.specs.Option.{option_map, option_or}
 use Rattle.std.specs.List.{find, flat_map}
-use Rattle.mtapi_values.specs.declared.ends.TaskEnd.{TaskEnd}
-use Rattle.mtapi_values.specs.declared.statuses.MtapiStatus.{MtapiStatus}
-use Rattle.mtapi_values.specs.Statuses.{mtapi_name}
-use Rattle.action_fn.specs.Answers.{answer_of}
-use Rattle.mtapi_objects.specs.Actions.{Action, new_action, has_job}
-use Rattle.mtapi_objects.specs.Tasks.{NewTask}
-use Rattle.mtapi_objects.specs.Groups.{fault_of}
-use Rattle.mtapi_objects.specs.Queues.{Queue}
-use Rattle.mtapi_machine.specs.QueueRows.{new_queue}
+use Rattle.settled_runs.specs.Names.{TaskEnd, MtapiStatus, mtapi_name, answer_of, Action, new_action, has_job, NewTask, fault_of, Queue, new_queue, Deed, Statement, Part, Workload}
 use Rattle.mtapi_machine.specs.WorkRows.{task_end}
-use Rattle.workload_file.specs.declared.workload.Deed.{Deed}
 use Rattle.workload_file.specs.declared.workload.Deed.TheVariants as deed
-use Rattle.workload_file.specs.declared.workload.Statement.{Statement}
-use Rattle.workload_file.specs.declared.workload.Part.{Part}
-use Rattle.workload_file.specs.declared.workload.Workload.{Workload}
 use Rattle.workload_file.specs.Reading.{name_text}
 use Rattle.run_report.specs.Tasks.{ended_text}
 use Rattle.run_report.specs.Calls.{marked_line}

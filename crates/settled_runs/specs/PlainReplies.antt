@@ -1,19 +1,8 @@
 -- Plain replies: those with which the report of a run is the plain report of its workload.
 use Rattle.std.specs.Prelude.{◌≡◌, ℕ, false, List, [], ◌∷◌, Option, Some}
-use Rattle.mtapi_values.specs.declared.ends.TaskEnd.{TaskEnd}
-use Rattle.mtapi_objects.specs.Actions.{Action}
-use Rattle.mtapi_objects.specs.Tasks.{NewTask}
-use Rattle.mtapi_machine.specs.declared.replies.Reply.{Reply}
-use Rattle.mtapi_machine.specs.declared.replies.Reply.TheVariants.{Handle}
-use Rattle.mtapi_machine.specs.GroupRows.{verdict}
-use Rattle.mtapi_machine.specs.Laws.{is_status}
-use Rattle.workload_file.specs.declared.workload.Deed.{Deed}
+use Rattle.settled_runs.specs.Names.{TaskEnd, Action, NewTask, Reply, Handle, verdict, is_status, Deed, Statement, Part, Workload, report_by}
 use Rattle.workload_file.specs.declared.workload.Deed.TheVariants as deed
-use Rattle.workload_file.specs.declared.workload.Statement.{Statement}
-use Rattle.workload_file.specs.declared.workload.Part.{Part}
-use Rattle.workload_file.specs.declared.workload.Workload.{Workload}
 use Rattle.run_report.specs.Replies.{Told}
-use Rattle.run_report.specs.Report.{report_by}
 use Rattle.settled_runs.specs.Plain.{all_statements, actions_in, task_in, plain_end, Faults, no_faults, faults_behind, plain_report}
 
 -- the reply is the handle of a task that ends as its action answers

@@ -1,14 +1,7 @@
 -- The plain summary of a workload, told from its statements alone: it knows no workers, no order and no journal.
 use Rattle.std.specs.Prelude.{◌≡◌, ℕ, ◌+◌, List, [], ◌∷◌, Option, Some, None}
-use Rattle.mtapi_values.specs.declared.handles.Layout.{Layout}
-use Rattle.mtapi_objects.specs.Actions.{Action}
-use Rattle.mtapi_objects.specs.Tasks.{NewTask}
-use Rattle.mtapi_machine.specs.Legal.{NodeEntry}
-use Rattle.workload_file.specs.declared.workload.Statement.{Statement}
-use Rattle.workload_file.specs.declared.workload.Part.{Part}
-use Rattle.workload_file.specs.declared.workload.Workload.{Workload}
+use Rattle.settled_runs.specs.Names.{Layout, Action, NewTask, NodeEntry, Statement, Part, Workload, no_totals, with_end, totals_text, summary}
 use Rattle.run_report.specs.declared.totals.Totals.{Totals}
-use Rattle.run_report.specs.Summary.{no_totals, with_end, totals_text, summary}
 use Rattle.settled_runs.specs.Plain.{all_statements, actions_in, task_in, plain_end}
 use Rattle.settled_runs.specs.RunGranted.{SettledRun}
 

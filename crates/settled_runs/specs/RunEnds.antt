@@ -1,14 +1,7 @@
 -- How the tasks of a run of a settled workload end.
 use Rattle.std.specs.Prelude.{◌≡◌, ℕ, true, List, ◌∷◌, ◌++◌, length, Some}
-use Rattle.mtapi_values.specs.declared.handles.Layout.{Layout}
-use Rattle.mtapi_objects.specs.Tasks.{NewTask}
-use Rattle.workload_file.specs.declared.workload.Workload.{Workload}
-use Rattle.mtapi_machine.specs.Legal.{NodeEntry, Legal, after}
-use Rattle.mtapi_machine.specs.Laws.{StartsTask}
-use Rattle.mtapi_machine.specs.Ends.{end_at}
+use Rattle.settled_runs.specs.Names.{Layout, NewTask, Workload, NodeEntry, Legal, after, StartsTask, end_at, RunOf, run_terms}
 use Rattle.history_law.specs.Accepted.{accepted}
-use Rattle.workload_runs.specs.RunOf.{RunOf}
-use Rattle.run_report.specs.Report.{run_terms}
 use Rattle.settled_runs.specs.Plain.{all_statements, actions_in, plain_end}
 use Rattle.settled_runs.specs.Settled.{is_settled}
 

@@ -1,16 +1,8 @@
 -- In a run of a settled workload no statement that makes an object is refused.
 use Rattle.std.specs.Prelude.{◌≡◌, ℕ, true, List, [], ◌∷◌, length}
-use Rattle.mtapi_values.specs.declared.handles.Layout.{Layout}
-use Rattle.workload_file.specs.declared.workload.Deed.{Deed}
+use Rattle.settled_runs.specs.Names.{Layout, Deed, Statement, Part, Workload, Reply, NodeEntry, Legal, RunOf, run_terms}
 use Rattle.workload_file.specs.declared.workload.Deed.TheVariants as deed
-use Rattle.workload_file.specs.declared.workload.Statement.{Statement}
-use Rattle.workload_file.specs.declared.workload.Part.{Part}
-use Rattle.workload_file.specs.declared.workload.Workload.{Workload}
 use Rattle.workload_file.specs.Formed.{WellFormed}
-use Rattle.mtapi_machine.specs.declared.replies.Reply.{Reply}
-use Rattle.mtapi_machine.specs.Legal.{NodeEntry, Legal}
-use Rattle.workload_runs.specs.RunOf.{RunOf}
-use Rattle.run_report.specs.Report.{run_terms}
 use Rattle.settled_runs.specs.Granted.{IsGranted}
 use Rattle.settled_runs.specs.Settled.{is_settled}
 

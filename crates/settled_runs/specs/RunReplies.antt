@@ -1,14 +1,6 @@
 -- The replies of a run of a settled workload: they are the plain ones.
 use Rattle.std.specs.Prelude.{ℕ, List, [], ◌∷◌, Option}
-use Rattle.mtapi_values.specs.declared.ends.TaskEnd.{TaskEnd}
-use Rattle.mtapi_values.specs.declared.handles.Layout.{Layout}
-use Rattle.mtapi_objects.specs.Actions.{Action}
-use Rattle.workload_file.specs.declared.workload.Part.{Part}
-use Rattle.workload_file.specs.declared.workload.Workload.{Workload}
-use Rattle.mtapi_machine.specs.declared.replies.Reply.{Reply}
-use Rattle.mtapi_machine.specs.Legal.{NodeEntry, after}
-use Rattle.mtapi_machine.specs.Ends.{end_at}
-use Rattle.run_report.specs.Report.{run_terms}
+use Rattle.settled_runs.specs.Names.{TaskEnd, Layout, Action, Part, Workload, Reply, NodeEntry, after, end_at, run_terms}
 use Rattle.settled_runs.specs.Plain.{all_statements, actions_in, no_faults}
 use Rattle.settled_runs.specs.PlainReplies.{ArePlain}
 use Rattle.settled_runs.specs.RunGranted.{SettledRun}

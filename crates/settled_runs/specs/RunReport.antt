@@ -1,9 +1,6 @@
 -- The report of a run of a settled workload: it is the plain one, whatever the number of workers and in whichever order the calls came.
 use Rattle.std.specs.Prelude.{◌≡◌, ℕ, List}
-use Rattle.mtapi_values.specs.declared.handles.Layout.{Layout}
-use Rattle.workload_file.specs.declared.workload.Workload.{Workload}
-use Rattle.mtapi_machine.specs.Legal.{NodeEntry}
-use Rattle.run_report.specs.Report.{report}
+use Rattle.settled_runs.specs.Names.{Layout, Workload, NodeEntry, report}
 use Rattle.settled_runs.specs.Plain.{plain_report}
 use Rattle.settled_runs.specs.RunGranted.{SettledRun}
 

@@ -3,20 +3,8 @@ use Rattle.std.specs.Prelude.{ℕ, ◌+◌, ◌==◌, ◌&&◌, ◌||◌, not, n
 use Rattle.std.specs.List.{list_any, list_all, flat_map}
 use Rattle.mtapi_values.specs.declared.timeouts.Timeout.{Timeout}
 use Rattle.mtapi_values.specs.declared.timeouts.Timeout.TheVariants as timeout
-use Rattle.mtapi_values.specs.declared.statuses.MtapiStatus.{MtapiStatus}
-use Rattle.mtapi_values.specs.Statuses.{mtapi_number}
-use Rattle.mtapi_values.specs.Attributes.{NodeSettings}
-use Rattle.mtapi_values.specs.Conditions.{holds}
-use Rattle.action_fn.specs.Answers.{is_pure}
-use Rattle.handle_pool.specs.Issued.{how_many}
-use Rattle.mtapi_objects.specs.Actions.{Action, has_job, is_eligible, some_below}
-use Rattle.mtapi_objects.specs.Tasks.{NewTask, kind_number}
-use Rattle.mtapi_objects.specs.Queues.{Queue}
-use Rattle.workload_file.specs.declared.workload.Deed.{Deed}
+use Rattle.settled_runs.specs.Names.{MtapiStatus, mtapi_number, NodeSettings, holds, is_pure, how_many, Action, has_job, is_eligible, some_below, NewTask, kind_number, Queue, Deed, Statement, Part, Workload}
 use Rattle.workload_file.specs.declared.workload.Deed.TheVariants as deed
-use Rattle.workload_file.specs.declared.workload.Statement.{Statement}
-use Rattle.workload_file.specs.declared.workload.Part.{Part}
-use Rattle.workload_file.specs.declared.workload.Workload.{Workload}
 use Rattle.workload_file.specs.Deeds.{is_begin}
 use Rattle.settled_runs.specs.Plain.{all_statements, actions_in, queue_in, task_in, plain_fault}
 

@@ -1,24 +1,8 @@
 -- What a look at a whole group tells in a quiet history: it speaks of the tasks that were put into the group since the last one that told.
 use Rattle.std.specs.Prelude.{◌≡◌, ◌⊎◌, ℕ, ◌==◌, ◌&&◌, not, Bool, true, false, List, [], ◌∷◌, ◌++◌, Option, Some, None, option_and_then, if◌then◌else◌}
 use Rattle.std.specs.List.{list_any}
-use Rattle.mtapi_values.specs.Conditions.{holds}
-use Rattle.mtapi_values.specs.declared.ends.TaskEnd.{TaskEnd}
-use Rattle.mtapi_values.specs.declared.handles.GroupHandle.{GroupHandle}
-use Rattle.mtapi_values.specs.declared.statuses.MtapiStatus.{MtapiStatus}
-use Rattle.mtapi_objects.specs.Groups.{fault_of}
-use Rattle.mtapi_machine.specs.declared.ops.Op.{Op}
-use Rattle.mtapi_machine.specs.declared.ops.Op.TheVariants.{TaskStart, TaskEnqueue, GroupCreate, AllLook}
-use Rattle.mtapi_machine.specs.declared.replies.Reply.{Reply}
-use Rattle.mtapi_machine.specs.declared.replies.Reply.TheVariants.{Handle, Pending}
-use Rattle.mtapi_machine.specs.declared.terms.Terms.{Terms}
-use Rattle.mtapi_machine.specs.State.{State}
-use Rattle.mtapi_machine.specs.GroupRows.{verdict}
+use Rattle.settled_runs.specs.Names.{holds, TaskEnd, GroupHandle, MtapiStatus, fault_of, Op, TaskStart, TaskEnqueue, GroupCreate, AllLook, Reply, Handle, Pending, Terms, State, verdict, NodeEntry, Legal, after, end_at, entry, closes, AreQuiet}
 use Rattle.mtapi_machine.specs.Kept.{is_pending}
-use Rattle.mtapi_machine.specs.Legal.{NodeEntry, Legal, after}
-use Rattle.mtapi_machine.specs.Ends.{end_at}
-use Rattle.history.specs.Histories.{entry}
-use Rattle.history_law.specs.Seats.{closes}
-use Rattle.history_law.specs.Quiet.{AreQuiet}
 
 -- the op asks for a task of this group
 abbrev pub starts_member : ℕ → Op → Bool

@@ -1,14 +1,7 @@
 -- Waits in a quiet history: a task that its own caller alone looks at stays until it has ended and told its end.
 use Rattle.std.specs.Prelude.{◌≡◌, ◌⊎◌, ℕ, ◌==◌, ◌&&◌, not, is_none, Bool, true, false, List, [], ◌∷◌, ◌++◌}
-use Rattle.mtapi_values.specs.declared.ends.TaskEnd.{TaskEnd}
+use Rattle.settled_runs.specs.Names.{TaskEnd, entry, Op, TaskStart, TaskEnqueue, TaskLook, Reply, Handle, Pending, Ended, Terms, NodeEntry}
 use Rattle.mtapi_values.specs.declared.handles.TaskHandle.{TaskHandle}
-use Rattle.history.specs.Histories.{entry}
-use Rattle.mtapi_machine.specs.declared.ops.Op.{Op}
-use Rattle.mtapi_machine.specs.declared.ops.Op.TheVariants.{TaskStart, TaskEnqueue, TaskLook}
-use Rattle.mtapi_machine.specs.declared.replies.Reply.{Reply}
-use Rattle.mtapi_machine.specs.declared.replies.Reply.TheVariants.{Handle, Pending, Ended}
-use Rattle.mtapi_machine.specs.declared.terms.Terms.{Terms}
-use Rattle.mtapi_machine.specs.Legal.{NodeEntry}
 use Rattle.settled_runs.specs.Granted.{Asks}
 
 -- the op asks for a task that isn't detached and is in no group

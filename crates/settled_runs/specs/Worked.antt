@@ -1,20 +1,12 @@
 -- Worked workloads: two that are settled, with their plain reports, and some that aren't. Each is decided by computing.
 use Rattle.std.specs.Prelude.{◌≡◌, ℕ, ◌+◌, ◌-◌, ◌^◌, Bool, true, false, List, [], ◌∷◌, ◌++◌, codes, ℤ, pos, Option, Some, None}
 use Rattle.std.specs.List.{flat_map}
-use Rattle.mtapi_values.specs.Attributes.{NodeSettings}
-use Rattle.mtapi_values.specs.declared.kinds.Kind.{Kind}
+use Rattle.settled_runs.specs.Names.{NodeSettings, Kind, Mask, Deed, Statement, Part, Workload, report, summary}
 use Rattle.mtapi_values.specs.declared.kinds.Kind.TheVariants as kind
-use Rattle.mtapi_values.specs.declared.masks.Mask.{Mask}
 use Rattle.mtapi_values.specs.declared.timeouts.Timeout.TheVariants as timeout
-use Rattle.workload_file.specs.declared.workload.Deed.{Deed}
 use Rattle.workload_file.specs.declared.workload.Deed.TheVariants as deed
-use Rattle.workload_file.specs.declared.workload.Statement.{Statement}
-use Rattle.workload_file.specs.declared.workload.Part.{Part}
-use Rattle.workload_file.specs.declared.workload.Workload.{Workload}
 use Rattle.mtapi_values.specs.declared.handles.Layout.TheVariants.{One}
 use Rattle.mtapi_machine.specs.Worked.{one_task}
-use Rattle.run_report.specs.Report.{report}
-use Rattle.run_report.specs.Summary.{summary}
 use Rattle.run_report.specs.Worked.{sum_load, full_load, full_run, cancelled_load, cancelled_run}
 use Rattle.settled_runs.specs.Plain.{plain_report}
 use Rattle.settled_runs.specs.PlainSummary.{plain_summary}

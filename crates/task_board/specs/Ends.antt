@@ -1,15 +1,7 @@
 -- Ends of waiting tasks, many at once.
 use Rattle.std.specs.Prelude.{◌≡◌, ◌⊎◌, ℕ, ◌+◌, Bool, true, false, not, ◌&&◌, ◌==◌, List, [], ◌∷◌, Option, Some, if◌then◌else◌}
-use Rattle.mtapi_values.specs.declared.ends.TaskEnd.{TaskEnd}
+use Rattle.task_board.specs.Names.{TaskEnd, holds, in_mask, Slots, slot_value, Action, some_below, Task, is_unstarted, Queue, is_in, IsUnion, TaskTable, ended_in}
 use Rattle.mtapi_values.specs.declared.masks.Mask.{Mask}
-use Rattle.mtapi_values.specs.Conditions.{holds}
-use Rattle.mtapi_values.specs.Masks.{in_mask}
-use Rattle.handle_pool.specs.Slots.{Slots, slot_value}
-use Rattle.mtapi_objects.specs.Actions.{Action, some_below}
-use Rattle.mtapi_objects.specs.Tasks.{Task, is_unstarted}
-use Rattle.mtapi_objects.specs.Queues.{Queue, is_in}
-use Rattle.job_table.specs.Answers.{IsUnion}
-use Rattle.task_core.specs.Table.{TaskTable, ended_in}
 use Rattle.task_board.specs.declared.ends.WaitingTest.{WaitingTest}
 use Rattle.task_board.specs.declared.ends.WaitingTest.TheVariants.{Unserved, InQueue, Shut}
 use Rattle.task_board.specs.declared.walks.Walk.{Walk}

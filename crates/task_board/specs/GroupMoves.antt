@@ -1,13 +1,7 @@
 -- What becomes of a scheduler where members leave a group.
 use Rattle.std.specs.Prelude.{◌≡◌, ℕ, Bool, true, not, ◌&&◌, List, [], ◌∷◌, ◌++◌, length, Option, Some, None}
-use Rattle.mtapi_values.specs.declared.ends.TaskEnd.{TaskEnd}
-use Rattle.mtapi_values.specs.declared.handles.TaskHandle.{TaskHandle}
+use Rattle.task_board.specs.Names.{TaskEnd, TaskHandle, Slots, slot_value, without, Task, Ended, end_of, is_unended, Ending, is_member, first_fault, TaskTable, detached_in, Members, no_members}
 use Rattle.mtapi_values.specs.declared.statuses.MtapiStatus.{MtapiStatus}
-use Rattle.handle_pool.specs.Slots.{Slots, slot_value, without}
-use Rattle.mtapi_objects.specs.Tasks.{Task, Ended, end_of, is_unended}
-use Rattle.mtapi_objects.specs.Groups.{Ending, is_member, first_fault}
-use Rattle.task_core.specs.Table.{TaskTable, detached_in}
-use Rattle.group_core.specs.Members.{Members, no_members}
 use Rattle.task_board.specs.Scheduler.{SchedulerTable, Becomes}
 
 -- the task names the group and has ended

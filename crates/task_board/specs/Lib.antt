@@ -1,3 +1,4 @@
+pub mod Names
 pub mod Picks
 pub mod Seen
 pub mod Queued

@@ -1,11 +1,7 @@
 -- What ties the members that groups keep to the tasks.
 use Rattle.std.specs.Prelude.{◌≡◌, IsSome, ℕ, ◌<◌, ◌==◌, is_none, Bool, false, Option, Some, None, if◌then◌else◌}
-use Rattle.mtapi_values.specs.Conditions.{holds}
-use Rattle.handle_pool.specs.Slots.{Slots, slot_value, changed}
-use Rattle.mtapi_objects.specs.Tasks.{Task, end_of}
-use Rattle.mtapi_objects.specs.Groups.{Group, new_group}
+use Rattle.task_board.specs.Names.{holds, Slots, slot_value, changed, Task, end_of, Group, new_group, Members, GroupTable, with_member, with_ended}
 use Rattle.task_core.specs.Records.{number_in}
-use Rattle.group_core.specs.Members.{Members, GroupTable, with_member, with_ended}
 use Rattle.task_board.specs.Mapped.{mapped}
 use Rattle.task_board.specs.Keyed.{AreKeyed}
 

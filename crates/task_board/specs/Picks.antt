@@ -1,14 +1,7 @@
 -- Which task a worker may take, as the slots show it.
 use Rattle.std.specs.Prelude.{◌≡◌, ℕ, ◌<◌, Bool, true, Option, Some, None}
-use Rattle.mtapi_values.specs.Masks.{in_mask}
+use Rattle.task_board.specs.Names.{in_mask, TaskHandle, Slots, slot_value, SomeLive, Action, runs_job_on, Task, is_unstarted, HeldQueue}
 use Rattle.mtapi_values.specs.declared.handles.ActionHandle.{ActionHandle}
-use Rattle.mtapi_values.specs.declared.handles.TaskHandle.{TaskHandle}
-use Rattle.handle_pool.specs.Slots.{Slots, slot_value}
-use Rattle.handle_pool.specs.Walks.{SomeLive}
-use Rattle.mtapi_objects.specs.Actions.{Action}
-use Rattle.job_table.specs.Answers.{runs_job_on}
-use Rattle.mtapi_objects.specs.Tasks.{Task, is_unstarted}
-use Rattle.queue_core.specs.Held.{HeldQueue}
 use Rattle.task_board.specs.declared.scheduler.Choice.{Choice}
 use Rattle.task_board.specs.Queued.{begins_in}
 

@@ -1,10 +1,6 @@
 -- What ties the lists of the queues to the tasks, and which tasks their queues let begin.
 use Rattle.std.specs.Prelude.{◌≡◌, ◌⊎◌, ℕ, ◌<◌, Bool, true, List, Option, Some, None, Ok, slice_get}
-use Rattle.mtapi_values.specs.Conditions.{holds}
-use Rattle.handle_pool.specs.Slots.{Slot, Slots, slot_of, generation_of, free_slot, slot_value, changed}
-use Rattle.linked_places.specs.Lists.{has_handle}
-use Rattle.mtapi_objects.specs.Tasks.{NewTask}
-use Rattle.queue_core.specs.Held.{HeldQueue, put_reply, without_task}
+use Rattle.task_board.specs.Names.{holds, Slot, Slots, slot_of, generation_of, free_slot, slot_value, changed, has_handle, NewTask, HeldQueue, put_reply, without_task}
 use Rattle.queue_ready.specs.Ready.{may_begin}
 use Rattle.task_board.specs.Seen.{Seen}
 use Rattle.task_board.specs.Keyed.{Rises}

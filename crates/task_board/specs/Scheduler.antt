@@ -1,18 +1,9 @@
 -- What a scheduler keeps beside its actions and its tasks.
 use Rattle.std.specs.Prelude.{◌≡◌, ◌⊎◌, ℕ, ◌<◌, ◌≤◌, Bool, true, List, length, Option, Some, None, slice_index_or, slice_get, slice_set}
 use Rattle.mtapi_values.specs.Attributes.{NodeSettings}
-use Rattle.mtapi_values.specs.declared.handles.TaskHandle.{TaskHandle}
-use Rattle.handle_pool.specs.Slots.{Slots, slot_of, slot_value, max_of}
-use Rattle.linked_places.specs.Lists.{list_at, has_handle}
+use Rattle.task_board.specs.Names.{TaskHandle, Slots, slot_of, slot_value, max_of, list_at, has_handle, Action, IsUnion, Queue, TaskTable, HeldQueue, QueueTable, Group, GroupTable}
 use Rattle.ready_index.specs.declared.marks.Mark.{Mark}
 use Rattle.ready_index.specs.Marks.{ReadyMarks, mark_at, is_for_at}
-use Rattle.mtapi_objects.specs.Actions.{Action}
-use Rattle.job_table.specs.Answers.{IsUnion}
-use Rattle.mtapi_objects.specs.Queues.{Queue}
-use Rattle.task_core.specs.Table.{TaskTable}
-use Rattle.queue_core.specs.Held.{HeldQueue, QueueTable}
-use Rattle.mtapi_objects.specs.Groups.{Group}
-use Rattle.group_core.specs.Members.{GroupTable}
 use Rattle.task_board.specs.Members.{without_members, members_in, AreMembers}
 use Rattle.task_board.specs.Seen.{Seen, seen_in, Takes}
 use Rattle.task_board.specs.Queued.{InOrder, begins_in, AreQueued}

@@ -1,11 +1,6 @@
 -- What a scheduler sees of a task.
 use Rattle.std.specs.Prelude.{◌≡◌, ℕ, Bool, true, Option, Some, None}
-use Rattle.mtapi_values.specs.Masks.{in_mask}
-use Rattle.handle_pool.specs.Slots.{Slots, slot_value}
-use Rattle.handle_pool.specs.Walks.{SomeLive}
-use Rattle.mtapi_objects.specs.Actions.{Action}
-use Rattle.job_table.specs.Answers.{Passes, runs_job_on}
-use Rattle.mtapi_objects.specs.Tasks.{Task, TaskState, Scheduled, Running, Ended}
+use Rattle.task_board.specs.Names.{in_mask, Slots, slot_value, SomeLive, Action, Passes, runs_job_on, Task, TaskState, Scheduled, Running, Ended}
 
 -- a task that hasn't ended: what decides who may take it, the number of its start, and the worker on which it runs, if it does
 pub record Seen : Type 0 where

@@ -1,10 +1,6 @@
 -- The lists of tasks that a call walks.
 use Rattle.std.specs.Prelude.{◌≡◌, ℕ, ◌≤◌, ◌<◌, ◌%◌, Bool, true, ◌==◌, ◌&&◌, is_none, is_some, List, length, Option, Some}
-use Rattle.mtapi_values.specs.Conditions.{holds}
-use Rattle.handle_pool.specs.Slots.{Slots, slot_value}
-use Rattle.linked_places.specs.Lists.{list_at, has_handle}
-use Rattle.mtapi_objects.specs.Queues.{Queue}
-use Rattle.queue_core.specs.Held.{HeldQueue, tasks_of}
+use Rattle.task_board.specs.Names.{holds, Slots, slot_value, list_at, has_handle, Queue, HeldQueue, tasks_of}
 use Rattle.task_board.specs.declared.walks.Walk.{Walk}
 use Rattle.task_board.specs.declared.walks.Walk.TheVariants.{Waiting, OfJob, Queued}
 use Rattle.task_board.specs.Seen.{Seen}

@@ -1,16 +1,8 @@
 -- What the entries of a seat are worth in a legal history: its part of a run, said of the whole history.
 use Rattle.std.specs.Prelude.{ℕ, Bool, true, false, List, [], ◌∷◌}
-use Rattle.history.specs.Histories.{entry, entries_of}
-use Rattle.workload_file.specs.declared.workload.Statement.{Statement}
+use Rattle.workload_runners.specs.Names.{entry, entries_of, Statement, Reply, Ok, State, NodeEntry, LegalFrom, Form, MainRan, CallerRan, in_turns, WorkerBy, OnceListed}
 use Rattle.mtapi_machine.specs.declared.ops.Op.TheVariants as op
-use Rattle.mtapi_machine.specs.declared.replies.Reply.{Reply}
-use Rattle.mtapi_machine.specs.declared.replies.Reply.TheVariants.{Ok}
-use Rattle.mtapi_machine.specs.State.{State}
-use Rattle.mtapi_machine.specs.Legal.{NodeEntry, LegalFrom}
-use Rattle.workload_runs.specs.Parts.{Form, MainRan, CallerRan}
 use Rattle.workload_runs.specs.Turns.{turns_of}
-use Rattle.workload_runs.specs.Whole.{in_turns, WorkerBy}
-use Rattle.history_law.specs.Seats.{OnceListed}
 use Rattle.workload_runners.specs.Rounds.{WorkerAs}
 use Rattle.workload_runners.specs.Carries.{MadeAs, EntersAs}
 

@@ -1,20 +1,10 @@
 -- What the calls of a caller, and its whole part, add to its seat's own entries.
 use Rattle.std.specs.Prelude.{◌≡◌, ℕ, ◌+◌, ◌-◌, ◌<◌, Bool, true, false, List, [], ◌∷◌, ◌++◌, Option, Some, MatchOption, slice_get, replicate, ◌==◌, if◌then◌else◌}
 use Rattle.std.specs.Bool.{MatchBool}
-use Rattle.history.specs.Histories.{entry}
+use Rattle.workload_runners.specs.Names.{entry, Statement, Part, Op, Reply, Ok, Pending, handle_of, NodeEntry, is_pending, Carried, has_begin, is_timeout}
 use Rattle.mtapi_values.specs.Timeouts.{looks_of}
-use Rattle.workload_file.specs.declared.workload.Statement.{Statement}
-use Rattle.workload_file.specs.declared.workload.Part.{Part}
-use Rattle.mtapi_machine.specs.declared.ops.Op.{Op}
 use Rattle.mtapi_machine.specs.declared.ops.Op.TheVariants as op
-use Rattle.mtapi_machine.specs.declared.replies.Reply.{Reply}
-use Rattle.mtapi_machine.specs.declared.replies.Reply.TheVariants.{Ok, Pending}
-use Rattle.mtapi_machine.specs.Row.{handle_of}
-use Rattle.mtapi_machine.specs.Legal.{NodeEntry}
-use Rattle.mtapi_machine.specs.Kept.{is_pending}
 use Rattle.workload_runs.specs.Calls.{Call, Once, Looking}
-use Rattle.workload_runs.specs.Parts.{Carried, has_begin}
-use Rattle.workload_runs.specs.Lines.{is_timeout}
 
 -- the entries of a call that looks, which comes to this reply
 pub record LookedAs (w : ℕ) (o : Bool → Op) (limit : Option ℕ) (es : List NodeEntry) (r : Reply) : Type 0 where

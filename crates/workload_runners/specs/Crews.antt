@@ -1,19 +1,11 @@
 -- What the threads of a run bring back.
 use Rattle.std.specs.Prelude.{◌≡◌, ℕ, ◌+◌, ◌-◌, ◌≤◌, ◌<◌, true, false, List, [], ◌∷◌, ◌++◌, All, vec_len, vec_capacity, None, slice_index_or, length, ◌⊎◌}
-use Rattle.history.specs.Histories.{StartsWith, entries_of}
-use Rattle.mtapi_machine.specs.declared.ops.Op.{Op}
-use Rattle.mtapi_machine.specs.Legal.{NodeEntry}
+use Rattle.workload_runners.specs.Names.{StartsWith, entries_of, Op, NodeEntry, Statement, Part, Close, Reply, CellView, HasSeenMore, JournaledTerms}
 use Rattle.std.specs.List.{AllZip}
-use Rattle.workload_file.specs.declared.workload.Statement.{Statement}
-use Rattle.workload_file.specs.declared.workload.Part.{Part}
-use Rattle.mtapi_machine.specs.declared.ops.Op.TheVariants.{Close}
-use Rattle.mtapi_machine.specs.declared.replies.Reply.{Reply}
 use Rattle.workload_runners.specs.declared.crew.back.Back.{Back}
 use Rattle.workload_runners.specs.declared.crew.back.ReturnedSeats.{ReturnedSeats}
 use Rattle.workload_runners.specs.declared.crew.back.Hands.{Hands}
 use Rattle.workload_runners.specs.declared.crew.back.AllHands.{AllHands}
-use Rattle.turn_cell.specs.Seats.{CellView, HasSeenMore}
-use Rattle.node_core.specs.declared.journaled.JournaledTerms.{JournaledTerms}
 use Rattle.workload_runners.specs.Turns.{Seat, SameSeat, AddsOwn, Turned, Unturned}
 use Rattle.workload_runners.specs.Rounds.{AtRest, WorkerAs}
 use Rattle.workload_runners.specs.Carries.{MainAs, CallerIn}

@@ -1,17 +1,9 @@
 -- What the looks of one call add to a seat's own entries.
 use Rattle.std.specs.Prelude.{◌≡◌, ℕ, ◌+◌, ◌<◌, ◌≤◌, ◌^◌, Bool, true, false, List, [], ◌∷◌, ◌++◌, Option, MatchOption, replicate, ◌==◌}
-use Rattle.history.specs.Histories.{entry}
-use Rattle.mtapi_machine.specs.declared.replies.Reply.{Reply}
-use Rattle.mtapi_machine.specs.declared.replies.Reply.TheVariants.{Pending}
-use Rattle.mtapi_machine.specs.Row.{Allows}
+use Rattle.workload_runners.specs.Names.{entry, Reply, Pending, Allows, NodeEntry, after, is_pending, is_timeout, Wanted, journal_legal}
 use Rattle.mtapi_machine.specs.Rows.{row}
-use Rattle.mtapi_machine.specs.Legal.{NodeEntry, after}
-use Rattle.mtapi_machine.specs.Kept.{is_pending}
-use Rattle.workload_runs.specs.Lines.{is_timeout}
-use Rattle.workload_runs.specs.declared.calls.Wanted.{Wanted}
 use Rattle.workload_runs.specs.Wants.{op_of}
 use Rattle.turn_looks.specs.Looks as looks
-use Rattle.node_core.specs.Logs.{journal_legal}
 use Rattle.workload_runners.specs.Turns.{Seat, SameSeat}
 use Rattle.workload_runners.specs.Replies.{found}
 

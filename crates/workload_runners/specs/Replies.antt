@@ -1,16 +1,11 @@
 -- What a caller reads from the replies to its calls.
 use Rattle.std.specs.Prelude.{ℕ, ◌==◌, ◌^◌, nat_lt, ℤ, pos, if◌then◌else◌, Bool, true, false, not, Option, Some, None, is_some}
-use Rattle.mtapi_values.specs.declared.statuses.MtapiStatus.{MtapiStatus}
+use Rattle.workload_runners.specs.Names.{MtapiStatus, TaskHandle, TaskEnd, Op, Reply, Wanted}
 use Rattle.mtapi_values.specs.declared.statuses.MtapiStatus.TheVariants as m
 use Rattle.mtapi_values.specs.declared.statuses.MrapiStatus.{MrapiStatus}
 use Rattle.mtapi_values.specs.declared.statuses.MrapiStatus.TheVariants as c
-use Rattle.mtapi_values.specs.declared.handles.TaskHandle.{TaskHandle}
-use Rattle.mtapi_values.specs.declared.ends.TaskEnd.{TaskEnd}
-use Rattle.mtapi_machine.specs.declared.ops.Op.{Op}
 use Rattle.mtapi_machine.specs.declared.ops.Op.TheVariants as op
-use Rattle.mtapi_machine.specs.declared.replies.Reply.{Reply}
 use Rattle.mtapi_machine.specs.declared.replies.Reply.TheVariants as reply
-use Rattle.workload_runs.specs.declared.calls.Wanted.{Wanted}
 use Rattle.workload_runs.specs.declared.calls.Wanted.TheVariants as want
 
 -- What a call reads from a reply that isn't a status: that it was done, a handle, a number, the end of a task, and a member of a group with its end

@@ -1,15 +1,9 @@
 -- What a worker's rounds add to its seat's own entries.
 use Rattle.std.specs.Prelude.{◌≡◌, ℕ, ◌≤◌, ◌<◌, ◌^◌, Bool, true, false, List, [], ◌∷◌, ◌++◌, map, replicate, ℤ}
-use Rattle.history.specs.Histories.{entry}
-use Rattle.mtapi_values.specs.declared.kinds.Kind.{Kind}
-use Rattle.mtapi_values.specs.declared.ends.TaskEnd.{TaskEnd}
-use Rattle.mtapi_values.specs.declared.handles.TaskHandle.{TaskHandle}
+use Rattle.workload_runners.specs.Names.{entry, Kind, TaskEnd, TaskHandle, Answered, NodeEntry, after, Work, Holds, Free}
 use Rattle.mtapi_values.specs.declared.handles.ActionHandle.{ActionHandle}
-use Rattle.action_fn.specs.Answers.{Answered}
 use Rattle.mtapi_machine.specs.declared.ops.Op.TheVariants as op
 use Rattle.mtapi_machine.specs.declared.replies.Reply.TheVariants as reply
-use Rattle.mtapi_machine.specs.Legal.{NodeEntry, after}
-use Rattle.history_law.specs.Seats.{Work, Holds, Free}
 use Rattle.workload_runners.specs.Turns.{Seat, SameSeat}
 
 -- what a tally does between its last question for both and its end: it was told to give up; or it has both and reads this number,

@@ -1,26 +1,18 @@
 -- What a run gives back, and what it begins with.
 use Rattle.std.specs.Prelude.{◌≡◌, ℕ, ◌+◌, ◌≤◌, ◌^◌, ◌⊎◌, Bool, true, false, List, [], ◌∷◌, ◌++◌, length, Result, Err, vec_len, vec_capacity}
-use Rattle.history.specs.Histories.{entry}
+use Rattle.workload_runners.specs.Names.{entry, fresh_seat, fresh_seats, IsSeatOf, Close, Reply, terms_with, opening, NodeEntry, Legal, KeptAs, RunBy, Rose}
 use Rattle.turn_cell.specs.Lists.{all_of}
-use Rattle.turn_cell.specs.Seats.{fresh_seat, fresh_seats, IsSeatOf}
 use Rattle.workload_file.specs.declared.workload.Workload.{Workload}
 use Rattle.mtapi_values.specs.declared.handles.Layout.TheVariants.{Two}
 use Rattle.mtapi_machine.specs.declared.terms.Terms.{Terms}
-use Rattle.mtapi_machine.specs.declared.ops.Op.TheVariants.{Close}
-use Rattle.mtapi_machine.specs.declared.replies.Reply.{Reply}
-use Rattle.mtapi_machine.specs.State.{terms_with, opening}
-use Rattle.mtapi_machine.specs.Legal.{NodeEntry, Legal}
 use Rattle.node_journals.specs.declared.entries.Journal.{Journal}
-use Rattle.node_core.specs.Logs.{KeptAs}
 use Rattle.workload_runs.specs.RunOf.{RunOf}
-use Rattle.workload_runs.specs.Whole.{RunBy}
 use Rattle.history_law.specs.Accepted.{TasksEndOnce}
 use Rattle.workload_runners.specs.declared.crew.back.ReturnedSeats.{ReturnedSeats}
 use Rattle.workload_runners.specs.declared.crew.back.AllHands.{AllHands}
 use Rattle.workload_runners.specs.declared.run.RunError.{RunError}
 use Rattle.workload_runners.specs.declared.run.RunError.TheVariants as error
 use Rattle.workload_runners.specs.Turns.{Seat}
-use Rattle.run_beside.specs.Pairs.{Rose}
 use Rattle.workload_runners.specs.Crews.{Cell, IsClean}
 
 -- the terms of a run: the workload's settings, and one caller for each part

@@ -1,19 +1,11 @@
 -- What each turn of a worker adds, and what it leaves of its work.
 use Rattle.std.specs.Prelude.{◌≡◌, ◌⊎◌, ℕ, ◌+◌, Bool, true, false, not, ◌&&◌, ◌||◌, ◌==◌, nat_lt, List, [], ◌∷◌, ◌++◌, ℤ, ◌+ℤ◌, Option, Some, None}
-use Rattle.history.specs.Histories.{entry}
-use Rattle.mtapi_values.specs.declared.kinds.Kind.{Kind}
+use Rattle.workload_runners.specs.Names.{entry, Kind, TaskEnd, TaskHandle, MtapiStatus, NodeEntry, Answered, fits, Reply, Work}
 use Rattle.mtapi_values.specs.declared.kinds.Kind.TheVariants.{Watch, Tally}
-use Rattle.mtapi_values.specs.declared.ends.TaskEnd.{TaskEnd}
-use Rattle.mtapi_values.specs.declared.handles.TaskHandle.{TaskHandle}
 use Rattle.mtapi_values.specs.Conditions.{holds}
-use Rattle.mtapi_values.specs.declared.statuses.MtapiStatus.{MtapiStatus}
-use Rattle.mtapi_machine.specs.Legal.{NodeEntry}
-use Rattle.action_fn.specs.Answers.{Answered, fits}
 use Rattle.mtapi_objects.specs.Tasks.{looks_of, TallyNotes, no_tally, tally_args, number_in, tally_failed, tally_has, tally_read, tally_written}
 use Rattle.mtapi_machine.specs.declared.ops.Op.TheVariants as op
-use Rattle.mtapi_machine.specs.declared.replies.Reply.{Reply}
 use Rattle.mtapi_machine.specs.declared.replies.Reply.TheVariants as reply
-use Rattle.history_law.specs.Seats.{Work}
 use Rattle.workload_runners.specs.Turns.{Seat, SameSeat, AddsOwn}
 use Rattle.turn_looks.specs.declared.services.ServeEnd.{ServeEnd}
 use Rattle.turn_looks.specs.declared.services.ServeEnd.TheVariants.{Stopped, Spent}

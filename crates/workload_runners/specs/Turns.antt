@@ -1,12 +1,7 @@
 -- Turns of a seat of a cell over a node with a journal.
 use Rattle.std.specs.Prelude.{◌≡◌, ℕ, List, ◌++◌}
-use Rattle.turn_cell.specs.Seats.{SeatView}
+use Rattle.workload_runners.specs.Names.{SeatView, Op, Reply, NodeEntry, journal_legal, JournaledTerms}
 use Rattle.turn_looks.specs.Turns as looks
-use Rattle.mtapi_machine.specs.declared.ops.Op.{Op}
-use Rattle.mtapi_machine.specs.declared.replies.Reply.{Reply}
-use Rattle.mtapi_machine.specs.Legal.{NodeEntry}
-use Rattle.node_core.specs.Logs.{journal_legal}
-use Rattle.node_core.specs.declared.journaled.JournaledTerms.{JournaledTerms}
 
 -- a seat of such a cell
 abbrev pub Seat : Type 0
