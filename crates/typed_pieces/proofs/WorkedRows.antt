@@ -94,9 +94,12 @@ came_so = (
 pub waits : WorkedWaits
 waits = record {
   wait = came_so;
-  another_result = λ w. let is : 12 ≡ 10 = at_place (4 ∷ 11 ∷ 13 ∷ 9 ∷ []) (Done 10 ∷ Joins 2 12 ∷ Joins 1 18 ∷ Done 27 ∷ []) (2 ∷ 5 ∷ 7 ∷ []) 0 w in omega (arith, is);
-  another_join = λ w. let is : 33 ≡ 31 = at_place (4 ∷ 11 ∷ 13 ∷ 9 ∷ []) (Done 12 ∷ Joins 2 10 ∷ Joins 1 18 ∷ Done 27 ∷ []) (2 ∷ 5 ∷ 7 ∷ []) 1 w in omega (arith, is);
-  counts_moved = λ w. let is : 33 ≡ 18 = at_place (4 ∷ 11 ∷ 13 ∷ 9 ∷ []) (Done 12 ∷ Joins 1 12 ∷ Joins 2 18 ∷ Done 27 ∷ []) (2 ∷ 5 ∷ 7 ∷ []) 1 w in omega (arith, is);
+  another_result = λ w. let is : 12 ≡ 10 = at_place (4 ∷ 11 ∷ 13 ∷ 9 ∷ []) (Done 10 ∷ Joins 2 12 ∷ Joins 1 18 ∷ Done 27 ∷ []) (2 ∷ 5 ∷ 7 ∷ []) 0 w in
+      omega (arith, is);
+  another_join = λ w. let is : 33 ≡ 31 = at_place (4 ∷ 11 ∷ 13 ∷ 9 ∷ []) (Done 12 ∷ Joins 2 10 ∷ Joins 1 18 ∷ Done 27 ∷ []) (2 ∷ 5 ∷ 7 ∷ []) 1 w in
+      omega (arith, is);
+  counts_moved = λ w. let is : 33 ≡ 18 = at_place (4 ∷ 11 ∷ 13 ∷ 9 ∷ []) (Done 12 ∷ Joins 1 12 ∷ Joins 2 18 ∷ Done 27 ∷ []) (2 ∷ 5 ∷ 7 ∷ []) 1 w in
+      omega (arith, is);
   fewer_came = λ w. let is : 27 ≡ 0 = at_place (4 ∷ 11 ∷ 13 ∷ 9 ∷ []) (Done 12 ∷ Joins 2 12 ∷ Joins 1 18 ∷ []) (2 ∷ 5 ∷ 7 ∷ []) 3 w in omega (arith, is);
   pieces_moved = λ w. let is : 33 ≡ 12 = at_place (11 ∷ 4 ∷ 13 ∷ 9 ∷ []) came (2 ∷ 5 ∷ 7 ∷ []) 0 w in omega (arith, is);
   fewer_pieces = λ w. let is : 0 ≡ 27 = at_place (4 ∷ 11 ∷ 13 ∷ []) came (2 ∷ 5 ∷ 7 ∷ []) 3 w in omega (arith, is);

@@ -30,7 +30,8 @@ one_more who e counts true true true T K S room is pend more =
     let here = same_seat e.who who is in
     more ∙ ap (λ n. lines_left n T) (ap (λ x. get_or (set counts x (get_or counts x 0 + 1)) who 0) here ∙ get_or-set_same counts who _ 0 room)
     ∙ (λ i. lines_left (cond (sym pend i) (get_or counts who 0 + 1) (get_or counts who 0)) T)
-one_more who e counts true true false T K S room is pend more = more ∙ ap (λ n. lines_left n T) (get_or-set_other counts e.who who _ 0 (other_seat e.who who is))
+one_more who e counts true true false T K S room is pend more =
+    more ∙ ap (λ n. lines_left n T) (get_or-set_other counts e.who who _ 0 (other_seat e.who who is))
 one_more who e counts true false true T K S room is pend more = more ∙ (λ i. lines_left (cond (sym pend i) (get_or counts who 0 + 1) (get_or counts who 0)) T)
 one_more who e counts true false false T K S room is pend more = more
 one_more who e counts false p true T K S room is pend more =
