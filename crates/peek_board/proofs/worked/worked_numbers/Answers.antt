@@ -1,5 +1,5 @@
-use Rattle.std.proofs.Common.{◌≡◌, ◌≤◌, ◌<◌, zero, suc, refl, arith}
-use Rattle.peek_board.specs.Worked.{WorkedClasses, WorkedTokens, WorkedSeats, in_slot_7, group_there, of_no_generation}
+use Rattle.std.proofs.Common.{◌≡◌, ◌≤◌, ◌<◌, zero, suc, refl, arith, rules}
+use Rattle.peek_board.specs.Worked.{WorkedClasses, in_slot_7, group_there, of_no_generation}
 use Rattle.peek_board.specs.Numbers.{OnBoard}
 use Rattle.peek_board.proofs.worked.worked_numbers.Goals as goal
 
@@ -35,28 +35,5 @@ classes = record {
   unissued = not_issued;
 }
 
-tokens : WorkedTokens
-tokens = record {
-  part = refl;
-  less = refl;
-  new = refl;
-  both = refl;
-  count = refl;
-  hears = refl;
-  tells = refl;
-  loads = refl;
-}
-
-seats : WorkedSeats
-seats = record {
-  one = λ z. refl;
-  more = λ z. refl;
-  look = λ s x. x;
-  any = λ s x. x;
-  finish = λ s x. x;
-  watch = λ s x. x;
-  tally = λ s x. x;
-}
-
 pub returns : goal.returns
-returns c = record { classes = classes; tokens = tokens; seats = seats }
+returns c = record { classes = classes; tokens = search rules; seats = search rules }
