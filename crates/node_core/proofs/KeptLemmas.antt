@@ -1,5 +1,5 @@
 -- What a journal keeps of a list with one more entry.
-use Rattle.node_core.proofs.Names.{◌≡◌, ℕ, zero, suc, ◌+◌, ◌≤◌, Bool, true, false, cond, List, [], ◌∷◌, ◌++◌, length, get_or, set, replicate, refl, ap, arith, slice_index, State, NodeEntry, next, after_from, is_dropped, is_pending, kept, counted, counts_next, counts_after, skipped, no_counts, kept_of, skipped_of}
+use Rattle.node_core.proofs.Names.{nat_tests, ◌≡◌, ℕ, zero, suc, ◌+◌, ◌≤◌, Bool, true, false, cond, List, [], ◌∷◌, ◌++◌, length, get_or, set, replicate, refl, ap, arith, slice_index, State, NodeEntry, next, after_from, is_dropped, is_pending, kept, counted, counts_next, counts_after, skipped, no_counts, kept_of, skipped_of}
 
 front_more : {A : Type 0} (b : Bool) (a : A) (xs ys zs : List A) → xs ≡ ys ++ zs → cond b xs (a ∷ xs) ≡ cond b ys (a ∷ ys) ++ zs
 front_more true a xs ys zs e = e

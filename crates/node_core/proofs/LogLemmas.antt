@@ -1,5 +1,5 @@
 -- The log of a list, with one more entry.
-use Rattle.node_core.proofs.Names.{◌≡◌, ℕ, ◌<◌, ◌^◌, Bool, true, false, List, [], ◌∷◌, ◌++◌, length, refl, sym, ◌∙◌, ap, subst, arith, slice_index, Option, None, Result, Ok, IfOk, IfSome, IsErr, ◌↔◌, entry, Op, Reply, Terms, State, opening, NodeEntry, Legal, after_from, after, pends_alike, drops, is_dropped, is_pending, kept, skipped, counted, counts_after, no_counts, Node, KeptEntries, kept_of, skipped_of, Stands, terms_of, seat_count, history_of, keeps, lost, AddsTo, Logs, KeepsOf, LoggedFrom, HasTerms, KeptAs, IsJournal}
+use Rattle.node_core.proofs.Names.{nat_tests, ◌≡◌, ℕ, ◌<◌, ◌^◌, Bool, true, false, List, [], ◌∷◌, ◌++◌, length, refl, sym, ◌∙◌, ap, subst, arith, slice_index, Option, None, Result, Ok, IfOk, IfSome, IsErr, ◌↔◌, entry, Op, Reply, Terms, State, opening, NodeEntry, Legal, after_from, after, pends_alike, drops, is_dropped, is_pending, kept, skipped, counted, counts_after, no_counts, Node, KeptEntries, kept_of, skipped_of, Stands, terms_of, seat_count, history_of, keeps, lost, AddsTo, Logs, KeepsOf, LoggedFrom, HasTerms, KeptAs, IsJournal}
 use Rattle.std.specs.declared.alloc.AllocError.{AllocError}
 use Rattle.node_journals.specs.declared.entries.Journal.{Journal}
 use Rattle.mtapi_machine.proofs.Drops.{Kept-legal, after-kept}
@@ -13,14 +13,7 @@ added : (s : State) (L : List NodeEntry) (e : NodeEntry) (old new : Kept) (n : �
     → n ≡ slice_index (counts_after s no_counts L) e.who → KeepsOf s new (L ++ e ∷ [])
 added s L e old Nothing n k a d m = tt
 added s L e old Lost n k a d m = tt
-added s L e old (Entries x) n k a d m =
-    let before = subst (λ (o : Kept). KeepsOf s o L) a.1 k in (
-      ap (λ (y : KeptEntries). y.entries) a.2
-          ∙ (ap (λ (l : List NodeEntry). l ++ e ∷ []) before.0 ∙ (ap (λ b. kept s L ++ kept_of b e) (sym d) ∙ sym (kept-append s L e))),
-      ap (λ (y : KeptEntries). y.skipped) a.2
-          ∙ ((λ i. before.1 i ++ m i ∷ []) ∙ (ap (λ b. skipped s no_counts L ++ skipped_of b (slice_index (counts_after s no_counts L) e.who)) (sym d)
-          ∙ sym (skipped-append s no_counts L e))),
-    )
+added s L e old (Entries x) n k a d m = grind (arith, nat_tests, kept, kept-append, skipped, no_counts, skipped-append)
 
 -- an entry that is left out adds nothing
 left_out : (s : State) (L : List NodeEntry) (e : NodeEntry) (k : Kept) → KeepsOf s k L → is_dropped (after_from s L) e ≡ true → KeepsOf s k (L ++ e ∷ [])
@@ -38,14 +31,8 @@ left_out s L e (Entries x) k d = (
 
 logged : (s : State) (g k : Log) (L : List NodeEntry) (e : NodeEntry) (b : Bool) → LoggedFrom s g L → is_dropped (after_from s L) e ≡ b → Logs g b e k
     → LoggedFrom s k (L ++ e ∷ [])
-logged s g k L e true old d new = record {
-  kept = left_out s L e k.kept (subst (λ (x : Kept). KeepsOf s x L) (sym new.kept) old.kept) d;
-  counts = new.counts ∙ ((λ i. counted (sym d i) (is_pending e.reply) (old.counts i) e.who) ∙ sym (counts-append s no_counts L e));
-}
-logged s g k L e false old d new = record {
-  kept = added s L e g.kept k.kept (slice_index g.counts e.who) old.kept new.kept d (ap (λ (c : List ℕ). slice_index c e.who) old.counts);
-  counts = new.counts ∙ ((λ i. counted (sym d i) (is_pending e.reply) (old.counts i) e.who) ∙ sym (counts-append s no_counts L e));
-}
+logged s g k L e true old d new = grind (arith, nat_tests, kept, left_out, counted, counts-append, no_counts)
+logged s g k L e false old d new = grind (arith, nat_tests, kept, added, counted, counts-append, no_counts)
 
 -- the node goes on with the list, and so does the log
 pub journal_goes_on : (n m : Node) (g k : Log) (L : List NodeEntry) (who : ℕ) (op : Op) (r : Reply) (alike : Bool) → LoggedFrom (opening (terms_of n)) g L
@@ -58,8 +45,7 @@ journal_goes_on n m g k L who op r alike old same is new =
 -- a number fits, and so does a seat
 pub number_fits : (n : Node) (g : Log) (L : List NodeEntry) (who : ℕ) → LoggedFrom (opening (terms_of n)) g L → length L < 2 ^ 62
     → slice_index g.counts who < 2 ^ 63
-number_fits n g L who st l =
-    subst (λ (c : List ℕ). slice_index c who < 2 ^ 63) (sym st.counts) (omega (arith, number_le (opening (terms_of n)) L who))
+number_fits n g L who st l = grind (arith, nat_tests, number_le, terms_of)
 
 -- nothing was called yet
 pub logged_none : (s : State) (g : Log) → KeepsOf s g.kept [] → g.counts ≡ no_counts → LoggedFrom s g []
@@ -72,10 +58,7 @@ kept_none s k e = (ap (λ (x : KeptEntries). x.entries) e, ap (λ (x : KeptEntri
 
 -- the kept entries are legal, and lead to the same state
 pub kept_legal : (t : Terms) (L E : List NodeEntry) → Legal t L → E ≡ kept (opening t) L → Legal t E × (after t E ≡ after t L)
-kept_legal t L E l e = (
-  subst (Legal t) (sym e) (record { fits = l.fits; from = Kept-legal (opening t) L l.from }),
-  ap (after_from (opening t)) e ∙ after-kept (opening t) L l.from,
-)
+kept_legal t L E l e = grind (arith, nat_tests, Kept-legal, after-kept)
 
 -- the journal that is handed out
 module _ (t : Terms) where
@@ -98,6 +81,4 @@ module _ (t : Terms) where
       → IfOk r (λ o. IfSome o (λ j. KeptAs t j L))
   journal_kept Nothing r L e h l = rw e tt
   journal_kept Lost r L e h l = rw e tt
-  journal_kept (Entries k) r L e h l =
-      let good = kept_legal t L k.entries l h.0 in
-      rw e (record { layout = refl; settings = refl; callers = refl; entries = h.0; numbers = h.1; legal = good.0; leads = good.1 })
+  journal_kept (Entries k) r L e h l = grind (arith, nat_tests, kept_legal)

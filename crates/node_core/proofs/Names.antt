@@ -1,5 +1,6 @@
 -- The names that the proofs of this crate cite of lower crates and of its own specs/, passed on from one place. Declares nothing.
 pub use Rattle.std.proofs.Common.{Bool, List, Option, Some, [], ap, arith, cond, false, get_or, inl, inr, length, length-append, refl, replicate, set, subst, suc, sym, true, zero, ℕ, ◌++◌, ◌+◌, ◌<◌, ◌^◌, ◌∙◌, ◌∷◌, ◌≡◌, ◌≤◌}
+pub use Rattle.std.proofs.lemmas.Bool.Decides.{nat_tests}
 pub use Rattle.std.specs.Prelude.{IfOk, IfSome, IsErr, None, Ok, Result, slice_index, ◌==◌, ◌↔◌}
 pub use Rattle.handle_pool.specs.Issued.{Listed, live_object}
 pub use Rattle.handle_pool.specs.Slots.{Slot, Slots, free_slot, generation_of, slot_of, value_at}

@@ -1,5 +1,5 @@
 -- A node goes on with the list that its callers see, as the node inside goes on with what it saw.
-use Rattle.node_core.proofs.Names.{◌≡◌, ℕ, ◌<◌, Bool, List, [], ◌∷◌, ◌++◌, length, Option, refl, sym, ◌∙◌, ap, subst, arith, entry, NodeSettings, One, Two, Terms, Op, Reply, NodeEntry, Legal, after, pends_alike, ObjectKind, inward_op, answered_kind, outward, outward_reply, IssuesSmall, IsSmall, inner_entries, outer_entries, AllIssueSmall, history_turns, Node, Stands, terms_of}
+use Rattle.node_core.proofs.Names.{nat_tests, ◌≡◌, ℕ, ◌<◌, Bool, List, [], ◌∷◌, ◌++◌, length, Option, refl, sym, ◌∙◌, ap, subst, arith, entry, NodeSettings, One, Two, Terms, Op, Reply, NodeEntry, Legal, after, pends_alike, ObjectKind, inward_op, answered_kind, outward, outward_reply, IssuesSmall, IsSmall, inner_entries, outer_entries, AllIssueSmall, history_turns, Node, Stands, terms_of}
 use Rattle.node_steps.specs.Stands.{Stands as StandsInside, terms_of as terms_inside}
 use Rattle.node_core.proofs.Outside.{inner_append, outer_append, small_append, same_length, small_outside, reply_small, pends_outside}
 
@@ -16,9 +16,7 @@ same_terms n m e = ap (λ (t : Terms). record t { layout = Two }) e
 
 -- the node inside has room for one more op
 pub room_inside : (n : Node) (k : ℕ) → ((L : List NodeEntry) × Stands n L × (length L < k)) → (L : List NodeEntry) × StandsInside n.inner L × (length L < k)
-room_inside n k x =
-    let same : length (inner_entries x.1.entries) ≡ length x.0 = same_length x.1.entries ∙ ap (λ (l : List NodeEntry). length l) x.1.seen in
-    (inner_entries x.1.entries, x.1.inside, omega (arith, same, x.2))
+room_inside n k x = grind (arith, nat_tests, same_length)
 
 -- one more entry: the node inside was asked the op turned inwards, and its reply is turned outwards
 module _ (n m : Node) (L : List NodeEntry) (who : ℕ) (o p : Op) (k : Option ObjectKind) (r out : Reply) (st : Stands n L) (inward : p ≡ inward_op o) (kind : k
@@ -60,6 +58,4 @@ module _ (n m : Node) (L : List NodeEntry) (who : ℕ) (o p : Op) (k : Option Ob
 -- a Pending reply leaves the state as it was, where it does so inside
 pub pends_alike_so : (n : Node) (L : List NodeEntry) (who : ℕ) (o p : Op) (b : Bool) → Stands n L → p ≡ inward_op o
     → ((K : List NodeEntry) → StandsInside n.inner K → pends_alike (after (terms_inside n.inner) K) who p ≡ b) → pends_alike (after (terms_of n) L) who o ≡ b
-pends_alike_so n L who o p b st inward is =
-    pends_outside (terms_of n) st.entries L who o b refl st.seen st.small st.inside.legal
-    (ap (λ (x : Op). pends_alike (after (terms_inside n.inner) (inner_entries st.entries)) who x) (sym inward) ∙ is (inner_entries st.entries) st.inside)
+pends_alike_so n L who o p b st inward is = grind (arith, nat_tests, pends_outside, terms_of, after)

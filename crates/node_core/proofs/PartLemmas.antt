@@ -1,5 +1,5 @@
 -- A node that stands for a list agrees with its state, part by part.
-use Rattle.node_core.proofs.Names.{◌≡◌, inl, inr, ℕ, zero, suc, ◌+◌, ◌<◌, ◌≤◌, Bool, true, false, cond, List, Option, Some, None, refl, sym, ◌∙◌, ap, subst, arith, NodeSettings, ObjectKind, Slot, Slots, slot_of, generation_of, value_at, Listed, live_object, issued_at, retired, State, NodeEntry, after, AreNamed, NoHandle, TaskIsNamed, Named, turned, turned_list, turned_task, inner_entries, history_turns, Node, Stands, terms_of, IsPast, AgreesIn, same_fields, lists_in, Agrees}
+use Rattle.node_core.proofs.Names.{nat_tests, ◌≡◌, inl, inr, ℕ, zero, suc, ◌+◌, ◌<◌, ◌≤◌, Bool, true, false, cond, List, Option, Some, None, refl, sym, ◌∙◌, ap, subst, arith, NodeSettings, ObjectKind, Slot, Slots, slot_of, generation_of, value_at, Listed, live_object, issued_at, retired, State, NodeEntry, after, AreNamed, NoHandle, TaskIsNamed, Named, turned, turned_list, turned_task, inner_entries, history_turns, Node, Stands, terms_of, IsPast, AgreesIn, same_fields, lists_in, Agrees}
 use Rattle.std.specs.Option.{option_map}
 use Rattle.std.proofs.lemmas.Bool.Decides.{eqb_tells}
 use Rattle.mtapi_values.specs.Layouts.{outer}
@@ -27,19 +27,7 @@ less (suc a) (suc b) most apart = let rest : b < a = less a b (omega (arith, mos
 -- a slot that had so many turns has had each of their generations, but for one that is live
 was-past : {T : Type 0} (generations turns generation : ℕ) (slot : Slot T) → SlotStands generations turns slot → generation ≤ turns
     → value_at (Some slot) generation ≡ None → IsPast generations generation slot
-was-past generations turns generation slot s most none = by_slot slot.value refl slot.retired refl
-  where
-    by_slot : (o : Option _) → slot.value ≡ o → (b : Bool) → slot.retired ≡ b → IsPast generations generation slot
-    by_slot o is true off = inr (off, (s.retired off).0)
-    by_slot None is false off =
-        let next : slot.generation ≡ turns + 1 = s.generation ∙ (λ i. generation_after (is i) (off i) turns) in
-        inl (omega (arith, next, most))
-    by_slot (Some x) is false off = elim (eqb_tells slot.generation generation) [
-      | inl same ↦ none_some (sym none ∙ ((λ i. cond (same.0 i) slot.value None) ∙ is))
-      | inr apart ↦
-          let own : slot.generation ≡ turns = s.generation ∙ (λ i. generation_after (is i) (off i) turns) in
-          inl (less slot.generation generation (omega (arith, own, most)) apart.1)
-    ]
+was-past generations turns generation slot s most none = grind (arith, nat_tests, retired, eqb_tells, none_some, less)
 
 module _ {T : Type 0} (k : ObjectKind) (f : T → T) (P : T → Type 0) where
   agrees-in : (size generations : ℕ) (p : Slots T) (l : List (Listed T)) → AreNamed k P l → Holds size generations p (turned_list k f l)
