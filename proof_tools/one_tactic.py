@@ -7,6 +7,7 @@ way after the other,
 1. the whole lemma as `NAME ARGUMENTS = grind (arith, nat_tests)`
 2. the same with the lemmas that its body cites
 3. each clause of several lines so, with its recursive calls and what it cites
+4. the same, with what it cites applied to the arguments that it has there
 
 It tries all lemmas at once, has the crate checked, puts back those that the check names, and goes on until it names none.
 Definitions are left alone. With a FUNCTION, the path of a small one that has a file `Answers.antt`, the check is of the
@@ -107,8 +108,9 @@ def tried_as(way, lemma, lines, names):
             continue
         head, body = re.split(r" =(?=\s)", text, maxsplit=1)
         body = " ".join(body.split())
-        rules = [RULES, *calls_of(lemma.name, head, body), *cited_in(body, names, lemma.name)[:5]]
-        clauses.append(f"{head} = grind ({', '.join(rules)})\n")
+        cited = cited_in(body, names, lemma.name)[:5]
+        facts = [call for it in cited for call in calls_of(it, head, body)] if way == 4 else cited
+        clauses.append(f"{head} = grind ({', '.join([RULES, *calls_of(lemma.name, head, body), *facts])})\n")
     return clauses if sum(it.count("\n") for it in clauses) < lemma.end() - lemma.start() else None
 
 
@@ -214,7 +216,7 @@ def main():
     paths = [it for it in proof_files(sys.argv[1]) if not answers_goals(read(it))]
     put_right = reach(folder, paths, function)
     try:
-        print(f"{sum(try_way(way, folder, paths, function) for way in (1, 2, 3))} lines less")
+        print(f"{sum(try_way(way, folder, paths, function) for way in (1, 2, 3, 4))} lines less")
     finally:
         put_right()
 
