@@ -10,7 +10,7 @@ A slip is a file `bench/slips/NAME.slip` of such lines, of which the three in th
     new: of_some f [] = Fails ErrActionFailed
     refused by: action_fn worked_answers
 
-The old text stands once in its file, and becomes the new one. Where both a definition and the code have what slips, both are
+The old text stands once in its file, on one line or on several, and becomes the new one. Where both a definition and the code have what slips, both are
 changed, so that the code's own proof refuses nothing; a definition that no code computes is changed alone. A wrong body is a
 slip of the code alone, which the clauses of its function have to refuse. Further pairs of `old` and `new` behind a `file` are
 of the same file.
@@ -105,10 +105,12 @@ def made(folder, slip):
             return f"no file {change.file}"
         with open(path) as file:
             text = file.read()
-        if text.count(change.old) != 1:
-            return f"stands {text.count(change.old)} times in {change.file}: {change.old}"
+        old = re.compile(r"\s+".join(re.escape(word) for word in change.old.split()))
+        times = len(old.findall(text))
+        if times != 1:
+            return f"stands {times} times in {change.file}: {change.old}"
         with open(path, "w") as file:
-            file.write(text.replace(change.old, change.new))
+            file.write(old.sub(lambda _: change.new.strip(), text))
     return ""
 
 
