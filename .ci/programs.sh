@@ -4,7 +4,7 @@
 
 command_crate=mtapi_cli
 # Further programs, each as WORD:CRATE: the first word that asks for it, and the crate that makes it.
-further=(picture:mtapi_picture trace:mtapi_trace explain:mtapi_explain)
+further=(picture:mtapi_picture trace:mtapi_trace explain:mtapi_explain orders:mtapi_orders)
 programs=("$command_crate" "${further[@]#*:}")
 libraries=(typed_pieces plain_work)     # on which a program of one's own stands
 default_processor=x86-64-v2 new_processor=x86-64-v3

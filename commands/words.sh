@@ -5,6 +5,7 @@ usage='usage: mtapi run [--journal] | mtapi gen N [W] | mtapi check' # as the co
 most_tasks=19000 most_workers=16                                     # of `gen`
 default_looks=2000                                                   # of `bounded`: some two seconds, and more give little more
 most_looks=1000000                                                   # of a timeout
+default_states=1000000 most_states=100000000                         # of `orders`
 
 # Each use of a word: its group, how it is called, and what it does. The help and the manual page are made of this. The words
 # of the group `repository` are of no use to an installed command.
@@ -18,6 +19,9 @@ beside|explain [FILE]|tells every mistake for which FILE is no workload
 beside|verify [-v] FILE|runs the workload in FILE and checks its journal; writes report and verdict
 beside|expect [-v] FILE REPORT|runs the workload in FILE; status 1 and the difference if it doesn't write REPORT
 beside|bounded [-v] FILE [LOOKS]|runs it with LOOKS looks ($default_looks if not given) in place of each timeout=inf, and names the waits that ran out
+beside|orders FILE [N]|tells the reports that the schedules of the workload in FILE give, and their deadlocks, as far as N states ($default_states if not given) show them
+beside|orders --one FILE [N]|with status 1 unless one report is found and no deadlock
+beside|orders --journals FILE [N]|puts the journal of a run with each report, and of the way to each deadlock, into the folder FILE.orders
 beside|picture [FILE [KEPT]]|draws a run as an SVG: of what 'run --journal' wrote, or of the workload in FILE, which it runs unless KEPT has the journal
 beside|trace [FILE [KEPT]]|writes such a run as a trace, which Perfetto and chrome://tracing show
 repository|test|runs every test and every program, unproved, in minutes; proves nothing
@@ -35,12 +39,13 @@ status_table() {
     if [ -n "$installed" ]; then failed='' no_toolchain=''; fi
     cat <<END
 0|if all was written; with check the verdict is yes
-1|with expect if the report is another one$failed
+1|with expect if the report is another one; with orders --one if what is found isn't one report alone$failed
 2|if the words are none
 3|if the input is refused
 4, 5|if a read failed; if a write failed
 6, 7, 8|if memory ran out; if a thread was refused; if the turns of the run are used up
 9|with check and verify if the verdict isn't yes
+10|with orders if there are more states than were followed
 126|if there is no answer, which is told
 127|if ${no_toolchain}the program was built for a newer processor
 END
@@ -112,6 +117,10 @@ tell_why() {
         if [ $# -gt 2 ] && ! is_number "$3" "$most_workers"; then tell "no number of workers: $3: 1 to $most_workers"; fi
         ;;
     bounded) if [ $# -eq 3 ] && ! is_look_count "$3"; then tell "no number of looks: $3: 0 to 1,000,000"; fi ;;
+    orders)
+        if [[ ${2-} = --one || ${2-} = --journals ]]; then set -- "$1" "${@:3}"; fi
+        if [ $# -eq 3 ] && ! is_state_count "$3"; then tell "no number of states: $3: 1 to 100,000,000"; fi
+        ;;
     run) if [ $# -gt 1 ] && ! is_file "$2"; then tell "no option '$2': perhaps --journal"; fi ;;
     prove) if [ $# -gt 1 ]; then tell "no option '$2': perhaps --command"; fi ;;
     esac
@@ -136,6 +145,11 @@ is_look_count() {
     [[ $1 =~ ^(0|[1-9][0-9]{0,6})$ ]] && [ "$1" -le "$most_looks" ]
 }
 
+is_state_count() {
+    local LC_ALL=C
+    [[ $1 =~ ^[1-9][0-9]{0,8}$ ]] && [ "$1" -le "$most_states" ]
+}
+
 # Whether a word stands where a file is named: - is standard input.
 is_file() {
     [[ $1 = - || $1 != -* ]]
@@ -157,6 +171,7 @@ are_known() {
     case $word in
     verify | expect | bounded) if [ "${1-}" = -v ]; then shift; fi ;;
     run) if [ "${1-}" = --journal ]; then shift; fi ;;
+    orders) if [[ ${1-} = --one || ${1-} = --journals ]]; then shift; fi ;;
     esac
     case $word in
     -h | --help | --version | test) [ $# -eq 0 ] ;;
@@ -166,6 +181,7 @@ are_known() {
     verify) [ $# -eq 1 ] && is_file "$1" ;;
     expect) [ $# -eq 2 ] && are_files 2 "$@" ;;
     bounded) { [ $# -eq 1 ] || { [ $# -eq 2 ] && is_look_count "$2"; }; } && is_file "$1" ;;
+    orders) { [ $# -eq 1 ] || { [ $# -eq 2 ] && is_state_count "$2"; }; } && is_file "$1" ;;
     prove) [ $# -eq 0 ] || { [ $# -eq 1 ] && [ "$1" = --command ]; } ;;
     new) [ $# -ge 1 ] && are_files 2 "$@" ;;
     install | uninstall) are_files 1 "$@" ;;
