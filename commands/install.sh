@@ -1,7 +1,7 @@
 # `mtapi install [PREFIX]` and `mtapi uninstall [PREFIX]`: the proved programs where they need no toolchain and no repository.
 # Sourced by `mtapi`.
 #
-# Below PREFIX stand bin/mtapi, a link to this script in lib/mtapi with its parts and the programs, a manual page, and what
+# Below PREFIX stand bin/mtapi, a link to this script in lib/mtapi with its parts and the programs, two manual pages, and what
 # completes words in bash. All of it is put together first, so that a full disk leaves what was there.
 # shellcheck shell=bash disable=SC2154 # what isn't set here is of the script that sources this
 
@@ -24,6 +24,7 @@ set_places() {
     link=$prefix/bin/mtapi
     library=$prefix/lib/mtapi
     manual=$prefix/share/man/man1/mtapi.1
+    workload_manual=$prefix/share/man/man5/mtapi-workload.5
     completion=$prefix/share/bash-completion/completions/mtapi
 }
 
@@ -58,7 +59,7 @@ make_folder() {
 
 make_folders() {
     local each
-    for each in "$library" "$link" "$manual" "$completion"; do make_folder "$(dirname "$each")" || return; done
+    for each in "$library" "$link" "$manual" "$workload_manual" "$completion"; do make_folder "$(dirname "$each")" || return; done
 }
 
 remove_folders() {
@@ -77,18 +78,19 @@ fill_stage() {
     done
     { tell_version && echo "built for $(processor_of "$command_crate")"; } >"$stage/version" &&
         printf '%s\n' "${made[@]}" >"$stage/folders" &&
-        installed=yes manual_text >"$stage/mtapi.1" && installed=yes completion_text >"$stage/completion"
+        installed=yes manual_text >"$stage/mtapi.1" && workload_manual_text >"$stage/mtapi-workload.5" &&
+        installed=yes completion_text >"$stage/completion"
 }
 
 # Moves the parts to their places; what was there goes.
 move_parts() {
     if [ -e "$library" ]; then cat "$library/folders" >>"$stage/folders"; fi
-    rm -rf "$library" && mv "$stage/mtapi.1" "$manual" && mv "$stage/completion" "$completion" && chmod 755 "$stage" &&
-        mv "$stage" "$library" && ln -sfn ../lib/mtapi/mtapi "$link"
+    rm -rf "$library" && mv "$stage/mtapi.1" "$manual" && mv "$stage/mtapi-workload.5" "$workload_manual" &&
+        mv "$stage/completion" "$completion" && chmod 755 "$stage" && mv "$stage" "$library" && ln -sfn ../lib/mtapi/mtapi "$link"
 }
 
 install() {
-    local prefix link library manual completion made=()
+    local prefix link library manual workload_manual completion made=()
     set_places "$@"
     need_proved
     need_free_places
@@ -104,18 +106,18 @@ install() {
         give_up_install "nothing was installed: $(tail -n 1 "$scratch/errors")"
     fi
     move_parts 2>"$scratch/errors" || give_up_install "the parts couldn't be moved to their places: $(tail -n 1 "$scratch/errors")"
-    echo "$link runs the proved programs, which were built for $(processor_of "$command_crate"); 'man mtapi' tells its words"
+    echo "$link runs the proved programs, which were built for $(processor_of "$command_crate"); 'man mtapi' tells its words, and 'man mtapi-workload' what a workload may say"
     case :$PATH: in *":$prefix/bin:"*) ;; *) echo "$prefix/bin isn't on the PATH" ;; esac
     leave 0
 }
 
 uninstall() {
-    local prefix link library manual completion folders
+    local prefix link library manual workload_manual completion folders
     set_places "$@"
     if ! [ -d "$library/programs" ]; then give_up_install "no mtapi is installed below $prefix"; fi
     mapfile -t folders <"$library/folders"
     if [ "$(readlink -- "$link")" = ../lib/mtapi/mtapi ]; then rm -f "$link"; fi
-    if ! rm -rf "$library" || ! rm -f "$manual" "$completion"; then
+    if ! rm -rf "$library" || ! rm -f "$manual" "$workload_manual" "$completion"; then
         give_up_install "what is installed below $prefix couldn't be removed"
     fi
     remove_folders "${folders[@]}"
