@@ -33,13 +33,12 @@ fn same_settings(a: &NodeAttr, b: &NodeAttr) -> bool
 fn first_illegal_in(alloc: Global, journal: &Journal) -> Result<Option<u64>, AllocError>
     ensures { IfOk result (IsLegalOr (terms_of journal.now) journal.now.entries.entries) }
 {
-    let entries = journal.entries.in_full(alloc)?;
     first_illegal(
         alloc,
         journal.layout,
         journal.settings,
         journal.callers,
-        entries.as_slice(),
+        journal.entries.shorts(),
     )
 }
 
