@@ -6,6 +6,8 @@ pub mod Rounds
 pub mod Steps
 pub mod Carries
 pub mod Crews
+pub mod Ran
+pub mod Parts
 pub mod Bridges
 pub mod Runs
 pub mod Reasons

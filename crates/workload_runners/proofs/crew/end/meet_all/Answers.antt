@@ -1,7 +1,7 @@
 use Rattle.std.proofs.Common.{refl, ◌∙◌, ap, arith, ◌<◌, length}
 use Rattle.workload_runners.specs.Turns.{Seat}
 use Rattle.workload_runners.proofs.Meets.{met_none, met_more, met_all}
-use Rattle.workload_runners.proofs.crew.workers.meet_all.Goals as goal
+use Rattle.workload_runners.proofs.crew.end.meet_all.Goals as goal
 
 pub loop-i-init : goal.loop-i-init
 loop-i-init c = record { met = met_none _ _; len = refl; capacity = refl }

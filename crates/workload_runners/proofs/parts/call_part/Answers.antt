@@ -1,7 +1,7 @@
 use Rattle.std.proofs.Common.{◌≡◌, false}
 use Rattle.workload_runners.specs.Carries.{is_ok}
 use Rattle.workload_runners.proofs.CarryLemmas.{refused_adds}
-use Rattle.workload_runners.proofs.crew.jobs.call_part.Goals as goal
+use Rattle.workload_runners.proofs.parts.call_part.Goals as goal
 
 pub returns-then-not-is_ok : goal.returns-then-not-is_ok
 returns-then-not-is_ok g c =

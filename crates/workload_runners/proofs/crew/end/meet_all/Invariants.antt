@@ -1,6 +1,6 @@
 use Rattle.std.proofs.Common.{◌≡◌, vec_len, vec_capacity}
 use Rattle.workload_runners.proofs.Meets.{MetSoFar}
-use Rattle.workload_runners.proofs.crew.workers.meet_all.Given as goal
+use Rattle.workload_runners.proofs.crew.end.meet_all.Given as goal
 
 abbrev pub invariant-loop-i : goal.invariant-loop-i
 invariant-loop-i l = record {
