@@ -33,6 +33,8 @@ typedef uint32_t mrapi_rwl_id_t;
 typedef uint32_t mrapi_shmem_id_t;
 typedef uint32_t mrapi_key_t;
 typedef enum { MRAPI_RWL_READER = 0, MRAPI_RWL_WRITER = 1 } mrapi_rwl_mode_t;
+#define MRAPI_READER MRAPI_RWL_READER
+#define MRAPI_WRITER MRAPI_RWL_WRITER
 
 /* Milliseconds. */
 typedef uint32_t mrapi_timeout_t;
@@ -113,10 +115,10 @@ typedef struct { char none; } mrapi_shmem_attributes_t;
 
 /* ---- the node: the one of mtapi_initialize; where none stands, one with the default settings. It is finalized by
  * mtapi_finalize, and where mrapi_initialize made it also by mrapi_finalize. */
-typedef struct { char none; } mrapi_parameters_t;
+typedef const void *mrapi_parameters_t; /* not read */
 typedef struct { mrapi_uint_t mrapi_version, number_of_domains, number_of_nodes; } mrapi_info_t;
 
-void mrapi_initialize(mrapi_domain_t domain_id, mrapi_node_t node_id, const mrapi_parameters_t *init_parameters,
+void mrapi_initialize(mrapi_domain_t domain_id, mrapi_node_t node_id, mrapi_parameters_t init_parameters,
     mrapi_info_t *mrapi_info, mrapi_status_t *status);
 void mrapi_finalize(mrapi_status_t *status);
 mrapi_domain_t mrapi_domain_id_get(mrapi_status_t *status);

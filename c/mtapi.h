@@ -55,6 +55,9 @@ typedef struct { uint64_t handle; } mtapi_queue_hndl_t;
 
 extern const mtapi_group_hndl_t MTAPI_GROUP_NONE;
 
+#define MTAPI_DOMAIN_ID_INVALID 0
+#define MTAPI_NODE_ID_INVALID 0
+#define MTAPI_JOB_ID_INVALID 0
 #define MTAPI_JOB_ID_NONE 0
 #define MTAPI_TASK_ID_NONE 0
 #define MTAPI_GROUP_ID_NONE 0
@@ -97,14 +100,20 @@ enum {
     MTAPI_ERR_FUNC_NOT_IMPLEMENTED = 64, /* the profile leaves this out */
     MTAPI_ERR_NODE_INITFAILED = 65,      /* a thread was refused */
     MTAPI_ERR_ATTR_SIZE = 66,
-    MTAPI_ERR_RESULT_SIZE = 67,       /* for actions: nothing here answers it by itself */
-    MTAPI_ERR_CONTEXT_INVALID = 68,   /* no context */
-    MTAPI_ERR_CONTEXT_OUTOFCONTEXT = 69, /* not the context of the action that this thread runs */
-    MTAPI_ERR_UNKNOWN = 70,           /* for actions */
-    MTAPI_EXT_ERR_MEMORY = 99,        /* out of memory */
-    MTAPI_EXT_ERR_CALLER_LIMIT = 104, /* main and eight further threads have called, and none of them has ended */
-    MTAPI_EXT_ERR_DEADLOCK = 105,     /* a wait in an action, while every worker waits in one and no task can run */
-    MTAPI_EXT_ERR_JOURNAL = 106       /* the node keeps no journal, or it couldn't be written */
+    MTAPI_ERR_CONTEXT_INVALID = 67,      /* no context */
+    MTAPI_ERR_CONTEXT_OUTOFCONTEXT = 68, /* not the context of the action that this thread runs */
+    MTAPI_EXT_ERR_MEMORY = 99,           /* out of memory */
+    MTAPI_EXT_ERR_CALLER_LIMIT = 104,    /* main and eight further threads have called, and none of them has ended */
+    MTAPI_EXT_ERR_DEADLOCK = 105,        /* a wait in an action, while every worker waits in one and no task can run */
+    MTAPI_EXT_ERR_JOURNAL = 106,         /* the node keeps no journal, or it couldn't be written */
+
+    /* those of the standard that nothing here answers by itself; an action may set them */
+    MTAPI_ERR_RESULT_SIZE = 80,
+    MTAPI_ERR_UNKNOWN = 81,
+    MTAPI_ERR_ACTION_EXISTS = 82,
+    MTAPI_ERR_NODE_INVALID = 83,
+    MTAPI_ERR_DOMAIN_INVALID = 84,
+    MTAPI_ERR_DOMAIN_NOTSHARED = 85
 };
 
 /* The name of a status, or "?". */
@@ -159,6 +168,26 @@ enum {
     MTAPI_QUEUE_RETAIN = 5,       /* (MTAPI_FALSE) */
     MTAPI_QUEUE_DOMAIN_SHARED = 6 /* read-only: MTAPI_FALSE */
 };
+
+#define MTAPI_NODE_NUMCORES_SIZE sizeof(mtapi_uint_t)
+#define MTAPI_NODE_MAX_TASKS_SIZE sizeof(mtapi_uint_t)
+#define MTAPI_NODE_MAX_ACTIONS_SIZE sizeof(mtapi_uint_t)
+#define MTAPI_NODE_MAX_GROUPS_SIZE sizeof(mtapi_uint_t)
+#define MTAPI_NODE_MAX_QUEUES_SIZE sizeof(mtapi_uint_t)
+#define MTAPI_NODE_MAX_PRIORITIES_SIZE sizeof(mtapi_uint_t)
+#define MTAPI_ACTION_GLOBAL_SIZE sizeof(mtapi_boolean_t)
+#define MTAPI_ACTION_AFFINITY_SIZE sizeof(mtapi_affinity_t)
+#define MTAPI_ACTION_DOMAIN_SHARED_SIZE sizeof(mtapi_boolean_t)
+#define MTAPI_TASK_DETACHED_SIZE sizeof(mtapi_boolean_t)
+#define MTAPI_TASK_INSTANCES_SIZE sizeof(mtapi_uint_t)
+#define MTAPI_TASK_PRIORITY_SIZE sizeof(mtapi_uint_t)
+#define MTAPI_TASK_AFFINITY_SIZE sizeof(mtapi_affinity_t)
+#define MTAPI_QUEUE_GLOBAL_SIZE sizeof(mtapi_boolean_t)
+#define MTAPI_QUEUE_PRIORITY_SIZE sizeof(mtapi_uint_t)
+#define MTAPI_QUEUE_LIMIT_SIZE sizeof(mtapi_uint_t)
+#define MTAPI_QUEUE_ORDERED_SIZE sizeof(mtapi_boolean_t)
+#define MTAPI_QUEUE_RETAIN_SIZE sizeof(mtapi_boolean_t)
+#define MTAPI_QUEUE_DOMAIN_SHARED_SIZE sizeof(mtapi_boolean_t)
 
 typedef struct {
     mtapi_uint_t num_cores, max_tasks, max_actions, max_groups, max_queues, max_objects, max_priorities, generations, journal;
@@ -217,8 +246,19 @@ void mtapi_action_disable(mtapi_action_hndl_t action, mtapi_timeout_t timeout, m
 void mtapi_action_enable(mtapi_action_hndl_t action, mtapi_status_t *status);
 mtapi_job_hndl_t mtapi_job_get(mtapi_job_id_t job_id, mtapi_domain_t domain_id, mtapi_status_t *status);
 
-/* ---- what an action asks of its task */
-enum { MTAPI_TASK_RUNNING = 1, MTAPI_TASK_CANCELLED = 2 };
+/* ---- what an action asks of its task. It runs, or is to stop: the other states are none that an action sees. */
+enum {
+    MTAPI_TASK_PRENATAL = 1,
+    MTAPI_TASK_CREATED = 2,
+    MTAPI_TASK_SCHEDULED = 3,
+    MTAPI_TASK_RUNNING = 4,
+    MTAPI_TASK_WAITING = 5,
+    MTAPI_TASK_CANCELLED = 6,
+    MTAPI_TASK_COMPLETED = 7,
+    MTAPI_TASK_ERROR = 8,
+    MTAPI_TASK_RETAINED = 9,
+    MTAPI_TASK_DELETED = 10
+};
 
 void mtapi_context_status_set(mtapi_task_context_t *task_context, mtapi_status_t error_code, mtapi_status_t *status);
 void mtapi_context_runtime_notify(const mtapi_task_context_t *task_context, mtapi_notification_t notification,

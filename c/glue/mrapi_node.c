@@ -14,7 +14,7 @@ static uint32_t initialize(mrapi_domain_t domain, mrapi_node_t number)
     return glue_make_node(&attributes, domain, number, true);
 }
 
-void mrapi_initialize(mrapi_domain_t domain_id, mrapi_node_t node_id, const mrapi_parameters_t *init_parameters,
+void mrapi_initialize(mrapi_domain_t domain_id, mrapi_node_t node_id, mrapi_parameters_t init_parameters,
     mrapi_info_t *mrapi_info, mrapi_status_t *status)
 {
     (void)init_parameters;
