@@ -20,11 +20,11 @@ beside|expect [-v] FILE REPORT|runs the workload in FILE; status 1 and the diffe
 beside|bounded [-v] FILE [LOOKS]|runs it with LOOKS looks ($default_looks if not given) in place of each timeout=inf, and names the waits that ran out
 beside|picture [FILE [KEPT]]|draws a run as an SVG: of what 'run --journal' wrote, or of the workload in FILE, which it runs unless KEPT has the journal
 beside|trace [FILE [KEPT]]|writes such a run as a trace, which Perfetto and chrome://tracing show
-repository|test|runs every test and every program, unproved, in minutes; proves nothing
-repository|prove|proves and builds the programs, which run from then on, until a source changes, and proves the libraries on which a program of one's own stands
+repository|test|runs every test and every program, unproved, in minutes, and the tests in C where their library is proved; proves nothing
+repository|prove|proves and builds the programs, which run from then on, until a source changes, and proves the libraries on which a program of one's own stands, and the one for C
 repository|prove --command|proves and builds the programs alone
 repository|new FOLDER [NAME]|makes a repository with a program NAME of one's own, with all that it stands on
-repository|install [PREFIX]|puts the proved programs below PREFIX (/usr/local if not given), where they need no toolchain
+repository|install [PREFIX]|puts the proved programs, and the library for C, below PREFIX (/usr/local if not given), where they need no toolchain
 repository|uninstall [PREFIX]|removes them there
 END
 }
