@@ -16,12 +16,13 @@ impl RunText for Picture {
         let workers = journal.settings.workers().min(16);
         let seats = workers + journal.callers.min(9);
         let skipped = journal.entries.skipped();
+        let entries = journal.entries.in_full(alloc)?;
         svg_of(
             alloc,
             run.workload.as_ref(),
             workers,
             seats,
-            journal.entries.as_slice(),
+            entries.as_slice(),
             skipped,
         )
     }

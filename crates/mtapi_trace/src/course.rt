@@ -490,7 +490,8 @@ pub fn trace_of(
     load: Option<&Workload>,
     journal: &Journal,
 ) -> Result<String, AllocError> {
-    let entries = journal.entries.as_slice();
+    let all = journal.entries.in_full(alloc)?;
+    let entries = all.as_slice();
     let workers = journal.settings.workers().min(16);
     let seats = workers + journal.callers.min(9);
     let seat = Seat {
