@@ -1,11 +1,13 @@
 #!/usr/bin/env python3
-"""What a task costs by the library for C, beside `mtapi gen N W` (`bench/c`).
+"""What a task costs by the library for C (`bench/c`), beside `mtapi gen N W`, StarPU and oneTBB (`bench/starpu`, `bench/tbb`),
+as far as these are there.
 
-Both keep a journal, and the sums have to be the same. Prints for each number of workers, in turns, the least of some runs
-of each by slope: the time at 19,000 tasks less that at 4,750, by the tasks between, in nanoseconds on the clock and of the
-processors; and what a start with its wait takes, one after another. Both have the heap that `./mtapi` gives its programs.
-Where the system allows it, all run before the other work of the machine (`SCHED_RR`). Needs `cc`, the command and the
-library for C: `./mtapi prove`. Another archive than `crates/mtapi_c/out/libmtapi_c.a` is measured where it is named.
+The first two keep a journal, the others none, and the sums have to be the same. Prints for each number of workers, in turns,
+the least of some runs of each by slope: the time at 19,000 tasks less that at 4,750, by the tasks between, in nanoseconds on
+the clock and of the processors; then what a start with its wait takes by the library for C. All have the heap that `./mtapi`
+gives its programs. Where the system allows it, all run before the other work of the machine (`SCHED_RR`). Needs `cc`, the
+command and the library for C: `./mtapi prove`. Another archive than `crates/mtapi_c/out/libmtapi_c.a` is measured where it
+is named.
 """
 
 import os
@@ -17,7 +19,8 @@ import tempfile
 import time
 
 import common
-from tbb import output_of
+import starpu
+import tbb
 
 ARCHIVE = os.path.join(common.TOP, "crates", "mtapi_c", "out", "libmtapi_c.a")
 WORKERS = (1, 2, 4)
@@ -56,26 +59,48 @@ def build(room, archive):
     return program
 
 
+def others(room):
+    """The programs of other runtimes that can be built here."""
+    found = {}
+    try:
+        starpu.build(os.path.join(room, "starpu"))
+        found["StarPU"] = [os.path.join(room, "starpu")]
+    except (OSError, subprocess.CalledProcessError):
+        print("StarPU isn't here")
+    program = os.path.join(room, "tbb")
+    done = subprocess.run(["c++", "-O2", "-std=c++17", "-o", program, tbb.OTHER, "-ltbb"], capture_output=True)
+    if done.returncode == 0:
+        found["oneTBB"] = [program]
+    else:
+        print("oneTBB isn't here")
+    return found
+
+
+def sum_of(words, workers):
+    """What a program says that the tasks answered in all."""
+    return re.search(r"(?:sum )?(-?\d+)\s*$", tbb.output_of([*words, str(MANY), str(workers)]))[1]
+
+
 def main():
     archive = sys.argv[1] if len(sys.argv) > 1 else ARCHIVE
     common.need_command()
     if not os.path.exists(archive):
         sys.exit("build the library for C first: ./mtapi prove")
     os.environ.setdefault("GLIBC_TUNABLES", HEAP)
+    os.environ.setdefault("STARPU_SILENT", "1")
     common.go_first()
     with tempfile.TemporaryDirectory() as room:
+        os.environ["STARPU_HOME"] = room
         program = build(room, archive)
-        programs = {"gen": [common.COMMAND, "gen"], "c": [program]}
-        print("ns a task, by slope     mtapi gen                C                        times")
-        print("workers          on the clock processors  on the clock processors   on the clock      a start with its wait")
+        programs = {"gen": [common.COMMAND, "gen"], "C": [program], **others(room)}
+        print("ns a task, by slope, on the clock and of the processors; a start with its wait")
         for workers in WORKERS:
-            sizes = [str(MANY), str(workers)]
-            if re.search(r"sum (-?\d+)", output_of([common.COMMAND, "gen", *sizes]))[1] != output_of([program, *sizes]).strip():
+            if len({sum_of(words, workers) for words in programs.values()}) > 1:
                 sys.exit(f"the sums on {workers} workers differ")
             took = slopes(programs, workers)
-            pair = min(float(output_of([program, str(PAIRS), str(workers), "pairs"])) for _ in range(5))
-            row = "".join(f" {clock:13.0f} {busy:10.0f}" for clock, busy in (took["gen"], took["c"]))
-            print(f"{workers:7}        {row} {took['c'][0] / took['gen'][0]:14.2f} {pair:26.0f}", flush=True)
+            pair = min(float(tbb.output_of([program, str(PAIRS), str(workers), "pairs"])) for _ in range(5))
+            row = "".join(f"  {name} {clock:.0f}, {busy:.0f}" for name, (clock, busy) in took.items())
+            print(f"{workers} workers{row}  C by gen {took['C'][0] / took['gen'][0]:.2f}  pair {pair:.0f}", flush=True)
 
 
 if __name__ == "__main__":

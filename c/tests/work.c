@@ -205,6 +205,31 @@ static void affinity(void)
     end("affinity");
 }
 
+/* All workers sleep, and one task comes that one of them may run: that one has to wake. */
+static void affinity_of_one(void)
+{
+    mtapi_status_t status;
+    mtapi_task_attributes_t attributes;
+    begin(4);
+    mtapi_job_hndl_t job = job_of(JOB, where);
+    for (unsigned i = 0; i < 12; i++) {
+        unsigned core = 99;
+        mtapi_affinity_t mask = (mtapi_affinity_t)1 << i % 4;
+        NAP(5);
+        mtapi_taskattr_init(&attributes, &status);
+        OK;
+        mtapi_taskattr_set(&attributes, MTAPI_TASK_AFFINITY, &mask, sizeof mask, &status);
+        OK;
+        mtapi_task_hndl_t task =
+            mtapi_task_start(MTAPI_TASK_ID_NONE, job, NULL, 0, &core, sizeof core, &attributes, MTAPI_GROUP_NONE, &status);
+        OK;
+        mtapi_task_wait(task, 20000, &status);
+        OK;
+        CHECK(core == i % 4);
+    }
+    end("affinity_of_one");
+}
+
 /* Of an ordered queue the tasks of which may run on one worker each: whoever ends one has to wake another. */
 static void affinity_in_order(void)
 {
@@ -326,6 +351,7 @@ int main(void)
     ordered_queues();
     priorities();
     affinity();
+    affinity_of_one();
     affinity_in_order();
     detached();
     statuses();
