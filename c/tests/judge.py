@@ -1,5 +1,4 @@
-"""Judges journals by the second judge of bench/: `judge.py MOST FILE..`. Each has to be a legal history in which the node ended.
-A journal of more than MOST bytes is read up to there."""
+"""Judges journals by the second judge of bench/: `judge.py FILE..`. Each has to be a legal history in which the node ended."""
 
 import os
 import sys
@@ -10,26 +9,23 @@ from reference_machine import legal  # noqa: E402
 from reference_text import read_journal  # noqa: E402
 
 
-def fault(path, most):
+def fault(path):
     """What is wrong with a journal, or None."""
     with open(path) as file:
         text = file.read()
-    whole = len(text) <= most
-    if not whole:
-        text = text[: text.rindex("\n", 0, most) + 1]
     journal = read_journal(text)
     if isinstance(journal, str):
         return journal
     place = legal(journal.text, journal.settings, journal.entries)
     if place:
         return f"illegal entry {place}: {text.splitlines()[place]}"
-    if whole and not any((entry.op, entry.reply) == ("final", ("ok",)) for entry in journal.entries):
+    if not any((entry.op, entry.reply) == ("final", ("ok",)) for entry in journal.entries):
         return "the node didn't end"
     return None
 
 
 def main():
-    found = [(path, fault(path, int(sys.argv[1]))) for path in sys.argv[2:]]
+    found = [(path, fault(path)) for path in sys.argv[1:]]
     for path, what in found:
         if what:
             print(f"{os.path.basename(path)}: {what}")

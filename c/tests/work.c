@@ -3,7 +3,7 @@
 #include <stdatomic.h>
 #include <string.h>
 
-enum { JOB = 1, TASKS = 1000, QUEUED = 200 };
+enum { JOB = 1, TASKS = 1000, QUEUED = 60 };
 
 ACTION(square)
 {
@@ -299,11 +299,11 @@ ACTION(fail)
     if (status != 0) abort();
 }
 
-static mtapi_task_hndl_t start_failing(mtapi_job_hndl_t job, mtapi_group_hndl_t group, const mtapi_status_t *code)
+static mtapi_task_hndl_t put_failing(mtapi_queue_hndl_t queue, mtapi_group_hndl_t group, const mtapi_status_t *code)
 {
     mtapi_status_t status;
-    mtapi_task_hndl_t task = mtapi_task_start(
-        MTAPI_TASK_ID_NONE, job, code, sizeof *code, (void *)code, 0, MTAPI_DEFAULT_TASK_ATTRIBUTES, group, &status);
+    mtapi_task_hndl_t task = mtapi_task_enqueue(
+        MTAPI_TASK_ID_NONE, queue, code, sizeof *code, (void *)code, 0, MTAPI_DEFAULT_TASK_ATTRIBUTES, group, &status);
     OK;
     return task;
 }
@@ -314,20 +314,21 @@ static void statuses(void)
     static const mtapi_status_t none = MTAPI_SUCCESS, failed = MTAPI_ERR_ACTION_FAILED, size = MTAPI_ERR_ARG_SIZE;
     mtapi_status_t status;
     void *result;
-    begin(1);
-    mtapi_job_hndl_t job = job_of(JOB, fail);
-    mtapi_task_hndl_t task = start_failing(job, MTAPI_GROUP_NONE, &size);
+    begin(2);
+    mtapi_queue_hndl_t queue = mtapi_queue_create(MTAPI_QUEUE_ID_NONE, job_of(JOB, fail), MTAPI_DEFAULT_QUEUE_ATTRIBUTES, &status);
+    OK;
+    mtapi_task_hndl_t task = put_failing(queue, MTAPI_GROUP_NONE, &size);
     mtapi_task_wait(task, MTAPI_INFINITE, &status);
     WANT(MTAPI_ERR_ARG_SIZE);
-    mtapi_task_wait(start_failing(job, MTAPI_GROUP_NONE, &none), MTAPI_INFINITE, &status);
+    mtapi_task_wait(put_failing(queue, MTAPI_GROUP_NONE, &none), MTAPI_INFINITE, &status);
     OK;
     mtapi_group_hndl_t group = mtapi_group_create(MTAPI_GROUP_ID_NONE, MTAPI_DEFAULT_GROUP_ATTRIBUTES, &status);
     OK;
     for (int round = 0; round < 3; round++) {
-        start_failing(job, group, &none);
-        start_failing(job, group, &failed);
-        start_failing(job, group, &size);
-        start_failing(job, group, &none);
+        put_failing(queue, group, &none);
+        put_failing(queue, group, &failed);
+        put_failing(queue, group, &size);
+        put_failing(queue, group, &none);
         if (round == 1) { /* those that are handed out don't count any more */
             mtapi_group_wait_any(group, &result, MTAPI_INFINITE, &status);
             OK;
