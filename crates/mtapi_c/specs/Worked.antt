@@ -1,6 +1,6 @@
 -- Worked rows: what C is told of replies whose values all differ, the settings that are out of range, and numbers in memory.
 -- Each is decided by computing.
-use Rattle.std.specs.Prelude.{◌≡◌, ℕ, ℤ, pos, negsuc, true, false, List, [], ◌∷◌, map, Some, None}
+use Rattle.std.specs.Prelude.{◌≡◌, ℤ, pos, negsuc, true, false, List, [], ◌∷◌, map, Some, None}
 use Rattle.action_fn.specs.declared.finished.ActEnd.TheVariants.{Done}
 use Rattle.mtapi_values.specs.declared.ends.TaskEnd.TheVariants.{Completed, Cancelled, Failed}
 use Rattle.mtapi_values.specs.declared.kinds.Kind.TheVariants as k
@@ -10,9 +10,9 @@ use Rattle.mtapi_machine.specs.declared.ops.Op.TheVariants as op
 use Rattle.mtapi_machine.specs.declared.replies.Reply.{Reply}
 use Rattle.mtapi_machine.specs.declared.replies.Reply.TheVariants as said
 use Rattle.mtapi_c.specs.declared.settings.Settings.{Settings}
-use Rattle.mtapi_c.specs.Kinds.{kind_number, kind_numbered}
+use Rattle.mtapi_c.specs.Kinds.{kind_numbered}
 use Rattle.mtapi_c.specs.Replies.{status_of, handle_in, number_in, flag_in, member_in, numbers_in, picked_in}
-use Rattle.mtapi_c.specs.Asks.{group_of, with_numbers, action_op, finish_op}
+use Rattle.mtapi_c.specs.Asks.{group_of, action_op, finish_op}
 use Rattle.mtapi_c.specs.Settings.{wrong_of}
 use Rattle.mtapi_c.specs.Answers.{written}
 
