@@ -1,9 +1,9 @@
 -- The seats of a node's callers and workers, from one to the next.
-use Rattle.std.proofs.Common.{List, None, Ok, Option, Result, Some, [], ap, append_assoc, arith, drop, inl, inr, length, refl, subst, suc, sym, take, Vec, vec_len, vec_capacity, zero, ℕ, ◌++◌, ◌+◌, ◌-◌, ◌<◌, ◌∙◌, ◌∷◌, ◌≡◌, ◌≤◌}
+use Rattle.std.proofs.Common.{List, [], ap, append_assoc, arith, drop, length, refl, subst, suc, sym, take, Vec, vec_len, vec_capacity, zero, ℕ, ◌++◌, ◌+◌, ◌-◌, ◌<◌, ◌∙◌, ◌∷◌, ◌≡◌, ◌≤◌}
 use Rattle.std.proofs.lemmas.Bool.Decides.{nat_tests}
 use Rattle.std.proofs.lemmas.List.{append-nil, length-append, same_from_push}
 use Rattle.std.proofs.lemmas.List.Elements.{All-nil, All-cons, AllZip-push}
-use Rattle.std.specs.Prelude.{All, IfErr, IfOk}
+use Rattle.std.specs.Prelude.{All}
 use Rattle.std.specs.List.{AllZip}
 use Rattle.std.specs.declared.alloc.Global.{Global}
 use Rattle.turn_cell.specs.Seats.{HasSeenMore, fresh_seat, fresh_seats}
@@ -14,19 +14,19 @@ use Rattle.mtapi_machine.specs.declared.terms.Terms.{Terms}
 use Rattle.mtapi_machine.specs.Legal.{NodeEntry}
 use Rattle.workload_runners.specs.Turns.{Seat, SameSeat, AddsOwn, Turned}
 use Rattle.workload_runners.specs.Rounds.{WorkerAs, AtRest}
-use Rattle.workload_runners.specs.Crews.{Cell, AreMet, GaveUp, Knows}
+use Rattle.workload_runners.specs.Crews.{Cell, GaveUp}
 use Rattle.workload_runners.specs.Runs.{MadeNone}
 use Rattle.node_core.specs.declared.journaled.JournaledTerms.{JournaledTerms}
 use Rattle.workload_runners.proofs.Starts.{new_at_rest}
-use Rattle.workload_runners.proofs.Meets.{met_zip, zip_of, of_met}
-use Rattle.workload_runners.proofs.Adds.{same_then, adds_more}
+use Rattle.workload_runners.proofs.Meets.{met_zip}
+use Rattle.workload_runners.proofs.Adds.{same_then}
 use Rattle.workload_runners.specs.declared.crew.holder.Held.{Held}
 use Rattle.workload_runners.specs.declared.crew.jobs.Served.{Served}
 use Rattle.workload_runners.specs.declared.crew.callers.UnstartedCallers.{UnstartedCallers}
 use Rattle.workload_runners.specs.declared.crew.callers.ReturnedCallers.{ReturnedCallers}
 use Rattle.workload_runners.specs.declared.crew.workers.UnstartedThreads.{UnstartedThreads}
 use Rattle.workload_runners.specs.declared.crew.workers.Crew.{Crew}
-use Rattle.workload_runners.specs.Crews.{HasServed, HasHeld, MayCall, EachHeld, IsOneMore, HaveHeld, IsClosedBy, AreReady, IsJoined, MainClosed, CameFrom, HaveCome}
+use Rattle.workload_runners.specs.Crews.{HasServed, HasHeld, MayCall, EachHeld, IsOneMore, HaveHeld, IsClosedBy, AreReady, IsJoined, CameFrom, HaveCome}
 
 -- The seats that a cell begins with
 

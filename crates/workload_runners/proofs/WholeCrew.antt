@@ -1,8 +1,8 @@
 -- What the closed cell's history is worth, once all seats of a node came back.
 use Rattle.std.specs.declared.alloc.Global.{Global}
-use Rattle.std.proofs.Common.{List, None, Ok, Result, Vec, [], ap, append_assoc, arith, inl, inr, length, refl, subst, suc, sym, zero, ℕ, ◌++◌, ◌+◌, ◌-◌, ◌<◌, ◌∙◌, ◌∷◌, ◌≡◌, ◌≤◌}
+use Rattle.std.proofs.Common.{List, None, Ok, Vec, [], ap, append_assoc, arith, inl, length, refl, subst, suc, sym, ℕ, ◌++◌, ◌+◌, ◌-◌, ◌<◌, ◌∙◌, ◌∷◌, ◌≡◌}
 use Rattle.std.proofs.lemmas.Result.{IfOk-at_ok}
-use Rattle.std.specs.Prelude.{All, IfOk}
+use Rattle.std.specs.Prelude.{IfOk}
 use Rattle.std.specs.List.{AllZip}
 use Rattle.history.specs.Histories.{entry, entries_of}
 use Rattle.turn_cell.specs.Lists.{all_of}
@@ -17,16 +17,15 @@ use Rattle.node_journals.specs.declared.entries.Journal.{Journal}
 use Rattle.node_core.specs.Logs.{KeptAs, journal_seats}
 use Rattle.workload_runners.specs.Turns.{Seat, SameSeat, AddsOwn, Turned}
 use Rattle.workload_runners.specs.Rounds.{WorkerAs}
-use Rattle.workload_runners.specs.Crews.{Cell, AreMet, Knows}
+use Rattle.workload_runners.specs.Crews.{Cell, Knows}
 use Rattle.workload_runners.proofs.Adds.{all_own, all_more}
 use Rattle.workload_runners.proofs.Meets.{zip_front, each_of, met_zip, known_more}
-use Rattle.workload_runners.proofs.OwnParts.{MainCuts, HasAll, known_front, has_longer, Ending, main_cuts, in_order, before_final, whole_from}
+use Rattle.workload_runners.proofs.OwnParts.{MainCuts, known_front, has_longer, Ending, main_cuts, in_order, before_final, whole_from}
 use Rattle.workload_runners.proofs.WholeRun.{is_worker, is_main, is_caller, is_none, place_of}
 use Rattle.workload_runners.specs.declared.crew.end.Ended.{Ended}
-use Rattle.workload_runners.specs.declared.crew.run.RanNode.{RanNode}
 use Rattle.workload_runners.specs.declared.crew.workers.Crew.{Crew}
-use Rattle.workload_runners.specs.Crews.{HasHeld, EachHeld, IsEnded, CameFrom}
-use Rattle.workload_runners.specs.Ran.{MainEnds, StandsIn, EachCalled, RanAs}
+use Rattle.workload_runners.specs.Crews.{EachHeld, IsEnded, CameFrom}
+use Rattle.workload_runners.specs.Ran.{StandsIn, EachCalled, RanAs}
 use Rattle.workload_runners.proofs.CrewSeats.{held_met}
 
 module _ {A : Type 0} where

@@ -1,5 +1,5 @@
 -- What the threads of a node's callers and workers bring back.
-use Rattle.std.specs.Prelude.{◌≡◌, ◌+◌, ◌<◌, ◌≤◌, ◌⊎◌, ℕ, Bool, true, false, suc, List, [], ◌∷◌, ◌++◌, All, Option, Some, None, Result, Ok, Err, IfOk, length, slice_index_or, Vec, vec_len, vec_capacity}
+use Rattle.std.specs.Prelude.{◌≡◌, ◌+◌, ◌<◌, ◌≤◌, ◌⊎◌, ℕ, Bool, true, false, suc, List, [], ◌∷◌, ◌++◌, All, Option, None, Result, Ok, Err, IfOk, length, slice_index_or, Vec, vec_len, vec_capacity}
 use Rattle.std.specs.List.{AllZip}
 use Rattle.std.specs.declared.alloc.Global.{Global}
 use Rattle.workload_runners.specs.Names.{StartsWith, entries_of, Op, NodeEntry, Close, Reply, CellView, HasSeenMore, JournaledTerms, fresh_seat, fresh_seats}
@@ -33,11 +33,6 @@ pub record AreMet (old new : Seat) (before after : List Seat) : Type 0 where
 -- where a start was refused, main closed and made no other call; or the turns were used up, and it made none
 abbrev pub GaveUp : Seat → Seat → Type 0
 GaveUp old new = ((r : Reply) × Turned old Close r new) ⊎ Unturned old new
-
--- a worker's seat of this cell, on which no task runs
-pub record IsIdle (z : Cell) (s : Seat) : Type 0 where
-  pub cell : s.cell ≡ z.id
-  pub rest : AtRest s
 
 -- nothing was given but a seat
 abbrev pub is_lost : {A B : Type 0} → Result A B → Bool

@@ -1,6 +1,6 @@
 -- What a run gives back, and what it begins with.
-use Rattle.std.specs.Prelude.{◌≡◌, ℕ, ◌+◌, ◌≤◌, ◌^◌, ◌⊎◌, Bool, true, false, List, [], ◌∷◌, ◌++◌, length, Result, Err, vec_len, vec_capacity}
-use Rattle.workload_runners.specs.Names.{entry, fresh_seat, fresh_seats, IsSeatOf, Close, Reply, terms_with, opening, NodeEntry, Legal, KeptAs, RunBy, Rose}
+use Rattle.std.specs.Prelude.{◌≡◌, ℕ, ◌≤◌, ◌^◌, ◌⊎◌, Bool, true, false, List, [], ◌∷◌, length, Result, Err}
+use Rattle.workload_runners.specs.Names.{entry, Close, Reply, terms_with, opening, NodeEntry, Legal, KeptAs, RunBy, Rose}
 use Rattle.workload_file.specs.declared.workload.Workload.{Workload}
 use Rattle.mtapi_values.specs.declared.handles.Layout.TheVariants.{Two}
 use Rattle.mtapi_machine.specs.declared.terms.Terms.{Terms}
