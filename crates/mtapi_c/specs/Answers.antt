@@ -24,21 +24,21 @@ pub record GivesStatus (old : NodeHandle) (who : ℕ) (op : Op) (code : ℕ) (ne
   pub called : Called old who op reply new
   pub status : code ≡ status_of reply
 
--- and a handle
+-- the status of the reply, and the handle in it
 pub record GivesHandle (old : NodeHandle) (who : ℕ) (op : Op) (code out : ℕ) (new : NodeHandle) : Type 0 where
   pub reply : Reply
   pub called : Called old who op reply new
   pub status : code ≡ status_of reply
   pub handle : out ≡ handle_in reply
 
--- and a number
+-- the status of the reply, and the number in it
 pub record GivesNumber (old : NodeHandle) (who : ℕ) (op : Op) (code : ℕ) (out : ℤ) (new : NodeHandle) : Type 0 where
   pub reply : Reply
   pub called : Called old who op reply new
   pub status : code ≡ status_of reply
   pub number : out ≡ number_in reply
 
--- and a yes or no
+-- the status of the reply, and the yes or no in it
 pub record GivesFlag (old : NodeHandle) (who : ℕ) (op : Op) (code : ℕ) (out : Bool) (new : NodeHandle) : Type 0 where
   pub reply : Reply
   pub called : Called old who op reply new
@@ -56,14 +56,14 @@ pub record HasNumbers (memory : Memory) (reply : Reply) : Type 0 where
   pub numbers : memory.new ≡ written (numbers_in reply) memory.old
   pub count : memory.count ≡ length (numbers_in reply)
 
--- and the numbers of the reply
+-- the status of the reply, and the numbers in it
 pub record GivesNumbers (old : NodeHandle) (who : ℕ) (op : Op) (code : ℕ) (memory : Memory) (new : NodeHandle) : Type 0 where
   pub reply : Reply
   pub called : Called old who op reply new
   pub status : code ≡ status_of reply
   pub numbers : HasNumbers memory reply
 
--- and a member of a group with its results
+-- the status of the reply, and the member of a group in it with its results
 pub record GivesMember (old : NodeHandle) (who : ℕ) (op : Op) (code out : ℕ) (memory : Memory) (new : NodeHandle) : Type 0 where
   pub reply : Reply
   pub called : Called old who op reply new
@@ -71,7 +71,7 @@ pub record GivesMember (old : NodeHandle) (who : ℕ) (op : Op) (code out : ℕ)
   pub member : out ≡ member_in reply
   pub numbers : HasNumbers memory reply
 
--- and the task that the worker took, with its arguments
+-- the status of the reply, and the task in it that the worker took, with its arguments
 pub record GivesTask (old : NodeHandle) (who : ℕ) (op : Op) (code : ℕ) (out : PickedTask) (before after : List ℤ) (new : NodeHandle) : Type 0 where
   pub reply : Reply
   pub called : Called old who op reply new
@@ -84,12 +84,13 @@ abbrev pub Tried : NodeHandle → ℕ → Option Op → Reply → NodeHandle →
 Tried old who (Some op) r new = Called old who op r new
 Tried old who None r new = (new ≡ old) × (r ≡ Mtapi ErrParameter)
 
--- the same for an op that there may not be
+-- the status of the reply to an op that there may not be
 pub record TriesForStatus (old : NodeHandle) (who : ℕ) (op : Option Op) (code : ℕ) (new : NodeHandle) : Type 0 where
   pub reply : Reply
   pub called : Tried old who op reply new
   pub status : code ≡ status_of reply
 
+-- the status of such a reply, and the handle in it
 pub record TriesForHandle (old : NodeHandle) (who : ℕ) (op : Option Op) (code out : ℕ) (new : NodeHandle) : Type 0 where
   pub reply : Reply
   pub called : Tried old who op reply new

@@ -1,7 +1,6 @@
 //! What C is told of a reply.
 
-ghost use Rattle.std.specs.Prelude.{◌≡◌, ◌≤◌, length, take};
-ghost use Rattle.node_handle.specs.Texts.{written_over};
+ghost use Rattle.std.specs.Prelude.{◌≡◌, length};
 ghost use Rattle.mtapi_c.specs.Replies.{status_of, end_status, handle_in, number_in, flag_in, member_in, end_numbers, numbers_in, picked_in};
 ghost use Rattle.mtapi_c.specs.Answers.{written};
 

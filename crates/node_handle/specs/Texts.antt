@@ -5,7 +5,7 @@ use Rattle.std.specs.declared.alloc.AllocError.{AllocError}
 use Rattle.node_journals.specs.declared.entries.Journal.{Journal}
 use Rattle.journal_text.specs.Journals.{journal_text}
 use Rattle.node_handle.specs.declared.counted.CountedNode.{CountedNode}
-use Rattle.node_handle.specs.declared.held.Held.TheVariants.{Node, Text}
+use Rattle.node_handle.specs.declared.held.Held.TheVariants.{Text}
 use Rattle.node_handle.specs.declared.handle.NodeHandle.{NodeHandle}
 use Rattle.node_handle.specs.declared.journals.JournalEnd.{JournalEnd}
 use Rattle.node_handle.specs.declared.journals.JournalEnd.TheVariants as ended
