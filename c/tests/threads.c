@@ -182,6 +182,24 @@ static void deadlines(void)
     end("deadlines");
 }
 
+/* The node is finalized while one worker runs a task and the others sleep: they have to be woken once more, to stop. */
+ACTION(naps)
+{
+    UNUSED;
+    NAP(60);
+    *(int *)result = 1;
+}
+
+static void ends_under_a_task(void)
+{
+    int done = 0;
+    begin(4);
+    start(job_of(JOB, naps), NULL, 0, &done, sizeof done);
+    NAP(20);
+    end("ends_under_a_task");
+    CHECK(done == 1);
+}
+
 /* One waits for a lock that main has: the node ends all the same, and the wait with it. */
 static atomic_int about_to_wait;
 
@@ -243,6 +261,7 @@ int main(void)
     lock_of_the_ended();
     ends_at_once();
     deadlines();
+    ends_under_a_task();
     ends_under_a_wait();
     two_wait();
     return 0;

@@ -1,6 +1,6 @@
 -- Worked rows: what C is told of replies whose values all differ, the settings that are out of range, and numbers in memory.
 -- Each is decided by computing.
-use Rattle.std.specs.Prelude.{◌≡◌, ℤ, pos, negsuc, true, false, List, [], ◌∷◌, map, Some, None}
+use Rattle.std.specs.Prelude.{◌≡◌, ℤ, pos, negsuc, true, false, List, [], ◌∷◌, map, replicate, Some, None}
 use Rattle.action_fn.specs.declared.finished.ActEnd.TheVariants.{Done}
 use Rattle.mtapi_values.specs.declared.ends.TaskEnd.TheVariants.{Completed, Cancelled, Failed}
 use Rattle.mtapi_values.specs.declared.kinds.Kind.TheVariants as k
@@ -9,12 +9,14 @@ use Rattle.mtapi_values.specs.declared.statuses.MrapiStatus.TheVariants as r
 use Rattle.mtapi_machine.specs.declared.ops.Op.TheVariants as op
 use Rattle.mtapi_machine.specs.declared.replies.Reply.{Reply}
 use Rattle.mtapi_machine.specs.declared.replies.Reply.TheVariants as said
+use Rattle.node_handle.specs.declared.journals.JournalEnd.TheVariants as ended
+use Rattle.node_handle.specs.Texts.{piece}
 use Rattle.mtapi_c.specs.declared.settings.Settings.{Settings}
 use Rattle.mtapi_c.specs.Kinds.{kind_numbered}
 use Rattle.mtapi_c.specs.Replies.{status_of, handle_in, number_in, flag_in, member_in, numbers_in, picked_in}
-use Rattle.mtapi_c.specs.Asks.{group_of, action_op, finish_op}
+use Rattle.mtapi_c.specs.Asks.{group_of, with_numbers, action_op, finish_op}
 use Rattle.mtapi_c.specs.Settings.{wrong_of}
-use Rattle.mtapi_c.specs.Answers.{written}
+use Rattle.mtapi_c.specs.Answers.{written, end_number, length_in}
 
 -- two results, and a reply of each kind
 abbrev pub results : List ℤ
@@ -53,5 +55,11 @@ pub record WorkedCalls : Type 0 where
       record fits { workers = 17; tasks = 0 } ∷ record fits { tasks = 65537; actions = 0 } ∷ record fits { actions = 1025; groups = 0 }
       ∷ record fits { groups = 1025; queues = 0 } ∷ record fits { queues = 257; objects = 0 } ∷ record fits { objects = 257; priorities = 0 }
       ∷ record fits { priorities = 9; generations = 0 } ∷ record fits { generations = 0 } ∷ []) ≡ 1 ∷ 2 ∷ 3 ∷ 4 ∷ 5 ∷ 6 ∷ 7 ∷ 8 ∷ []
+  pub sixteen : with_numbers (replicate 16 (pos 1)) (λ args. op.JobGet 54) ≡ Some (op.JobGet 54)
+  pub seventeen : with_numbers (replicate 17 (pos 1)) (λ args. op.JobGet 54) ≡ None
+  pub ends : map end_number (ended.Text 55 ∷ ended.NoJournal ∷ ended.Memory ∷ []) ≡ 0 ∷ 103 ∷ 99 ∷ []
+  pub lengths : map length_in (ended.Text 55 ∷ ended.NoJournal ∷ ended.Memory ∷ []) ≡ 55 ∷ 0 ∷ 0 ∷ []
+  pub middle : piece (61 ∷ 62 ∷ 63 ∷ 64 ∷ 65 ∷ []) 1 3 ≡ 62 ∷ 63 ∷ 64 ∷ []
+  pub rest : piece (61 ∷ 62 ∷ 63 ∷ 64 ∷ 65 ∷ []) 4 3 ≡ 65 ∷ []
   pub room : written results (pos 1 ∷ pos 2 ∷ pos 3 ∷ []) ≡ pos 71 ∷ negsuc 4 ∷ pos 3 ∷ []
   pub no_room : written results (pos 1 ∷ []) ≡ pos 71 ∷ []
