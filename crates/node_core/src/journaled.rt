@@ -6,12 +6,13 @@ ghost use Rattle.history.specs.Histories.{entry};
 ghost use Rattle.mtapi_machine.specs.Legal.{NodeEntry};
 ghost use Rattle.mtapi_machine.specs.Kept.{drops, is_pending};
 ghost use Rattle.node_core.specs.Stands.{Stands, terms_of};
-ghost use Rattle.node_core.specs.Logs.{AddsTo, Logs, StandsKept, HasTerms, KeptAs, IsJournal, keeps, journal_terms, is_lost};
+ghost use Rattle.node_core.specs.Keeping.{KeptAs};
+ghost use Rattle.node_core.specs.Logs.{AddsTo, Logs, StandsKept, HasTerms, IsJournal, keeps, journal_terms, is_lost};
 
 use crate::node::Node;
 use history::Object;
 use mtapi_machine::{Op, Reply, Terms};
-use node_journals::{ShortList, Journal};
+use node_journals::{Journal, ShortList};
 use std::alloc::{AllocError, Global};
 
 // Whether an entry is left out, where the state stays if the reply is Pending.

@@ -7,7 +7,8 @@ pub use Rattle.mtapi_machine.specs.declared.replies.Reply.{Reply}
 pub use Rattle.mtapi_machine.specs.declared.terms.Terms.{Terms}
 pub use Rattle.mtapi_values.specs.Attributes.{NodeSettings}
 pub use Rattle.mtapi_values.specs.declared.statuses.MtapiStatus.{MtapiStatus}
-pub use Rattle.node_core.specs.Logs.{KeptAs, journal_seats}
+pub use Rattle.node_core.specs.Keeping.{KeptAs}
+pub use Rattle.node_core.specs.Logs.{journal_seats}
 pub use Rattle.node_core.specs.declared.journaled.JournaledTerms.{JournaledTerms}
 pub use Rattle.node_journals.specs.declared.entries.Journal.{Journal}
 pub use Rattle.node_with_workers.specs.Clients.{CallerEnters, Enters, GoesOn, HasCalled, IfRefused, IsKeptOut, IsNotOpened, IsRefused, IsUnbegun, IsUnopened, HasThreads, IfFailed, IfNoThread, MadeNoCall, MainOpens, Opens, SaysOf, is_no_thread}

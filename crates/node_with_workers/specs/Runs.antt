@@ -11,7 +11,7 @@ use Rattle.mtapi_machine.specs.declared.terms.Terms.{Terms}
 use Rattle.mtapi_machine.specs.State.{terms_with}
 use Rattle.mtapi_machine.specs.Legal.{NodeEntry, Legal}
 use Rattle.node_journals.specs.declared.entries.Journal.{Journal}
-use Rattle.node_core.specs.Logs.{KeptAs}
+use Rattle.node_core.specs.Keeping.{KeptAs}
 use Rattle.workload_runners.specs.Turns.{Seat}
 use Rattle.workload_runners.specs.Rounds.{WorkerAs}
 use Rattle.workload_runners.specs.Ran.{MainEnds, StandsIn}

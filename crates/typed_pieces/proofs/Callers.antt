@@ -2,7 +2,7 @@
 use Rattle.typed_pieces.proofs.Names.{◌≡◌, ◌+◌, ℕ, suc, List, [], ◌∷◌, length, map, subst, sym, ◌∙◌, ap, inl, inr, Result, Err, IfErr, length-map, entries_of, NodeSettings, MtapiStatus, NodeEntry, Legal, Journal, Seat, MainOpens, CallerEnters, HasCalled, IfRefused, HaveCalled, IsRun, IsRunOfAll, RefusesOne, terms_among, terms_for, refused_weaker}
 use Rattle.mtapi_machine.specs.declared.terms.Terms.{Terms}
 use Rattle.mtapi_machine.specs.declared.replies.Reply.TheVariants as reply
-use Rattle.node_core.specs.Logs.{KeptAs}
+use Rattle.node_core.specs.Keeping.{KeptAs}
 use Rattle.node_with_workers.specs.Runs.{HasEnded}
 use Rattle.node_with_workers.specs.declared.failure.Failure.{Failure}
 

@@ -14,7 +14,8 @@ use Rattle.mtapi_machine.specs.declared.replies.Reply.{Reply}
 use Rattle.mtapi_machine.specs.declared.terms.Terms.{Terms}
 use Rattle.mtapi_machine.specs.Legal.{NodeEntry, Legal}
 use Rattle.node_journals.specs.declared.entries.Journal.{Journal}
-use Rattle.node_core.specs.Logs.{KeptAs, journal_seats}
+use Rattle.node_core.specs.Keeping.{KeptAs}
+use Rattle.node_core.specs.Logs.{journal_seats}
 use Rattle.workload_runners.specs.Turns.{Seat, SameSeat, AddsOwn, Turned}
 use Rattle.workload_runners.specs.Rounds.{WorkerAs}
 use Rattle.workload_runners.specs.Crews.{Cell, Knows}

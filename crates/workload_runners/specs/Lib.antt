@@ -9,5 +9,6 @@ pub mod Crews
 pub mod Ran
 pub mod Parts
 pub mod Bridges
+pub mod RunJournals
 pub mod Runs
 pub mod Reasons

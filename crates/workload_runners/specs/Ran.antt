@@ -5,7 +5,7 @@ use Rattle.mtapi_machine.specs.declared.ops.Op.TheVariants.{Close, Final}
 use Rattle.mtapi_machine.specs.declared.replies.Reply.{Reply}
 use Rattle.mtapi_machine.specs.declared.terms.Terms.{Terms}
 use Rattle.mtapi_machine.specs.Legal.{NodeEntry, Legal}
-use Rattle.node_core.specs.Logs.{KeptAs}
+use Rattle.node_core.specs.Keeping.{KeptAs}
 use Rattle.workload_runners.specs.Rounds.{WorkerAs}
 use Rattle.workload_runners.specs.declared.crew.run.RanNode.{RanNode}
 

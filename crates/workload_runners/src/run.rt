@@ -3,7 +3,8 @@ ghost use Rattle.std.specs.Prelude.{◌≡◌, ◌+◌, ℕ, false, Err, Option,
 ghost use Rattle.node_core.specs.Stands.{Stands, terms_of};
 ghost use Rattle.node_journals.specs.declared.entries.Journal.{Journal};
 ghost use Rattle.run_beside.specs.Pairs.{Counts};
-ghost use Rattle.workload_runners.specs.Runs.{terms_for, IsRun, Causes, GivesMain, is_refused};
+ghost use Rattle.workload_runners.specs.RunJournals.{terms_for, IsRun};
+ghost use Rattle.workload_runners.specs.Runs.{Causes, GivesMain, is_refused};
 ghost use Rattle.workload_runners.specs.Reasons.{HasReason};
 ghost use Rattle.workload_runners.specs.Parts.{IsUnstopped};
 ghost use Rattle.workload_runners.specs.declared.statements.Stop.{Stop};

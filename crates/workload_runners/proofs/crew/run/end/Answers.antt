@@ -2,7 +2,8 @@ use Rattle.std.proofs.Common.{List, ◌∙◌, ◌≡◌, sym, subst, None, Ok, 
 use Rattle.std.proofs.lemmas.List.Elements.{All-push}
 use Rattle.turn_cell.specs.Lists.{all_of}
 use Rattle.turn_cell.specs.Seats.{IsComplete, IsSeatOf}
-use Rattle.node_core.specs.Logs.{KeptAs, journal_seats}
+use Rattle.node_core.specs.Keeping.{KeptAs}
+use Rattle.node_core.specs.Logs.{journal_seats}
 use Rattle.node_core.specs.declared.journaled.JournaledTerms.{JournaledTerms}
 use Rattle.workload_runners.specs.Turns.{Seat}
 use Rattle.workload_runners.proofs.Meets.{each_of, of_met}
