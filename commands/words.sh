@@ -35,7 +35,7 @@ status_table() {
     if [ -n "$installed" ]; then failed='' no_toolchain=''; fi
     cat <<END
 0|if all was written; with check the verdict is yes
-1|with expect if the report is another one$failed
+1|with expect if the report is another one; with bounded if a wait ran out$failed
 2|if the words are none
 3|if the input is refused
 4, 5|if a read failed; if a write failed
@@ -43,6 +43,7 @@ status_table() {
 9|with check and verify if the verdict isn't yes
 126|if there is no answer, which is told
 127|if ${no_toolchain}the program was built for a newer processor
+129, 130, 143|if it was stopped: by SIGHUP, by SIGINT (Ctrl-C), by SIGTERM
 END
 }
 
@@ -159,7 +160,8 @@ are_known() {
     run) if [ "${1-}" = --journal ]; then shift; fi ;;
     esac
     case $word in
-    -h | --help | --version | test) [ $# -eq 0 ] ;;
+    -h | --help) [ $# -eq 0 ] || { [ $# -eq 1 ] && is_word "$1"; } ;;
+    --version | test) [ $# -eq 0 ] ;;
     run | explain) are_files 1 "$@" ;;
     check | picture | trace) are_files 2 "$@" ;;
     gen) { [ $# -eq 1 ] || [ $# -eq 2 ]; } && is_number "$1" "$most_tasks" && is_number "${2-1}" "$most_workers" ;;
@@ -191,8 +193,19 @@ help_on() {
     word_table | awk -F '|' -v group="$1" -v called="$called" '$1 == group { print "  " called " " $2 "|" $3 }' | in_columns 38
 }
 
+# The uses of one word, with what each does.
+tell_help_on() {
+    used_words | awk -F '|' -v word="$1" -v called="$called" '
+        { first = $2; sub(/ .*/, "", first) }
+        first == word { print called " " $2 "|" $3 }' | in_columns 38
+}
+
 tell_help() {
     local repository
+    if [ $# -eq 1 ]; then
+        tell_help_on "$1"
+        return
+    fi
     repository=$(help_on_repository)
     cat <<END
 $usage
@@ -206,7 +219,7 @@ $(help_on beside)
 ${repository:+$repository
 
 }Statuses:
-$(status_table | sed 's/^/  /' | in_columns 12)
+$(status_table | sed 's/^/  /' | in_columns 17)
 
 - as FILE or KEPT is standard input.
 END

@@ -9,7 +9,8 @@ use Rattle.mtapi_machine.specs.declared.replies.Reply.TheVariants.{Mtapi}
 use Rattle.mtapi_machine.specs.Legal.{NodeEntry}
 use Rattle.node_journals.specs.declared.entries.Journal.{Journal}
 use Rattle.node_core.specs.declared.journaled.JournaledTerms.{JournaledTerms}
-use Rattle.node_core.specs.Logs.{StandsKept, KeptAs, journal_terms, journal_seats, is_lost}
+use Rattle.node_core.specs.Keeping.{KeptAs}
+use Rattle.node_core.specs.Logs.{StandsKept, journal_terms, journal_seats, is_lost}
 use Rattle.node_handle.specs.declared.counted.CountedNode.{CountedNode}
 
 -- the node stands for this list, and has counted it

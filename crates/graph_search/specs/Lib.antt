@@ -1,0 +1,3 @@
+pub mod Paths
+pub mod Visits
+pub mod Visiting
