@@ -98,6 +98,44 @@ static void no_worker_left(void)
     end("no_worker_left");
 }
 
+/* Two workers, and a chain: each link starts a task and waits for it, which starts the next link before it ends. So one of both
+ * workers can always go on: whoever waits has just been woken, or what it waits for can run. No wait is refused. */
+enum { LINKS = 500 };
+static mtapi_job_hndl_t chain_link, middle;
+static atomic_int refused;
+
+ACTION(begins_next)
+{
+    UNUSED;
+    intptr_t left = (intptr_t)arguments;
+    if (left > 0) start_in_action(chain_link, (int)left - 1);
+}
+
+ACTION(waits_for_middle)
+{
+    UNUSED;
+    mtapi_status_t status;
+    mtapi_task_hndl_t task = mtapi_task_start(1, middle, arguments, 0, NULL, 0, NULL, MTAPI_GROUP_NONE, &status);
+    if (status != 0) abort();
+    mtapi_task_wait(task, MTAPI_INFINITE, &status);
+    if (status != 0) atomic_fetch_add(&refused, 1);
+}
+
+static void chain(void)
+{
+    mtapi_status_t status;
+    begin(2);
+    chain_link = job_of(JOB, waits_for_middle);
+    middle = job_of(LEAF, begins_next);
+    all = mtapi_group_create(MTAPI_GROUP_ID_NONE, NULL, &status);
+    OK;
+    start_in_action(chain_link, LINKS);
+    mtapi_group_wait_all(all, MTAPI_INFINITE, &status);
+    OK;
+    CHECK(atomic_load(&refused) == 0);
+    end("chain");
+}
+
 /* What an action can't do: it has no lock, and can't finalize the node. */
 ACTION(cannot)
 {
@@ -161,6 +199,7 @@ int main(void)
     waits_in_actions(1, MTAPI_EXT_ERR_DEADLOCK);
     waits_in_actions(2, MTAPI_SUCCESS);
     no_worker_left();
+    chain();
     refused_in_actions();
     out_of_context();
     return 0;
