@@ -11,7 +11,7 @@
  * `who` is the seat that calls: 0 to workers - 1 are the workers, `workers` is main, and the further callers come behind.
  * A call answers a status: 0 where it was done; 1 to 29, a status of MTAPI; MTAPI_C_MRAPI + 1 to 30, a status of MRAPI;
  * or MTAPI_C_PENDING, MTAPI_C_IDLE, MTAPI_C_STOP. A seat that there isn't is refused with 3, and nothing happens; likewise
- * more than 16 numbers, and a kind that there isn't. A handle in an out parameter is 0 where the status isn't 0.
+ * more than 16 numbers, and a kind that there isn't. A handle in an out parameter is 0 where none was given.
  *
  * Numbers that a call hands out, `room` of them at most, are written to the head of `numbers`, and what stands behind them
  * stays; `*count` says how many there were, 0 to 16, also where there was less room. */

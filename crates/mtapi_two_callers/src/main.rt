@@ -1,5 +1,5 @@
-//! A program with a node that two callers share: each adds numbers to a cell of a segment, under a mutex, main many and the other one. Its
-//! workers' sets of actions come back, each with the number of its worker. Then the same with a thread that is refused, each in turn.
+//! A program with a node that two callers share: each adds numbers to a cell of a segment, under a mutex. Its workers' sets of actions come
+//! back, each with the number of its worker.
 #![tactic(auto)]
 
 ghost use Rattle.workload_runners.specs.Turns.{SameSeat};
@@ -9,11 +9,9 @@ use action_fn::{ActionSet, ActionSource, Finished, StandardActions};
 use mtapi_values::{
     Args, Kind, MrapiStatus, MutexAttr, MutexHandle, NodeAttr, ShmemHandle, Timeout,
 };
-use node_with_workers::{AllDone, Client, Failure, NodeFailure, with_callers_beside};
-use sched_workers::{Beside, Caller, FewThreads, Threads as AllThreads};
-use std::alloc::Global;
+use node_with_workers::{Client, with_callers};
+use sched_workers::Caller;
 use std::sync::Wait;
-use std::thread::Threads;
 use std::{io, vec};
 
 /// What the callers share: a segment of one cell, and the mutex that guards it.
@@ -47,9 +45,6 @@ fn add<R: Wait>(rt: &R, caller: &mut Caller, at: Shared, number: i64) -> Result<
     Ok(sum)
 }
 
-/// What a caller wrote last.
-type Sum = Result<i64, MrapiStatus>;
-
 /// Adds the numbers from 1 up to the last, one after the other, and then makes a semaphore with this id: the end of the node may not have begun,
 /// whoever has come back already.
 #[derive(Drop)]
@@ -59,12 +54,13 @@ struct Adding {
 }
 
 impl Client for Adding {
-    type Told = Sum;
+    // What it wrote last.
+    type Told = Result<i64, MrapiStatus>;
 
     ghost promise = { λ _ _ _ _. Unit {0} };
 
     #[tactic(auto, using(node_with_workers::proofs::Calls::further_calls))]
-    fn call<R: Wait>(self, rt: &R, caller: &mut Caller) -> Sum {
+    fn call<R: Wait>(self, rt: &R, caller: &mut Caller) -> Result<i64, MrapiStatus> {
         // The gate, which the first caller makes. One at a time passes it.
         let gate = match caller.sem_create(rt, 9, 1) {
             Err(MrapiStatus::ErrSemExists) => caller.sem_get(rt, 9)?,
@@ -105,45 +101,23 @@ impl ActionSource for Numbering {
     }
 }
 
-// The node of both, with threads that `beside` starts or refuses.
-fn both<B: Beside, R: Threads + Wait + Sync>(
-    rt: &R,
-    alloc: Global,
-    beside: &mut B,
-) -> Result<AllDone<Sum, Sum, Numbered>, NodeFailure> {
-    let others = match vec![in alloc; Adding { last: 1, id: 11 }] {
-        Ok(others) => others,
-        Err(_) => return Err(NodeFailure::Failed(Failure::Memory)),
-    };
+fn main(rt: HostRuntime) -> io::Result<()> {
+    let others = vec![in rt.alloc(); Adding { last: 1, id: 11 }]?;
+    let main = Adding { last: 200, id: 10 };
     let mut settings = NodeAttr::new();
     let _ = settings.set(NodeAttr::WORKERS, 3);
-    let main = Adding { last: 200, id: 10 };
-    with_callers_beside(rt, alloc, settings, &mut Numbering, beside, main, others)
-}
-
-fn main(rt: HostRuntime) -> io::Result<()> {
-    match both(&rt, rt.alloc(), &mut AllThreads::new()) {
+    let mut acts = Numbering;
+    match with_callers(&rt, rt.alloc(), settings, &mut acts, main, others) {
         Ok(done) => {
             for set in &done.sets {
                 println!(rt; "the set of worker {}", set.0)?;
             }
             match (done.told, done.others.into_iter().next()) {
                 // Whoever wrote last wrote the larger sum.
-                (Ok(a), Some(Ok(b))) => println!(rt; "the segment held {}", a.max(b))?,
-                _ => println!(rt; "a call was refused")?,
+                (Ok(a), Some(Ok(b))) => println!(rt; "the segment held {}", a.max(b)),
+                _ => println!(rt; "a call was refused"),
             }
         }
-        Err(NodeFailure::Failed(failure)) => println!(rt; "{failure}")?,
-        Err(NodeFailure::NoThread(_)) => println!(rt; "no thread")?,
+        Err(failure) => println!(rt; "{failure}"),
     }
-    for number in 1..=5 {
-        match both(&rt, rt.alloc(), &mut FewThreads::new(number)) {
-            Ok(_) => println!(rt; "no thread {number} is started")?,
-            Err(NodeFailure::Failed(failure)) => println!(rt; "{failure}")?,
-            Err(NodeFailure::NoThread(main)) => {
-                println!(rt; "thread {number} refused, main is caller {}", main.number())?;
-            }
-        }
-    }
-    Ok(())
 }

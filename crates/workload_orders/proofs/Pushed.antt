@@ -1,0 +1,14 @@
+-- What is listed at the end of a list.
+use Rattle.std.proofs.Common.{List, [], ◌∷◌, ◌++◌}
+use Rattle.workload_file.specs.declared.workload.Workload.{Workload}
+use Rattle.workload_orders.specs.declared.listed.Report.{Report}
+use Rattle.workload_orders.specs.declared.listed.Deadlock.{Deadlock}
+use Rattle.workload_orders.specs.Shown.{Shows, AllShow, HasHistory, AllHaveHistories}
+
+pub shown_push : (load : Workload) (rs : List Report) (r : Report) → AllShow load rs → Shows load r → AllShow load (rs ++ r ∷ [])
+shown_push load [] r h s = (s, tt)
+shown_push load (x ∷ rs) r h s = (h.0, shown_push load rs r h.1 s)
+
+pub histories_push : (ds : List Deadlock) (d : Deadlock) → AllHaveHistories ds → HasHistory d → AllHaveHistories (ds ++ d ∷ [])
+histories_push [] d h s = (s, tt)
+histories_push (x ∷ ds) d h s = (h.0, histories_push ds d h.1 s)

@@ -1,0 +1,199 @@
+//! The search, and what is told of it.
+ghost use Rattle.std.specs.Prelude.{IfOk, OnOk, ◌<◌, length, ⊤};
+ghost use Rattle.graph_search.specs.Visits.{Reached};
+ghost use Rattle.workload_file.specs.Formed.{WellFormed};
+ghost use Rattle.workload_orders.specs.Shown.{AllShow, AllHaveHistories, IsShown};
+
+use crate::graph::Steps;
+use crate::judged::{journal_of, judged_deadlock, judged_report};
+use crate::listed::{Deadlock, Orders, Report};
+use graph_search::{Found, explore, path_to};
+use node_journals::Journal;
+use orders_machine::{Label, Machine, State};
+use std::alloc::{AllocError, Global};
+use std::collections::HashSet;
+use workload_file::Workload;
+
+// The texts and the words that are listed already.
+#[derive(Drop)]
+struct Known {
+    texts: HashSet<Vec<u8>>,
+    words: HashSet<Vec<u8>>,
+}
+
+// Notes a text. False if it was noted before.
+fn note(alloc: Global, texts: &mut HashSet<Vec<u8>>, text: &[u8]) -> Result<bool, AllocError> {
+    if texts.contains(text) {
+        return Ok(false);
+    }
+    let mut own = Vec::new(alloc);
+    own.extend_from_slice(text)?;
+    texts.insert(own)?;
+    Ok(true)
+}
+
+// Lists the report of this journal, unless its text is listed already. False if the journal is judged to be no run.
+#[tactic(auto, using(crate::proofs::Pushed::shown_push))]
+fn add_report(
+    alloc: Global,
+    load: &Workload,
+    journal: Journal,
+    reports: &mut Vec<Report>,
+    texts: &mut HashSet<Vec<u8>>,
+) -> Result<bool, AllocError>
+    requires formed { WellFormed load.now }
+    requires shown { AllShow load.now reports.old.items }
+    ensures { OnOk result (AllShow load.now reports.new.items) }
+{
+    match judged_report(alloc, load, journal)? {
+        Some(report) => {
+            if note(alloc, texts, &report.text)? {
+                reports.push(report)?;
+            }
+            Ok(true)
+        }
+        None => Ok(false),
+    }
+}
+
+// Lists the deadlock behind this journal, unless its words are listed already. False if the journal is judged to be no legal history.
+#[tactic(auto, using(crate::proofs::Pushed::histories_push))]
+fn add_deadlock(
+    alloc: Global,
+    load: &Workload,
+    journal: Journal,
+    waits: Vec<u8>,
+    deadlocks: &mut Vec<Deadlock>,
+    words: &mut HashSet<Vec<u8>>,
+) -> Result<bool, AllocError>
+    requires formed { WellFormed load.now }
+    requires shown { AllHaveHistories deadlocks.old.items }
+    ensures { OnOk result (AllHaveHistories deadlocks.new.items) }
+{
+    match judged_deadlock(alloc, load, journal, waits)? {
+        Some(deadlock) => {
+            if note(alloc, words, &deadlock.waits)? {
+                deadlocks.push(deadlock)?;
+            }
+            Ok(true)
+        }
+        None => Ok(false),
+    }
+}
+
+// The journal of the way to a state.
+fn journal_at(
+    alloc: Global,
+    load: &Workload,
+    steps: &Steps,
+    found: &Found<State, Label>,
+    place: usize,
+) -> Result<Journal, AllocError>
+    requires within { place < length found.now.states.keys }
+    requires reached { Reached {L = Label} (λ s xs. ⊤) (λ s. ⊤) found.now.states.keys found.now.origins.items }
+{
+    let labels = path_to(alloc, steps, found, place)?;
+    let entries = steps.machine.entries(alloc, &labels)?;
+    Ok(journal_of(load, entries))
+}
+
+// Lists what is found at a state from which no step leads on, and to which this journal leads. False if the journal is judged to be wrong.
+fn tell_state(
+    alloc: Global,
+    load: &Workload,
+    steps: &Steps,
+    state: &State,
+    journal: Journal,
+    orders: &mut Orders,
+    known: &mut Known,
+) -> Result<bool, AllocError>
+    requires formed { WellFormed load.now }
+    requires shown { IsShown load.now orders.old }
+    ensures { OnOk result (IsShown load.now orders.new) }
+{
+    if steps.machine.is_end(state) {
+        add_report(alloc, load, journal, &mut orders.reports, &mut known.texts)
+    } else {
+        let waits = steps.machine.waits(alloc, state)?;
+        add_deadlock(
+            alloc,
+            load,
+            journal,
+            waits,
+            &mut orders.deadlocks,
+            &mut known.words,
+        )
+    }
+}
+
+// Lists what is found at the state at this place, from which no step leads on.
+fn tell(
+    alloc: Global,
+    load: &Workload,
+    steps: &Steps,
+    found: &Found<State, Label>,
+    place: usize,
+    orders: &mut Orders,
+    known: &mut Known,
+) -> Result<(), AllocError>
+    requires formed { WellFormed load.now }
+    requires within { place < length found.now.states.keys }
+    requires reached { Reached {L = Label} (λ s xs. ⊤) (λ s. ⊤) found.now.states.keys found.now.origins.items }
+    requires shown { IsShown load.now orders.old }
+    ensures { OnOk result (IsShown load.now orders.new) }
+{
+    let journal = journal_at(alloc, load, steps, found, place)?;
+    let state = &found.states.as_slice()[place];
+    if !tell_state(alloc, load, steps, state, journal, orders, known)? {
+        orders.refused = orders.refused.saturating_add(1);
+    }
+    Ok(())
+}
+
+// Lists what is found at each state from which no step leads on.
+fn tell_all(
+    alloc: Global,
+    load: &Workload,
+    steps: &Steps,
+    found: &Found<State, Label>,
+    orders: &mut Orders,
+) -> Result<(), AllocError>
+    requires formed { WellFormed load.now }
+    requires reached { Reached {L = Label} (λ s xs. ⊤) (λ s. ⊤) found.now.states.keys found.now.origins.items }
+    requires shown { IsShown load.now orders.old }
+    ensures { OnOk result (IsShown load.now orders.new) }
+{
+    let mut known = Known {
+        texts: HashSet::new(alloc),
+        words: HashSet::new(alloc),
+    };
+    for place in &found.stops {
+        if *place < found.states.len() {
+            tell(alloc, load, steps, found, *place, orders, &mut known)?;
+        }
+    }
+    Ok(())
+}
+
+/// The reports that the schedules of a workload give, and the deadlocks that they meet, as far as `most` states tell. Each is judged before
+/// it is listed. Call `may_retire` and `is_too_large` of `orders_machine` first: where they hold, runs may be missing. It fails for want
+/// of memory alone.
+pub fn orders(alloc: Global, load: &Workload, most: usize) -> Result<Orders, AllocError>
+    requires formed { WellFormed load.now }
+    ensures shown { IfOk result (λ o. AllShow load.now o.reports.items) }
+    ensures histories { IfOk result (λ o. AllHaveHistories o.deadlocks.items) }
+{
+    let steps = Steps {
+        machine: Machine::new(alloc, load)?,
+    };
+    let found = explore(alloc, &steps, most)?;
+    let mut orders = Orders {
+        states: found.states.len(),
+        cut: found.cut,
+        reports: Vec::new(alloc),
+        deadlocks: Vec::new(alloc),
+        refused: 0,
+    };
+    tell_all(alloc, load, &steps, &found, &mut orders)?;
+    Ok(orders)
+}
