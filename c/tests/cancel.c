@@ -13,13 +13,13 @@ ACTION(at_gate)
     atomic_fetch_add(&ran, 1);
 }
 
-/* Goes on until it is told that it was cancelled, and says so; after two seconds it gives up. */
+/* Goes on until it is told that it was cancelled, and says so; after twenty seconds it gives up. */
 ACTION(until_cancelled)
 {
     UNUSED;
     mtapi_status_t status;
     atomic_fetch_add(&running, 1);
-    for (int i = 0; i < 2000; i++) {
+    for (int i = 0; i < 20000; i++) {
         mtapi_task_state_t state = mtapi_context_taskstate_get(context, &status);
         if (status != MTAPI_SUCCESS) abort();
         if (state == MTAPI_TASK_CANCELLED) {

@@ -40,7 +40,7 @@ int main(void)
         mtapi_initialize(1, 1, &attributes, NULL, &status);
         WANT(MTAPI_ERR_NODE_INITFAILED);
         for (int i = 0; threads() != before; i++) {
-            CHECK(i < 1000);
+            CHECK(i < 10000);
             NAP(1);
         }
         mtapi_finalize(&status);

@@ -168,7 +168,7 @@ static void deadlines(void)
         begun = seconds();
         mtapi_task_wait(task, MTAPI_NOWAIT, &status);
         WANT(MTAPI_TIMEOUT);
-        CHECK(seconds() - begun < 0.04);
+        CHECK(seconds() - begun < 5);
     }
     mtapi_task_wait(task, -2, &status);
     WANT(MTAPI_ERR_PARAMETER);
@@ -247,8 +247,7 @@ static void two_wait(void)
     atomic_store(&gate, 0);
     mtapi_task_hndl_t task = start(job_of(JOB, at_gate), NULL, 0, NULL, 0);
     CHECK(pthread_create(&thread, NULL, waits_too, &task) == 0);
-    NAP(50);
-    mtapi_task_wait(task, MTAPI_NOWAIT, &status);
+    for (status = MTAPI_TIMEOUT; status == MTAPI_TIMEOUT; NAP(1)) mtapi_task_wait(task, MTAPI_NOWAIT, &status);
     WANT(MTAPI_ERR_WAIT_PENDING);
     atomic_store(&gate, 1);
     CHECK(pthread_join(thread, NULL) == 0);
