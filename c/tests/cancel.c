@@ -113,6 +113,35 @@ static void while_running(void)
     end("while_running");
 }
 
+/* The next task in the slot of a cancelled one isn't cancelled. */
+ACTION(state_of)
+{
+    UNUSED;
+    *(mtapi_task_state_t *)result = mtapi_context_taskstate_get(context, NULL);
+}
+
+static void the_next_one(void)
+{
+    mtapi_status_t status;
+    mtapi_task_state_t state = 0;
+    mtapi_node_attributes_t attributes = settings(1);
+    attributes.max_tasks = 1;
+    mtapi_initialize(1, 1, &attributes, NULL, &status);
+    OK;
+    close_gate();
+    mtapi_job_hndl_t job = job_of(1, until_cancelled), other = job_of(2, state_of);
+    mtapi_task_hndl_t task = start_in(job, MTAPI_GROUP_NONE);
+    wait_until_runs(1);
+    mtapi_task_cancel(task, &status);
+    OK;
+    mtapi_task_wait(task, MTAPI_INFINITE, &status);
+    WANT(MTAPI_ERR_ACTION_CANCELLED);
+    mtapi_task_wait(start(other, NULL, 0, &state, sizeof state), MTAPI_INFINITE, &status);
+    OK;
+    CHECK(state == MTAPI_TASK_RUNNING);
+    end("the_next_one");
+}
+
 /* Others wait while a task is cancelled, alone or in a group: they are woken. */
 struct wait {
     mtapi_task_hndl_t task;
@@ -306,6 +335,7 @@ int main(void)
 {
     before();
     while_running();
+    the_next_one();
     under_a_wait();
     first_of_queue();
     many();
