@@ -1,5 +1,6 @@
 /* Tasks that are cancelled before they run and while they do; what a deleted or disabled action or queue does to its tasks. */
 #include "check.h"
+#include <pthread.h>
 #include <stdatomic.h>
 
 static atomic_int gate, running, ran;
@@ -110,6 +111,79 @@ static void while_running(void)
     mtapi_task_wait(task, MTAPI_INFINITE, &status);
     WANT(MTAPI_ERR_TASK_INVALID);
     end("while_running");
+}
+
+/* The next task in the slot of a cancelled one isn't cancelled. */
+ACTION(state_of)
+{
+    UNUSED;
+    *(mtapi_task_state_t *)result = mtapi_context_taskstate_get(context, NULL);
+}
+
+static void the_next_one(void)
+{
+    mtapi_status_t status;
+    mtapi_task_state_t state = 0;
+    mtapi_node_attributes_t attributes = settings(1);
+    attributes.max_tasks = 1;
+    mtapi_initialize(1, 1, &attributes, NULL, &status);
+    OK;
+    close_gate();
+    mtapi_job_hndl_t job = job_of(1, until_cancelled), other = job_of(2, state_of);
+    mtapi_task_hndl_t task = start_in(job, MTAPI_GROUP_NONE);
+    wait_until_runs(1);
+    mtapi_task_cancel(task, &status);
+    OK;
+    mtapi_task_wait(task, MTAPI_INFINITE, &status);
+    WANT(MTAPI_ERR_ACTION_CANCELLED);
+    mtapi_task_wait(start(other, NULL, 0, &state, sizeof state), MTAPI_INFINITE, &status);
+    OK;
+    CHECK(state == MTAPI_TASK_RUNNING);
+    end("the_next_one");
+}
+
+/* Others wait while a task is cancelled, alone or in a group: they are woken. */
+struct wait {
+    mtapi_task_hndl_t task;
+    mtapi_group_hndl_t group;
+    int kind;
+    atomic_int begun;
+};
+
+static void *waits(void *place)
+{
+    struct wait *wait = place;
+    mtapi_status_t status;
+    void *result;
+    atomic_store(&wait->begun, 1);
+    if (wait->kind == 0) mtapi_task_wait(wait->task, MTAPI_INFINITE, &status);
+    if (wait->kind == 1) mtapi_group_wait_all(wait->group, MTAPI_INFINITE, &status);
+    if (wait->kind == 2) mtapi_group_wait_any(wait->group, &result, MTAPI_INFINITE, &status);
+    WANT(MTAPI_ERR_TASK_CANCELLED);
+    return NULL;
+}
+
+static void under_a_wait(void)
+{
+    mtapi_status_t status;
+    begin(1);
+    close_gate();
+    mtapi_job_hndl_t job = job_of(1, at_gate);
+    start_in(job, MTAPI_GROUP_NONE);
+    wait_until_runs(1);
+    for (int kind = 0; kind < 3; kind++) {
+        pthread_t thread;
+        struct wait wait = {.group = new_group(), .kind = kind};
+        wait.task = start_in(job, kind ? wait.group : MTAPI_GROUP_NONE);
+        CHECK(pthread_create(&thread, NULL, waits, &wait) == 0);
+        while (!atomic_load(&wait.begun)) NAP(1);
+        NAP(20);
+        mtapi_task_cancel(wait.task, &status);
+        OK;
+        CHECK(pthread_join(thread, NULL) == 0);
+    }
+    atomic_store(&gate, 1);
+    end("under_a_wait");
 }
 
 /* The first of an ordered queue is cancelled: the next one has to be taken, by a worker that sleeps. */
@@ -261,6 +335,8 @@ int main(void)
 {
     before();
     while_running();
+    the_next_one();
+    under_a_wait();
     first_of_queue();
     many();
     running_ones();
