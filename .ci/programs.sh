@@ -7,6 +7,7 @@ command_crate=mtapi_cli
 further=(picture:mtapi_picture trace:mtapi_trace explain:mtapi_explain orders:mtapi_orders)
 programs=("$command_crate" "${further[@]#*:}")
 libraries=(typed_pieces plain_work)     # on which a program of one's own stands
+c_crate=mtapi_c                         # the library for C, an archive
 default_processor=x86-64-v2 new_processor=x86-64-v3
 new_words=(avx2 bmi1 bmi2 fma f16c movbe abm) # of /proc/cpuinfo, without which x86-64-v3 doesn't run
 
@@ -18,9 +19,16 @@ program_of() {
     if [ -n "${installed-}" ]; then echo "$top/programs/$1"; else echo "$top/crates/$1/out/$1"; fi
 }
 
-# The file that changes with what was built of a crate: the program, or the stamp that rt leaves beside a library.
+# The file that changes with what was built of a crate: the program, the archive for C, or the stamp that rt leaves beside a
+# library.
 built_of() {
-    if is_program "$1"; then program_of "$1"; else echo "$top/crates/$1/out/rlib/stamp"; fi
+    if is_program "$1"; then
+        program_of "$1"
+    elif [ "$1" = "$c_crate" ]; then
+        echo "$top/crates/$1/out/lib$1.a"
+    else
+        echo "$top/crates/$1/out/rlib/stamp"
+    fi
 }
 
 # The crates of this repository that a program is made of, its own among them.
@@ -61,7 +69,7 @@ sum_of_sources() {
 # was built from other sources in the meantime is no longer the one that the note is of. A second line says of what kind it is:
 # for which processor a program was built, or by which toolchain a library.
 note_file() {
-    if is_program "$1"; then echo "$(program_of "$1").proved"; else echo "$top/crates/$1/out/rlib/proved"; fi
+    if is_program "$1" || [ "$1" = "$c_crate" ]; then echo "$(built_of "$1").proved"; else echo "$top/crates/$1/out/rlib/proved"; fi
 }
 
 note_of() {

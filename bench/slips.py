@@ -24,6 +24,9 @@ and what else they kept on this machine, and is taken back before the next one. 
 complaint; `PROVES`, if nothing fails; or `BAD SLIP`, if the text doesn't stand there once or a changed file has a fault of its
 own. Fails if a slip isn't refused. A slip takes 10 to 60 seconds; several calls may run beside one another, each on slips of its
 own.
+
+`bench/slips.py --match` tries none: in a second it tells of each slip whose text doesn't stand once in today's text, or that names
+no crate, and fails if there is one. The gate calls it.
 """
 
 import collections
@@ -98,21 +101,40 @@ def scratch_copy(folder):
     subprocess.run(["git", "init", "-q", folder], check=True)
 
 
-def made(folder, slip):
-    """Makes the slip in the folder. What is wrong with it, or nothing."""
+def changed_files(folder, slip):
+    """The texts of the files that the slip changes, by their names, and what is wrong with the slip, or nothing."""
+    texts = {}
     for change in slip.changes:
         path = os.path.join(folder, change.file)
         if not os.path.exists(path):
-            return f"no file {change.file}"
-        with open(path) as file:
-            text = file.read()
+            return texts, f"no file {change.file}"
+        if change.file not in texts:
+            with open(path) as file:
+                texts[change.file] = file.read()
         old = re.compile(r"\s+".join(re.escape(word) for word in change.old.split()))
-        times = len(old.findall(text))
+        times = len(old.findall(texts[change.file]))
         if times != 1:
-            return f"stands {times} times in {change.file}: {change.old}"
-        with open(path, "w") as file:
-            file.write(old.sub(lambda _: change.new.strip(), text))
-    return ""
+            return texts, f"stands {times} times in {change.file}: {change.old}"
+        texts[change.file] = old.sub(lambda _: change.new.strip(), texts[change.file])
+    return texts, ""
+
+
+def made(folder, slip):
+    """Makes the slip in the folder. What is wrong with it, or nothing."""
+    texts, wrong = changed_files(folder, slip)
+    for name, text in texts.items():
+        with open(os.path.join(folder, name), "w") as file:
+            file.write(text)
+    return wrong
+
+
+def mismatch(slip):
+    """Why the slip can't be tried on today's text, or nothing."""
+    wrong = changed_files(TOP, slip)[1]
+    crate, _, case = slip.refused_by.partition(" ")
+    if not wrong and crate != "case" and not os.path.isdir(os.path.join(TOP, "crates", crate)):
+        return f"no crate {crate}"
+    return wrong
 
 
 def taken_back(folder, slip):
@@ -226,7 +248,19 @@ def tried(folder, slip):
         taken_back(folder, slip)
 
 
+def matched():
+    """Tells of each slip that can't be tried on today's text. The status."""
+    slips = named([])
+    wrong = [(slip.name, why) for slip in slips if (why := mismatch(slip))]
+    for name, why in wrong:
+        print(f"BAD SLIP {name}: {why}")
+    print(f"{len(slips) - len(wrong)} slips stand in today's text, {len(wrong)} don't")
+    return 1 if wrong else 0
+
+
 def main():
+    if sys.argv[1:] == ["--match"]:
+        return matched()
     slips, counts = named(sys.argv[1:]), collections.Counter()
     with tempfile.TemporaryDirectory() as folder:
         scratch_copy(folder)

@@ -7,11 +7,20 @@ page_of_waits="docs/tutorial.md, 'When nothing comes'"
 if [ -n "$installed" ]; then page_of_waits='man mtapi'; fi
 workload=FILE # as `run` was given it, for what is told of waits
 
+# A file that can't be read, and why, if that is seen.
+fault_of() {
+    local why=''
+    if [ "$1" != - ]; then
+        if ! [ -e "$1" ]; then why=': no such file'; elif [ -d "$1" ]; then why=': a folder'; elif ! [ -r "$1" ]; then why=': not allowed'; fi
+    fi
+    echo "read fault: $(name_of "$1")$why"
+}
+
 # From now on standard input is this file.
 read_from() {
     [ "$1" != - ] || return 0
     if ! [ -r "$1" ] || ! exec <"$1"; then
-        tell "read fault: $1"
+        tell "$(fault_of "$1")"
         leave "$read_fault"
     fi
 }
@@ -26,7 +35,7 @@ take_file() {
     fi
     processes=($!)
     if ! wait "$!"; then
-        tell "${3-read fault: $(name_of "$1")}"
+        tell "${3-$(fault_of "$1")}"
         leave "$read_fault"
     fi
     processes=()
@@ -92,6 +101,11 @@ tell_where_waits_are() {
     tell "stopped; if a wait can't end, '$called bounded $workload' names it ($page_of_waits)"
 }
 
+# Behind a refusal of a workload: what tells more.
+tell_where_mistakes_are() {
+    [ "$1" -ne "$refused" ] || tell "'$called explain $workload' tells every mistake"
+}
+
 # Runs the proved program of a crate with the words that follow, in place of this process.
 become_program() {
     GLIBC_TUNABLES=${GLIBC_TUNABLES-$heap_steps} exec "${within[@]}" "$(program_of "$1")" "${@:2}"
@@ -116,7 +130,7 @@ program_on() {
 
 # `run [--journal] [FILE]`. For the end of the proved program the script waits, to tell of waits if it is stopped.
 run() {
-    local words=(run)
+    local words=(run) status
     if [ "${1-}" = --journal ]; then words+=("$1") && shift; fi
     if [ $# -gt 0 ]; then read_from "$1"; fi
     if [ "${1--}" != - ]; then workload=$1; fi
@@ -126,7 +140,9 @@ run() {
     (become_program "$command_crate" "${words[@]}") <&0 &
     processes=($!)
     wait "$!"
-    leave "$?"
+    status=$?
+    tell_where_mistakes_are "$status"
+    leave "$status"
 }
 
 # `check` alone: the command's own answer, and a hint where the input is what `run --journal` wrote.
@@ -176,7 +192,10 @@ take_run() {
         need_journal input "${1--}"
         mv "$scratch/input" "$scratch/whole"
     else
+        workload=$1
+        if is_proved "$command_crate"; then on_signals tell_where_waits_are; fi
         command_on input ran run --journal
+        on_signals true
         join_journal input ran whole
     fi
 }

@@ -1,4 +1,4 @@
-# The manual page of `mtapi`, made of what its help is made of. Sourced by `mtapi`.
+# The manual pages: of `mtapi`, made of what its help is made of, and of the workload text. Sourced by `mtapi`.
 # shellcheck shell=bash disable=SC2154 # what isn't set here is of the script that sources this
 
 # A text as roff has it.
@@ -49,5 +49,37 @@ mtapi run first
 mtapi run \\-\\-journal first | mtapi check first \\-
 mtapi picture first > first.svg
 .fi
+.SH SEE ALSO
+.BR mtapi\\-workload (5)
+END
+}
+
+# A page of docs/ as roff, up to the line that the second word finds: headings, lists, and of a table what each row says.
+page_as_roff() {
+    sed -zE 's/\[([^]]*)\]\([^)]*\)/\1/g' "$top/docs/$1.md" |
+        sed -E "/^# /d; /$2/,\$d; s/\`//g; s/\*([^*]+)\*/\1/g" | roff | awk '
+        /^\|\\-/ { next }
+        /^\| (You see|Kind) / { next }
+        /^## / { print ".SH " toupper(substr($0, 4)); next }
+        /^\|/ { sub(/^\| /, ""); sub(/ \|$/, ""); at = index($0, " | "); rest = substr($0, at + 3); sub(/ \| /, ": ", rest)
+                print ".TP"; print ".B " substr($0, 1, at - 1); print rest; next }
+        /^\\- / { print ".IP \\(bu 2"; print substr($0, 4); next }
+        /^$/ { print ".PP"; next }
+        { sub(/^ +/, ""); print }'
+}
+
+# The manual page of the workload text, of the pages on it and on the kinds of actions.
+workload_manual_text() {
+    cat <<END
+.TH MTAPI\\-WORKLOAD 5 "" "$(head -n 1 "$stage/version")"
+.SH NAME
+mtapi\\-workload \\- the text of a run of
+.BR mtapi (1)
+.SH DESCRIPTION
+$(page_as_roff workload-text '^## What makes no difference')
+.SH KINDS OF ACTIONS
+$(page_as_roff actions '^## In a program')
+.SH SEE ALSO
+.BR mtapi (1)
 END
 }

@@ -298,7 +298,7 @@ take_lock() {
 
 # What was asked for: `--command` stands for the programs alone.
 wanted_crates() {
-    if [ "${1-}" = --command ]; then echo "${programs[@]}"; else echo "${programs[@]}" "${libraries[@]}"; fi
+    if [ "${1-}" = --command ]; then echo "${programs[@]}"; else echo "${programs[@]}" "${libraries[@]}" "$c_crate"; fi
 }
 
 read_wanted() {

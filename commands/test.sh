@@ -1,4 +1,5 @@
-# `mtapi test`: every #[test] and every program of the repository, unproved, several at a time. Sourced by `mtapi`.
+# `mtapi test`: every #[test] and every program of the repository, unproved, several at a time; and the tests in C, where the
+# archive that they stand on is proved: rt builds it in no other way. Sourced by `mtapi`.
 # shellcheck shell=bash disable=SC2154,SC2034 # what isn't set here is of the script that sources this
 
 test_seconds=300        # that one crate's tests, or one program, may take once they are compiled
@@ -138,6 +139,27 @@ test_script() {
     fi
 }
 
+test_c() {
+    local why began=$SECONDS last
+    why=$(why_no_library)
+    if [ -n "$why" ]; then
+        echo "the tests in C were left out: $why"
+        return
+    fi
+    run_c_tests >"$scratch/c_tests.out" 2>"$scratch/c_tests.err" &
+    processes=($!)
+    wait "$!"
+    processes=()
+    last=$(tail -n 1 "$scratch/c_tests.out")
+    if [[ $last =~ ^c/tests:\ ([0-9]+)\ passed,\ ([0-9]+)\ failed$ ]] && [ "${BASH_REMATCH[1]}" -gt 0 ]; then
+        count_run "the tests in C" $((SECONDS - began)) "${BASH_REMATCH[1]}" "${BASH_REMATCH[2]}"
+        [ "${BASH_REMATCH[2]}" -ne 0 ] || return
+    else
+        count_run "the tests in C" $((SECONDS - began)) 0 1 'no answer'
+    fi
+    show_output c_tests
+}
+
 # Tells of a run that has ended, and of what is left.
 end_run() {
     local seconds=$((SECONDS - began_at[$1]))
@@ -183,6 +205,7 @@ test_all() {
         look_at_ended
     done
     echo "${#parts[@]} crates and programs in $SECONDS s"
+    test_c
     echo "$tests_passed passed, $tests_failed failed"
     if [ "$tests_failed" -ne 0 ] || [ "$tests_passed" -eq 0 ]; then leave 1; fi
     leave 0

@@ -87,6 +87,7 @@ pass_on() {
         leave "$write_fault"
     fi
     own_messages "$scratch/err" >&2
+    if [ "${word-}" = run ]; then tell_where_mistakes_are "$status"; fi
     leave "$status"
 }
 

@@ -13,7 +13,10 @@ command_on() {
     fi
     case $ended_with in
     0 | 9) ;;
-    *) leave "$ended_with" ;;
+    *)
+        tell_where_mistakes_are "$ended_with"
+        leave "$ended_with"
+        ;;
     esac
 }
 
@@ -56,14 +59,22 @@ expect() {
     leave 1
 }
 
-# Each `timeout=inf` becomes so many looks. The lines of the workload stay what they are.
+# shellcheck disable=SC2317 # called by the traps
+tell_of_fewer_looks() {
+    tell "stopped; with fewer looks than $looks it ends sooner: '$called bounded $workload LOOKS'"
+}
+
+# Each `timeout=inf` becomes so many looks. The lines of the workload stay what they are. The status is 1 where a wait ran out.
 bounded() {
-    local looks=${2-$default_looks}
+    looks=${2-$default_looks}
     begin_on_file "$1"
+    if is_proved "$command_crate"; then on_signals tell_of_fewer_looks; fi
     LC_ALL=C sed -E "/^ *#/!s/ timeout=inf( |\$)/ timeout=$looks\\1/" "$scratch/workload" >"$scratch/bounded"
     command_on bounded ran run --journal
     text_before_journal ran >"$scratch/report"
     show "$scratch/report"
-    waits_that_ran_out "$looks" >&2
+    waits_that_ran_out "$looks" >"$scratch/waits"
+    cat "$scratch/waits" >&2
+    if [ "$ended_with" -eq 0 ] && [ -s "$scratch/waits" ]; then leave 1; fi
     leave "$ended_with"
 }

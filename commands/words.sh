@@ -24,11 +24,11 @@ beside|orders --one FILE [N]|with status 1 unless one report is found and no dea
 beside|orders --journals FILE [N]|puts the journal of a run with each report, and of the way to each deadlock, into the folder FILE.orders
 beside|picture [FILE [KEPT]]|draws a run as an SVG: of what 'run --journal' wrote, or of the workload in FILE, which it runs unless KEPT has the journal
 beside|trace [FILE [KEPT]]|writes such a run as a trace, which Perfetto and chrome://tracing show
-repository|test|runs every test and every program, unproved, in minutes; proves nothing
-repository|prove|proves and builds the programs, which run from then on, until a source changes, and proves the libraries on which a program of one's own stands
+repository|test|runs every test and every program, unproved, in minutes, and the tests in C where their library is proved; proves nothing
+repository|prove|proves and builds the programs, which run from then on, until a source changes, and proves the libraries on which a program of one's own stands, and the one for C
 repository|prove --command|proves and builds the programs alone
 repository|new FOLDER [NAME]|makes a repository with a program NAME of one's own, with all that it stands on
-repository|install [PREFIX]|puts the proved programs below PREFIX (/usr/local if not given), where they need no toolchain
+repository|install [PREFIX]|puts the proved programs, and the library for C, below PREFIX (/usr/local if not given), where they need no toolchain
 repository|uninstall [PREFIX]|removes them there
 END
 }
@@ -39,7 +39,7 @@ status_table() {
     if [ -n "$installed" ]; then failed='' no_toolchain=''; fi
     cat <<END
 0|if all was written; with check the verdict is yes
-1|with expect if the report is another one; with orders --one if what is found isn't one report alone$failed
+1|with expect if the report is another one; with bounded if a wait ran out; with orders --one if what is found isn't one report alone$failed
 2|if the words are none
 3|if the input is refused
 4, 5|if a read failed; if a write failed
@@ -48,6 +48,7 @@ status_table() {
 10|with orders if there are more states than were followed
 126|if there is no answer, which is told
 127|if ${no_toolchain}the program was built for a newer processor
+129, 130, 143|if it was stopped: by SIGHUP, by SIGINT (Ctrl-C), by SIGTERM
 END
 }
 
@@ -174,7 +175,8 @@ are_known() {
     orders) if [[ ${1-} = --one || ${1-} = --journals ]]; then shift; fi ;;
     esac
     case $word in
-    -h | --help | --version | test) [ $# -eq 0 ] ;;
+    -h | --help) [ $# -eq 0 ] || { [ $# -eq 1 ] && is_word "$1"; } ;;
+    --version | test) [ $# -eq 0 ] ;;
     run | explain) are_files 1 "$@" ;;
     check | picture | trace) are_files 2 "$@" ;;
     gen) { [ $# -eq 1 ] || [ $# -eq 2 ]; } && is_number "$1" "$most_tasks" && is_number "${2-1}" "$most_workers" ;;
@@ -207,8 +209,19 @@ help_on() {
     word_table | awk -F '|' -v group="$1" -v called="$called" '$1 == group { print "  " called " " $2 "|" $3 }' | in_columns 38
 }
 
+# The uses of one word, with what each does.
+tell_help_on() {
+    used_words | awk -F '|' -v word="$1" -v called="$called" '
+        { first = $2; sub(/ .*/, "", first) }
+        first == word { print called " " $2 "|" $3 }' | in_columns 38
+}
+
 tell_help() {
     local repository
+    if [ $# -eq 1 ]; then
+        tell_help_on "$1"
+        return
+    fi
     repository=$(help_on_repository)
     cat <<END
 $usage
@@ -222,7 +235,7 @@ $(help_on beside)
 ${repository:+$repository
 
 }Statuses:
-$(status_table | sed 's/^/  /' | in_columns 12)
+$(status_table | sed 's/^/  /' | in_columns 17)
 
 - as FILE or KEPT is standard input.
 END

@@ -3,7 +3,7 @@
 use journal_check::{Verdict, check_run};
 use mtapi_machine::{Entry, Op, Reply};
 use mtapi_values::{GroupHandle, Layout, MtapiStatus, NodeAttr};
-use node_core::{EntryList, Journal};
+use node_core::{Journal, ShortList};
 use std::alloc::Global;
 use std::test::Fail;
 use workload_file::{MemSource, read_workload};
@@ -19,7 +19,7 @@ const NOT_RUN: u64 = u64::MAX;
 fn verdict_on(alloc: Global, settings: NodeAttr, entries: &[Entry]) -> Result<u64, Fail> {
     let mut src = MemSource::new(b"".to_vec(alloc)?, 100, vec![in alloc]?);
     let load = read_workload(alloc, &mut src).map_err(|_| "workload")?;
-    let mut kept = EntryList::new(alloc);
+    let mut kept = ShortList::new(alloc);
     for entry in entries {
         kept.push(
             Entry {

@@ -11,3 +11,4 @@ pub mod Makes
 pub mod Begins
 pub mod Prefixes
 pub mod Told
+pub mod Shorts

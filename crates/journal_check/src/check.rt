@@ -2,7 +2,10 @@
 
 ghost use Rattle.std.specs.Prelude.{◌≡◌, ◌<◌, ◌↔◌, IfOk, IsTrue, length};
 ghost use Rattle.workload_file.specs.Formed.{WellFormed};
-ghost use Rattle.journal_check.specs.Verdicts.{IsRun, IsVerdict};
+ghost use Rattle.workload_runs.specs.RunOf.{RunOf};
+ghost use Rattle.workload_runs.specs.Whole.{HasSeats};
+ghost use Rattle.journal_check.specs.Judged.{IsLegalOr};
+ghost use Rattle.journal_check.specs.Verdicts.{IsRun, IsVerdict, terms_of};
 
 use crate::judged::first_illegal;
 use crate::verdicts::Verdict;
@@ -26,6 +29,28 @@ fn same_settings(a: &NodeAttr, b: &NodeAttr) -> bool
         && a.generations() == b.generations()
 }
 
+// The first entry of a journal that isn't legal, as `first_illegal` says it.
+fn first_illegal_in(alloc: Global, journal: &Journal) -> Result<Option<u64>, AllocError>
+    ensures { IfOk result (IsLegalOr (terms_of journal.now) journal.now.entries.entries) }
+{
+    first_illegal(
+        alloc,
+        journal.layout,
+        journal.settings,
+        journal.callers,
+        journal.entries.shorts(),
+    )
+}
+
+// Whether the entries of a journal are a run, as `is_run` says it.
+fn is_run_in(alloc: Global, load: &Workload, journal: &Journal) -> Result<bool, AllocError>
+    requires seats { HasSeats load.now }
+    ensures { IfOk result (λ b. IsTrue b ↔ RunOf load.now journal.now.entries.entries journal.now.entries.skipped) }
+{
+    let entries = journal.entries.in_full(alloc)?;
+    is_run(alloc, load, entries.as_slice(), journal.entries.skipped())
+}
+
 // Whether the journal has the workload's settings and callers, and is a run of it.
 fn runs(alloc: Global, load: &Workload, journal: &Journal) -> Result<bool, AllocError>
     requires formed { WellFormed load.now }
@@ -38,12 +63,7 @@ fn runs(alloc: Global, load: &Workload, journal: &Journal) -> Result<bool, Alloc
         return Ok(false);
     }
     let _ = load.settings.workers();
-    is_run(
-        alloc,
-        load,
-        journal.entries.as_slice(),
-        journal.entries.skipped(),
-    )
+    is_run_in(alloc, load, journal)
 }
 
 /// Judges a journal by itself, and then beside a workload. It fails for want of memory alone; a
@@ -52,13 +72,7 @@ pub fn check_run(alloc: Global, load: &Workload, journal: &Journal) -> Result<Ve
     requires formed { WellFormed load.now }
     ensures { IfOk result (IsVerdict load.now journal.now) }
 {
-    let illegal = first_illegal(
-        alloc,
-        journal.layout,
-        journal.settings,
-        journal.callers,
-        journal.entries.as_slice(),
-    )?;
+    let illegal = first_illegal_in(alloc, journal)?;
     if let Some(entry) = illegal {
         return Ok(Verdict::Illegal { entry });
     }

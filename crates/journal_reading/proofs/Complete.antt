@@ -5,6 +5,7 @@ use Rattle.std.specs.Global.{Vec}
 use Rattle.byte_io.specs.declared.whole.ReadAllError.{ReadAllError}
 use Rattle.byte_io.specs.Causes.{Rose, ReadsWhole}
 use Rattle.journal_text.proofs.Splits.{same_split}
+use Rattle.journal_reading.specs.declared.reading.KeptRun.{KeptRun}
 use Rattle.journal_reading.specs.declared.ends.ShowEnd.{ShowEnd}
 use Rattle.journal_reading.specs.declared.ends.ShowEnd.TheVariants as end
 use Rattle.journal_reading.specs.declared.ends.RunView.{RunView}
@@ -42,21 +43,23 @@ input_once view bytes e none some =
     × IsJournal xs) (sym same.1) (subst (λ (xs : List ℕ). IsFront view xs × IsJournal some.rest) (sym same.0) some.holds) in
     fails_else view none.front none.rest e none.holds there
 
-ends_well : (view : RunView) (a b : Option (List ℕ)) (bytes : List ℕ) (r : ShowEnd) (read read' written written' : ℕ) → Shows view a b bytes r
+ends_well : (IsShown : KeptRun → List ℕ → Type 0) (view : RunView) (a b : Option (List ℕ)) (bytes : List ℕ) (r : ShowEnd) (read read' written written' : ℕ)
+    → Shows IsShown view a b bytes r
     → (r ≡ end.ReadFault → Rose read read') → (r ≡ end.WriteFault → Rose written written')
     → (Rose read read' → ⊥) → (Rose written written' → ⊥) → HasInput view bytes → (r ≡ end.Done) ⊎ (r ≡ end.Memory)
-ends_well view a b bytes end.Done _ _ _ _ d reads writes calm dry h = inl refl
-ends_well view a b bytes end.Memory _ _ _ _ d reads writes calm dry h = inr refl
-ends_well view a b bytes end.ReadFault _ _ _ _ d reads writes calm dry h = absurd (calm (reads refl))
-ends_well view a b bytes end.WriteFault _ _ _ _ d reads writes calm dry h = absurd (dry (writes refl))
-ends_well view a b bytes end.TooLong _ _ _ _ d reads writes calm dry h = absurd (omega (arith, d, h.0))
-ends_well view a b bytes _ _ _ _ _ d reads writes calm dry h = inr (input_once view bytes _ d.1 h.1)
+ends_well IsShown view a b bytes end.Done _ _ _ _ d reads writes calm dry h = inl refl
+ends_well IsShown view a b bytes end.Memory _ _ _ _ d reads writes calm dry h = inr refl
+ends_well IsShown view a b bytes end.ReadFault _ _ _ _ d reads writes calm dry h = absurd (calm (reads refl))
+ends_well IsShown view a b bytes end.WriteFault _ _ _ _ d reads writes calm dry h = absurd (dry (writes refl))
+ends_well IsShown view a b bytes end.TooLong _ _ _ _ d reads writes calm dry h = absurd (omega (arith, d, h.0))
+ends_well IsShown view a b bytes _ _ _ _ _ d reads writes calm dry h = inr (input_once view bytes _ d.1 h.1)
 
-pub completes : (view : RunView) (left a b : Option (List ℕ)) (r : ShowEnd) (read read' written written' : ℕ) → IfSome left (λ bytes. Shows view a b bytes r)
+pub completes : (IsShown : KeptRun → List ℕ → Type 0) (view : RunView) (left a b : Option (List ℕ)) (r : ShowEnd) (read read' written written' : ℕ)
+    → IfSome left (λ bytes. Shows IsShown view a b bytes r)
     → (r ≡ end.ReadFault → Rose read read') → (r ≡ end.WriteFault → Rose written written')
     → (Rose read read' → ⊥) → (Rose written written' → ⊥) → IfSome left (λ bytes. HasInput view bytes → (r ≡ end.Done) ⊎ (r ≡ end.Memory))
-completes view None a b r _ _ _ _ d reads writes calm dry = tt
-completes view (Some bytes) a b r _ _ _ _ d reads writes calm dry = λ h. ends_well view a b bytes r _ _ _ _ d reads writes calm dry h
+completes IsShown view None a b r _ _ _ _ d reads writes calm dry = tt
+completes IsShown view (Some bytes) a b r _ _ _ _ d reads writes calm dry = λ h. ends_well IsShown view a b bytes r _ _ _ _ d reads writes calm dry h
 
 -- what was read whole, and can't be shown, is refused; so an input that can be ends otherwise only for want of memory
 pub refused_else : (view : RunView) (left left' : Option (List ℕ)) (r : Result (Vec ℕ) ReadAllError) (v : Vec ℕ) (now : List ℕ) (e : ShowEnd)

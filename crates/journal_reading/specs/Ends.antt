@@ -5,11 +5,13 @@ use Rattle.std.specs.Io.KnownBytes.{Appends}
 use Rattle.byte_io.specs.Causes.{AppendsFront, WritesText}
 use Rattle.node_journals.specs.declared.entries.Journal.{Journal}
 use Rattle.workload_file.specs.declared.workload.Workload.{Workload}
+use Rattle.workload_file.specs.declared.faults.Fault.{Fault}
 use Rattle.workload_file.specs.Causes.{cause_text}
 use Rattle.workload_file.specs.Reading.{workload_of}
 use Rattle.journal_text.specs.declared.faults.TextError.TheVariants as errors
 use Rattle.journal_text.specs.Journals.{journal_of}
 use Rattle.journal_text.specs.Splits.{OfParts}
+use Rattle.journal_reading.specs.declared.reading.KeptRun.{KeptRun}
 use Rattle.journal_reading.specs.declared.ends.RunView.{RunView}
 use Rattle.journal_reading.specs.declared.ends.ShowEnd.{ShowEnd}
 use Rattle.journal_reading.specs.declared.ends.ShowEnd.TheVariants as end
@@ -25,6 +27,10 @@ FrontFails front _ = ⊥
 abbrev pub IsWorkload : List ℕ → Type 0
 IsWorkload front = (length front ≤ 1048576) × (load : Workload) × (workload_of front ≡ Ok load)
 
+-- it is none: it is too long, or has a fault
+abbrev pub IsNoWorkload : List ℕ → Type 0
+IsNoWorkload front = (1048576 < length front) ⊎ ((fault : Fault) × (workload_of front ≡ Err fault))
+
 -- what may stand there: before a picture's journal anything, before a trace's a workload
 abbrev pub IsFront : RunView → List ℕ → Type 0
 IsFront RunView.Picture front = Unit {0}
@@ -35,10 +41,10 @@ abbrev pub IsRefused : RunView → List ℕ → ShowEnd → Type 0
 IsRefused RunView.Picture front e = e ≡ end.Memory
 IsRefused RunView.Trace front e = FrontFails front e
 
--- the workload that stands there, if it is one, or why it is refused
+-- the workload that stands there, if it is one, or why it is refused; before a picture's journal it may be none
 abbrev pub FrontGives : RunView → List ℕ → Result (Option Workload) ShowEnd → Type 0
 FrontGives view front (Ok (Some load)) = (length front ≤ 1048576) × (workload_of front ≡ Ok load)
-FrontGives view front (Ok None) = view ≡ RunView.Picture
+FrontGives view front (Ok None) = (view ≡ RunView.Picture) × IsNoWorkload front
 FrontGives view front (Err e) = IsRefused view front e
 
 -- why what stands in an input from its first journal line on is no journal
@@ -65,19 +71,27 @@ IsInput view bytes = OfParts bytes (λ front rest. IsFront view front × IsJourn
 abbrev pub InputFails : RunView → List ℕ → ShowEnd → Type 0
 InputFails view bytes e = OfParts bytes (λ front rest. IsRefused view front e ⊎ (IsFront view front × RestFails rest e))
 
--- An input that isn't too long is shown, and what the output held has grown by a text, or by a front of one where a write failed; or
--- else it is refused so.
-abbrev pub EndsOf : RunView → Option (List ℕ) → Option (List ℕ) → List ℕ → ShowEnd → Type 0
-EndsOf view old new bytes end.Done = IsInput view bytes × ((text : List ℕ) × Appends old new text)
-EndsOf view old new bytes end.WriteFault = IsInput view bytes × ((text : List ℕ) × AppendsFront old new text)
-EndsOf view old new bytes e = InputFails view bytes e
+-- the run that an input keeps: its workload, where that is known, and its journal
+abbrev pub IsRunOf : RunView → List ℕ → KeptRun → Type 0
+IsRunOf view bytes run = OfParts bytes (λ front rest. FrontGives view front (Ok run.workload) × RestGives rest (Ok run.journal))
+
+-- a text shows the run that an input keeps, and P holds of it
+abbrev pub HasText : (KeptRun → List ℕ → Type 0) → RunView → List ℕ → (List ℕ → Type 0) → Type 0
+HasText IsShown view bytes P = (run : KeptRun) × IsRunOf view bytes run × ((text : List ℕ) × IsShown run text × P text)
+
+-- An input that isn't too long keeps a run, and what the output held has grown by a text that shows it, or by a front of one where a
+-- write failed; or else it is refused so.
+abbrev pub EndsOf : (KeptRun → List ℕ → Type 0) → RunView → Option (List ℕ) → Option (List ℕ) → List ℕ → ShowEnd → Type 0
+EndsOf IsShown view old new bytes end.Done = HasText IsShown view bytes (λ text. Appends old new text)
+EndsOf IsShown view old new bytes end.WriteFault = HasText IsShown view bytes (λ text. AppendsFront old new text)
+EndsOf IsShown view old new bytes e = InputFails view bytes e
 
 -- what an end says of the bytes of the input and of the output before and after; want of memory and a failed read say nothing
-abbrev pub Shows : RunView → Option (List ℕ) → Option (List ℕ) → List ℕ → ShowEnd → Type 0
-Shows view old new bytes end.TooLong = 67108864 < length bytes
-Shows view old new bytes end.Memory = Unit {0}
-Shows view old new bytes end.ReadFault = Unit {0}
-Shows view old new bytes e = (length bytes ≤ 67108864) × EndsOf view old new bytes e
+abbrev pub Shows : (KeptRun → List ℕ → Type 0) → RunView → Option (List ℕ) → Option (List ℕ) → List ℕ → ShowEnd → Type 0
+Shows IsShown view old new bytes end.TooLong = 67108864 < length bytes
+Shows IsShown view old new bytes end.Memory = Unit {0}
+Shows IsShown view old new bytes end.ReadFault = Unit {0}
+Shows IsShown view old new bytes e = (length bytes ≤ 67108864) × EndsOf IsShown view old new bytes e
 
 -- the status of an end
 abbrev pub status_of : ShowEnd → ℕ
@@ -93,10 +107,10 @@ status_of end.WriteFault = 5
 status_of end.Memory = 6
 
 -- the text was written, or a write of it failed
-abbrev pub Writes : ShowEnd → Type 0
-Writes end.Done = Unit {0}
-Writes end.WriteFault = Unit {0}
-Writes _ = ⊥
+abbrev pub writes : ShowEnd → Bool
+writes end.Done = true
+writes end.WriteFault = true
+writes _ = false
 
 -- the input isn't too long, and is a journal behind what may stand before it
 abbrev pub HasInput : RunView → List ℕ → Type 0

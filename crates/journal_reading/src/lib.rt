@@ -6,6 +6,7 @@ mod ends;
 mod reading;
 mod showing;
 mod streams;
+pub mod worked;
 
 pub use ends::{RunView, ShowEnd, tell};
 pub use reading::KeptRun;

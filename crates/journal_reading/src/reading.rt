@@ -1,6 +1,6 @@
 //! The run in an input: a journal, and the workload that stands before it.
 ghost use Rattle.std.specs.Prelude.{◌≡◌, ◌≤◌, length, IfOk, IfErr};
-ghost use Rattle.journal_reading.specs.Ends.{FrontGives, RestGives, InputFails, IsInput};
+ghost use Rattle.journal_reading.specs.Ends.{FrontGives, RestGives, InputFails, IsRunOf};
 
 use crate::ends::{RunView, ShowEnd};
 use journal_text::{InputPart, JournalError, parts_of, read_journal};
@@ -26,11 +26,12 @@ fn workload_in(alloc: Global, view: RunView, front: &[u8]) -> Result<Option<Work
         (Err(LoadError::Memory), _) => Err(ShowEnd::Memory),
         // Such a source doesn't fail.
         (Err(LoadError::Read), _) => unreachable!(),
+        (Err(LoadError::TooLong), RunView::Picture) => Ok(None),
+        (Err(LoadError::Refused { .. }), RunView::Picture) => Ok(None),
         (Err(LoadError::TooLong), RunView::Trace) => Err(ShowEnd::WorkloadTooLong),
         (Err(LoadError::Refused { line, cause }), RunView::Trace) => Err(ShowEnd::Refused(
             line, cause,
         )),
-        (Err(_), RunView::Picture) => Ok(None),
     }
 }
 
@@ -54,7 +55,7 @@ fn journal_in(alloc: Global, rest: &[u8]) -> Result<Journal, ShowEnd>
 /// The run that an input keeps, or how the program ends where it keeps none.
 pub fn run_in(alloc: Global, view: RunView, bytes: &[u8]) -> Result<KeptRun, ShowEnd>
     requires { length bytes.now ≤ 67108864 }
-    ensures some { IfOk result (λ _. IsInput view bytes.now) }
+    ensures some { IfOk result (λ run. IsRunOf view bytes.now run) }
     ensures none { IfErr result (InputFails view bytes.now) }
 {
     let (front, rest) = parts_of(bytes);

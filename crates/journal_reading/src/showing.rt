@@ -1,7 +1,8 @@
 //! A run is read, and what shows it is written.
-ghost use Rattle.std.specs.Prelude.{◌≡◌, ◌⊎◌, IfSome};
+ghost use Rattle.std.specs.Prelude.{◌≡◌, ◌⊎◌, ℕ, List, false, IfOk, IfSome, string_bytes};
 ghost use Rattle.byte_io.specs.Causes.{Rose};
-ghost use Rattle.journal_reading.specs.Ends.{HasInput, Shows, Writes};
+ghost use Rattle.journal_reading.specs.Ends.{HasInput, Shows, writes};
+ghost use Rattle.journal_reading.specs.declared.reading.KeptRun.{KeptRun};
 ghost use Rattle.journal_reading.specs.declared.ends.ShowEnd.TheVariants as end;
 
 use crate::ends::{RunView, ShowEnd};
@@ -11,15 +12,19 @@ use std::alloc::{AllocError, Global};
 
 /// Makes the text that shows a run.
 pub trait RunText {
+    /// What a text says of the run that it shows.
+    ghost shows: { KeptRun → List ℕ → Type 0 };
+
     /// The text for this run.
     ///
     /// # Errors
     ///
     /// - `AllocError`: memory ran out.
-    fn text_of(alloc: Global, run: &KeptRun) -> Result<String, AllocError>;
+    fn text_of(alloc: Global, run: &KeptRun) -> Result<String, AllocError>
+        ensures shown { IfOk result (λ text. shows run.now (string_bytes text)) };
 }
 
-/// Reads a journal with what stands before it, and writes the text that `T` makes of the run.
+/// Reads a journal with what stands before it, and writes the text that `T` makes of the run, and no other.
 #[tactic(auto, using(crate::proofs::Complete::completes))]
 pub fn show<S: Source, W: Sink, T: RunText>(
     alloc: Global,
@@ -27,8 +32,8 @@ pub fn show<S: Source, W: Sink, T: RunText>(
     src: &mut S,
     out: &mut W,
 ) -> ShowEnd
-    ensures shown { IfSome (S.left src.old) (λ bytes. Shows view (W.held out.old) (W.held out.new) bytes result) }
-    ensures silent { Writes result ⊎ ((W.held out.new ≡ W.held out.old) × (W.faults out.new ≡ W.faults out.old)) }
+    ensures shown { IfSome (S.left src.old) (λ bytes. Shows T.shows view (W.held out.old) (W.held out.new) bytes result) }
+    ensures silent { writes result ≡ false → (W.held out.new ≡ W.held out.old) × (W.faults out.new ≡ W.faults out.old) }
     ensures read { result ≡ end.ReadFault → Rose (S.faults src.old) (S.faults src.new) }
     ensures written { result ≡ end.WriteFault → Rose (W.faults out.old) (W.faults out.new) }
     ensures complete { (Rose (S.faults src.old) (S.faults src.new) → ⊥)

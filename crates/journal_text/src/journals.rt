@@ -1,10 +1,11 @@
 //! Journals as texts.
-ghost use Rattle.std.specs.Prelude.{◌≡◌, ◌<◌, ◌≤◌, ◌^◌, ◌++◌, ◌∷◌, [], Ok, Err, length, OnOk, IfOk, IfSome, IsErrOf};
+ghost use Rattle.std.specs.Prelude.{◌≡◌, ◌<◌, ◌≤◌, ◌^◌, ◌++◌, ◌∷◌, [], Ok, Err, length, map, OnOk, IfOk, IfSome, IsErrOf};
 ghost use Rattle.number_text.specs.Lists.{between};
 ghost use Rattle.byte_io.specs.Causes.{Rose, TakesAtMost};
 ghost use Rattle.journal_text.specs.Journals.{head_for, entry_lines, lines_text, journal_text, in_line, line_adds, at_end, entries_from, no_entries, no_line, journal_of, ReadsAs, Loads, ReadsClean, HoldsBut};
 ghost use Rattle.journal_text.specs.{Heads.head_of, Fits.PartsFit, Fits.AllPartsFit, Fits.IsWritable, Lines.entry_text};
 ghost use Rattle.mtapi_values.specs.Attributes.{AreNodeSettings};
+ghost use Rattle.node_journals.specs.Shorts.{entry_of};
 
 use crate::faults::{JournalError, LineError, TextError};
 use crate::fits::settings_fit;
@@ -12,7 +13,7 @@ use crate::heads::{Head, head_of, push_head};
 use crate::lines::{entry_of, push_entry};
 use byte_io::{ReadAllError, Source, read_all};
 use mtapi_machine::Entry;
-use node_journals::{EntryList, Journal};
+use node_journals::{Journal, ShortEntry, ShortList};
 use number_text::cut_at;
 use std::alloc::{AllocError, Global};
 
@@ -32,24 +33,25 @@ fn push_line(
     Ok(out.push(b'\n')?)
 }
 
+// One entry in full at a time.
 fn push_entries(
     alloc: Global,
     out: &mut Vec<u8>,
     head: &Head,
-    entries: &[Entry],
+    shorts: &[ShortEntry],
     skipped: &[u64],
 ) -> Result<(), AllocError>
-    ensures text { OnOk result (out.new.items ≡ out.old.items ++ lines_text (entry_lines head.now entries.now skipped.now)) }
-    ensures parts { OnOk result (AllPartsFit entries.now skipped.now) }
+    ensures text { OnOk result (out.new.items ≡ out.old.items ++ lines_text (entry_lines head.now (map entry_of shorts.now) skipped.now)) }
+    ensures parts { OnOk result (AllPartsFit (map entry_of shorts.now) skipped.now) }
 {
-    let mut entries = entries;
+    let mut shorts = shorts;
     let mut skipped = skipped;
-    'entries: while let [entry, later @ ..] = entries {
+    'entries: while let [short, later @ ..] = shorts {
         let [number, fewer @ ..] = skipped else {
             return Ok(());
         };
-        push_line(alloc, out, head, entry, *number)?;
-        entries = later;
+        push_line(alloc, out, head, &short.full(), *number)?;
+        shorts = later;
         skipped = fewer;
     }
     Ok(())
@@ -72,7 +74,7 @@ fn text_of(alloc: Global, journal: &Journal) -> Result<Vec<u8>, AllocError>
     let mut out = Vec::new(alloc);
     push_head(alloc, &mut out, &head)?;
     out.push(b'\n')?;
-    push_entries(alloc, &mut out, &head, journal.entries.as_slice(), skipped)?;
+    push_entries(alloc, &mut out, &head, journal.entries.shorts(), skipped)?;
     Ok(out)
 }
 
@@ -101,9 +103,9 @@ fn add_line(
     alloc: Global,
     head: &Head,
     line: u64,
-    kept: EntryList,
+    kept: ShortList,
     text: &[u8],
-) -> Result<EntryList, TextError>
+) -> Result<ShortList, TextError>
     requires { head.now.callers ≤ 9 }
     ensures { ReadsAs result (line_adds head.now line kept text.now) }
 {
@@ -119,7 +121,7 @@ fn add_line(
 }
 
 /// The entries, where nothing stands behind the last line feed.
-fn at_end(kept: EntryList, text: &[u8]) -> Result<EntryList, TextError>
+fn at_end(kept: ShortList, text: &[u8]) -> Result<ShortList, TextError>
     ensures { ReadsAs result (at_end kept text.now) }
 {
     match text {
@@ -129,12 +131,12 @@ fn at_end(kept: EntryList, text: &[u8]) -> Result<EntryList, TextError>
 }
 
 /// The entries of the lines behind the head line.
-fn entries_from(alloc: Global, head: &Head, text: &[u8]) -> Result<EntryList, TextError>
+fn entries_from(alloc: Global, head: &Head, text: &[u8]) -> Result<ShortList, TextError>
     requires callers { head.now.callers ≤ 9 }
     requires short { length text.now < 2 ^ 62 }
     ensures { ReadsAs result (entries_from head.now 2 no_entries (between 10 text.now)) }
 {
-    let mut kept = EntryList::new(alloc);
+    let mut kept = ShortList::new(alloc);
     let mut line = 2u64;
     let mut left = text;
     'lines: loop {

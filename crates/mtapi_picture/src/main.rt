@@ -11,17 +11,21 @@ use std::process::ExitCode;
 struct Picture;
 
 impl RunText for Picture {
+    // Of what the text says nothing is proved.
+    ghost shows = { λ _ _. Unit {0} };
+
     fn text_of(alloc: Global, run: &KeptRun) -> Result<String, AllocError> {
         let journal = &run.journal;
         let workers = journal.settings.workers().min(16);
         let seats = workers + journal.callers.min(9);
         let skipped = journal.entries.skipped();
+        let entries = journal.entries.in_full(alloc)?;
         svg_of(
             alloc,
             run.workload.as_ref(),
             workers,
             seats,
-            journal.entries.as_slice(),
+            entries.as_slice(),
             skipped,
         )
     }

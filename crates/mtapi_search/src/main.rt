@@ -2,6 +2,9 @@
 //! the search, and the others are cancelled: by themselves they would look on for hours. Its result is taken while the node runs.
 #![tactic(auto)]
 
+mod cancels;
+
+use cancels::counted;
 use mtapi_values::{MtapiStatus, NodeAttr, TaskAttr, TaskHandle, Timeout};
 use sched_workers::Caller;
 use std::alloc::Global;
@@ -103,8 +106,9 @@ fn first_found<R: Threads + Wait + Sync>(rt: &R, alloc: Global) -> Result<Taken,
     Ok(worked.told?)
 }
 
-fn main(rt: HostRuntime) -> io::Result<()> {
-    match first_found(&rt, rt.alloc()) {
+// What came of the search.
+fn tell_found(rt: &HostRuntime, found: Result<Taken, Unfinished>) -> io::Result<()> {
+    match found {
         Ok(Taken { early: true, .. }) => println!(rt; "a search had a result before it ended"),
         Ok(
             Taken {
@@ -120,6 +124,14 @@ fn main(rt: HostRuntime) -> io::Result<()> {
             )
         }
         Ok(_) => println!(rt; "no divisor"),
+        Err(unfinished) => println!(rt; "{unfinished}"),
+    }
+}
+
+fn main(rt: HostRuntime) -> io::Result<()> {
+    tell_found(&rt, first_found(&rt, rt.alloc()))?;
+    match counted(&rt, rt.alloc()) {
+        Ok((refused, counts)) => println!(rt; "refused: {refused}, counted: {counts:?}"),
         Err(unfinished) => println!(rt; "{unfinished}"),
     }
 }

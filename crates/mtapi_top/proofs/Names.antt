@@ -23,7 +23,7 @@ pub use Rattle.mtapi_top.specs.declared.words.Asked.{Asked}
 pub use Rattle.mtapi_values.specs.declared.handles.Layout.{Layout}
 pub use Rattle.mtapi_values.specs.declared.handles.Layout.TheVariants.{Two}
 pub use Rattle.node_journals.specs.declared.entries.Journal.{Journal}
-pub use Rattle.workload_runners.specs.Runs.{IsRun, terms_for}
+pub use Rattle.workload_runners.specs.RunJournals.{IsRun, terms_for}
 pub use Rattle.settled_runs.specs.Plain.{action_in, actions_in, plain_report, queue_in}
 pub use Rattle.settled_runs.specs.Settled.{both, fault_in, has_new_id, has_room, makes_action, makes_group, makes_task, puts_into, serves}
 pub use Rattle.workload_file.specs.Formed.{MainFirst, WellFormed}

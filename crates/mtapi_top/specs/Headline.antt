@@ -3,7 +3,7 @@ use Rattle.std.specs.Prelude.{◌≡◌, ℕ, List, [], ◌++◌, ◌≤◌, len
 use Rattle.workload_file.specs.declared.workload.Workload.{Workload}
 use Rattle.workload_file.specs.Reading.{workload_of}
 use Rattle.node_journals.specs.declared.entries.Journal.{Journal}
-use Rattle.workload_runners.specs.Runs.{IsRun}
+use Rattle.workload_runners.specs.RunJournals.{IsRun}
 use Rattle.run_report.specs.Report.{report}
 use Rattle.run_report.specs.Summary.{summary}
 use Rattle.journal_text.specs.Journals.{journal_text}

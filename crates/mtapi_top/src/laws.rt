@@ -10,7 +10,7 @@ ghost use Rattle.journal_text.specs.Fits.{IsWritable};
 ghost use Rattle.journal_text.specs.Journals.{journal_of, journal_text};
 ghost use Rattle.journal_check.specs.Verdicts.{IsVerdict};
 ghost use Rattle.journal_check.specs.declared.verdicts.Verdict.TheVariants.{Yes};
-ghost use Rattle.workload_runners.specs.Runs.{IsRun};
+ghost use Rattle.workload_runners.specs.RunJournals.{IsRun};
 ghost use Rattle.journal_text.specs.Splits.{IsSplit, OfParts};
 ghost use Rattle.mtapi_top.specs.Check.{IsInput};
 ghost use Rattle.mtapi_top.specs.Settled.{GeneratedIsSettled};

@@ -1,7 +1,7 @@
 //! The run of a workload, and its output.
 ghost use Rattle.std.specs.Prelude.{◌≡◌, ◌≤◌, IfOk, IfErr, Some, false, length};
 ghost use Rattle.workload_file.specs.Formed.{WellFormed};
-ghost use Rattle.workload_runners.specs.Runs.{IsRun};
+ghost use Rattle.workload_runners.specs.RunJournals.{IsRun};
 ghost use Rattle.node_journals.specs.declared.entries.Journal.{Journal};
 ghost use Rattle.mtapi_top.specs.Headline.{output, IsReadAgain};
 ghost use Rattle.workload_runners.specs.Reasons.{HasReason};

@@ -50,7 +50,9 @@ struct Waiting {
 #[derive(Clone, Copy, Drop)]
 struct Counter {
     queue: Option<NodeObject>,
+    /// Whether the queue keeps its tasks while it is disabled.
     retains: bool,
+    enabled: bool,
     emptied: u64,
     tasks: u64,
 }
@@ -149,6 +151,7 @@ impl<'a> Course<'a> {
                 handle: queue,
             }),
             retains,
+            enabled: true,
             emptied: 0,
             tasks: 0,
         };
@@ -224,14 +227,10 @@ impl<'a> Course<'a> {
         Ok(())
     }
 
-    /// The tasks of a queue don't wait any more: it was deleted, or was disabled and doesn't retain them.
-    fn note_emptied(&mut self, time: u64, queue: u64, deleted: bool) -> Result<(), AllocError> {
-        let Some(place) = self.queues.get(&queue) else {
-            return Ok(());
-        };
-        let place = *place;
+    /// The tasks of a queue don't wait any more.
+    fn empty(&mut self, time: u64, place: usize) -> Result<(), AllocError> {
         match self.counters.get(place) {
-            Some(counter) if deleted || !counter.retains => {
+            Some(counter) => {
                 let counter = Counter {
                     tasks: 0,
                     emptied: counter.emptied.saturating_add(1),
@@ -239,8 +238,49 @@ impl<'a> Course<'a> {
                 };
                 self.count(time, place, counter)
             }
-            _ => Ok(()),
+            None => Ok(()),
         }
+    }
+
+    /// A queue was enabled or disabled: where it was disabled and doesn't retain its tasks, they don't wait any more.
+    fn note_enabled(&mut self, time: u64, queue: u64, enabled: bool) -> Result<(), AllocError> {
+        let Some(place) = self.queues.get(&queue) else {
+            return Ok(());
+        };
+        let place = *place;
+        let Some(counter) = self.counters.get(place) else {
+            return Ok(());
+        };
+        let counter = *counter;
+        if place < self.counters.len() {
+            self.counters[place] = Counter { enabled, ..counter };
+        }
+        if enabled || counter.retains {
+            return Ok(());
+        }
+        self.empty(time, place)
+    }
+
+    /// A queue was deleted.
+    fn note_deleted(&mut self, time: u64, queue: u64) -> Result<(), AllocError> {
+        match self.queues.get(&queue) {
+            Some(place) => {
+                let place = *place;
+                self.empty(time, place)
+            }
+            None => Ok(()),
+        }
+    }
+
+    /// The node ends: what waits in a disabled queue doesn't any more.
+    fn note_closed(&mut self, time: u64) -> Result<(), AllocError> {
+        for place in 0..self.counters.len() {
+            match self.counters.get(place) {
+                Some(counter) if !counter.enabled && counter.tasks > 0 => self.empty(time, place)?,
+                _ => {}
+            }
+        }
+        Ok(())
     }
 
     /// Follows the tasks that wait, at a call.
@@ -258,8 +298,10 @@ impl<'a> Course<'a> {
             (Op::TaskCancel { task }, Reply::Ok) => self.note_leave(time, task.0),
             (Op::TaskLook { task, .. }, Reply::Ended(_)) => self.note_leave(time, task.0),
             (Op::AnyLook { .. }, Reply::Given(task, _)) => self.note_leave(time, task.0),
-            (Op::QueueDisable { queue }, Reply::Ok) => self.note_emptied(time, queue.0, false),
-            (Op::QueueDelete { queue }, Reply::Ok) => self.note_emptied(time, queue.0, true),
+            (Op::QueueEnable { queue }, Reply::Ok) => self.note_enabled(time, queue.0, true),
+            (Op::QueueDisable { queue }, Reply::Ok) => self.note_enabled(time, queue.0, false),
+            (Op::QueueDelete { queue }, Reply::Ok) => self.note_deleted(time, queue.0),
+            (Op::Close, Reply::Ok) => self.note_closed(time),
             _ => Ok(()),
         }
     }
@@ -490,7 +532,8 @@ pub fn trace_of(
     load: Option<&Workload>,
     journal: &Journal,
 ) -> Result<String, AllocError> {
-    let entries = journal.entries.as_slice();
+    let all = journal.entries.in_full(alloc)?;
+    let entries = all.as_slice();
     let workers = journal.settings.workers().min(16);
     let seats = workers + journal.callers.min(9);
     let seat = Seat {
@@ -501,6 +544,7 @@ pub fn trace_of(
     let first = Counter {
         queue: None,
         retains: true,
+        enabled: true,
         emptied: 0,
         tasks: 0,
     };

@@ -45,9 +45,13 @@ fn add<R: Wait>(rt: &R, caller: &mut Caller, at: Shared, number: i64) -> Result<
     Ok(sum)
 }
 
-/// Adds the numbers from 1 up to the last, one after the other.
+/// Adds the numbers from 1 up to the last, one after the other, and then makes a semaphore with this id: the end of the node may not have begun,
+/// whoever has come back already.
 #[derive(Drop)]
-struct Adding(i64);
+struct Adding {
+    last: i64,
+    id: u32,
+}
 
 impl Client for Adding {
     // What it wrote last.
@@ -67,9 +71,10 @@ impl Client for Adding {
         caller.sem_unlock(rt, gate)?;
         caller.shmem_attach(rt, shared.1)?;
         let mut sum = 0;
-        for number in 1..=self.0 {
+        for number in 1..=self.last {
             sum = add(rt, caller, shared, number)?;
         }
+        caller.sem_create(rt, self.id, 1)?;
         Ok(sum)
     }
 }
@@ -97,8 +102,8 @@ impl ActionSource for Numbering {
 }
 
 fn main(rt: HostRuntime) -> io::Result<()> {
-    let others = vec![in rt.alloc(); Adding(100)]?;
-    let main = Adding(50);
+    let others = vec![in rt.alloc(); Adding { last: 1, id: 11 }]?;
+    let main = Adding { last: 200, id: 10 };
     let mut settings = NodeAttr::new();
     let _ = settings.set(NodeAttr::WORKERS, 3);
     let mut acts = Numbering;

@@ -19,7 +19,8 @@ pub use Rattle.mtapi_machine.specs.declared.terms.Terms.{Terms}
 pub use Rattle.mtapi_values.specs.Attributes.{NodeSettings}
 pub use Rattle.mtapi_values.specs.declared.handles.Layout.TheVariants.{One, Two}
 pub use Rattle.mtapi_values.specs.declared.handles.ObjectKind.{ObjectKind}
-pub use Rattle.node_core.specs.Logs.{AddsTo, HasTerms, IsJournal, KeepsOf, KeptAs, LoggedFrom, Logs, keeps, lost}
+pub use Rattle.node_core.specs.Keeping.{KeptAs}
+pub use Rattle.node_core.specs.Logs.{AddsTo, HasTerms, IsJournal, KeepsOf, LoggedFrom, Logs, keeps, lost}
 pub use Rattle.node_core.specs.Parts.{Agrees, AgreesIn, IsPast, lists_in, same_fields}
 pub use Rattle.node_core.specs.Stands.{Stands, history_of, seat_count, terms_of}
 pub use Rattle.node_core.specs.declared.node.Node.{Node}

@@ -1,4 +1,5 @@
 pub mod Stands
 pub mod Parts
+pub mod Keeping
 pub mod Logs
 pub mod Worked

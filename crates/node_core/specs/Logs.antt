@@ -4,7 +4,7 @@ use Rattle.std.specs.Bool.{MatchBool}
 use Rattle.std.specs.declared.alloc.AllocError.{AllocError}
 use Rattle.mtapi_machine.specs.declared.terms.Terms.{Terms}
 use Rattle.mtapi_machine.specs.State.{State, opening}
-use Rattle.mtapi_machine.specs.Legal.{NodeEntry, Legal, after}
+use Rattle.mtapi_machine.specs.Legal.{NodeEntry, Legal}
 use Rattle.mtapi_machine.specs.Kept.{kept, skipped, counted, counts_after, no_counts, is_pending}
 use Rattle.node_journals.specs.declared.entries.Journal.{Journal}
 use Rattle.node_core.specs.declared.journaled.Kept.{Kept}
@@ -76,16 +76,6 @@ pub record HasTerms (t : Terms) (j : Journal) : Type 0 where
   pub layout : j.layout ≡ t.layout
   pub settings : j.settings ≡ t.settings
   pub callers : j.callers ≡ t.callers
-
--- the journal of a list: the node's terms, and the kept entries with their numbers, which are legal, and lead to the same state
-pub record KeptAs (t : Terms) (j : Journal) (L : List NodeEntry) : Type 0 where
-  pub layout : j.layout ≡ t.layout
-  pub settings : j.settings ≡ t.settings
-  pub callers : j.callers ≡ t.callers
-  pub entries : j.entries.entries ≡ kept (opening t) L
-  pub numbers : j.entries.skipped ≡ skipped (opening t) no_counts L
-  pub legal : Legal t j.entries.entries
-  pub leads : after t j.entries.entries ≡ after t L
 
 -- the journal with what was kept; an error where it is lost
 abbrev pub IsJournal : Terms → Kept → Result (Option Journal) AllocError → Type 0

@@ -2,15 +2,17 @@
 
 ghost use Rattle.std.specs.Prelude.{◌≡◌, ◌<◌, ◌^◌, ◌+◌, ◌↔◌, [], ◌∷◌, ◌++◌, List, length, true, false, slice_index, Ok, None, IfOk, IfSome, IsErr};
 ghost use Rattle.std.specs.Bool.{OnTrue, OnFalse};
+ghost use Rattle.history.specs.Histories.{entry};
 ghost use Rattle.mtapi_machine.specs.Legal.{NodeEntry};
 ghost use Rattle.mtapi_machine.specs.Kept.{drops, is_pending};
 ghost use Rattle.node_core.specs.Stands.{Stands, terms_of};
-ghost use Rattle.node_core.specs.Logs.{AddsTo, Logs, StandsKept, HasTerms, KeptAs, IsJournal, keeps, journal_terms, is_lost};
+ghost use Rattle.node_core.specs.Keeping.{KeptAs};
+ghost use Rattle.node_core.specs.Logs.{AddsTo, Logs, StandsKept, HasTerms, IsJournal, keeps, journal_terms, is_lost};
 
 use crate::node::Node;
 use history::Object;
-use mtapi_machine::{Entry, Op, Reply, Terms};
-use node_journals::{EntryList, Journal};
+use mtapi_machine::{Op, Reply, Terms};
+use node_journals::{Journal, ShortList};
 use std::alloc::{AllocError, Global};
 
 // Whether an entry is left out, where the state stays if the reply is Pending.
@@ -37,17 +39,17 @@ enum Kept {
     Nothing,
     // Memory was short, and the entries are lost.
     Lost,
-    Entries(EntryList),
+    Entries(ShortList),
 }
 
 // Adds an entry and its number where a journal is kept. The entries are lost where memory was short.
-fn add_to(kept: &mut Kept, entry: Entry, number: u64)
-    ensures { AddsTo kept.old entry number kept.new }
+fn add_to(kept: &mut Kept, who: u32, op: &Op, reply: &Reply, number: u64)
+    ensures { AddsTo kept.old (entry who op.now reply.now) number kept.new }
 {
     let Kept::Entries(entries) = kept else {
         return;
     };
-    if entries.push(entry, number).is_err() {
+    if entries.push_call(who, op, reply, number).is_err() {
         *kept = Kept::Lost;
     }
 }
@@ -61,21 +63,21 @@ struct Log {
 
 impl Log {
     // Takes note of an entry.
-    fn add(&mut self, entry: Entry, alike: bool)
-        requires seat { entry.who < 25 }
-        requires room { slice_index self.old.counts entry.who < 2 ^ 63 }
-        ensures { Logs self.old (drops alike entry.reply) entry self.new }
+    fn add(&mut self, who: u32, op: &Op, reply: &Reply, alike: bool)
+        requires seat { who < 25 }
+        requires room { slice_index self.old.counts who < 2 ^ 63 }
+        ensures { Logs self.old (drops alike reply.now) (entry who op.now reply.now) self.new }
     {
-        let place = entry.who as usize;
+        let place = who as usize;
         let number = self.counts[place];
-        if drops(alike, &entry.reply) {
-            if is_pending(&entry.reply) {
+        if drops(alike, reply) {
+            if is_pending(reply) {
                 self.counts[place] = number + 1;
             }
             return;
         }
         self.counts[place] = 0;
-        add_to(&mut self.kept, entry, number);
+        add_to(&mut self.kept, who, op, reply, number);
     }
 }
 
@@ -133,14 +135,9 @@ impl Object for Journaled {
 
     fn apply(&mut self, who: u32, op: Op) -> Reply {
         let alike = self.node.pends_alike(who, &op);
-        let mut entry = Entry {
-            who,
-            op,
-            reply: Reply::Idle,
-        };
-        self.node.execute(who, &entry.op, &mut entry.reply);
-        let reply = entry.reply.again();
-        self.log.add(entry, alike);
+        let mut reply = Reply::Idle;
+        self.node.execute(who, &op, &mut reply);
+        self.log.add(who, &op, &reply, alike);
         reply
     }
 }
@@ -171,7 +168,7 @@ impl Journaled {
         Journaled {
             node,
             log: Log {
-                kept: Kept::Entries(EntryList::new(alloc)),
+                kept: Kept::Entries(ShortList::new(alloc)),
                 counts: [0; 25],
             },
         }

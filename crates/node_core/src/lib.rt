@@ -12,6 +12,6 @@ pub use history::Object;
 pub use journaled::{Journaled, JournaledTerms};
 pub use mtapi_machine::{Entry, Op, Phase, Reply, Terms};
 pub use node::Node;
-pub use node_journals::{EntryList, Journal};
+pub use node_journals::{EntryList, Journal, ShortList};
 pub use run_journals::{RunJournal, journal_of};
 pub use worked::worked_agreement;

@@ -6,7 +6,7 @@ use Rattle.mtapi_machine.specs.declared.terms.Terms.{Terms}
 use Rattle.mtapi_machine.specs.State.{terms_with}
 use Rattle.mtapi_machine.specs.Legal.{NodeEntry, Legal}
 use Rattle.node_journals.specs.declared.entries.Journal.{Journal}
-use Rattle.node_core.specs.Logs.{KeptAs}
+use Rattle.node_core.specs.Keeping.{KeptAs}
 use Rattle.node_core_tests.specs.Journals.{IsLegal}
 
 pub kept_legal : (t : Terms) (j : Journal) (L : List NodeEntry) → KeptAs t j L → IsLegal j

@@ -1,5 +1,7 @@
 //! All laws of one list.
 
+ghost use Rattle.mtapi_machine.specs.Legal.{Legal};
+ghost use Rattle.mtapi_machine.specs.State.{terms_with};
 ghost use Rattle.node_core_tests.specs.Journals.{IsLegal};
 
 use crate::tests::asking::{GROUP, QUEUE, SHMEM, TASK};
@@ -7,17 +9,31 @@ use history_law::{
     law_affinity, law_drop, law_end_after_close, law_end_has_its_cause, law_exclusion,
     law_group_order, law_kind, law_no_reuse, law_one_end, law_ordered, law_tally,
 };
-use mtapi_values::{GroupHandle, ObjectKind, QueueHandle, ShmemHandle, TaskHandle};
+use mtapi_machine::Entry;
+use mtapi_values::{
+    GroupHandle, Layout, NodeAttr, ObjectKind, QueueHandle, ShmemHandle, TaskHandle,
+};
 use node_core::Journal;
+use std::alloc::{AllocError, Global};
 
 /// Each law of the entries of a journal: of the first object of its kind, and of the entry at place 4.
-pub(crate) fn each_law(journal: &Journal)
+pub(crate) fn each_law(alloc: Global, journal: &Journal) -> Result<(), AllocError>
     requires { IsLegal journal.now }
 {
-    let layout = journal.layout;
-    let settings = &journal.settings;
-    let callers = journal.callers;
-    let entries = journal.entries.as_slice();
+    let list = journal.entries.in_full(alloc)?;
+    each_law_of(
+        journal.layout,
+        &journal.settings,
+        journal.callers,
+        list.as_slice(),
+    );
+    Ok(())
+}
+
+// The same of entries.
+fn each_law_of(layout: Layout, settings: &NodeAttr, callers: u32, entries: &[Entry])
+    requires { Legal (terms_with layout settings.now callers) entries.now }
+{
     let task = TaskHandle(TASK);
     law_one_end(layout, settings, callers, entries, task);
     law_end_after_close(layout, settings, callers, entries, task);

@@ -1,1 +1,4 @@
+pub mod Few
 pub mod Journals
+pub mod ShortCalls
+pub mod Shorts

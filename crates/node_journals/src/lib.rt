@@ -2,5 +2,13 @@
 #![tactic(auto)]
 
 pub mod entries;
+pub mod few;
+pub mod short_ops;
+pub mod short_replies;
+pub mod shorts;
 
-pub use entries::{EntryList, Journal};
+pub use entries::{EntryList, Journal, ShortList};
+pub use few::{FewArgs, FewFinished};
+pub use short_ops::ShortOp;
+pub use short_replies::{ShortReply, ShortTaskEnd};
+pub use shorts::ShortEntry;

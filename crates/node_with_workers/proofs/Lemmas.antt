@@ -1,23 +1,26 @@
--- The seats of a node from its start to its end, and what its clients' calls add.
-use Rattle.node_with_workers.proofs.Names.{nat_tests, ◌≡◌, ℕ, zero, suc, true, ◌+◌, ◌-◌, ◌≤◌, ◌<◌, ◌^◌, List, length, take, drop, [], ◌∷◌, ◌++◌, None, Result, Ok, Err, inl, inr, refl, sym, ◌∙◌, ap, subst, append_assoc, arith, vec_len, Vec, All, IfOk, IfErr, append-nil, length-append, same_from_push, take-append-drop, StartsWith, entry, entries_of, all_of, fresh_seat, fresh_seats, IsComplete, IsSeatOf, NodeSettings, MtapiStatus, Op, Initialize, Release, Close, Final, Reply, Terms, NodeEntry, Legal, Journal, JournaledTerms, journal_seats, KeptAs, Entrance, Seat, SameSeat, Answers, Waited, mtapi, done, Callers, Hands, GoesOn, MadeOne, MainOpens, CallerEnters, HasCalled, IfRefused, IsRefused, IsNotOpened, IsKeptOut, SaysOf, HasComeBack, MayCall, AreTold, IsJoinedBy, IsLostBy, HaveComeBack, AreRefused, AreReady, IsJoined, CameBack, terms_among, IsRun, IsRunOfAll, HaveCalled, Refuses, RefusesOne, HasAllSeats, HasEnded, IsMade}
-use Rattle.std.specs.declared.alloc.Global.{Global}
-use Rattle.std.specs.List.{AllZip}
-use Rattle.std.proofs.lemmas.List.Elements.{All-nil, All-cons, AllZip-push}
+-- What a caller's calls come to, and what a node's history says of its clients.
+use Rattle.node_with_workers.proofs.Names.{nat_tests, ◌≡◌, ℕ, zero, suc, true, ◌+◌, ◌-◌, ◌≤◌, ◌<◌, ◌^◌, List, length, take, drop, [], ◌∷◌, ◌++◌, None, Result, Ok, Err, inl, inr, refl, sym, ◌∙◌, ap, subst, append_assoc, arith, append-nil, take-append-drop, map, length-map, StartsWith, entry, entries_of, NodeSettings, MtapiStatus, Op, Initialize, Release, Close, Final, Reply, Terms, NodeEntry, Legal, Journal, JournaledTerms, KeptAs, Entrance, Seat, SameSeat, Answers, Waited, mtapi, done, GoesOn, MainOpens, CallerEnters, HasCalled, IfRefused, IsRefused, IsNotOpened, IsKeptOut, SaysOf, Opens, Enters, HasThreads, IfFailed, IfNoThread, IsUnbegun, IsUnopened, MadeNoCall, is_no_thread, AreRefused, terms_among, IsRun, IsRunOfAll, HaveCalled, HasEnded, Refuses, RefusesOne, IsNotEnded}
 use Rattle.history.proofs.Growth.{entries_append}
-use Rattle.turn_cell.proofs.Ends.{all_after}
-use Rattle.turn_cell.proofs.Complete.{numbers, complete_alike, complete_fresh, all_has, has_back, has_front, fresh-take, fresh-drop}
+use Rattle.turn_looks.proofs.OwnEntries.{entries-append}
+use Rattle.mtapi_machine.proofs.Lists.{Legal-prefix, Legal-rest}
+use Rattle.mtapi_machine.proofs.Answered.{answered}
+use Rattle.mtapi_machine.specs.Legal.{LegalFrom, after, after_from}
+use Rattle.mtapi_machine.specs.State.{opening, terms_with}
 use Rattle.mtapi_values.specs.declared.handles.Layout.TheVariants.{Two}
 use Rattle.mtapi_machine.specs.declared.replies.Reply.TheVariants as reply
-use Rattle.mtapi_machine.specs.State.{terms_with}
 use Rattle.sched_workers.specs.Answers.{Called as Asked}
-use Rattle.workload_runners.specs.Crews.{Cell, IsIdle, GaveUp}
-use Rattle.workload_runners.proofs.Starts.{new_at_rest}
-use Rattle.node_with_workers.specs.declared.client.Called.{Called}
-use Rattle.node_with_workers.specs.declared.callers.Company.{Company}
-use Rattle.node_with_workers.specs.declared.crew.ThreadResults.{ThreadResults}
+use Rattle.sched_workers.proofs.CallAnswers.{fits_by}
+use Rattle.workload_runners.specs.Replies.{says}
+use Rattle.workload_runners.proofs.OwnParts.{own_one}
+use Rattle.workload_runners.specs.Ran.{EachCalled, MainEnds, RanAs, StandsIn}
+use Rattle.workload_runners.specs.declared.crew.holder.Held.{Held}
+use Rattle.workload_runners.specs.declared.crew.run.RanNode.{RanNode}
+use Rattle.run_beside.specs.Pairs.{Counts}
+use Rattle.node_with_workers.specs.Ends.{IsShownAs, IsUnpacked, IsUnpackedTo}
+use Rattle.node_with_workers.specs.declared.failure.NodeFailure.{NodeFailure}
+use Rattle.node_with_workers.specs.declared.failure.NodeFailure.TheVariants as node
 use Rattle.node_with_workers.specs.declared.failure.Failure.{Failure}
 use Rattle.node_with_workers.specs.declared.failure.Failure.TheVariants as failure
-use Rattle.node_with_workers.specs.declared.jobs.Over.{Over}
 use Rattle.node_with_workers.specs.declared.run.AllDone.{AllDone}
 
 -- What a refusal says
@@ -30,12 +33,13 @@ refused_weaker P Q f e1 e2 = grind (arith, nat_tests)
 pub same_then : (a b c : Seat) → SameSeat a b → SameSeat b c → SameSeat a c
 same_then a b c x y = record { cell = y.cell ∙ x.cell; number = y.number ∙ x.number; terms = y.terms ∙ x.terms }
 
-gave_more : (old new : Seat) → GaveUp old new → StartsWith new.mine old.mine
-gave_more old new (inl c) = (entry old.number Close c.0 ∷ [], c.1.mine)
-gave_more old new (inr u) = ([], u.mine ∙ sym (append-nil old.mine))
+-- the seat made one more call, which was done
+pub record MadeOne (o : Op) (old new : Seat) : Type 0 where
+  pub same : SameSeat old new
+  pub mine : new.mine ≡ old.mine ++ entry old.number o reply.Ok ∷ []
 
-gave_same : (old new : Seat) → GaveUp old new → SameSeat old new
-gave_same old new e1 = grind (arith, nat_tests)
+asked_same : (o : Op) (old new : Seat) (x : Result (Unit {0}) MtapiStatus) → Asked mtapi done o old new x → SameSeat old new
+asked_same o old new x e1 = grind (arith, nat_tests)
 
 -- the seat's entries begin with those that it had
 goes_on : (old new : Seat) → GoesOn old new → StartsWith new.mine old.mine
@@ -49,11 +53,11 @@ made_one o old new x u e1 e2 = grind (arith, nat_tests)
 read_refusal : (r : Reply) (e : MtapiStatus) → Answers mtapi done r (Err e) → r ≡ reply.Mtapi e
 read_refusal r e e1 = grind (arith, nat_tests)
 
-is_refused : (o : Op) (old new : Seat) (x : Result (Unit {0}) MtapiStatus) (status : MtapiStatus) → Asked mtapi done o old new x → x ≡ Err status
+turn_refused : (o : Op) (old new : Seat) (x : Result (Unit {0}) MtapiStatus) (status : MtapiStatus) → Asked mtapi done o old new x → x ≡ Err status
     → new.shown < 2 ^ 62 → IsRefused old.terms.node old.number old.mine o status
-is_refused o old new (Ok v) status c is few = absurd (cc)
-is_refused o old new (Err e) status (inr c) is few = let shown = c.0.shown in absurd (omega arith)
-is_refused o old new (Err e) status (inl c) is few =
+turn_refused o old new (Ok v) status c is few = absurd (cc)
+turn_refused o old new (Err e) status (inr c) is few = let shown = c.0.shown in absurd (omega arith)
+turn_refused o old new (Err e) status (inl c) is few =
     let says : c.0 ≡ reply.Mtapi status = read_refusal c.0 e c.2 ∙ cc in
     let turn = c.1 in
     record {
@@ -73,12 +77,8 @@ pub says_of : (o : Op) (seat start tried given : Seat) (x : Result (Unit {0}) Mt
 says_of o seat start tried given x status (failure.Refused s) first called is back says =
     subst (IsRefused seat.terms.node seat.number seat.mine o) (sym says.0)
     (subst (λ (q : Seat). IsRefused q.terms.node q.number q.mine o status) first
-    (is_refused o start tried x status called is (subst (λ (q : Seat). q.shown < 2 ^ 62) back says.1)))
+    (turn_refused o start tried x status called is (subst (λ (q : Seat). q.shown < 2 ^ 62) back says.1)))
 says_of o seat start tried given x status _ first called is back says = tt
-
-pub made_last : (o : Op) (seat start new last : Seat) (x : Result (Unit {0}) MtapiStatus) (u : Unit {0}) → start ≡ seat → Asked mtapi done o start new x
-    → x ≡ Ok u → last ≡ new → MadeOne o seat last
-made_last o seat start new last x u e1 e2 e3 e4 = grind (arith, nat_tests)
 
 -- Main opens the node, and lets the others in
 
@@ -128,388 +128,282 @@ pub kept_out : (seat start tried given : Seat) (x : Result (Unit {0}) MtapiStatu
     → SaysOf given status f → IfRefused f (IsKeptOut seat.terms.node seat.number)
 kept_out seat start tried given x status f e1 e2 e3 e4 e5 e6 e7 e8 = grind (arith, nat_tests)
 
+pub waited_same : (seat start tried given : Seat) (x : Result (Unit {0}) MtapiStatus) → start ≡ seat → Waited mtapi done Entrance None start tried x
+    → given ≡ tried → SameSeat seat given
+waited_same seat start tried given x e1 e2 e3 = grind (arith, nat_tests)
+
 -- Whoever came in has its client call
 
-pub has_come : {C T : Type 0} (opens : ℕ → List NodeEntry → Type 0) (promise : C → Seat → Seat → T
+pub has_called : {C T : Type 0} (opens : ℕ → List NodeEntry → Type 0) (promise : C → Seat → Seat → T
     → Type 0) (client : C) (told : T) (seat before worked back : Seat)
     → SameSeat seat before × opens seat.number before.mine → SameSeat before worked → GoesOn before worked → promise client before worked told → back ≡ worked
-    → HasComeBack opens promise client seat (record { seat = back; told = told })
-has_come opens promise client told seat before worked back came same goes promised kept =
-    subst (λ (s : Seat). HasComeBack opens promise client seat (record { seat = s; told = told })) (sym kept) (record {
-      same = same_then seat before worked came.0 same;
-      called = record {
-        before = before;
-        number = came.0.number;
-        terms = ap (λ (t : JournaledTerms). t.node) came.0.terms;
-        opened = came.1;
-        after = worked;
-        same = same;
-        goes_on = goes_on before worked goes;
-        promised = promised;
-        begins = ([], sym (append-nil worked.mine));
-      };
-    })
-
-starts_then : (a b c : List NodeEntry) → StartsWith b a → StartsWith c b → StartsWith c a
-starts_then a b c x y = (x.0 ++ y.0, y.1 ∙ (ap (λ (l : List NodeEntry). l ++ y.0) x.1 ∙ append_assoc a x.0 y.0))
-
--- and begins the end of the node
-pub come_closed : {C T : Type 0} (opens : ℕ → List NodeEntry → Type 0) (promise : C → Seat → Seat → T
-    → Type 0) (client : C) (seat : Seat) (c : Called T) (back : Seat)
-    → HasComeBack opens promise client seat c → GaveUp c.seat back → HasComeBack opens promise client seat (record { seat = back; told = c.told })
-come_closed opens promise client seat c back h gave =
-    let k = h.called in
-    record {
-      same = same_then seat c.seat back h.same (gave_same c.seat back gave);
-      called = record {
-        before = k.before;
-        number = k.number;
-        terms = k.terms;
-        opened = k.opened;
-        after = k.after;
-        same = k.same;
-        goes_on = k.goes_on;
-        promised = k.promised;
-        begins = starts_then k.after.mine c.seat.mine back.mine k.begins (gave_more c.seat back gave);
-      };
-    }
-
--- The seats that a cell begins with
-
-fresh_more : (z : Cell) (k n j : ℕ) → j ≡ k + n
-    → (let l : List Seat = fresh_seats z.terms z.id k (suc n) in l) ≡ fresh_seats z.terms z.id k n ++ fresh_seat z.terms z.id j ∷ []
-fresh_more z k zero j e = let f : k ≡ j = omega arith in ap (λ (i : ℕ). fresh_seat z.terms z.id i ∷ []) f
-fresh_more z k (suc n) j e = ap (λ (l : List Seat). fresh_seat z.terms z.id k ∷ l) (fresh_more z (suc k) n j (omega arith))
-
-fresh_then : (z : Cell) (k n m j c : ℕ) → j ≡ k + n → c ≡ n + m
-    → (let l : List Seat = fresh_seats z.terms z.id k c in l) ≡ fresh_seats z.terms z.id k n ++ fresh_seats z.terms z.id j m
-fresh_then z k zero m j c e f =
-    let a : k ≡ j = omega arith in let b : c ≡ m = omega arith in
-    ap (λ (i : ℕ). fresh_seats z.terms z.id i c) a ∙ ap (λ (i : ℕ). fresh_seats z.terms z.id j i) b
-fresh_then z k (suc n) m j zero e f = absurd (omega arith)
-fresh_then z k (suc n) m j (suc c) e f = ap (λ (l : List Seat). fresh_seat z.terms z.id k ∷ l) (fresh_then z (suc k) n m j c (omega arith) (omega arith))
-
-fresh_length : (z : Cell) (k n : ℕ) → (let l : List Seat = fresh_seats z.terms z.id k n in length l) ≡ n
-fresh_length z k zero = refl
-fresh_length z k (suc n) = let r = fresh_length z (suc k) n in omega arith
-
-fresh_cells : (z : Cell) (k n : ℕ) → all_of (λ (s : Seat). s.cell ≡ z.id) (fresh_seats z.terms z.id k n)
-fresh_cells z k zero = tt
-fresh_cells z k (suc n) = (refl, fresh_cells z (suc k) n)
-
-fresh_idle : (z : Cell) (k n : ℕ) → k + n ≤ z.terms.node.settings.workers → All (IsIdle z) (fresh_seats z.terms z.id k n)
-fresh_idle z k zero l = All-nil (IsIdle z)
-fresh_idle z k (suc n) l =
-    All-cons (IsIdle z) (fresh_seat z.terms z.id k) (fresh_seats z.terms z.id (suc k) n)
-    (record { cell = refl; rest = new_at_rest (fresh_seat z.terms z.id k) (omega arith) refl })
-    (fresh_idle z (suc k) n (omega arith))
-
-begun : (z : Cell) (t : JournaledTerms) (u : Terms) (n : ℕ) (all : List Seat) → z.terms ≡ t → t ≡ record { node = u; keeps = true } → u.callers ≡ n + 1
-    → all ≡ fresh_seats t z.id 0 (journal_seats t) → all ≡ fresh_seats z.terms z.id 0 (suc z.terms.node.settings.workers + n)
-begun z t u n all e1 e2 e3 e4 = grind (arith, nat_tests)
-
-pub enough : (z : Cell) (t : JournaledTerms) (u : Terms) (n : ℕ) (all : List Seat) → z.terms ≡ t → t ≡ record { node = u; keeps = true } → u.callers ≡ n + 1
-    → all ≡ fresh_seats t z.id 0 (journal_seats t) → n < length all
-enough z t u n all e f many is =
-    let count = ap (λ (xs : List Seat). length xs) (begun z t u n all e f many is) ∙ fresh_length z 0 (suc z.terms.node.settings.workers + n) in
-    omega arith
-
-pub dealt : (z : Cell) (t : JournaledTerms) (u : Terms) (settings : NodeSettings) (k n at : ℕ) (all workers : List Seat) (main : Seat) (others : List Seat)
-    → z.terms ≡ t → t ≡ record { node = u; keeps = true } → u ≡ terms_with Two settings k → k ≡ n + 1
-    → all ≡ fresh_seats t z.id 0 (journal_seats t) → at ≡ length all - n → take at all ≡ workers ++ main ∷ [] → others ≡ drop at all
-    → IsMade settings n z workers main others
-dealt z t u settings k n at all workers main others e f with_all many is off front back =
-    let callers : u.callers ≡ n + 1 = ap (λ (v : Terms). v.callers) with_all ∙ many in
-    let node : u ≡ terms_among settings n = with_all ∙ ap (λ (j : ℕ). terms_with Two settings j) many in
-    let w = z.terms.node.settings.workers in
-    let whole : all ≡ fresh_seats z.terms z.id 0 (suc w + n) = begun z t u n all e f callers is in
-    let long : length all ≡ suc w + n = ap (λ (xs : List Seat). length xs) whole ∙ fresh_length z 0 (suc w + n) in
-    let here : at ≡ suc w = omega arith in
-    let first : take at all ≡ fresh_seats z.terms z.id 0 (suc w) =
-    ap (λ (k : ℕ). take k all) here ∙ (ap (λ (xs : List Seat). take (suc w) xs) whole ∙ fresh-take _ _ _ z.terms z.id 0 (suc w) (suc w + n) (omega arith)) in
-    let both = same_from_push workers (fresh_seats z.terms z.id 0 w) main (fresh_seat z.terms z.id w) (sym front
-    ∙ (first ∙ fresh_more z 0 w w (omega arith))) in
-    let from : 0 + suc w ≡ w + 1 = omega arith in
-    let left : suc w + n - suc w ≡ n = omega arith in
-    record {
-      terms = e ∙ (f ∙ (λ i. record { node = node i; keeps = true }));
-      workers_are = both.0;
-      main_is = both.1;
-      others_are =
-          back ∙ (ap (λ (k : ℕ). drop k all) here
-          ∙ (ap (λ (xs : List Seat). drop (suc w) xs) whole ∙ (fresh-drop _ _ _ z.terms z.id 0 (suc w) (suc w + n) (omega arith)
-          ∙ (ap (λ (k : ℕ). fresh_seats z.terms z.id k (suc w + n - suc w)) from ∙ ap (λ (k : ℕ). fresh_seats z.terms z.id (w + 1) k) left))));
-    }
-
--- all that the workers and the callers are handed is of such a cell
-abbrev pub Made : {C D U A : Type 0} → NodeSettings → Cell → Hands C D U A → Type 0
-Made settings z h = IsMade settings (length h.callers.others.items) z h.workers.items h.callers.main h.callers.seats.items
-
-pub are_ready : {C D U A : Type 0} (settings : NodeSettings) (z : Cell) (h : Hands C D U A) → Made settings z h → h.callers.told.items ≡ [] → AreReady z h
-are_ready settings z h d none = record {
-  workers = subst (All (IsIdle z)) (sym d.workers_are) (fresh_idle z 0 z.terms.node.settings.workers (omega arith));
-  callers = record { main = d.main_is; seats = d.others_are; told = none };
+    → HasCalled opens promise client seat.terms.node seat.number told back.mine
+has_called opens promise client told seat before worked back came same goes promised kept = record {
+  before = before;
+  number = came.0.number;
+  terms = ap (λ (t : JournaledTerms). t.node) came.0.terms;
+  opened = came.1;
+  after = worked;
+  same = same;
+  goes_on = goes_on before worked goes;
+  promised = promised;
+  all = ap (λ (s : Seat). s.mine) kept;
 }
 
--- The further callers' threads
+pub same_back : (seat before worked back : Seat) → SameSeat seat before → SameSeat before worked → back ≡ worked → SameSeat seat back
+same_back seat before worked back e1 e2 e3 = grind (arith, nat_tests)
 
--- a client and a seat were taken from the ends of the lists
-pub record TakenOut {C D U : Type 0} (z : Cell) (h : Callers C D U) (s : Seat) : Type 0 where
-  pub may : MayCall z h
-  pub seat_is : s ≡ fresh_seat z.terms z.id (z.terms.node.settings.workers + 1 + length h.others.items)
+-- Main's seat comes back where the node wasn't opened
 
-pub taken_out : {C D U : Type 0} (z : Cell) (h : Callers C D U) (seats : Vec Seat Global) (others : Vec D Global) (s : Seat) (d : D) → MayCall z h
-    → h.others.items ≡ others.items ++ d ∷ [] → h.seats.items ≡ seats.items ++ s ∷ [] → TakenOut z (record h { seats = seats; others = others }) s
-taken_out {D} z h seats others s d m e f =
-    let w1 = z.terms.node.settings.workers + 1 in
-    let n = length others.items in
-    let long : length h.others.items ≡ suc n = omega (arith, ap (λ (l : List D). length l) e, length-append others.items (d ∷ [])) in
-    let all : h.seats.items ≡ fresh_seats z.terms z.id w1 n ++ fresh_seat z.terms z.id (w1 + n) ∷ [] =
-    m.seats ∙ (ap (λ (k : ℕ). fresh_seats z.terms z.id w1 k) long ∙ fresh_more z w1 n (w1 + n) refl) in
-    let both = same_from_push seats.items (fresh_seats z.terms z.id w1 n) s (fresh_seat z.terms z.id (w1 + n)) (sym f ∙ all) in
-    record { may = record { main = m.main; seats = both.0; told = m.told }; seat_is = both.1 }
+pub first_refused : {C T : Type 0} (promise : C → Seat → Seat → T → Type 0) (client : C) (seat start tried given : Seat) (x : Result (Unit {0}) MtapiStatus)
+    (status : MtapiStatus) (h : Held (Result T Failure)) → seat.mine ≡ [] → start ≡ seat → Asked mtapi done Initialize start tried x → x ≡ Err status
+    → given ≡ tried → IsUnopened given status h → Opens promise client seat.terms.node seat.number h.told h.seat.mine
+first_refused {T = T} promise client seat start tried given x status h new first called is back u =
+    subst (λ (r : Result T Failure). Opens promise client seat.terms.node seat.number r h.seat.mine) (sym u.told)
+    (u.started, not_opened seat start tried given x status u.failure new first called is back u.says)
 
--- what is owed of the seat of a further caller
-pub record IsNewIn (z : Cell) (s : Seat) : Type 0 where
-  pub cell : s.cell ≡ z.id
-  pub number : s.terms.node.settings.workers ≤ s.number
-  pub new : s.mine ≡ []
+pub second_refused : {C T : Type 0} (promise : C → Seat → Seat → T → Type 0) (client : C) (seat start one two given : Seat)
+    (x y : Result (Unit {0}) MtapiStatus) (v : Unit {0}) (status : MtapiStatus) (h : Held (Result T Failure)) → seat.mine ≡ [] → start ≡ seat
+    → Asked mtapi done Initialize start one x → x ≡ Ok v → Asked mtapi done Release one two y → y ≡ Err status → given ≡ two → IsUnopened given status h
+    → Opens promise client seat.terms.node seat.number h.told h.seat.mine
+second_refused {T = T} promise client seat start one two given x y v status h new first a ai b bi back u =
+    subst (λ (r : Result T Failure). Opens promise client seat.terms.node seat.number r h.seat.mine) (sym u.told)
+    (u.started, not_released seat start one two given x y v status u.failure new first a ai b bi back u.says)
 
-pub new_in : {C D U : Type 0} (z : Cell) (h : Callers C D U) (s : Seat) → TakenOut z h s → IsNewIn z s
-new_in z h s e1 = grind (arith, nat_tests)
+pub first_same : {T : Type 0} (seat start tried given : Seat) (x : Result (Unit {0}) MtapiStatus) (status : MtapiStatus) (h : Held (Result T Failure))
+    → start ≡ seat → Asked mtapi done Initialize start tried x → given ≡ tried → IsUnopened given status h → SameSeat seat h.seat
+first_same seat start tried given x status h first called back u =
+    same_then seat tried h.seat (subst (λ (s : Seat). SameSeat s tried) first (asked_same Initialize start tried x called))
+    (subst (λ (s : Seat). SameSeat s h.seat) back u.same)
 
-told_more : {D U : Type 0} (further : D → Seat → Seat → U → Type 0) (z : Cell) (who j : ℕ) (ds : List D) (bs : List Seat) (us : List U) (d : D) (c : Called U)
-    → j ≡ who + length ds → AreTold further z who ds bs us → HasComeBack CallerEnters further d (fresh_seat z.terms z.id j) c
-    → AreTold further z who (ds ++ d ∷ []) (bs ++ c.seat ∷ []) (us ++ c.told ∷ [])
-told_more {U = U} further z who j [] bs us d c e a h =
-    let here : j ≡ who = omega arith in
-    let first = subst (λ (k : ℕ). HasComeBack CallerEnters further d (fresh_seat z.terms z.id k) c) here h in
-    (c.seat, [], c.told, [], ap (λ (l : List Seat). l ++ c.seat ∷ []) a.0, ap (λ (l : List U). l ++ c.told ∷ []) a.1, first, (refl, refl))
-told_more {U = U} further z who j (x ∷ ds) bs us d c e a h =
-    let seats = ap (λ (l : List Seat). l ++ c.seat ∷ []) a.4 in
-    let told = ap (λ (l : List U). l ++ c.told ∷ []) a.5 in
-    let rest = told_more further z (suc who) j ds a.1 a.3 d c (omega arith) a.7 h in
-    (a.0, a.1 ++ c.seat ∷ [], a.2, a.3 ++ c.told ∷ [], seats, told, a.6, rest)
+pub second_same : {T : Type 0} (seat start one two given : Seat) (x y : Result (Unit {0}) MtapiStatus) (status : MtapiStatus) (h : Held (Result T Failure))
+    → start ≡ seat → Asked mtapi done Initialize start one x → Asked mtapi done Release one two y → given ≡ two → IsUnopened given status h
+    → SameSeat seat h.seat
+second_same seat start one two given x y status h first a b back u =
+    same_then seat two h.seat (same_then seat one two (subst (λ (s : Seat). SameSeat s one) first (asked_same Initialize start one x a))
+    (asked_same Release one two y b))
+    (subst (λ (s : Seat). SameSeat s h.seat) back u.same)
 
--- one more of the further callers came back
-pub one_more_back : {C D T U : Type 0} (promise : C → Seat → Seat → T → Type 0) (further : D → Seat → Seat → U → Type 0) (z : Cell) (h : Callers C D U)
-    (seats : Vec Seat Global) (others : Vec D Global) (s : Seat) (d : D) (c c' : Company T U) (back : Result (Called U) Failure)
-    → h.others.items ≡ others.items ++ d ∷ [] → TakenOut z (record h { seats = seats; others = others }) s
-    → IfOk back (HasComeBack CallerEnters further d s) → IsJoinedBy c back c'
-    → HaveComeBack promise further z (record h { seats = seats; others = others }) c → HaveComeBack promise further z h c'
-one_more_back promise further z h seats others s d c c' (Err f) items t came joined b = absurd joined
-one_more_back {C} {D} {T} {U} promise further z h seats others s d c c' (Ok k) items t came joined b =
-    let w1 = z.terms.node.settings.workers + 1 in
-    record {
-      main = subst (λ (x : Called T). HasComeBack MainOpens promise h.client h.main x) (sym joined.main) b.main;
-      others =
-          subst (λ (ds : List D). AreTold further z w1 ds c'.seats.items c'.told.items) (sym items)
-          (subst (λ (bs : List Seat). AreTold further z w1 (others.items ++ d ∷ []) bs c'.told.items) (sym joined.seats)
-          (subst (λ (us : List U). AreTold further z w1 (others.items ++ d ∷ []) (c.seats.items ++ k.seat ∷ []) us) (sym joined.told)
-          (told_more further z w1 (w1 + length others.items) others.items c.seats.items c.told.items d k refl b.others
-          (subst (λ (x : Seat). HasComeBack CallerEnters further d x k) t.seat_is came))));
+-- What the history says of main
+
+-- all calls of main in front of its end
+main_front : (w : ℕ) (H own : List NodeEntry) (a b : Reply) (x : MainEnds w H own a b)
+    → entries_of w (x.before ++ entry w Close a ∷ x.behind) ≡ own ++ entry w Close a ∷ []
+main_front w H own a b x =
+    let tail : entries_of w (entry w Close a ∷ x.behind) ≡ entry w Close a ∷ [] =
+    entries-append w (entry w Close a ∷ []) x.behind ∙ (λ i. own_one w (entry w Close a) refl i ++ x.main_behind i) in
+    entries-append w x.before (entry w Close a ∷ x.behind) ∙ (λ i. x.main_before i ++ tail i)
+
+parted : (w : ℕ) (H own : List NodeEntry) (a b : Reply) (x : MainEnds w H own a b)
+    → H ≡ (x.before ++ entry w Close a ∷ x.behind) ++ entry w Final b ∷ x.rest
+parted w H own a b x = x.is ∙ sym (append_assoc x.before (entry w Close a ∷ x.behind) (entry w Final b ∷ x.rest))
+
+-- and all of them
+pub main_all : (w : ℕ) (H own : List NodeEntry) (a b : Reply) (x : MainEnds w H own a b)
+    → entries_of w H ≡ own ++ entry w Close a ∷ entry w Final b ∷ []
+main_all w H own a b x =
+    let S = x.before ++ entry w Close a ∷ x.behind in
+    let fin : entries_of w (entry w Final b ∷ x.rest) ≡ entry w Final b ∷ [] =
+    entries-append w (entry w Final b ∷ []) x.rest ∙ (λ i. own_one w (entry w Final b) refl i ++ x.main_rest i) in
+    ap (λ (l : List NodeEntry). entries_of w l) (parted w H own a b x)
+    ∙ (entries-append w S (entry w Final b ∷ x.rest) ∙ ((λ i. main_front w H own a b x i ++ fin i)
+    ∙ append_assoc own (entry w Close a ∷ []) (entry w Final b ∷ [])))
+
+-- main's last call is answered with Ok or a status
+last_says : (t : Terms) (S R : List NodeEntry) (w : ℕ) (last : Reply) → Legal t (S ++ entry w Final last ∷ R) → says mtapi done last ≡ true
+unfolding LegalFrom after_from
+last_says t S R w last l =
+    let n = Legal-rest (opening t) S (entry w Final last ∷ R) l.from in
+    fits_by (after t S) w Final last _ (answered (after t S) w Final last n.0.allowed)
+
+-- What it says of the further callers
+
+module _ {D B U : Type 0} (of : B → D) (Q : D → Seat → Seat → U → Type 0) where
+  -- what the holder of a further caller's seat promises
+  abbrev pub Held_as : B → Terms → ℕ → Result U Failure → List NodeEntry → Type 0
+  Held_as b t who r es = Enters Q (of b) t who r es
+
+  each_told : (t : Terms) (H front behind : List NodeEntry) (who : ℕ) (bs : List B) (us : List U)
+      → EachCalled Held_as t H front behind who bs (map Ok us) → HaveCalled Q t H who (map of bs) us
+  each_told t H front behind who [] [] e = tt
+  each_told t H front behind who [] (u ∷ us) e = absurd e
+  each_told t H front behind who (b ∷ bs) [] e = absurd e
+  each_told t H front behind who (b ∷ bs) (u ∷ us) e = (e.0.0, each_told t H front behind (suc who) bs us e.1)
+
+  -- one of them wasn't let in
+  record IsOut (t : Terms) (who count : ℕ) (f : Failure) : Type 0 where
+    place : ℕ
+    few : place < count
+    started : HasThreads f
+    why : IfRefused f (IsKeptOut t (who + place))
+
+  out_at : (t : Terms) (H front behind : List NodeEntry) (who : ℕ) (bs : List B) (us : List U) (rest : List (Result U Failure)) (f : Failure)
+      → EachCalled Held_as t H front behind who bs (map Ok us ++ Err f ∷ rest) → IsOut t who (length bs) f
+  out_at t H front behind who [] [] rest f e = absurd e
+  out_at t H front behind who [] (u ∷ us) rest f e = absurd e
+  out_at t H front behind who (b ∷ bs) [] rest f e =
+      let here : who ≡ who + 0 = omega arith in
+      record { place = 0; few = omega arith; started = e.0.0.0; why = subst (λ (n : ℕ). IfRefused f (IsKeptOut t n)) here e.0.0.1 }
+  out_at t H front behind who (b ∷ bs) (u ∷ us) rest f e =
+      let x = out_at t H front behind (suc who) bs us rest f e.1 in
+      let there : suc who + x.place ≡ who + suc x.place = omega arith in
+      let low = x.few in
+      record { place = suc x.place; few = omega arith; started = x.started; why = subst (λ (n : ℕ). IfRefused f (IsKeptOut t n)) there x.why }
+
+  each_stands : (t : Terms) (H front behind : List NodeEntry) (who : ℕ) (bs : List B) (rs : List (Result U Failure))
+      → EachCalled Held_as t H front behind who bs rs → (i : ℕ) → i < length bs → StandsIn (who + i) front behind (entries_of (who + i) H)
+  each_stands t H front behind who [] rs e i l = absurd (omega arith)
+  each_stands t H front behind who (b ∷ bs) [] e i l = absurd e
+  each_stands t H front behind who (b ∷ bs) (r ∷ rs) e zero l =
+      let here : who ≡ who + 0 = omega arith in subst (λ (k : ℕ). StandsIn k front behind (entries_of k H)) here e.0.1
+  each_stands t H front behind who (b ∷ bs) (r ∷ rs) e (suc i) l =
+      let there : suc who + i ≡ who + suc i = omega arith in
+      subst (λ (k : ℕ). StandsIn k front behind (entries_of k H)) there (each_stands t H front behind (suc who) bs rs e.1 i (omega arith))
+
+-- What a node that ended gives, from what its callers were told
+
+module _ {C D B E T U A : Type 0} (main_of : E → C) (of : B → D) (P : C → Seat → Seat → T → Type 0) (Q : D → Seat → Seat → U → Type 0) (m : E) (bs : List B)
+    (settings : NodeSettings) (r : RanNode (Result T Failure) (Result U Failure) A) where
+  abbrev MainAs : E → Terms → ℕ → Result T Failure → List NodeEntry → Type 0
+  MainAs o t who told es = Opens P (main_of o) t who told es
+
+  module _ (t : Terms) (x : RanAs MainAs (Held_as of Q) m bs t r) where
+    abbrev w : ℕ
+    w = t.settings.workers
+
+    pub says_last : says mtapi done r.last ≡ true
+    says_last =
+        last_says t (x.ends.before ++ entry w Close x.close ∷ x.ends.behind) x.ends.rest w r.last
+        (subst (Legal t) (parted w x.history x.own x.close r.last x.ends) x.legal)
+
+    ends_so : t.callers ≡ length bs + 1 → HasEnded t x.history x.own r.last
+    ends_so count = record {
+      close = x.close;
+      main = x.ends;
+      further = λ k low high.
+          let at : (w + 1) + (k - (w + 1)) ≡ k = omega arith in
+          subst (λ (n : ℕ). StandsIn n x.ends.before (entry w Close x.close ∷ (x.ends.behind ++ entry w Final r.last ∷ x.ends.rest)) (entries_of n x.history)) at
+          (each_stands of Q t x.history x.ends.before _ (w + 1) bs r.others.items x.called (k - (w + 1)) (omega arith));
+      worked = x.worked;
     }
 
--- why one wasn't let in, said of the cell
-pub lost_one : {C D U V : Type 0} (z : Cell) (h : Callers C D U) (seats : Vec Seat Global) (others : Vec D Global) (s : Seat) (d : D)
-    (back : Result (Called V) Failure) (f : Failure) → h.others.items ≡ others.items ++ d ∷ []
-    → TakenOut z (record h { seats = seats; others = others }) s → IfErr back (λ e. IfRefused e (IsKeptOut s.terms.node s.number)) → IsLostBy back f
-    → IfRefused f (AreRefused z.terms.node (length h.others.items))
-lost_one z h seats others s d (Ok k) f items t out lost = subst (λ (g : Failure). IfRefused g (AreRefused z.terms.node (length h.others.items))) (sym lost) tt
-lost_one {D} z h seats others s d (Err g) f items t out lost =
-    let more : length h.others.items ≡ suc (length others.items) = omega (arith, ap (λ (l : List D). length l) items, length-append others.items (d ∷ [])) in
-    subst (λ (e : Failure). IfRefused e (AreRefused z.terms.node (length h.others.items))) (sym lost)
-    (refused_weaker (IsKeptOut s.terms.node s.number) (AreRefused z.terms.node (length h.others.items)) g
-    (λ status k. inr (length others.items, omega arith, subst (λ (q : Seat). IsKeptOut q.terms.node q.number status) t.seat_is k)) out)
+  pub run_is : (n : ℕ) (x : RanAs MainAs (Held_as of Q) m bs (terms_among settings n) r) (ds : List D) (d : AllDone T U A) → n ≡ length ds → map of bs ≡ ds
+      → IsUnpacked r d → IsRunOfAll P Q (main_of m) ds settings d.told d.others.items d.journal
+  run_is n x ds d count are u =
+      let long : length bs ≡ length ds = sym (length-map bs of) ∙ ap (λ (l : List D). length l) are in
+      let t = terms_among settings n in
+      let ended : HasEnded t x.history x.own reply.Ok = subst (λ (y : Reply). HasEnded t x.history x.own y) u.last (ends_so t x (omega arith)) in
+      let each = each_told of Q t x.history x.ends.before _ (settings.workers + 1) bs d.others.items
+      (subst (λ (rs : List (Result U Failure)). EachCalled (Held_as of Q) t x.history x.ends.before
+      (entry settings.workers Close x.close ∷ (x.ends.behind ++ entry settings.workers Final r.last ∷ x.ends.rest)) (settings.workers + 1) bs rs)
+      (sym u.others) x.called) in
+      let main = subst (λ (y : Result T Failure). Opens P (main_of m) t settings.workers y x.own) u.told x.main in
+      record {
+        history = x.history;
+        legal = subst (λ (k : ℕ). Legal (terms_among settings k) x.history) count x.legal;
+        kept = subst (λ (k : ℕ). KeptAs (terms_among settings k) d.journal x.history) count
+            (subst (λ (j : Journal). KeptAs t j x.history) (sym u.journal) x.kept);
+        mine = x.own;
+        called = subst (λ (k : ℕ). HasCalled MainOpens P (main_of m) (terms_among settings k) settings.workers d.told x.own) count main;
+        ended = subst (λ (k : ℕ). HasEnded (terms_among settings k) x.history x.own reply.Ok) count ended;
+        others_called = subst (λ (l : List D). HaveCalled Q (terms_among settings (length ds)) x.history (settings.workers + 1) l d.others.items) are
+            (subst (λ (k : ℕ). HaveCalled Q (terms_among settings k) x.history (settings.workers + 1) (map of bs) d.others.items) count each);
+      }
 
--- all callers came back, and main began the end
-pub all_closed : {C D T U : Type 0} (promise : C → Seat → Seat → T → Type 0) (further : D → Seat → Seat → U → Type 0) (z : Cell) (h : Callers C D U)
-    (c : Company T U) (back : Seat) → HaveComeBack promise further z h c → GaveUp c.main.seat back
-    → HaveComeBack promise further z h (record c { main = record { seat = back; told = c.main.told } })
-all_closed promise further z h c back b gave = record { main = come_closed MainOpens promise h.client h.main c.main back b.main gave; others = b.others }
+  -- main was refused the end
+  unended_so : (n : ℕ) (x : RanAs MainAs (Held_as of Q) m bs (terms_among settings n) r) (told : T) (status : MtapiStatus) → r.told ≡ Ok told
+      → r.last ≡ reply.Mtapi status → IsNotEnded P (main_of m) (terms_among settings n) status
+  unended_so n x told status e l =
+      let t = terms_among settings n in
+      let v = settings.workers in
+      let S = x.ends.before ++ entry v Close x.close ∷ x.ends.behind in
+      let whole : x.history ≡ (S ++ entry v Final r.last ∷ []) ++ x.ends.rest =
+      parted v x.history x.own x.close r.last x.ends ∙ sym (append_assoc S (entry v Final r.last ∷ []) x.ends.rest) in
+      let legal : Legal t (S ++ entry v Final r.last ∷ []) =
+      Legal-prefix t (S ++ entry v Final r.last ∷ []) x.ends.rest (subst (Legal t) whole x.legal) in (
+        told,
+        x.own,
+        subst (λ (y : Result T Failure). Opens P (main_of m) t v y x.own) e x.main,
+        x.close,
+        record {
+          history = S;
+          own = main_front v x.history x.own x.close r.last x.ends;
+          legal = subst (λ (y : Reply). Legal t (S ++ entry v Final y ∷ [])) l legal;
+        },
+      )
 
--- The workers' threads
+  -- why it gave nothing back
+  pub causes_are : (n : ℕ) (x : RanAs MainAs (Held_as of Q) m bs (terms_among settings n) r) (f : Failure) → n ≡ length bs → IsUnpackedTo r f
+      → HasThreads f × IfRefused f (RefusesOne P (main_of m) n settings)
+  causes_are n x f count (inl e) =
+      let main = subst (λ (y : Result T Failure). Opens P (main_of m) (terms_among settings n) settings.workers y x.own) e x.main in (
+        main.0,
+        refused_weaker (IsNotOpened (terms_among settings n) settings.workers) (RefusesOne P (main_of m) n settings) f (λ s y. inl (inl y)) main.1,
+      )
+  causes_are n x f count (inr (inl (inl e))) =
+      subst (λ (g : Failure). HasThreads g × IfRefused g (RefusesOne P (main_of m) n settings)) (sym e) (tt, tt)
+  causes_are n x f count (inr (inl (inr l))) =
+      let k = out_at of Q (terms_among settings n) x.history x.ends.before _ (settings.workers + 1) bs l.told l.rest f
+      (subst (λ (rs : List (Result U Failure)). EachCalled (Held_as of Q) (terms_among settings n) x.history x.ends.before
+      (entry settings.workers Close x.close ∷ (x.ends.behind ++ entry settings.workers Final r.last ∷ x.ends.rest)) (settings.workers + 1) bs rs) l.all x.called) in
+      let low = k.few in (
+        k.started,
+        refused_weaker (IsKeptOut (terms_among settings n) (settings.workers + 1 + k.place)) (RefusesOne P (main_of m) n settings) f
+            (λ s y. inl (inr (k.place, omega arith, y))) k.why,
+      )
+  causes_are n x f count (inr (inr l)) =
+      subst (λ (g : Failure). HasThreads g × IfRefused g (RefusesOne P (main_of m) n settings)) (sym l.refusal.is)
+      (tt, inr (unended_so n x l.value l.refusal.status l.told l.refusal.answered))
 
-pub came_joined : {C D T U A : Type 0} (promise : C → Seat → Seat → T → Type 0) (further : D → Seat → Seat → U → Type 0) (z : Cell) (h : Hands C D U A)
-    (workers : Vec Seat Global) (s : Seat) (c c' : ThreadResults T U A) (over : Over A)
-    → h.workers.items ≡ workers.items ++ s ∷ [] → vec_len workers + 1 ≡ vec_len h.workers
-    → SameSeat s over.seat → IsJoined c over c' → CameBack promise further z (record h { workers = workers }) c → CameBack promise further z h c'
-came_joined {C} {D} {T} {U} {A} promise further z h workers s c c' over items len same j b = record {
-  workers =
-      subst (λ (xs : List Seat). AllZip SameSeat xs c'.workers.items) (sym items)
-      (subst (AllZip SameSeat (workers.items ++ s ∷ [])) (sym j.workers) (AllZip-push SameSeat workers.items c.workers.items s over.seat b.workers same));
-  sets = (let n = j.sets in let m = b.sets in omega arith);
-  company = subst (λ (x : Company T U). HaveComeBack promise further z h.callers x) (sym j.company) b.company;
-}
+  -- the same of a node that was made with such terms
+  module _ (t : Terms) (k n : ℕ) (made : t ≡ terms_with Two settings k) (all : k ≡ n + 1) (x : RanAs MainAs (Held_as of Q) m bs t r) (ds : List D)
+      (count : n ≡ length ds) (are : map of bs ≡ ds) where
+    abbrev among : RanAs MainAs (Held_as of Q) m bs (terms_among settings n) r
+    among = subst (λ (u : Terms). RanAs MainAs (Held_as of Q) m bs u r) (made ∙ ap (λ (j : ℕ). terms_with Two settings j) all) x
 
--- The close
+    pub run_from : (d : AllDone T U A) → IsUnpacked r d → IsRunOfAll P Q (main_of m) ds settings d.told d.others.items d.journal
+    run_from d u = run_is n among ds d count are u
 
-zip_numbers : (xs ys : List Seat) → AllZip SameSeat xs ys → numbers xs ≡ numbers ys
-zip_numbers [] [] a = refl
-zip_numbers (x ∷ xs) (y ∷ ys) a = ap (λ (n : ℕ). n ∷ numbers xs) (sym a.0.number) ∙ ap (λ (l : List ℕ). y.number ∷ l) (zip_numbers xs ys a.1)
-zip_numbers xs ys a = absurd a
+    pub causes_from : (f : Failure) → IsUnpackedTo r f → HasThreads f × IfRefused f (RefusesOne P (main_of m) n settings)
+    causes_from f l =
+        let long : length bs ≡ length ds = sym (length-map bs of) ∙ ap (λ (l : List D). length l) are in
+        causes_are n among f (omega arith) l
 
-zip_cells : (z : Cell) (xs ys : List Seat) → AllZip SameSeat xs ys → all_of (λ (s : Seat). s.cell ≡ z.id) xs → all_of (λ (s : Seat). s.cell ≡ z.id) ys
-zip_cells z [] [] a b = tt
-zip_cells z (x ∷ xs) (y ∷ ys) a b = (a.0.cell ∙ b.0, zip_cells z xs ys a.1 b.1)
-zip_cells z xs ys a b = absurd a
+-- What a failure says
 
-zip_behind : (xs ys us vs : List Seat) → AllZip SameSeat xs ys → AllZip SameSeat us vs → AllZip SameSeat (xs ++ us) (ys ++ vs)
-zip_behind [] [] us vs a b = b
-zip_behind (x ∷ xs) (y ∷ ys) us vs a b = (a.0, zip_behind xs ys us vs a.1 b)
-zip_behind xs ys us vs a b = absurd a
+pub started : (w : ℕ) (f : Failure) → HasThreads f → IfNoThread f w
+started w (failure.NoThread shown) h = absurd h
+started w (failure.Refused status) h = tt
+started w (failure.Spent spent) h = tt
+started w failure.Memory h = tt
 
-module _ {T U A : Type 0} (z : Cell) (c : ThreadResults T U A) (last : Seat) where
-  -- all seats: the workers', main's, and the further callers'
-  abbrev whole : List Seat
-  whole = (c.workers.items ++ last ∷ []) ++ c.company.seats.items
+-- What shows that a thread was refused
 
-  abbrev all_seats : ℕ
-  all_seats = suc z.terms.node.settings.workers + length c.company.seats.items
+pub some_refused : (f : NodeFailure) (a b : ℕ) → a ≡ 0 → Counts (is_no_thread f) a b → is_no_thread f ≡ true → 0 < b
+some_refused f a b e1 e2 e3 = grind (arith, nat_tests)
 
-  all_same : HasAllSeats z c → SameSeat c.company.main.seat last → AllZip SameSeat (fresh_seats z.terms z.id 0 all_seats) whole
-  all_same h s =
-      let w = z.terms.node.settings.workers in
-      let n = length c.company.seats.items in
-      let front : AllZip SameSeat (fresh_seats z.terms z.id 0 (suc w)) (c.workers.items ++ last ∷ []) =
-      subst (λ (xs : List Seat). AllZip SameSeat xs (c.workers.items ++ last ∷ [])) (sym (fresh_more z 0 w w (omega arith)))
-      (AllZip-push SameSeat (fresh_seats z.terms z.id 0 w) c.workers.items (fresh_seat z.terms z.id w) last h.workers
-      (same_then (fresh_seat z.terms z.id w) c.company.main.seat last h.main s)) in
-      subst (λ (xs : List Seat). AllZip SameSeat xs whole) (sym (fresh_then z 0 (suc w) n (w + 1) (suc w + n) (omega arith) refl))
-      (zip_behind (fresh_seats z.terms z.id 0 (suc w)) (c.workers.items ++ last ∷ []) (fresh_seats z.terms z.id (w + 1) n) c.company.seats.items front h.others)
+pub shown_causes : (P : MtapiStatus → Type 0) (f : NodeFailure) (e : Failure) → IsShownAs f e → IfFailed f (λ g. IfRefused g P) → IfRefused e P
+shown_causes P (node.NoThread main) (failure.NoThread shown) s c = tt
+shown_causes P (node.NoThread main) (failure.Refused status) s c = absurd s
+shown_causes P (node.NoThread main) (failure.Spent spent) s c = absurd s
+shown_causes P (node.NoThread main) failure.Memory s c = absurd s
+shown_causes P (node.Failed f) e s c = subst (λ (g : Failure). IfRefused g P) (sym s) c
 
-  pub all_own : HasAllSeats z c → SameSeat c.company.main.seat last → all_of (λ (s : Seat). s.cell ≡ z.id) whole
-  all_own h s = zip_cells z (fresh_seats z.terms z.id 0 all_seats) whole (all_same h s) (fresh_cells z 0 all_seats)
-
-  pub all_complete : HasAllSeats z c → SameSeat c.company.main.seat last → IsComplete (journal_seats z.terms) whole
-  all_complete h s =
-      let many = h.callers in
-      let count : all_seats ≡ journal_seats z.terms = omega arith in
-      subst (λ (n : ℕ). IsComplete n whole) count
-      (complete_alike all_seats (fresh_seats z.terms z.id 0 all_seats) whole (zip_numbers (fresh_seats z.terms z.id 0 all_seats) whole (all_same h s))
-      (complete_fresh _ _ _ z.terms z.id all_seats))
-
-  pub main_ended : (history : List NodeEntry) → HasAllSeats z c → MadeOne Final c.company.main.seat last → all_of (IsSeatOf z.terms history) whole
-      → entries_of z.terms.node.settings.workers history ≡ c.company.main.seat.mine ++ entry z.terms.node.settings.workers Final reply.Ok ∷ []
-  main_ended history h one seats =
-      let own = (all_has (IsSeatOf z.terms history) whole last seats
-      (has_front (c.workers.items ++ last ∷ []) c.company.seats.items last (has_back c.workers.items (last ∷ []) last (inl refl)))).mine in
-      let number : c.company.main.seat.number ≡ z.terms.node.settings.workers = h.main.number in
-      ap (λ (n : ℕ). entries_of n history) (sym (one.same.number ∙ number))
-      ∙ (own ∙ (one.mine ∙ ap (λ (n : ℕ). c.company.main.seat.mine ++ entry n Final reply.Ok ∷ []) number))
-
-  pub others_ended : (history : List NodeEntry) → all_of (IsSeatOf z.terms history) whole → all_of (IsSeatOf z.terms history) c.company.seats.items
-  others_ended history seats = all_after (IsSeatOf z.terms history) (c.workers.items ++ last ∷ []) c.company.seats.items seats
-
--- what main's seat is refused, said of the cell
-pub not_ended : {T U A : Type 0} (z : Cell) (c : ThreadResults T U A) (f : Failure) → HasAllSeats z c
-    → IfRefused f (IsRefused c.company.main.seat.terms.node c.company.main.seat.number c.company.main.seat.mine Final)
-    → IfRefused f (IsRefused z.terms.node z.terms.node.settings.workers c.company.main.seat.mine Final)
-not_ended z c f e1 e2 = grind (arith, nat_tests)
-
--- All of it
-
-told_length : {D U : Type 0} (further : D → Seat → Seat → U → Type 0) (z : Cell) (who : ℕ) (ds : List D) (bs : List Seat) (us : List U)
-    → AreTold further z who ds bs us → length bs ≡ length ds
-told_length further z who [] bs us a = ap (λ (l : List Seat). length l) a.0
-told_length further z who (d ∷ ds) bs us a = ap (λ (l : List Seat). length l) a.4 ∙ ap suc (told_length further z (suc who) ds a.1 a.3 a.7)
-
-told_same : {D U : Type 0} (further : D → Seat → Seat → U → Type 0) (z : Cell) (who : ℕ) (ds : List D) (bs : List Seat) (us : List U)
-    → AreTold further z who ds bs us → AllZip SameSeat (fresh_seats z.terms z.id who (length ds)) bs
-told_same further z who [] bs us a = subst (λ (l : List Seat). AllZip SameSeat [] l) (sym a.0) tt
-told_same further z who (d ∷ ds) bs us a =
-    subst (λ (l : List Seat). AllZip SameSeat (fresh_seats z.terms z.id who (suc (length ds))) l) (sym a.4)
-    (a.6.same, told_same further z (suc who) ds a.1 a.3 a.7)
-
-have_called : {D U : Type 0} (further : D → Seat → Seat → U
-    → Type 0) (z : Cell) (history : List NodeEntry) (who : ℕ) (ds : List D) (bs : List Seat) (us : List U)
-    → all_of (IsSeatOf z.terms history) bs → AreTold further z who ds bs us → HaveCalled further z.terms.node history who ds us
-have_called {D} {U} further z history who [] bs us seats a = subst (λ (l : List U). HaveCalled further z.terms.node history who [] l) (sym a.1) tt
-have_called {D} {U} further z history who (d ∷ ds) bs us seats a =
-    let own = subst (λ (l : List Seat). all_of (IsSeatOf z.terms history) l) a.4 seats in
-    let mine : entries_of who history ≡ a.0.mine = ap (λ (n : ℕ). entries_of n history) (sym a.6.same.number) ∙ own.0.mine in
-    subst (λ (l : List U). HaveCalled further z.terms.node history who (d ∷ ds) l) (sym a.5) (
-      subst (λ (es : List NodeEntry). HasCalled CallerEnters further d z.terms.node who a.2 es) (sym mine) a.6.called,
-      have_called further z history
-          (suc who) ds a.1 a.3 own.1 a.7,
-    )
-
-pub has_all : {C D T U A : Type 0} (promise : C → Seat → Seat → T → Type 0) (further : D → Seat → Seat → U → Type 0) (settings : NodeSettings) (z : Cell)
-    (h : Hands C D U A) (c : ThreadResults T U A) → Made settings z h → CameBack promise further z h c → HasAllSeats z c
-has_all promise further settings z h c d b =
-    let w1 = z.terms.node.settings.workers + 1 in
-    let o = b.company.others in
-    let long : length c.company.seats.items ≡ length h.callers.others.items =
-    told_length further z w1 h.callers.others.items c.company.seats.items c.company.told.items o in
-    record {
-      callers = ap (λ (t : JournaledTerms). t.node.callers) d.terms ∙ ap (λ (n : ℕ). n + 1) (sym long);
-      workers = subst (λ (xs : List Seat). AllZip SameSeat xs c.workers.items) d.workers_are b.workers;
-      main = subst (λ (s : Seat). SameSeat s c.company.main.seat) d.main_is b.company.main.same;
-      others =
-          subst (λ (n : ℕ). AllZip SameSeat (fresh_seats z.terms z.id w1 n) c.company.seats.items) (sym long)
-          (told_same further z w1 h.callers.others.items c.company.seats.items c.company.told.items o);
-    }
-
-pub sets_are : {C D T U A : Type 0} (promise : C → Seat → Seat → T → Type 0) (further : D → Seat → Seat → U → Type 0) (settings : NodeSettings) (z : Cell)
-    (h : Hands C D U A) (c : ThreadResults T U A) (d : AllDone T U A) → Made settings z h → CameBack promise further z h c → HasEnded z c d
-    → vec_len h.sets ≡ 0 → vec_len d.sets ≡ settings.workers
-sets_are promise further settings z h c d dealt came ended none =
-    let same : vec_len d.sets ≡ vec_len c.sets = ap vec_len ended.sets in
-    let given = came.sets in
-    let few : z.terms.node.settings.workers ≡ settings.workers = ap (λ (t : JournaledTerms). t.node.settings.workers) dealt.terms in
-    let workers : length h.workers.items ≡ z.terms.node.settings.workers =
-    ap (λ (xs : List Seat). length xs) dealt.workers_are ∙ fresh_length z 0 z.terms.node.settings.workers in
-    omega arith
-
--- the calls of main's client
-called_for : {C D T U A : Type 0} (promise : C → Seat → Seat → T → Type 0) (further : D → Seat → Seat → U → Type 0) (t : Terms) (settings : NodeSettings)
-    (z : Cell) (h : Hands C D U A) (c : ThreadResults T U A) → z.terms.node ≡ t → Made settings z h → CameBack promise further z h c
-    → HasCalled MainOpens promise h.callers.client t t.settings.workers c.company.main.told c.company.main.seat.mine
-called_for promise further t settings z h c e1 e2 e3 = grind (arith, nat_tests)
-
-pub run_is : {C D T U A : Type 0} (promise : C → Seat → Seat → T → Type 0) (further : D → Seat → Seat → U → Type 0) (settings : NodeSettings) (z : Cell)
-    (h : Hands C D U A) (c : ThreadResults T U A) (d : AllDone T U A) → Made settings z h → CameBack promise further z h c → HasEnded z c d
-    → IsRunOfAll promise further h.callers.client h.callers.others.items settings d.told d.others.items d.journal
-run_is {C} {D} {T} {U} promise further settings z h c d dealt came ended =
-    let terms = ap (λ (t : JournaledTerms). t.node) dealt.terms in
-    let t = terms_among settings (length h.callers.others.items) in
-    let w = z.terms.node.settings.workers in
-    let ds = h.callers.others.items in
-    let each = have_called further z ended.history (w + 1) ds c.company.seats.items c.company.told.items ended.seats came.company.others in
-    record {
-      history = ended.history;
-      legal = subst (λ (u : Terms). Legal u ended.history) terms ended.legal;
-      kept = subst (λ (u : Terms). KeptAs u d.journal ended.history) terms ended.kept;
-      mine = c.company.main.seat.mine;
-      called = subst (λ (x : T). HasCalled MainOpens promise h.callers.client t settings.workers x c.company.main.seat.mine) (sym ended.told)
-          (called_for promise further t settings z h c terms dealt came);
-      ended = subst (λ (u : Terms). entries_of u.settings.workers ended.history
-          ≡ c.company.main.seat.mine ++ entry u.settings.workers Final reply.Ok ∷ []) terms ended.ended;
-      others_called =
-          subst (λ (us : List U). HaveCalled further t ended.history (settings.workers + 1) ds us) (sym (ap (λ v. v.items) ended.others))
-          (subst (λ (u : Terms). HaveCalled further u ended.history (u.settings.workers + 1) ds c.company.told.items) terms each);
-    }
-
--- Why it gave nothing back
-
-pub unopened_all : {C T : Type 0} (promise : C → Seat → Seat → T → Type 0) (client : C) (n m : ℕ) (settings : NodeSettings) (z : Cell) (f : Failure)
-    → z.terms.node ≡ terms_among settings m → n ≡ m → IfRefused f (AreRefused z.terms.node m) → IfRefused f (RefusesOne promise client n settings)
-unopened_all promise client n m settings z f e1 e2 e3 = grind (arith, nat_tests)
-
-pub unended_all : {C D T U A : Type 0} (promise : C → Seat → Seat → T → Type 0) (further : D → Seat → Seat → U → Type 0) (n : ℕ) (settings : NodeSettings)
-    (z : Cell) (h : Hands C D U A) (c : ThreadResults T U A) (f : Failure) → n ≡ length h.callers.others.items → Made settings z h
-    → CameBack promise further z h c → IfRefused f (IsRefused z.terms.node z.terms.node.settings.workers c.company.main.seat.mine Final)
-    → IfRefused f (RefusesOne promise h.callers.client n settings)
-unended_all promise further n settings z h c f e1 e2 e3 e4 =
-    let node : z.terms.node ≡ terms_among settings n = ap (λ (t : JournaledTerms). t.node) e2.terms ∙ ap (terms_among settings) (sym e1) in
-    grind (arith, nat_tests)
+pub shown_unbegun : (w : ℕ) (f : NodeFailure) (e : Failure) → IsShownAs f e → IsUnbegun w f → IfNoThread e w
+shown_unbegun w (node.NoThread main) (failure.NoThread shown) s u = subst (MadeNoCall w) (sym s) u
+shown_unbegun w (node.NoThread main) (failure.Refused status) s u = absurd s
+shown_unbegun w (node.NoThread main) (failure.Spent spent) s u = absurd s
+shown_unbegun w (node.NoThread main) failure.Memory s u = absurd s
+shown_unbegun w (node.Failed f) e s u = subst (λ (g : Failure). IfNoThread g w) (sym s) u
 
 -- Main alone
 
 pub run_alone : {C D T U : Type 0} (promise : C → Seat → Seat → T → Type 0) (further : D → Seat → Seat → U
     → Type 0) (client : C) (others : List D) (settings : NodeSettings) (told : T) (us : List U) (j : Journal)
     → others ≡ [] → IsRunOfAll promise further client others settings told us j → IsRun promise client settings told j
-run_alone promise further client others settings told us j e1 e2 = grind (arith, nat_tests)
+run_alone {D = D} promise further client others settings told us j e r =
+    let x = subst (λ (ds : List D). IsRunOfAll promise further client ds settings told us j) e r in
+    record { history = x.history; legal = x.legal; kept = x.kept; mine = x.mine; called = x.called; ended = x.ended }
 
 pub causes_alone : {C T : Type 0} (promise : C → Seat → Seat → T → Type 0) (client : C) (n : ℕ) (settings : NodeSettings) (f : Failure) → n ≡ 0
     → IfRefused f (RefusesOne promise client n settings) → IfRefused f (Refuses promise client settings)

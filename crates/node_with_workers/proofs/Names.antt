@@ -7,20 +7,18 @@ pub use Rattle.mtapi_machine.specs.declared.replies.Reply.{Reply}
 pub use Rattle.mtapi_machine.specs.declared.terms.Terms.{Terms}
 pub use Rattle.mtapi_values.specs.Attributes.{NodeSettings}
 pub use Rattle.mtapi_values.specs.declared.statuses.MtapiStatus.{MtapiStatus}
-pub use Rattle.node_core.specs.Logs.{KeptAs, journal_seats}
+pub use Rattle.node_core.specs.Keeping.{KeptAs}
+pub use Rattle.node_core.specs.Logs.{journal_seats}
 pub use Rattle.node_core.specs.declared.journaled.JournaledTerms.{JournaledTerms}
 pub use Rattle.node_journals.specs.declared.entries.Journal.{Journal}
-pub use Rattle.node_with_workers.specs.Clients.{CallerEnters, GoesOn, HasCalled, IfRefused, IsKeptOut, IsNotOpened, IsRefused, MadeOne, MainOpens, SaysOf}
-pub use Rattle.node_with_workers.specs.Crews.{AreReady, AreRefused, AreTold, CameBack, HasComeBack, HaveComeBack, IsJoined, IsJoinedBy, IsLostBy, MayCall}
-pub use Rattle.node_with_workers.specs.Runs.{HasAllSeats, HasEnded, HaveCalled, IsMade, IsRun, IsRunOfAll, Refuses, RefusesOne, terms_among}
-pub use Rattle.node_with_workers.specs.declared.callers.Callers.{Callers}
-pub use Rattle.node_with_workers.specs.declared.crew.Hands.{Hands}
+pub use Rattle.node_with_workers.specs.Clients.{CallerEnters, Enters, GoesOn, HasCalled, IfRefused, IsKeptOut, IsNotOpened, IsRefused, IsUnbegun, IsUnopened, HasThreads, IfFailed, IfNoThread, MadeNoCall, MainOpens, Opens, SaysOf, is_no_thread}
+pub use Rattle.node_with_workers.specs.Runs.{AreRefused, HasEnded, HaveCalled, IsNotEnded, IsRun, IsRunOfAll, Refuses, RefusesOne, terms_among}
 pub use Rattle.sched_workers.specs.Answers.{Answers, Called, Waited, with_number}
 pub use Rattle.workload_runners.specs.Replies.{done, handle, mtapi}
 pub use Rattle.workload_runners.specs.Turns.{SameSeat, Seat}
-pub use Rattle.std.proofs.Common.{Err, List, None, Ok, Option, Result, Some, [], ap, append_assoc, arith, drop, inl, inr, length, refl, rules, subst, suc, sym, take, true, Vec, vec_len, zero, ℕ, ◌++◌, ◌+◌, ◌-◌, ◌<◌, ◌^◌, ◌∙◌, ◌∷◌, ◌≡◌, ◌≤◌}
+pub use Rattle.std.proofs.Common.{Err, List, None, Ok, Option, Result, Some, [], ap, append_assoc, arith, drop, inl, inr, length, map, refl, rules, subst, suc, sym, take, true, Vec, vec_len, zero, ℕ, ◌++◌, ◌+◌, ◌-◌, ◌<◌, ◌^◌, ◌∙◌, ◌∷◌, ◌≡◌, ◌≤◌}
 pub use Rattle.std.proofs.lemmas.Bool.Decides.{nat_tests}
-pub use Rattle.std.proofs.lemmas.List.{append-nil, length-append, length-take, same_from_push, take-append-drop, take-append-le, take_all}
+pub use Rattle.std.proofs.lemmas.List.{append-nil, length-append, length-map, length-take, same_from_push, take-append-drop, take-append-le, take_all}
 pub use Rattle.std.proofs.lemmas.Result.{IfErr-weaker, IfOk-at_ok, IfOk-weaker}
 pub use Rattle.std.specs.Prelude.{All, IfErr, IfOk, false}
 pub use Rattle.turn_cell.specs.Lists.{all_of}

@@ -1,4 +1,4 @@
 pub mod Told
 pub mod Clients
-pub mod Crews
 pub mod Runs
+pub mod Ends

@@ -1,11 +1,8 @@
 //! The callers of the node.
 
-ghost use Rattle.std.specs.Prelude.{◌≡◌, ◌≤◌, [], IfOk, IfErr};
-ghost use Rattle.mtapi_machine.specs.declared.ops.Op.TheVariants.{Final};
+ghost use Rattle.std.specs.Prelude.{◌≡◌, ◌≤◌, []};
 ghost use Rattle.workload_runners.specs.Turns.{Seat, SameSeat};
-ghost use Rattle.workload_runners.specs.Crews.{GaveUp};
-ghost use Rattle.node_with_workers.specs.Clients.{GoesOn, MainOpens, CallerEnters, MadeOne, IfRefused, IsRefused, IsNotOpened, IsKeptOut, SaysOf};
-ghost use Rattle.node_with_workers.specs.Crews.{HasComeBack};
+ghost use Rattle.node_with_workers.specs.Clients.{Enters, GoesOn, HasThreads, IsUnopened, Opens, SaysOf};
 
 use crate::failure::Failure;
 use mtapi_values::MtapiStatus;
@@ -13,6 +10,8 @@ use node_core::Journaled;
 use sched_workers::Caller;
 use std::sync::Wait;
 use turn_cell::{TurnCell, TurnSeat};
+use workload_runners::crew::callers::closed;
+use workload_runners::{Held, Holder};
 
 /// What a program does on a node, between its opening and its end.
 pub trait Client: Drop {
@@ -29,18 +28,10 @@ pub trait Client: Drop {
         ensures kept { promise self caller.old caller.new result };
 }
 
-/// The seat that made the calls, and what the client was told.
-#[derive(Drop)]
-pub struct Called<T: Drop> {
-    /// The seat.
-    pub seat: TurnSeat<Journaled>,
-    /// What the client was told.
-    pub told: T,
-}
-
-/// Why a call of this seat answered a status: the turns of the cell are used up, or the node refused it.
-pub(crate) fn failure_of(seat: &TurnSeat<Journaled>, status: MtapiStatus) -> Failure
-    ensures { SaysOf seat.now status result }
+// Why a call of this seat answered a status: the turns of the cell are used up, or the node refused it.
+fn failure_of(seat: &TurnSeat<Journaled>, status: MtapiStatus) -> Failure
+    ensures says { SaysOf seat.now status result }
+    ensures started { HasThreads result }
 {
     match seat.spent() {
         Some(spent) => Failure::Spent(spent),
@@ -49,33 +40,34 @@ pub(crate) fn failure_of(seat: &TurnSeat<Journaled>, status: MtapiStatus) -> Fai
 }
 
 // Begins the end of a node that main couldn't open, and says why.
-fn unopened<R: Wait>(
+fn unopened<R: Wait, T: Drop>(
     rt: &R,
     cell: &TurnCell<Journaled>,
     seat: TurnSeat<Journaled>,
     status: MtapiStatus,
-) -> Failure
+) -> Held<Result<T, Failure>>
     requires cell { seat.cell ≡ cell.now.id }
-    requires caller { seat.terms.node.settings.workers ≤ seat.number }
-    ensures { SaysOf seat status result }
+    ensures { IsUnopened seat status result }
 {
     let failure = failure_of(&seat, status);
-    let _ = closed(rt, cell, seat);
-    failure
+    Held {
+        seat: closed(rt, cell, seat),
+        told: Err(failure),
+    }
 }
 
-/// Opens the node, lets the further callers in, and has the client call. Where the node isn't opened, its end begins at once.
-pub(crate) fn call<R: Wait, C: Client>(
+// Opens the node, lets the further callers in, and has the client call. Where the node isn't opened, its end begins at once.
+fn call<R: Wait, C: Client>(
     rt: &R,
     cell: &TurnCell<Journaled>,
     seat: TurnSeat<Journaled>,
     client: C,
-) -> Result<Called<C::Told>, Failure>
+) -> Held<Result<C::Told, Failure>>
     requires cell { seat.cell ≡ cell.now.id }
     requires caller { seat.terms.node.settings.workers ≤ seat.number }
     requires new { seat.mine ≡ [] }
-    ensures called { IfOk result (HasComeBack MainOpens C.promise client seat) }
-    ensures refused { IfErr result (λ e. IfRefused e (IsNotOpened seat.terms.node seat.number)) }
+    ensures same { SameSeat seat result.seat }
+    ensures told { Opens C.promise client seat.terms.node seat.number result.told result.seat.mine }
 {
     let mut caller = Caller::new(cell, seat);
     match caller.initialize(rt) {
@@ -83,75 +75,97 @@ pub(crate) fn call<R: Wait, C: Client>(
             Ok(()) => {
                 let told = client.call(rt, &mut caller);
                 let seat = caller.into_seat();
-                Ok(Called { seat, told })
+                Held {
+                    seat,
+                    told: Ok(told),
+                }
             }
-            Err(status) => Err(unopened(rt, cell, caller.into_seat(), status)),
+            Err(status) => unopened(rt, cell, caller.into_seat(), status),
         },
-        Err(status) => Err(unopened(rt, cell, caller.into_seat(), status)),
+        Err(status) => unopened(rt, cell, caller.into_seat(), status),
     }
 }
 
-/// Waits until main lets the further callers in, and has the client call. Where the end of the node begins first, it isn't let in.
-pub(crate) fn call_inside<R: Wait, D: Client>(
+// Waits until main lets the further callers in, and has the client call. Where the end of the node begins first, it isn't let in.
+fn call_inside<R: Wait, D: Client>(
     rt: &R,
     cell: &TurnCell<Journaled>,
     seat: TurnSeat<Journaled>,
     client: D,
-) -> Result<Called<D::Told>, Failure>
+) -> Held<Result<D::Told, Failure>>
     requires cell { seat.cell ≡ cell.now.id }
     requires caller { seat.terms.node.settings.workers ≤ seat.number }
     requires new { seat.mine ≡ [] }
-    ensures called { IfOk result (HasComeBack CallerEnters D.promise client seat) }
-    ensures refused { IfErr result (λ e. IfRefused e (IsKeptOut seat.terms.node seat.number)) }
+    ensures same { SameSeat seat result.seat }
+    ensures told { Enters D.promise client seat.terms.node seat.number result.told result.seat.mine }
 {
     let mut caller = Caller::new(cell, seat);
     match caller.enter(rt) {
         Ok(()) => {
             let told = client.call(rt, &mut caller);
             let seat = caller.into_seat();
-            Ok(Called { seat, told })
+            Held {
+                seat,
+                told: Ok(told),
+            }
         }
         Err(status) => {
             let seat = caller.into_seat();
             seat.known();
-            Err(failure_of(&seat, status))
+            Held {
+                told: Err(failure_of(&seat, status)),
+                seat,
+            }
         }
     }
 }
 
-/// Begins the end of the node, and wakes the workers. It is refused where a client has begun it, or where the turns are used up.
-pub(crate) fn closed<R: Wait>(
-    rt: &R,
-    cell: &TurnCell<Journaled>,
-    seat: TurnSeat<Journaled>,
-) -> TurnSeat<Journaled>
-    requires cell { seat.cell ≡ cell.now.id }
-    requires caller { seat.terms.node.settings.workers ≤ seat.number }
-    ensures { GaveUp seat result }
-{
-    let mut caller = Caller::new(cell, seat);
-    let _ = caller.finalize_begin(rt);
-    cell.work().ring_all();
-    caller.into_seat()
+/// Main, which opens the node and lets the further callers in before its client calls.
+#[derive(Drop)]
+pub struct Opening<C: Drop> {
+    /// Its client.
+    pub client: C,
 }
 
-/// Ends the node.
-pub(crate) fn ended<R: Wait>(
-    rt: &R,
-    cell: &TurnCell<Journaled>,
-    seat: TurnSeat<Journaled>,
-) -> Result<TurnSeat<Journaled>, Failure>
-    requires cell { seat.cell ≡ cell.now.id }
-    requires caller { seat.terms.node.settings.workers ≤ seat.number }
-    ensures ended { IfOk result (MadeOne Final seat) }
-    ensures refused { IfErr result (λ e. IfRefused e (IsRefused seat.terms.node seat.number seat.mine Final)) }
-{
-    let mut caller = Caller::new(cell, seat);
-    match caller.finalize_end(rt) {
-        Ok(()) => Ok(caller.into_seat()),
-        Err(status) => {
-            let seat = caller.into_seat();
-            Err(failure_of(&seat, status))
-        }
+impl<C: Client> Holder for Opening<C> {
+    ghost use Rattle.node_with_workers.specs.Clients.{Opens};
+
+    type Told = Result<C::Told, Failure>;
+
+    ghost promise = { λ o t who told es. Opens C.promise o.client t who told es };
+
+    fn hold<R: Wait>(
+        self,
+        rt: &R,
+        cell: &TurnCell<Journaled>,
+        seat: TurnSeat<Journaled>,
+    ) -> Held<Result<C::Told, Failure>> {
+        let Opening { client } = self;
+        call(rt, cell, seat, client)
+    }
+}
+
+/// A further caller, which waits to be let in before its client calls.
+#[derive(Drop)]
+pub struct Entering<D: Drop> {
+    /// Its client.
+    pub client: D,
+}
+
+impl<D: Client> Holder for Entering<D> {
+    ghost use Rattle.node_with_workers.specs.Clients.{Enters};
+
+    type Told = Result<D::Told, Failure>;
+
+    ghost promise = { λ e t who told es. Enters D.promise e.client t who told es };
+
+    fn hold<R: Wait>(
+        self,
+        rt: &R,
+        cell: &TurnCell<Journaled>,
+        seat: TurnSeat<Journaled>,
+    ) -> Held<Result<D::Told, Failure>> {
+        let Entering { client } = self;
+        call_inside(rt, cell, seat, client)
     }
 }

@@ -2,9 +2,10 @@
 
 use crate::refusals::NoThread;
 use mtapi_values::MtapiStatus;
+use node_core::Journaled;
 use std::alloc::AllocError;
 use thiserror::Error;
-use turn_cell::Spent;
+use turn_cell::{Spent, TurnSeat};
 
 /// Why a node gave nothing back.
 #[derive(Debug, Drop, Error)]
@@ -38,4 +39,13 @@ impl From<MtapiStatus> for Failure {
     fn from(status: MtapiStatus) -> Failure {
         Failure::Refused(status)
     }
+}
+
+/// Why a node gave nothing back whose threads were started by what was handed in.
+#[derive(Drop)]
+pub enum NodeFailure {
+    /// A thread was refused. Main's seat tells the calls that main made.
+    NoThread(TurnSeat<Journaled>),
+    /// The node failed.
+    Failed(Failure),
 }

@@ -1,22 +1,24 @@
 //! The node, from its start to its journal.
 
-ghost use Rattle.std.specs.Prelude.{◌≡◌, ◌≤◌, ◌<◌, ◌-◌, ℕ, true, [], ◌∷◌, ◌++◌, take, drop, IfOk, IfErr, vec_len};
-ghost use Rattle.mtapi_machine.specs.declared.ops.Op.TheVariants.{Final};
-ghost use Rattle.node_with_workers.specs.Clients.{IfRefused, IsRefused};
-ghost use Rattle.node_with_workers.specs.Runs.{IsMade, IsRun, IsRunOfAll, Refuses, RefusesOne, HasAllSeats, HasEnded};
+ghost use Rattle.std.specs.Prelude.{◌≡◌, ◌≤◌, ◌<◌, true, Err, map, IfOk, IfErr, vec_len};
+ghost use Rattle.run_beside.specs.Pairs.{Counts};
+ghost use Rattle.workload_runners.specs.Runs.{Causes, GivesMain, is_refused};
+ghost use Rattle.node_with_workers.specs.Clients.{IfFailed, IfNoThread, IfRefused, IsUnbegun, is_no_thread, is_unstarted};
+ghost use Rattle.node_with_workers.specs.Runs.{IsRun, IsRunOfAll, Refuses, RefusesOne};
+ghost use Rattle.node_with_workers.specs.Ends.{IsFailureOf, IsShownAs};
 
-use crate::callers::{Callers, Company};
-use crate::client::{Called, Client, ended};
-use crate::crew::{Hands, ThreadResults, start_workers};
-use crate::failure::Failure;
+use crate::client::{Client, Entering, Opening};
+use crate::failure::{Failure, NodeFailure};
+use crate::outcome::unpacked;
+use crate::refusals::NoThread;
 use action_fn::ActionSource;
 use mtapi_values::NodeAttr;
-use node_core::{Journaled, Node, RunJournal, journal_of};
-use sched_workers::{Caller, Threads};
+use node_core::{Node, RunJournal};
+use sched_workers::{Beside, Caller, Threads};
 use std::alloc::{AllocError, Global};
 use std::sync::Wait;
 use std::thread::Threads as StartsThreads;
-use turn_cell::{TurnCell, TurnSeat};
+use workload_runners::{RunError, run_crew};
 
 /// What comes of a node that was ended.
 #[derive(Drop)]
@@ -42,84 +44,85 @@ pub struct AllDone<T: Drop, U: Drop, A: Drop> {
     pub sets: Vec<A>,
 }
 
-// The seats of a new cell: the workers', main's, and those of the further callers.
-#[derive(Drop)]
-struct Dealt {
-    workers: Vec<TurnSeat<Journaled>>,
-    main: TurnSeat<Journaled>,
-    others: Vec<TurnSeat<Journaled>>,
-}
-
-// Deals the seats to so many further callers, to main, and to the workers.
-fn deal(seats: Vec<TurnSeat<Journaled>>, others: usize) -> Result<Dealt, AllocError>
-    requires { others < vec_len seats }
-    ensures front { IfOk result (λ d. take (vec_len seats - others) seats.items ≡ d.workers.items ++ d.main ∷ []) }
-    ensures back { IfOk result (λ d. d.others.items ≡ drop (vec_len seats - others) seats.items) }
+// Each of these clients as a further caller.
+fn entering<D: Drop>(alloc: Global, clients: Vec<D>) -> Result<Vec<Entering<D>>, AllocError>
+    ensures { IfOk result (λ v. map (λ e. e.client) v.items ≡ clients.items) }
 {
-    let mut workers = seats;
-    let others = workers.split_off(workers.len() - others)?;
-    let Some(main) = workers.pop() else {
-        unreachable!()
-    };
-    Ok(Dealt {
-        workers,
-        main,
-        others,
-    })
+    let mut all = Vec::with_capacity(alloc, clients.len())?;
+    for client in clients {
+        all.push(Entering { client })?;
+    }
+    Ok(all)
 }
 
-// Makes the cell of a node with these settings, main and so many further callers, and deals its seats.
-fn made(
+// Why there is no journal.
+fn failure_of(error: RunError) -> NodeFailure
+    ensures { IsFailureOf error result }
+{
+    match error {
+        RunError::Refused(main) => NodeFailure::NoThread(main),
+        RunError::Spent(spent) => NodeFailure::Failed(Failure::Spent(spent)),
+        RunError::Memory => NodeFailure::Failed(Failure::Memory),
+    }
+}
+
+// Why a node gave nothing back whose threads were these.
+fn shown(failure: NodeFailure, threads: Threads) -> Failure
+    requires { is_no_thread failure ≡ true → 0 < ⟦<Threads as Beside>⟧.refusals threads }
+    ensures { IsShownAs failure result }
+{
+    match failure {
+        NodeFailure::NoThread(main) => Failure::NoThread(NoThread::shown_by(threads, main)),
+        NodeFailure::Failed(failure) => failure,
+    }
+}
+
+/// The same as `with_callers`, with threads that `beside` starts or refuses.
+///
+/// # Errors
+///
+/// - `NoThread`: a thread was refused. Main's client made no call, and the threads that were started have ended. No other answer is given where a
+///   thread was refused.
+/// - `Failed`: those of `with_callers`.
+pub fn with_callers_beside<
+    R: StartsThreads + Wait + Sync,
+    S: ActionSource,
+    B: Beside,
+    C: Client,
+    D: Client + Send,
+>(
+    rt: &R,
     alloc: Global,
     settings: NodeAttr,
-    others: usize,
-) -> Result<(TurnCell<Journaled>, Dealt), AllocError>
-    requires few { others ≤ 8 }
-    ensures { IfOk result (λ r. (n : ℕ) → n ≡ others → IsMade settings n r.0 r.1.workers.items r.1.main r.1.others.items) }
+    acts: &mut S,
+    beside: &mut B,
+    client: C,
+    others: Vec<D>,
+) -> Result<AllDone<C::Told, D::Told, S::Set>, NodeFailure>
+where
+    D::Told: Send,
+    requires few { vec_len others ≤ 8 }
+    ensures run { IfOk result (λ d. IsRunOfAll C.promise D.promise client others.items settings d.told d.others.items d.journal) }
+    ensures causes { IfErr result (λ e. IfFailed e (λ f. IfRefused f (RefusesOne C.promise client (vec_len others) settings))) }
+    ensures sets { IfOk result (λ d. vec_len d.sets ≡ settings.workers) }
+    ensures counts { Counts (is_unstarted result) (B.refusals beside.old) (B.refusals beside.new) }
+    ensures unbegun { IfErr result (IsUnbegun settings.workers) }
 {
-    let node = Node::init(alloc, settings, others as u32 + 1)?;
-    let (cell, seats) = TurnCell::new(alloc, Journaled::with(alloc, node))?;
-    let dealt = deal(seats, others)?;
-    Ok((cell, dealt))
-}
-
-// Ends the node, closes its cell, and takes the journal out of it. Where a worker's turns were used up it hasn't stopped, and the end is
-// refused.
-fn end<R: Wait, T: Drop, U: Drop, A: Drop>(
-    rt: &R,
-    cell: TurnCell<Journaled>,
-    crew: ThreadResults<T, U, A>,
-) -> Result<AllDone<T, U, A>, Failure>
-    requires keeps { cell.terms.keeps ≡ true }
-    requires seats { HasAllSeats cell crew }
-    ensures ended { IfOk result (HasEnded cell crew) }
-    ensures failed { IfErr result (λ e. IfRefused e (IsRefused cell.terms.node cell.terms.node.settings.workers crew.company.main.seat.mine Final)) }
-{
-    let ThreadResults {
-        mut workers,
-        sets,
-        company,
-    } = crew;
-    let Company {
-        main,
-        mut seats,
-        told: others,
-    } = company;
-    let Called { seat, told } = main;
-    let seat = ended(rt, &cell, seat)?;
-    let Ok(()) = workers.push(seat) else {
-        return Err(Failure::Memory);
+    let count = others.len();
+    let Ok(node) = Node::init(alloc, settings, count as u32 + 1) else {
+        return Err(NodeFailure::Failed(Failure::Memory));
     };
-    let Ok(()) = workers.append(&mut seats) else {
-        return Err(Failure::Memory);
+    let Ok(callers) = entering(alloc, others) else {
+        return Err(NodeFailure::Failed(Failure::Memory));
     };
-    let journal = journal_of(cell.close(workers))?;
-    Ok(AllDone {
-        told,
-        others,
-        journal,
-        sets,
-    })
+    let ran = run_crew(rt, alloc, node, acts, beside, Opening { client }, callers);
+    match ran {
+        Ok(ran) => match unpacked(alloc, ran) {
+            Ok(done) => Ok(done),
+            Err(failure) => Err(NodeFailure::Failed(failure)),
+        },
+        Err(error) => Err(failure_of(error)),
+    }
 }
 
 /// Makes a node with these settings, main and a further caller for each of the other clients, and starts its workers, each in a thread of its own
@@ -149,25 +152,14 @@ where
     ensures run { IfOk result (λ d. IsRunOfAll C.promise D.promise client others.items settings d.told d.others.items d.journal) }
     ensures causes { IfErr result (λ e. IfRefused e (RefusesOne C.promise client (vec_len others) settings)) }
     ensures sets { IfOk result (λ d. vec_len d.sets ≡ settings.workers) }
+    ensures unbegun { IfErr result (λ e. IfNoThread e settings.workers) }
 {
-    let count = others.len();
-    let (cell, dealt) = made(alloc, settings, count)?;
-    let sets = Vec::with_capacity(alloc, dealt.workers.len())?;
-    let told = Vec::with_capacity(alloc, count)?;
-    let callers = Callers {
-        main: dealt.main,
-        client,
-        seats: dealt.others,
-        others,
-        told,
-    };
-    let hands = Hands {
-        workers: dealt.workers,
-        callers,
-        sets,
-    };
-    let crew = start_workers(rt, &cell, acts, &mut Threads::new(), hands)?;
-    end(rt, cell, crew)
+    let mut beside = Threads::new();
+    let done = with_callers_beside(rt, alloc, settings, acts, &mut beside, client, others);
+    match done {
+        Ok(done) => Ok(done),
+        Err(failure) => Err(shown(failure, beside)),
+    }
 }
 
 // The client of a further caller that there isn't.
@@ -202,6 +194,7 @@ pub fn with_workers<R: StartsThreads + Wait + Sync, S: ActionSource, C: Client>(
     ensures run { IfOk result (λ d. IsRun C.promise client settings d.told d.journal) }
     ensures causes { IfErr result (λ e. IfRefused e (Refuses C.promise client settings)) }
     ensures sets { IfOk result (λ d. vec_len d.sets ≡ settings.workers) }
+    ensures unbegun { IfErr result (λ e. IfNoThread e settings.workers) }
 {
     let nobody = Vec::<Nobody>::new(alloc);
     let done = with_callers(rt, alloc, settings, acts, client, nobody)?;

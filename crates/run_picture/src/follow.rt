@@ -3,6 +3,7 @@
 use crate::lanes::{end_lanes, note_lanes};
 use crate::lists::at;
 use crate::marks::{Chart, STYLES, Style};
+use crate::queues::note_queues;
 use crate::seats::{Seat, end_seat, note_seat};
 use crate::tasks::{end_left, end_run, note_tasks};
 use crate::withdrawals::Withdrawals;
@@ -27,6 +28,8 @@ fn no_chart(alloc: Global, seats: u32, entries: usize) -> Result<Chart, AllocErr
         seats: vec![in alloc; no_seat(); seats as usize]?,
         lanes: Vec::new(alloc),
         slots: Vec::new(alloc),
+        queues: Vec::new(alloc),
+        queue_numbers: HashMap::new(alloc),
         tasks: HashMap::new(alloc),
         actions: HashMap::new(alloc),
         groups: HashMap::new(alloc),
@@ -62,6 +65,7 @@ fn note(
         }
         _ => {}
     }
+    note_queues(chart, place, entry)?;
     note_tasks(chart, place, entry)?;
     note_seat(chart, place, entry, looks)
 }

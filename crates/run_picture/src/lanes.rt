@@ -21,11 +21,7 @@ pub struct Lane {
     pub live: bool,
     /// Where it was made.
     pub made: usize,
-    /// Of a queue: whether it keeps its tasks while it is disabled.
-    pub retain: bool,
-    /// How often all of its tasks ended together.
-    pub emptied: u64,
-    /// How many tasks wait in it, and from which place on.
+    /// Of a queue: how many tasks wait in it, and from which place on.
     pub count: u64,
     pub since: usize,
     /// The greatest number of tasks that waited in it; or else of seats that held it at a time.
@@ -81,14 +77,14 @@ fn holding_of(op: &Op, reply: &Reply) -> Holding {
     }
 }
 
-/// The id of an object that has a row, and whether it is a queue that keeps its tasks, where an op makes one.
-fn made_by(op: &Op) -> Option<(u32, bool)> {
+/// The id of an object that has a row, where an op makes one.
+fn made_by(op: &Op) -> Option<u32> {
     match op {
-        Op::QueueCreate { id, retain, .. } => Some((*id, *retain)),
-        Op::MutexCreate { id, .. }
+        Op::QueueCreate { id, .. }
+        | Op::MutexCreate { id, .. }
         | Op::SemCreate { id, .. }
         | Op::RwlCreate { id, .. }
-        | Op::ShmemCreate { id, .. } => Some((*id, false)),
+        | Op::ShmemCreate { id, .. } => Some(*id),
         _ => None,
     }
 }
@@ -96,14 +92,12 @@ fn made_by(op: &Op) -> Option<(u32, bool)> {
 /// Adds the row of an object that an entry made, if there is room.
 fn add_lane(lanes: &mut Vec<Lane>, place: usize, entry: &Entry) -> Result<(), AllocError> {
     match (made_by(&entry.op), &entry.reply, object_of(entry)) {
-        (Some((id, retain)), Reply::Handle(_), Some(object)) if lanes.len() < MOST_LANES => {
+        (Some(id), Reply::Handle(_), Some(object)) if lanes.len() < MOST_LANES => {
             lanes.push(Lane {
                 object,
                 id,
                 live: true,
                 made: place,
-                retain,
-                emptied: 0,
                 count: 0,
                 since: place,
                 most: 0,

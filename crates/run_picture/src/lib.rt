@@ -11,6 +11,7 @@ mod marks;
 mod names;
 mod objects;
 mod page;
+mod queues;
 mod seats;
 mod sheet;
 mod tasks;

@@ -2,6 +2,7 @@
 
 use crate::lanes::{Lane, Slot};
 use crate::lists::{at, put};
+use crate::queues::TaskQueue;
 use crate::seats::Seat;
 use crate::tasks::Task;
 use std::alloc::AllocError;
@@ -103,6 +104,9 @@ pub struct Chart {
     pub lanes: Vec<Lane>,
     /// What is held of them.
     pub slots: Vec<Slot>,
+    /// The queues, in the order in which they were made, and the number of each by its handle.
+    pub queues: Vec<TaskQueue>,
+    pub queue_numbers: HashMap<u64, usize>,
     /// The tasks, by their handles.
     pub tasks: HashMap<u64, Task>,
     /// The places at which actions and groups were made, by their handles.

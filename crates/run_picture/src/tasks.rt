@@ -1,12 +1,11 @@
 //! The tasks of a run: made, run, and ended, some of them before they began.
 
-use crate::lanes::{Lane, lane_of, set_level};
 use crate::lists::{at, put};
 use crate::marks::{Chart, Mark, Style, mark_at, push_mark};
+use crate::queues::{Queued, is_emptied, join_queue, lower, push_ended};
 use action_fn::ActEnd;
-use journal_text::NodeObject;
 use mtapi_machine::{Entry, Op, Reply};
-use mtapi_values::{ObjectKind, TaskEnd};
+use mtapi_values::TaskEnd;
 use std::alloc::{AllocError, Global};
 
 /// A task.
@@ -20,40 +19,6 @@ pub struct Task {
     pub queue: Option<Queued>,
 }
 
-/// A place in a queue: the number of its lane, and how often that was emptied before.
-#[derive(Clone, Copy, Drop)]
-pub struct Queued {
-    pub lane: usize,
-    pub emptied: u64,
-}
-
-/// Puts a task into a queue's lane.
-fn join_queue(chart: &mut Chart, place: usize, queue: u64) -> Result<Option<Queued>, AllocError> {
-    let object = NodeObject {
-        kind: ObjectKind::Queue,
-        handle: queue,
-    };
-    let Some(number) = lane_of(chart.lanes.as_slice(), object) else {
-        return Ok(None);
-    };
-    let Some(lane) = at(chart.lanes.as_slice(), number) else {
-        return Ok(None);
-    };
-    set_level(chart, number, place, lane.count.saturating_add(1))?;
-    Ok(Some(Queued {
-        lane: number,
-        emptied: lane.emptied,
-    }))
-}
-
-/// Whether the queue was emptied since.
-fn is_emptied(lanes: &[Lane], queue: Queued) -> bool {
-    match at(lanes, queue.lane) {
-        Some(lane) => lane.emptied != queue.emptied,
-        None => false,
-    }
-}
-
 /// A task waits no longer. Gives it, if it did.
 fn stop_waiting(chart: &mut Chart, handle: u64) -> Result<Option<Task>, AllocError> {
     let task = match chart.tasks.get(&handle) {
@@ -63,20 +28,10 @@ fn stop_waiting(chart: &mut Chart, handle: u64) -> Result<Option<Task>, AllocErr
     let waits = false;
     chart.tasks.insert(handle, Task { waits, ..task })?;
     let waited = match task.queue {
-        Some(queue) => task.waits && !is_emptied(chart.lanes.as_slice(), queue),
+        Some(queue) => task.waits && !is_emptied(chart.queues.as_slice(), queue),
         None => task.waits,
     };
     Ok(if waited { Some(task) } else { None })
-}
-
-/// So many tasks wait no longer in a queue's lane.
-fn lower(chart: &mut Chart, place: usize, number: usize, fewer: u64) -> Result<(), AllocError> {
-    match at(chart.lanes.as_slice(), number) {
-        Some(lane) if fewer > 0 => {
-            set_level(chart, number, place, lane.count.saturating_sub(fewer))
-        }
-        _ => Ok(()),
-    }
 }
 
 /// A task waits no longer. Whether it did.
@@ -85,48 +40,9 @@ fn leave(chart: &mut Chart, place: usize, handle: u64) -> Result<bool, AllocErro
         return Ok(false);
     };
     if let Some(queue) = task.queue {
-        lower(chart, place, queue.lane, 1)?;
+        lower(chart, place, queue.queue, 1)?;
     }
     Ok(true)
-}
-
-/// Where the tasks of a queue ended, how many did and how.
-fn empty(
-    chart: &mut Chart,
-    place: usize,
-    who: u32,
-    queue: u64,
-    style: Style,
-) -> Result<(), AllocError> {
-    let object = NodeObject {
-        kind: ObjectKind::Queue,
-        handle: queue,
-    };
-    let Some(number) = lane_of(chart.lanes.as_slice(), object) else {
-        return Ok(());
-    };
-    let Some(lane) = at(chart.lanes.as_slice(), number) else {
-        return Ok(());
-    };
-    if lane.retain && style == Style::NeverCancelled {
-        return Ok(());
-    }
-    if lane.count > 0 {
-        let mark = mark_at(style, who, place);
-        push_mark(
-            chart,
-            Mark {
-                count: lane.count,
-                ..mark
-            },
-        )?;
-    }
-    set_level(chart, number, place, 0)?;
-    if let Some(lane) = at(chart.lanes.as_slice(), number) {
-        let emptied = lane.emptied.saturating_add(1);
-        put(&mut chart.lanes, number, Lane { emptied, ..lane });
-    }
-    Ok(())
 }
 
 /// How a task ended that never began.
@@ -163,24 +79,20 @@ pub fn end_left(
         return Ok(());
     }
     let mut count = 0u64;
-    let mut fewer = vec![in alloc; 0u64; chart.lanes.len()]?;
+    let mut fewer = vec![in alloc; 0u64; chart.queues.len()]?;
     for handle in tasks {
         if let Some(task) = stop_waiting(chart, *handle)? {
             count = count.saturating_add(1);
             if let Some(queue) = task.queue {
-                let more = at(fewer.as_slice(), queue.lane).unwrap_or(0);
-                put(&mut fewer, queue.lane, more.saturating_add(1));
+                let more = at(fewer.as_slice(), queue.queue).unwrap_or(0);
+                put(&mut fewer, queue.queue, more.saturating_add(1));
             }
         }
     }
     for (number, fewer) in fewer.iter().enumerate() {
         lower(chart, place, number, *fewer)?;
     }
-    if count > 0 {
-        let mark = mark_at(Style::NeverFailed, who, place);
-        push_mark(chart, Mark { count, ..mark })?;
-    }
-    Ok(())
+    push_ended(chart, place, who, Style::NeverFailed, count)
 }
 
 /// How a run ended.
@@ -269,12 +181,6 @@ pub fn note_tasks(chart: &mut Chart, place: usize, entry: &Entry) -> Result<(), 
         }
         (Op::AnyLook { .. }, Reply::Given(task, end)) => {
             end_waiting(chart, place, who, task.0, never(end))
-        }
-        (Op::QueueDisable { queue }, Reply::Ok) => {
-            empty(chart, place, who, queue.0, Style::NeverCancelled)
-        }
-        (Op::QueueDelete { queue }, Reply::Ok) => {
-            empty(chart, place, who, queue.0, Style::NeverFailed)
         }
         _ => Ok(()),
     }

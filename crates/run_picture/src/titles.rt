@@ -123,7 +123,7 @@ pub fn subject(scene: &Scene, mark: &Mark) -> Result<String, AllocError> {
     format!(in scene.alloc; "{asked}{between}{name}")
 }
 
-/// Whether the call of a mark ends all tasks of a queue, or of an action.
+/// Whether the call of a mark ends all tasks of a queue or of an action, or those of the queues that are disabled.
 fn ends_several(scene: &Scene, mark: &Mark) -> bool {
     match scene.entries.get(mark.entry) {
         Some(entry) => matches!(
@@ -132,6 +132,7 @@ fn ends_several(scene: &Scene, mark: &Mark) -> bool {
                 | Op::QueueDelete { .. }
                 | Op::ActionDisable { .. }
                 | Op::ActionDelete { .. }
+                | Op::Close
         ),
         None => false,
     }

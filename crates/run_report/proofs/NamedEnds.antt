@@ -1,5 +1,5 @@
 -- Where each change names the task that it ends, the ends that are seen are those that were named.
-use Rattle.run_report.proofs.Names.{arith, nat_tests, ◌≡◌, ℕ, ◌+◌, ◌<◌, length, get_or, take, true, false, not, List, [], Option, None, refl, take_at_read, holds, TaskEnd, NodeEntry, EndEffect, change_of, Seen, with_change, nothing_seen, seen_from}
+use Rattle.run_report.proofs.Names.{arith, nat_tests, ◌≡◌, ℕ, ◌+◌, ◌<◌, length, get_or, take, true, false, not, List, [], map, map-append, entry_of, ShortEntry, Option, None, refl, take_at_read, holds, TaskEnd, NodeEntry, EndEffect, change_of, Seen, with_change, nothing_seen, seen_from}
 use Rattle.run_report.specs.Ends.{names_each_end, with_named_end}
 use Rattle.run_report.proofs.History.{seen_more}
 
@@ -17,7 +17,8 @@ unfolding seen_from
 named_none n ends none = record { same = none; clear = λ q. refl }
 
 -- one entry more
-pub named_next : (n i : ℕ) (L : List NodeEntry) (e : NodeEntry) (c : EndEffect) (old new : ℕ → Option TaskEnd) → i < length L → e ≡ get_or L i e
-    → c ≡ change_of e.op e.reply → names_each_end c ≡ true
-    → Named old (seen_from n nothing_seen (take i L)) → ((h : ℕ) → new h ≡ with_named_end c old h) → Named new (seen_from n nothing_seen (take (i + 1) L))
-named_next n i L e c old new e1 e2 e3 e4 e5 e6 = grind (arith, nat_tests, take_at_read, named_change, seen_from, nothing_seen, with_change, seen_more)
+pub named_next : (n i : ℕ) (xs : List ShortEntry) (x : ShortEntry) (c : EndEffect) (old new : ℕ → Option TaskEnd) → i < length xs → x ≡ get_or xs i x
+    → c ≡ change_of (entry_of x).op (entry_of x).reply → names_each_end c ≡ true
+    → Named old (seen_from n nothing_seen (map entry_of (take i xs))) → ((h : ℕ) → new h ≡ with_named_end c old h)
+    → Named new (seen_from n nothing_seen (map entry_of (take (i + 1) xs)))
+named_next n i xs x c old new e1 e2 e3 e4 e5 e6 = grind (arith, nat_tests, take_at_read, map-append, named_change, seen_from, nothing_seen, with_change, seen_more)

@@ -61,3 +61,5 @@ unfoldable pub use Rattle.run_report.specs.Report.{report}
 unfoldable pub use Rattle.run_report.specs.Seen.{seen_from, unstarted_at}
 unfoldable pub use Rattle.run_report.specs.Summary.{totals, totals_text, with_parts}
 unfoldable pub use Rattle.workload_runs.specs.Parts.{CallersRan, Carried, has_begin}
+pub use Rattle.node_journals.specs.Shorts.{entry_of}
+pub use Rattle.node_journals.specs.declared.shorts.ShortEntry.{ShortEntry}

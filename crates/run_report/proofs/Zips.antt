@@ -1,26 +1,33 @@
 -- Statements with their replies, one after another.
-use Rattle.run_report.proofs.Names.{nat_tests, zero, suc, Some, None, Result, ◌≡◌, ℕ, ◌+◌, ◌<◌, ◌≤◌, Bool, false, cond, List, [], ◌∷◌, ◌++◌, Option, refl, sym, ◌∙◌, ap, arith, length, get_or, take, drop, append_assoc, length-drop, nows, map-append, length-map, get_or-map, drop-map, drop_more, append-nil, nil_from_length, drop-drop, slice_get, OnOk, TaskEnd, Statement, Reply, list_any, take-map, or_parts, first_of_two, place_if, is_found, place_from, name_at, names_by, is_given, shows_given, ShowsNames, shown_of, is_task, task_line, task_lines_of, task_name, call_line, call_lines_of}
+use Rattle.run_report.proofs.Names.{subst, entry_of, ShortEntry, nat_tests, zero, suc, Some, None, Result, ◌≡◌, ℕ, ◌+◌, ◌<◌, ◌≤◌, Bool, false, cond, List, [], ◌∷◌, ◌++◌, Option, refl, sym, ◌∙◌, ap, arith, length, get_or, take, drop, append_assoc, length-drop, nows, map-append, length-map, get_or-map, drop-map, drop_more, append-nil, nil_from_length, drop-drop, slice_get, OnOk, TaskEnd, Statement, Reply, list_any, take-map, or_parts, first_of_two, place_if, is_found, place_from, name_at, names_by, is_given, shows_given, ShowsNames, shown_of, is_task, task_line, task_lines_of, task_name, call_line, call_lines_of}
 use denote.Ref.{Bor}
 use Rattle.run_report.specs.declared.sorts.Shown.{Shown}
 use Rattle.run_report.specs.Calls.{makes}
 
 -- the replies behind references, one by one
-pub nows_push : (replies : List (Bor Reply)) (r : Bor Reply) → nows (replies ++ r ∷ []) ≡ nows replies ++ r.now ∷ []
-nows_push replies r = map-append (λ r. r.now) replies (r ∷ [])
+abbrev said : Bor ShortEntry → Reply
+said s = (entry_of s.now).reply
 
-pub nows_past : (replies : List (Bor Reply)) (i : ℕ) → length replies ≤ i → length (nows replies) ≤ i
-nows_past replies i past = omega (arith, length-map replies (λ (r : Bor Reply). r.now))
+pub nows_push : (shorts : List (Bor ShortEntry)) (s : Bor ShortEntry) → nows (shorts ++ s ∷ []) ≡ nows shorts ++ (entry_of s.now).reply ∷ []
+nows_push shorts s = map-append said shorts (s ∷ [])
 
-pub nows_room : (replies : List (Bor Reply)) (i : ℕ) → i < length replies → i < length (nows replies)
-nows_room replies i room = omega (arith, length-map replies (λ (r : Bor Reply). r.now))
+pub nows_past : (shorts : List (Bor ShortEntry)) (i : ℕ) → length shorts ≤ i → length (nows shorts) ≤ i
+nows_past shorts i past = omega (arith, length-map shorts said)
 
-pub nows_at : (replies : List (Bor Reply)) (i : ℕ) (r : Bor Reply) → i < length replies → r ≡ get_or replies i r → r.now ≡ get_or (nows replies) i r.now
-nows_at replies i r room at = ap (λ (q : Bor Reply). q.now) at ∙ sym (get_or-map (λ (q : Bor Reply). q.now) replies i r r.now room)
+pub nows_room : (shorts : List (Bor ShortEntry)) (i : ℕ) → i < length shorts → i < length (nows shorts)
+nows_room shorts i room = omega (arith, length-map shorts said)
+
+pub nows_at : (shorts : List (Bor ShortEntry)) (i : ℕ) (s : Bor ShortEntry) → i < length shorts → s ≡ get_or shorts i s
+    → (entry_of s.now).reply ≡ get_or (nows shorts) i (entry_of s.now).reply
+nows_at shorts i s room at = ap said at ∙ sym (get_or-map said shorts i s (said s) room)
+
+pub nows_at_by : (shorts : List (Bor ShortEntry)) (i : ℕ) (s : Bor ShortEntry) (r : Reply) → i < length shorts → s ≡ get_or shorts i s
+    → r ≡ (entry_of s.now).reply → r ≡ get_or (nows shorts) i r
+nows_at_by shorts i s r room at is = subst (λ (x : Reply). x ≡ get_or (nows shorts) i x) (sym is) (nows_at shorts i s room at)
 
 -- the replies to the statements of a part, behind their references
-pub nows_part : (replies : List (Bor Reply)) (before count : ℕ) → nows (take count (drop before replies)) ≡ take count (drop before (nows replies))
-nows_part replies before count = sym (take-map (λ (r : Bor Reply). r.now) count (drop before replies))
-    ∙ ap (take count) (sym (drop-map (λ (r : Bor Reply). r.now) before replies))
+pub nows_part : (shorts : List (Bor ShortEntry)) (before count : ℕ) → nows (take count (drop before shorts)) ≡ take count (drop before (nows shorts))
+nows_part shorts before count = sym (take-map said count (drop before shorts)) ∙ ap (take count) (sym (drop-map said before shorts))
 
 nothing_left : {A : Type 0} (l : List A) (i : ℕ) → length l ≤ i → drop i l ≡ []
 nothing_left l i past = nil_from_length (drop i l) (omega (arith, length-drop i l))

@@ -1,13 +1,15 @@
 -- The reply to each statement of a run.
 use Rattle.std.specs.Prelude.{ℕ, ◌+◌, ◌==◌, ◌&&◌, Bool, not, List, [], ◌∷◌, length, take, drop, map, if◌then◌else◌}
 use denote.Ref.{Bor}
+use Rattle.node_journals.specs.Shorts.{entry_of}
+use Rattle.node_journals.specs.declared.shorts.ShortEntry.{ShortEntry}
 use Rattle.run_report.specs.Names.{Statement, Part, Reply, NodeEntry}
 use Rattle.mtapi_machine.specs.Kept.{is_pending}
 use Rattle.workload_runs.specs.Parts.{has_begin}
 
--- the replies behind a list of references
-abbrev pub nows : List (Bor Reply) → List Reply
-nows replies = map (λ r. r.now) replies
+-- the replies of the entries behind a list of references
+abbrev pub nows : List (Bor ShortEntry) → List Reply
+nows shorts = map (λ s. (entry_of s.now).reply) shorts
 
 -- the entry decides a call of this seat: its reply isn't Pending
 abbrev pub decides : ℕ → NodeEntry → Bool

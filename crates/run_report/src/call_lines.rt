@@ -6,10 +6,12 @@ ghost use Rattle.run_report.specs.Replies.{nows};
 ghost use Rattle.run_report.specs.Calls.{shown_of, task_name, status_of, number_in, given_in, marked_line, call_line, call_lines_of};
 ghost use Rattle.run_report.specs.Places.{names_by, is_given, shows_given, ShowsNames};
 
+use crate::deciding::reply_of;
 use crate::places::{places_of, task_name};
 use crate::sorts::{Shown, shown_of};
 use crate::text::push_marked;
 use mtapi_machine::Reply;
+use node_journals::ShortEntry;
 use number_text::push_whole;
 use std::alloc::{AllocError, Global};
 use std::collections::HashMap;
@@ -106,15 +108,23 @@ fn push_calls(
     part: &[u8],
     statements: &[Statement],
     places: &HashMap<u64, usize>,
-    replies: &[&Reply],
+    replies: &[&ShortEntry],
 ) -> Result<(), AllocError>
     ensures { OnOk result (out.new.items ≡ out.old.items ++ call_lines_of part.now (names_by statements.now (get nat_eq places.now)) statements.now (nows replies.now)) }
 {
     for (i, statement) in statements.iter().enumerate() {
-        let Some(reply) = replies.get(i) else {
+        let Some(short) = replies.get(i) else {
             return Ok(());
         };
-        push_call(alloc, out, part, statements, places, statement, reply)?;
+        push_call(
+            alloc,
+            out,
+            part,
+            statements,
+            places,
+            statement,
+            &reply_of(short),
+        )?;
     }
     Ok(())
 }
@@ -136,7 +146,7 @@ fn any_given(statements: &[Statement]) -> bool
 fn places_shown(
     alloc: Global,
     statements: &[Statement],
-    replies: &[&Reply],
+    replies: &[&ShortEntry],
 ) -> Result<HashMap<u64, usize>, AllocError>
     ensures { IfOk result (λ places. ShowsNames statements.now (nows replies.now) (get nat_eq places)) }
 {
@@ -154,7 +164,7 @@ pub fn push_call_lines(
     out: &mut Vec<u8>,
     part: &[u8],
     statements: &[Statement],
-    replies: &[&Reply],
+    replies: &[&ShortEntry],
 ) -> Result<(), AllocError>
     ensures { OnOk result (out.new.items ≡ out.old.items ++ call_lines_of part.now (task_name statements.now (nows replies.now)) statements.now (nows replies.now)) }
 {

@@ -1,9 +1,11 @@
 //! The replies to the statements of a part.
-ghost use Rattle.std.specs.Prelude.{◌≡◌, ◌++◌, ◌∷◌, [], OnOk, IfOk, take, drop, if◌then◌else◌};
+ghost use Rattle.std.specs.Prelude.{◌≡◌, ◌++◌, ◌∷◌, [], OnOk, IfOk, take, drop, map, if◌then◌else◌};
 ghost use Rattle.mtapi_machine.specs.Kept.{is_pending};
+ghost use Rattle.node_journals.specs.Shorts.{entry_of};
 ghost use Rattle.run_report.specs.Replies.{nows, decides, decided, calls_before};
 
-use mtapi_machine::{Entry, Reply};
+use mtapi_machine::Reply;
+use node_journals::ShortEntry;
 use std::alloc::{AllocError, Global};
 use workload_file::Part;
 use workload_runs::has_begin;
@@ -17,40 +19,70 @@ fn is_pending(reply: &Reply) -> bool
     }
 }
 
-fn decides(who: u32, entry: &Entry) -> bool
-    ensures { result ≡ decides who entry.now }
+/// What the entry was answered.
+pub fn reply_of(short: &ShortEntry) -> Reply
+    ensures { result ≡ (entry_of short.now).reply }
 {
-    entry.who == who && !is_pending(&entry.reply)
+    match short {
+        ShortEntry::Start { handle, .. } | ShortEntry::Enqueue { handle, .. } => Reply::Handle(
+            *handle,
+        ),
+        ShortEntry::Finish { .. } => Reply::Ok,
+        ShortEntry::Call { reply, .. } => reply.full(),
+        ShortEntry::Pick { .. } => short.full().reply,
+        ShortEntry::Full(entry) => entry.reply.again(),
+    }
+}
+
+fn decides(who: u32, short: &ShortEntry) -> bool
+    ensures { result ≡ decides who (entry_of short.now) }
+{
+    match short {
+        ShortEntry::Start { who: seat, .. }
+        | ShortEntry::Enqueue { who: seat, .. }
+        | ShortEntry::Pick { who: seat, .. }
+        | ShortEntry::Finish { who: seat, .. } => *seat == who,
+        ShortEntry::Call {
+            who: seat,
+            reply,
+            ..
+        } => *seat == who && !reply.is_pending(),
+        ShortEntry::Full(entry) => entry.who == who && !is_pending(&entry.reply),
+    }
 }
 
 #[tactic(auto, using(crate::proofs::Zips::nows_push))]
 fn push_if_decides<'a>(
-    replies: &mut Vec<&'a Reply>,
+    shorts: &mut Vec<&'a ShortEntry>,
     who: u32,
-    entry: &'a Entry,
+    short: &'a ShortEntry,
 ) -> Result<(), AllocError>
-    ensures { OnOk result (nows replies.new.items ≡ nows replies.old.items ++ (if decides who entry.now then entry.now.reply ∷ [] else [])) }
+    ensures { OnOk result (nows shorts.new.items ≡ nows shorts.old.items ++ (if decides who (entry_of short.now) then (entry_of short.now).reply ∷ [] else [])) }
 {
-    if decides(who, entry) {
-        replies.push(&entry.reply)?;
+    if decides(who, short) {
+        shorts.push(short)?;
     }
     Ok(())
 }
 
-/// The replies that decide the calls of this seat, in order.
+/// The entries whose replies decide the calls of this seat, in order.
 #[tactic(auto, using(crate::proofs::Seats::decided_none))]
-pub fn decided(alloc: Global, who: u32, entries: &[Entry]) -> Result<Vec<&Reply>, AllocError>
-    ensures { IfOk result (λ replies. nows replies.items ≡ decided who entries.now) }
+pub fn decided(
+    alloc: Global,
+    who: u32,
+    shorts: &[ShortEntry],
+) -> Result<Vec<&ShortEntry>, AllocError>
+    ensures { IfOk result (λ found. nows found.items ≡ decided who (map entry_of shorts.now)) }
 {
-    let mut replies = Vec::new(alloc);
-    for entry in entries {
-        push_if_decides(&mut replies, who, entry)?;
+    let mut found = Vec::new(alloc);
+    for short in shorts {
+        push_if_decides(&mut found, who, short)?;
     }
-    Ok(replies)
+    Ok(found)
 }
 
 /// What is left behind the first ones.
-fn behind<'a, 'b>(replies: &'b [&'a Reply], count: usize) -> &'b [&'a Reply]
+fn behind<'a, 'b>(replies: &'b [&'a ShortEntry], count: usize) -> &'b [&'a ShortEntry]
     ensures { result.now ≡ drop count replies.now }
 {
     if count < replies.len() {
@@ -61,7 +93,7 @@ fn behind<'a, 'b>(replies: &'b [&'a Reply], count: usize) -> &'b [&'a Reply]
 }
 
 /// The first ones.
-fn front<'a, 'b>(replies: &'b [&'a Reply], count: usize) -> &'b [&'a Reply]
+fn front<'a, 'b>(replies: &'b [&'a ShortEntry], count: usize) -> &'b [&'a ShortEntry]
     ensures { result.now ≡ take count replies.now }
 {
     if count < replies.len() {
@@ -73,10 +105,10 @@ fn front<'a, 'b>(replies: &'b [&'a Reply], count: usize) -> &'b [&'a Reply]
 
 /// The replies to so many statements, among those of a seat that made so many calls before theirs.
 pub fn replies_to<'a, 'b>(
-    replies: &'b [&'a Reply],
+    replies: &'b [&'a ShortEntry],
     before: usize,
     statements: usize,
-) -> &'b [&'a Reply]
+) -> &'b [&'a ShortEntry]
     ensures { result.now ≡ take statements (drop before replies.now) }
 {
     front(behind(replies, before), statements)

@@ -1,5 +1,6 @@
 //! How each task ended, by the entries of a journal.
-ghost use Rattle.std.specs.Prelude.{◌≡◌, ◌≤◌, ℕ, IsTrue, IfOk, OnOk, Some, None, true, nat_eq};
+ghost use Rattle.std.specs.Prelude.{◌≡◌, ◌≤◌, ℕ, IsTrue, IfOk, OnOk, Some, None, true, map, nat_eq};
+ghost use Rattle.node_journals.specs.Shorts.{entry_of};
 ghost use Rattle.std.specs.HashMap.{get};
 ghost use Rattle.mtapi_machine.specs.WorkRows.{task_end};
 ghost use Rattle.run_report.specs.Changes.{change_of};
@@ -11,6 +12,7 @@ use crate::short_ends::ShortEnd;
 use crate::standings::{Standings, standings_of};
 use action_fn::Finished;
 use mtapi_machine::{Entry, Op, Reply};
+use node_journals::{FewFinished, ShortEntry, ShortList};
 use std::alloc::{AllocError, Global};
 use std::collections::HashMap;
 
@@ -97,19 +99,66 @@ fn note_change(
     Ok(true)
 }
 
+// The same of an entry in little room.
+#[tactic(auto, unfolding(crate::specs::Changes::change_of, crate::specs::Ends::names_each_end, crate::specs::Ends::with_named_end))]
+fn note_short(
+    alloc: Global,
+    ended: &mut HashMap<u64, ShortEnd>,
+    short: &ShortEntry,
+) -> Result<bool, AllocError>
+    ensures one { IfOk result (λ one. IsTrue one
+        → names_each_end (change_of (entry_of short.now).op (entry_of short.now).reply) ≡ true) }
+    ensures noted { IfOk result (λ one. IsTrue one
+        → (h : ℕ) → get nat_eq ended.new h ≡ with_named_end (change_of (entry_of short.now).op (entry_of short.now).reply) (get nat_eq ended.old) h) }
+{
+    match short {
+        ShortEntry::Start { .. } => Ok(true),
+        ShortEntry::Pick { .. } => Ok(true),
+        ShortEntry::Finish { task, done, .. } => {
+            note_few(alloc, ended, task.0, done)?;
+            Ok(true)
+        }
+        ShortEntry::Enqueue { .. } | ShortEntry::Call { .. } => note_change(
+            alloc,
+            ended,
+            &short.full(),
+        ),
+        ShortEntry::Full(entry) => note_entry(alloc, ended, entry),
+    }
+}
+
+// Notes how a task ended whose action answered in little room.
+fn note_few(
+    alloc: Global,
+    ended: &mut HashMap<u64, ShortEnd>,
+    task: u64,
+    done: &FewFinished,
+) -> Result<(), AllocError>
+    ensures { OnOk result ((h : ℕ)
+        → get nat_eq ended.new h ≡ put task (Some (task_end done.now.end)) (get nat_eq ended.old) h) }
+{
+    match done.number() {
+        Some(number) => {
+            ended.insert(task, ShortEnd::number(number))?;
+            Ok(())
+        }
+        None => note_finish(alloc, ended, task, &done.full()),
+    }
+}
+
 // Notes each end that an entry names, up to the first entry that may end other tasks. Whether there is none.
 #[tactic(auto, using(crate::proofs::NamedEnds::named_none))]
 fn note_named_ends(
     alloc: Global,
     ended: &mut HashMap<u64, ShortEnd>,
-    entries: &[Entry],
+    shorts: &[ShortEntry],
 ) -> Result<bool, AllocError>
     requires { (h : ℕ) → get nat_eq ended.old h ≡ None }
     ensures { IfOk result (λ all. IsTrue all → (workers : ℕ)
-        → AreEnds (get nat_eq ended.new) (seen_from workers nothing_seen entries.now)) }
+        → AreEnds (get nat_eq ended.new) (seen_from workers nothing_seen (map entry_of shorts.now))) }
 {
-    for entry in entries {
-        if !note_entry(alloc, ended, entry)? {
+    for short in shorts {
+        if !note_short(alloc, ended, short)? {
             return Ok(false);
         }
     }
@@ -122,16 +171,17 @@ fn note_named_ends(
 pub fn ends_of(
     alloc: Global,
     workers: u32,
-    entries: &[Entry],
+    entries: &ShortList,
 ) -> Result<HashMap<u64, ShortEnd>, AllocError>
     requires { workers ≤ 64 }
-    ensures { IfOk result (λ ended. AreEnds (get nat_eq ended) (seen_from workers nothing_seen entries.now)) }
+    ensures { IfOk result (λ ended. AreEnds (get nat_eq ended) (seen_from workers nothing_seen entries.now.entries)) }
 {
     // A task that ran has three entries: its start, its pick and its end. With room for all, the table doesn't move while it fills.
     let mut ended = HashMap::with_capacity(alloc, entries.len() / 3)?;
-    if note_named_ends(alloc, &mut ended, entries)? {
+    if note_named_ends(alloc, &mut ended, entries.shorts())? {
         return Ok(ended);
     }
-    let Standings { ended, .. } = standings_of(alloc, workers, entries)?;
+    let all = entries.in_full(alloc)?;
+    let Standings { ended, .. } = standings_of(alloc, workers, all.as_slice())?;
     Ok(ended)
 }

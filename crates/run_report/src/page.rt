@@ -12,7 +12,7 @@ use crate::deciding::{calls_before, decided, replies_to};
 use crate::ends::ends_of;
 use crate::short_ends::ShortEnd;
 use crate::task_lines::push_task_lines;
-use mtapi_machine::Entry;
+use node_journals::ShortList;
 use std::alloc::{AllocError, Global};
 use std::collections::HashMap;
 use workload_file::{Part, Workload};
@@ -32,13 +32,13 @@ fn push_part(
     who: u32,
     before: usize,
     part: &Part,
-    entries: &[Entry],
+    entries: &ShortList,
     ended: &HashMap<u64, ShortEnd>,
 ) -> Result<(), AllocError>
-    ensures tasks { OnOk result (page.new.tasks.items ≡ page.old.tasks.items ++ task_lines (get nat_eq ended.now) (reported who before entries.now part.now)) }
-    ensures calls { OnOk result (page.new.calls.items ≡ page.old.calls.items ++ call_lines (reported who before entries.now part.now)) }
+    ensures tasks { OnOk result (page.new.tasks.items ≡ page.old.tasks.items ++ task_lines (get nat_eq ended.now) (reported who before entries.now.entries part.now)) }
+    ensures calls { OnOk result (page.new.calls.items ≡ page.old.calls.items ++ call_lines (reported who before entries.now.entries part.now)) }
 {
-    let all = decided(alloc, who, entries)?;
+    let all = decided(alloc, who, entries.shorts())?;
     let name = part.name.as_slice();
     let statements = part.statements.as_slice();
     let replies = replies_to(&all, before, statements.len());
@@ -53,12 +53,12 @@ fn push_further(
     page: &mut Page,
     who: u32,
     parts: &[Part],
-    entries: &[Entry],
+    entries: &ShortList,
     ended: &HashMap<u64, ShortEnd>,
 ) -> Result<(), AllocError>
     requires { who + length parts.now < 2 ^ 32 }
-    ensures tasks { OnOk result (page.new.tasks.items ≡ page.old.tasks.items ++ flat_map (task_lines (get nat_eq ended.now)) (further_told who entries.now parts.now)) }
-    ensures calls { OnOk result (page.new.calls.items ≡ page.old.calls.items ++ flat_map call_lines (further_told who entries.now parts.now)) }
+    ensures tasks { OnOk result (page.new.tasks.items ≡ page.old.tasks.items ++ flat_map (task_lines (get nat_eq ended.now)) (further_told who entries.now.entries parts.now)) }
+    ensures calls { OnOk result (page.new.calls.items ≡ page.old.calls.items ++ flat_map call_lines (further_told who entries.now.entries parts.now)) }
 {
     match parts {
         [] => Ok(()),
@@ -76,12 +76,12 @@ fn push_all(
     page: &mut Page,
     main: u32,
     parts: &[Part],
-    entries: &[Entry],
+    entries: &ShortList,
     ended: &HashMap<u64, ShortEnd>,
 ) -> Result<(), AllocError>
     requires { main + length parts.now < 2 ^ 32 }
-    ensures tasks { OnOk result (page.new.tasks.items ≡ page.old.tasks.items ++ flat_map (task_lines (get nat_eq ended.now)) (all_told main entries.now parts.now)) }
-    ensures calls { OnOk result (page.new.calls.items ≡ page.old.calls.items ++ flat_map call_lines (all_told main entries.now parts.now)) }
+    ensures tasks { OnOk result (page.new.tasks.items ≡ page.old.tasks.items ++ flat_map (task_lines (get nat_eq ended.now)) (all_told main entries.now.entries parts.now)) }
+    ensures calls { OnOk result (page.new.calls.items ≡ page.old.calls.items ++ flat_map call_lines (all_told main entries.now.entries parts.now)) }
 {
     match parts {
         [] => Ok(()),
@@ -116,12 +116,12 @@ fn joined(page: Page) -> Result<Vec<u8>, AllocError>
 pub fn text_by_entries(
     alloc: Global,
     load: &Workload,
-    entries: &[Entry],
+    entries: &ShortList,
 ) -> Result<Vec<u8>, AllocError>
     requires seats { load.now.settings.workers + length load.now.parts < 2 ^ 32 }
     requires workers { load.now.settings.workers ≤ 64 }
     ensures { IfOk result (λ text.
-        text.items ≡ report_by (seen_from load.now.settings.workers nothing_seen entries.now).ends (parts_told load.now entries.now)) }
+        text.items ≡ report_by (seen_from load.now.settings.workers nothing_seen entries.now.entries).ends (parts_told load.now entries.now.entries)) }
 {
     let workers = load.settings.workers();
     let ended = ends_of(alloc, workers, entries)?;

@@ -5,9 +5,11 @@ ghost use Rattle.run_report.specs.Replies.{nows};
 ghost use Rattle.run_report.specs.Calls.{makes};
 ghost use Rattle.run_report.specs.Places.{first_of_two, place_if, is_found, place_from, names_by};
 
+use crate::deciding::reply_of;
 use crate::sorts::{Shown, shown_of};
 use crate::text::name_of;
 use mtapi_machine::Reply;
+use node_journals::ShortEntry;
 use std::alloc::{AllocError, Global};
 use std::collections::HashMap;
 use workload_file::Statement;
@@ -45,16 +47,16 @@ fn note(
 pub fn places_of(
     alloc: Global,
     statements: &[Statement],
-    replies: &[&Reply],
+    replies: &[&ShortEntry],
 ) -> Result<HashMap<u64, usize>, AllocError>
     ensures { IfOk result (λ places. (h : ℕ) → get nat_eq places h ≡ place_from 0 statements.now (nows replies.now) h) }
 {
     let mut places = HashMap::new(alloc);
     for (i, statement) in statements.iter().enumerate() {
-        let Some(reply) = replies.get(i) else {
+        let Some(short) = replies.get(i) else {
             return Ok(places);
         };
-        note(&mut places, i, made(statement, reply))?;
+        note(&mut places, i, made(statement, &reply_of(short)))?;
     }
     Ok(places)
 }

@@ -100,6 +100,15 @@ impl ShortEnd {
         Ok(ShortEnd { short })
     }
 
+    /// The end of a task that answered one number.
+    pub fn number(number: i64) -> ShortEnd
+        ensures { result ≡ Completed (number ∷ []) }
+    {
+        ShortEnd {
+            short: Short::Number(number),
+        }
+    }
+
     /// The end in full. It takes no memory.
     pub fn full(&self) -> TaskEnd
         ensures { result ≡ self.now }

@@ -14,8 +14,7 @@ use crate::deciding::{calls_before, decided, replies_to};
 use crate::ends::ends_of;
 use crate::short_ends::ShortEnd;
 use crate::totals::{Totals, no_totals, with_tasks};
-use mtapi_machine::Entry;
-use node_journals::Journal;
+use node_journals::{Journal, ShortList};
 use number_text::{push_number, signed_text};
 use std::alloc::{AllocError, Global};
 use std::collections::HashMap;
@@ -29,17 +28,17 @@ fn with_part(
     who: u32,
     before: usize,
     part: &Part,
-    entries: &[Entry],
+    entries: &ShortList,
     ended: &HashMap<u64, ShortEnd>,
 ) -> Result<Totals, AllocError>
     requires totals { AreTotals totals.tasks totals }
     requires few { totals.tasks + length part.now.statements ≤ 20000 }
     ensures value { IfOk result (λ t.
-        t ≡ with_tasks (get nat_eq ended.now) totals part.now.statements (reported who before entries.now part.now).replies) }
+        t ≡ with_tasks (get nat_eq ended.now) totals part.now.statements (reported who before entries.now.entries part.now).replies) }
     ensures totals { IfOk result (λ t. AreTotals t.tasks t) }
     ensures tasks { IfOk result (λ t. t.tasks ≤ totals.tasks + length part.now.statements) }
 {
-    let all = decided(alloc, who, entries)?;
+    let all = decided(alloc, who, entries.shorts())?;
     let statements = part.statements.as_slice();
     let replies = replies_to(&all, before, statements.len());
     Ok(with_tasks(totals, ended, statements, replies))
@@ -52,13 +51,13 @@ fn with_further(
     totals: Totals,
     who: u32,
     parts: &[Part],
-    entries: &[Entry],
+    entries: &ShortList,
     ended: &HashMap<u64, ShortEnd>,
 ) -> Result<Totals, AllocError>
     requires seats { who + length parts.now < 2 ^ 32 }
     requires totals { AreTotals totals.tasks totals }
     requires few { totals.tasks + statements_in parts.now ≤ 20000 }
-    ensures { IfOk result (λ t. t ≡ with_parts (get nat_eq ended.now) totals (further_told who entries.now parts.now)) }
+    ensures { IfOk result (λ t. t ≡ with_parts (get nat_eq ended.now) totals (further_told who entries.now.entries parts.now)) }
 {
     match parts {
         [] => Ok(totals),
@@ -75,12 +74,12 @@ fn all_totals(
     alloc: Global,
     main: u32,
     parts: &[Part],
-    entries: &[Entry],
+    entries: &ShortList,
     ended: &HashMap<u64, ShortEnd>,
 ) -> Result<Totals, AllocError>
     requires seats { main + length parts.now < 2 ^ 32 }
     requires few { statements_in parts.now ≤ 20000 }
-    ensures { IfOk result (λ t. t ≡ with_parts (get nat_eq ended.now) no_totals (all_told main entries.now parts.now)) }
+    ensures { IfOk result (λ t. t ≡ with_parts (get nat_eq ended.now) no_totals (all_told main entries.now.entries parts.now)) }
 {
     match parts {
         [] => Ok(no_totals()),
@@ -104,13 +103,13 @@ fn all_totals(
 fn totals_by_entries(
     alloc: Global,
     load: &Workload,
-    entries: &[Entry],
+    entries: &ShortList,
 ) -> Result<Totals, AllocError>
     requires seats { load.now.settings.workers + length load.now.parts < 2 ^ 32 }
     requires workers { load.now.settings.workers ≤ 64 }
     requires few { statements_in load.now.parts ≤ 20000 }
     ensures { IfOk result (λ t.
-        t ≡ with_parts (seen_from load.now.settings.workers nothing_seen entries.now).ends no_totals (parts_told load.now entries.now)) }
+        t ≡ with_parts (seen_from load.now.settings.workers nothing_seen entries.now.entries).ends no_totals (parts_told load.now entries.now.entries)) }
 {
     let workers = load.settings.workers();
     let ended = ends_of(alloc, workers, entries)?;
@@ -161,6 +160,6 @@ pub fn summary_of(alloc: Global, load: &Workload, journal: &Journal) -> Result<V
     requires legal { Legal (terms_with journal.now.layout journal.now.settings journal.now.callers) journal.now.entries.entries }
     ensures { IfOk result (λ text. text.items ≡ summary journal.now.layout load.now journal.now.entries.entries) }
 {
-    let totals = totals_by_entries(alloc, load, journal.entries.as_slice())?;
+    let totals = totals_by_entries(alloc, load, &journal.entries)?;
     line_of(alloc, &totals)
 }

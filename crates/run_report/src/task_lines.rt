@@ -5,10 +5,12 @@ ghost use Rattle.run_report.specs.Replies.{nows};
 ghost use Rattle.run_report.specs.Calls.{shown_of, is_task, task_line, task_lines_of};
 ghost use Rattle.std.specs.HashMap.{get};
 
+use crate::deciding::reply_of;
 use crate::short_ends::ShortEnd;
 use crate::sorts::{Shown, shown_of};
 use crate::text::{name_of, push_end};
 use mtapi_machine::Reply;
+use node_journals::ShortEntry;
 use std::alloc::{AllocError, Global};
 use std::collections::HashMap;
 use workload_file::Statement;
@@ -77,15 +79,15 @@ pub fn push_task_lines(
     part: &[u8],
     ended: &HashMap<u64, ShortEnd>,
     statements: &[Statement],
-    replies: &[&Reply],
+    replies: &[&ShortEntry],
 ) -> Result<(), AllocError>
     ensures { OnOk result (out.new.items ≡ out.old.items ++ task_lines_of part.now (get nat_eq ended.now) statements.now (nows replies.now)) }
 {
     for (i, statement) in statements.iter().enumerate() {
-        let Some(reply) = replies.get(i) else {
+        let Some(short) = replies.get(i) else {
             return Ok(());
         };
-        push_if_task(alloc, out, part, ended, statement, reply)?;
+        push_if_task(alloc, out, part, ended, statement, &reply_of(short))?;
     }
     Ok(())
 }

@@ -5,10 +5,12 @@ ghost use Rattle.run_report.specs.Replies.{nows};
 ghost use Rattle.run_report.specs.Calls.{shown_of, is_task};
 ghost use Rattle.run_report.specs.Summary.{no_totals, with_number, with_numbers, with_end, with_fate, with_task, with_tasks, IsNear, AreTotals};
 
+use crate::deciding::reply_of;
 use crate::short_ends::ShortEnd;
 use crate::sorts::{Shown, shown_of};
 use mtapi_machine::Reply;
 use mtapi_values::TaskEnd;
+use node_journals::ShortEntry;
 use std::collections::HashMap;
 use workload_file::Statement;
 
@@ -143,7 +145,7 @@ pub fn with_tasks(
     totals: Totals,
     ended: &HashMap<u64, ShortEnd>,
     statements: &[Statement],
-    replies: &[&Reply],
+    replies: &[&ShortEntry],
 ) -> Totals
     requires totals { AreTotals totals.tasks totals }
     requires few { totals.tasks + length statements.now ≤ 20000 }
@@ -155,10 +157,10 @@ pub fn with_tasks(
     let mut statements = statements;
     let mut replies = replies;
     'statements: while let [statement, later @ ..] = statements {
-        let [reply, fewer @ ..] = replies else {
+        let [short, fewer @ ..] = replies else {
             return totals;
         };
-        totals = with_statement(totals, ended, statement, reply);
+        totals = with_statement(totals, ended, statement, &reply_of(short));
         statements = later;
         replies = fewer;
     }

@@ -5,9 +5,8 @@ ghost use Rattle.mtapi_machine.specs.State.{terms_with};
 ghost use Rattle.run_report.specs.Report.{run_terms, report};
 
 use crate::page::text_by_entries;
-use mtapi_machine::Entry;
 use mtapi_values::Layout;
-use node_journals::Journal;
+use node_journals::{Journal, ShortList};
 use std::alloc::{AllocError, Global};
 use workload_file::Workload;
 
@@ -18,10 +17,10 @@ pub fn report_of_entries(
     alloc: Global,
     layout: Layout,
     load: &Workload,
-    entries: &[Entry],
+    entries: &ShortList,
 ) -> Result<Vec<u8>, AllocError>
-    requires legal { Legal (run_terms layout load.now) entries.now }
-    ensures { IfOk result (λ text. text.items ≡ report layout load.now entries.now) }
+    requires legal { Legal (run_terms layout load.now) entries.now.entries }
+    ensures { IfOk result (λ text. text.items ≡ report layout load.now entries.now.entries) }
 {
     let _ = layout;
     text_by_entries(alloc, load, entries)
@@ -36,5 +35,5 @@ pub fn report_of(alloc: Global, load: &Workload, journal: &Journal) -> Result<Ve
     requires legal { Legal (terms_with journal.now.layout journal.now.settings journal.now.callers) journal.now.entries.entries }
     ensures { IfOk result (λ text. text.items ≡ report journal.now.layout load.now journal.now.entries.entries) }
 {
-    report_of_entries(alloc, journal.layout, load, journal.entries.as_slice())
+    report_of_entries(alloc, journal.layout, load, &journal.entries)
 }

@@ -38,7 +38,7 @@ refused_fits o x e1 = grind (arith, nat_tests)
 caller_fits : (o : Op) (x : MrapiStatus) → refuses_with o (reply.Mrapi x) ≡ true → Fits o (reply.Mrapi x)
 caller_fits o x e1 = grind (arith, nat_tests)
 
-fits_by : (s : State) (who : ℕ) (o : Op) (r : Reply) (ms : List Move) → Answers s who o r ms → Fits o r
+pub fits_by : (s : State) (who : ℕ) (o : Op) (r : Reply) (ms : List Move) → Answers s who o r ms → Fits o r
 fits_by s who _ _ _ (is.refuses o x e) = refused_fits o x e
 fits_by s who _ _ _ (is.refuses_caller o x e) = caller_fits o x e
 fits_by s who _ _ _ (is.finds_job job e) = ap (λ (b : Bool). is_some (cond b (Some job) None)) (self_is job)

@@ -1,1 +1,1 @@
-mod CallAnswers
+pub mod CallAnswers

@@ -28,7 +28,7 @@ fn is_again(alloc: Global, text: &str) -> Result<bool, AllocError> {
 /// How many entries a text has, 0 where it is refused.
 fn entries_in(alloc: Global, text: &str) -> Result<usize, AllocError> {
     match read_journal(alloc, &mut source(alloc, text)?) {
-        Ok(journal) => Ok(journal.entries.as_slice().len()),
+        Ok(journal) => Ok(journal.entries.len()),
         Err(_) => Ok(0),
     }
 }

@@ -1,8 +1,9 @@
 //! The line of hand-made totals.
 ghost use Rattle.std.specs.Prelude.{◌≤◌, length};
 
-use mtapi_machine::Reply;
+use mtapi_machine::{Entry, Op, Reply};
 use mtapi_values::{Args, Kind, Mask, MtapiStatus, TaskEnd, Timeout};
+use node_journals::{ShortEntry, ShortList};
 use run_report::{ShortEnd, Totals, line_of, no_totals, with_tasks};
 use std::alloc::Global;
 use std::collections::HashMap;
@@ -68,7 +69,7 @@ fn completed(values: &[i64]) -> TaskEnd {
     TaskEnd::Completed(numbers(values))
 }
 
-fn counted(ended: &HashMap<u64, ShortEnd>, statements: &[Statement], told: &[&Reply]) -> Totals
+fn counted(ended: &HashMap<u64, ShortEnd>, statements: &[Statement], told: &[&ShortEntry]) -> Totals
     requires { length statements.now ≤ 20000 }
 {
     with_tasks(no_totals(), ended, statements, told)
@@ -95,7 +96,8 @@ fn line(alloc: Global, values: &[i64]) -> Result<Vec<u8>, Fail> {
         statement(7, enqueue()),
         statement(8, wait_all()),
     ]?;
-    let replies = vec![in alloc;
+    let mut kept = ShortList::new(alloc);
+    for reply in [
         Reply::Handle(3),
         Reply::Handle(1),
         Reply::Handle(2),
@@ -104,8 +106,17 @@ fn line(alloc: Global, values: &[i64]) -> Result<Vec<u8>, Fail> {
         Reply::Mtapi(MtapiStatus::ErrTaskLimit),
         Reply::Mtapi(MtapiStatus::ErrQueueLimit),
         Reply::Mtapi(MtapiStatus::ErrActionFailed),
-    ]?;
-    let told: Vec<&Reply> = replies.iter().collect(alloc)?;
+    ] {
+        kept.push(
+            Entry {
+                who: 1,
+                op: Op::Close,
+                reply,
+            },
+            0,
+        )?;
+    }
+    let told: Vec<&ShortEntry> = kept.shorts().iter().collect(alloc)?;
     let totals = counted(&ended, &statements, &told);
     Ok(line_of(alloc, &totals)?)
 }

@@ -1,7 +1,9 @@
 -- Of clients that call beside a table of pieces, and of the clients that these were made of.
 use Rattle.typed_pieces.proofs.Names.{◌≡◌, ◌+◌, ℕ, suc, List, [], ◌∷◌, length, map, subst, sym, ◌∙◌, ap, inl, inr, Result, Err, IfErr, length-map, entries_of, NodeSettings, MtapiStatus, NodeEntry, Legal, Journal, Seat, MainOpens, CallerEnters, HasCalled, IfRefused, HaveCalled, IsRun, IsRunOfAll, RefusesOne, terms_among, terms_for, refused_weaker}
 use Rattle.mtapi_machine.specs.declared.terms.Terms.{Terms}
-use Rattle.node_core.specs.Logs.{KeptAs}
+use Rattle.mtapi_machine.specs.declared.replies.Reply.TheVariants as reply
+use Rattle.node_core.specs.Keeping.{KeptAs}
+use Rattle.node_with_workers.specs.Runs.{HasEnded}
 use Rattle.node_with_workers.specs.declared.failure.Failure.{Failure}
 
 -- what the promise of a client that was made of another says is what that one promises
@@ -22,7 +24,7 @@ has_called inner outer opens c b v u t who es says h =
       same = h.same;
       goes_on = h.goes_on;
       promised = says h.before h.after h.promised;
-      begins = h.begins;
+      all = h.all;
     }
 
 -- and of a run with main alone
@@ -63,7 +65,7 @@ run_of_all inner outer of says further beside each also b others es settings tol
       mine = r.mine;
       called = subst (λ n. HasCalled MainOpens inner (of b) (terms_among settings n) settings.workers told r.mine) same
           (has_called inner outer MainOpens (of b) b told told (terms_among settings (length es)) settings.workers r.mine (λ x y. says b x y told) r.called);
-      ended = r.ended;
+      ended = subst (λ n. HasEnded (terms_among settings n) r.history r.mine reply.Ok) same r.ended;
       others_called =
           subst (λ l. HaveCalled further (terms_among settings (length others)) r.history (settings.workers + 1) l us) are
           (have_called further beside each also (terms_among settings (length others)) r.history (settings.workers + 1) es us
@@ -81,7 +83,7 @@ refused_of_all inner outer of says b n m settings f same =
     refused_one : (status : MtapiStatus) → RefusesOne outer b n settings status → RefusesOne inner (of b) n settings status
     refused_one status (inl a) = inl a
     refused_one status (inr r) =
-        inr (r.0, r.1, has_called inner outer MainOpens (of b) b r.0 r.0 (terms_among settings n) settings.workers r.1 (λ x y. says b x y r.0) r.2, r.3)
+        inr (r.0, r.1, has_called inner outer MainOpens (of b) b r.0 r.0 (terms_among settings n) settings.workers r.1 (λ x y. says b x y r.0) r.2, r.3, r.4)
 
 -- a failure that is passed on has its cause
 pub passed_on : {T : Type 0} (r : Result T Failure) (f : Failure) (P : Failure → Type 0) → r ≡ Err f → P f → IfErr r P

@@ -5,3 +5,4 @@ pub mod Split
 pub mod SplitRuns
 pub mod Told
 pub mod Worked
+pub mod WorkedTold

@@ -2,7 +2,7 @@
 
 ghost use Rattle.std.specs.Prelude.{◌≡◌, ◌≤◌, IfOk, IfErr, map, vec_len};
 ghost use Rattle.std.specs.List.{All};
-ghost use Rattle.node_with_workers.specs.Clients.{IfRefused};
+ghost use Rattle.node_with_workers.specs.Clients.{IfNoThread, IfRefused};
 ghost use Rattle.node_with_workers.specs.Runs.{IsRun, IsRunOfAll, Refuses, RefusesOne};
 ghost use Rattle.typed_pieces.specs.Places.{AreKept};
 
@@ -83,6 +83,7 @@ where
     requires few { vec_len others ≤ 8 }
     ensures run { IfOk result (λ r. IsRunOfAll (λ c. C.promise c L.pieces) (λ d. D.promise d L.pieces) client others.items settings r.0 r.1.items r.2) }
     ensures causes { IfErr result (λ e. IfRefused e (RefusesOne (λ c. C.promise c L.pieces) client (vec_len others) settings)) }
+    ensures unbegun { IfErr result (λ e. IfNoThread e settings.workers) }
 {
     let others = beside(alloc, others, shared)?;
     let done = with_callers(
@@ -119,6 +120,7 @@ where
     requires few { vec_len others ≤ 8 }
     ensures run { IfOk result (λ w. IsRunOfAll (λ c. C.promise c pieces.items) (λ d. D.promise d pieces.items) client others.items settings w.told w.others.items w.journal) }
     ensures causes { IfErr result (λ e. IfRefused e (RefusesOne (λ c. C.promise c pieces.items) client (vec_len others) settings)) }
+    ensures unbegun { IfErr result (λ e. IfNoThread e settings.workers) }
     ensures kept { IfOk result (λ w. AreKept J.promise pieces.items w.results.items) }
     ensures places { IfOk result (λ w. vec_len w.results ≡ vec_len pieces) }
 {
@@ -162,6 +164,7 @@ where
     requires ready { All J.ready pieces.items }
     ensures run { IfOk result (λ w. IsRunOfAll (λ c. C.promise c pieces.items) (λ d. D.promise d pieces.items) client others.items settings w.told w.others.items w.journal) }
     ensures causes { IfErr result (λ e. IfRefused e (RefusesOne (λ c. C.promise c pieces.items) client (vec_len others) settings)) }
+    ensures unbegun { IfErr result (λ e. IfNoThread e settings.workers) }
     ensures kept { IfOk result (λ w. AreKept J.promise pieces.items w.results.items) }
     ensures places { IfOk result (λ w. vec_len w.results ≡ vec_len pieces) }
 {
@@ -204,6 +207,7 @@ where
     requires ready { All J.ready pieces.items }
     ensures run { IfOk result (λ w. IsRun (λ c. C.promise c pieces.items) client settings w.told w.journal) }
     ensures causes { IfErr result (λ e. IfRefused e (Refuses (λ c. C.promise c pieces.items) client settings)) }
+    ensures unbegun { IfErr result (λ e. IfNoThread e settings.workers) }
     ensures kept { IfOk result (λ w. AreKept J.promise pieces.items w.results.items) }
     ensures places { IfOk result (λ w. vec_len w.results ≡ vec_len pieces) }
 {

@@ -1,8 +1,14 @@
-//! Worked rows of work that splits.
+//! Worked rows. The functions do nothing: their contracts are the rows.
 
 ghost use Rattle.typed_pieces.specs.Worked.{WorkedPieces};
+ghost use Rattle.typed_pieces.specs.WorkedTold.{WorkedTold};
 
-/// What pieces, joins and levels give, and what is wrong in one place. The function does nothing: its contract is the rows.
+/// What pieces, joins and levels give, and what is wrong in one place.
 pub fn worked_pieces()
     ensures { WorkedPieces }
+{}
+
+/// The places that ends tell, and the starts of pieces.
+pub fn worked_told()
+    ensures { WorkedTold }
 {}

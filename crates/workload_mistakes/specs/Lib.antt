@@ -1,4 +1,5 @@
 pub mod Mending
 pub mod Told
 pub mod Page
+pub mod Ends
 pub mod Worked

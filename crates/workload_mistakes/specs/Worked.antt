@@ -8,6 +8,10 @@ use Rattle.workload_mistakes.specs.declared.mistakes.Part.{Part}
 use Rattle.workload_mistakes.specs.declared.mistakes.Mend.{Mend}
 use Rattle.workload_mistakes.specs.declared.mistakes.Mend.TheVariants as mend
 use Rattle.workload_mistakes.specs.declared.mistakes.Mistake.{Mistake}
+use Rattle.workload_mistakes.specs.declared.explaining.ExplainEnd.{ExplainEnd}
+use Rattle.workload_mistakes.specs.declared.explaining.ExplainEnd.TheVariants as end
+use Rattle.workload_mistakes.specs.Ends.{status_of, message, writes}
+use Rattle.workload_mistakes.specs.Told.{ends, has_end}
 use Rattle.workload_mistakes.specs.Mending.{binding, part_in, usual_text, read_for, mended, after}
 use Rattle.workload_mistakes.specs.Page.{mistake_text, is_behind, in_order, page_text}
 
@@ -51,6 +55,16 @@ module _ (hint : Vec ℕ Global) where
   abbrev pub at_option : Mistake
   at_option = told 2 9 cause.UnknownOption second_mend
 
+  abbrev pub ninth : Mistake
+  ninth = told 5 1 cause.TooManyCallers nothing
+
+  -- One of the lines ends the look, wherever it stands among them.
+  pub record WorkedLooks : Type 0 where
+    pub none : has_end (late ∷ middle ∷ last ∷ early ∷ []) ≡ false
+    pub nothing : has_end [] ≡ false
+    pub first : has_end (ninth ∷ late ∷ []) ≡ true
+    pub behind : has_end (late ∷ ninth ∷ []) ≡ true
+
   -- Mistakes stand by their lines, then by their columns, and those of one place as they were found.
   pub record WorkedOrder : Type 0 where
     pub later_line : is_behind late middle ≡ true
@@ -77,6 +91,27 @@ module _ (hint : Vec ℕ Global) where
     pub second : mended at_option lines ≡ codes "actio Sum job=7\nwait tt timeout=nowait789 group=g\n"
     pub both : after (at_name ∷ at_option ∷ []) lines ≡ codes "action Sum job=1 kind=add\nwait tt timeout=nowait789 group=g\n"
 
+-- all ends
+abbrev pub all_ends : List ExplainEnd
+all_ends = end.Clean ∷ end.Usage ∷ end.Faulty ∷ end.TooLong ∷ end.ReadFault ∷ end.WriteFault ∷ end.Memory ∷ []
+
+-- The status of each end, what is said of it, and in which something may be written.
+pub record WorkedEnds : Type 0 where
+  pub statuses : map status_of all_ends ≡ (0 ∷ 2 ∷ 3 ∷ 3 ∷ 4 ∷ 5 ∷ 6 ∷ [])
+  pub said : map message all_ends ≡ ([] ∷ codes "usage: mtapi explain\n" ∷ [] ∷ codes "mtapi: workload too long\n"
+      ∷ codes "mtapi: read fault\n" ∷ codes "mtapi: write fault\n" ∷ codes "mtapi: out of memory\n" ∷ [])
+  pub writing : map writes all_ends ≡ (true ∷ false ∷ true ∷ false ∷ false ∷ true ∷ false ∷ [])
+
+-- all causes, in the order in which a line is looked at
+abbrev pub all_causes : List Cause
+all_causes = cause.LineTooLong ∷ cause.BadByte ∷ cause.UnknownWord ∷ cause.TooManyStatements ∷ cause.TooManyCallers ∷ cause.Misplaced ∷ cause.BadName
+    ∷ cause.UnknownOption ∷ cause.OptionTwice ∷ cause.BadValue ∷ cause.OptionMissing ∷ cause.NameTaken ∷ cause.NameUnknown ∷ []
+
+-- Behind which lines nothing is looked at: the statement that is one too many, and the caller that is.
+pub record WorkedCauses : Type 0 where
+  pub last : map ends all_causes
+      ≡ (false ∷ false ∷ false ∷ true ∷ true ∷ false ∷ false ∷ false ∷ false ∷ false ∷ false ∷ false ∷ false ∷ [])
+
 -- Each meaning of a line has one that binds the name.
 pub record WorkedBindings : Type 0 where
   pub nothing : binding meant.Nothing (codes "N") ≡ []
@@ -98,3 +133,6 @@ pub record WorkedMistakes : Type 0 where
   pub page : (hint : Vec ℕ Global) → hint.items ≡ codes "7 to 9" → WorkedPage hint
   pub mends : (hint : Vec ℕ Global) → WorkedMends hint
   pub bindings : WorkedBindings
+  pub ends : WorkedEnds
+  pub causes : WorkedCauses
+  pub looks : (hint : Vec ℕ Global) → WorkedLooks hint

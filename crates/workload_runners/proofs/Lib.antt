@@ -8,8 +8,6 @@ pub mod WorkLemmas
 pub mod SeatSteps
 pub mod CarryLemmas
 pub mod Meets
-pub mod CrewLemmas
-pub mod WorkerLemmas
 pub mod TurnMarks
 pub mod Rounds
 pub mod EntriesToTurns
@@ -17,8 +15,9 @@ pub mod NoPhase
 pub mod OwnParts
 pub mod PhaseReplies
 pub mod WholeRun
-pub mod SeatsBack
 pub mod Starts
-pub mod Deals
+pub mod CrewSeats
+pub mod WholeCrew
+pub mod PartsRun
 pub mod TallyWork
 pub mod TallySeat

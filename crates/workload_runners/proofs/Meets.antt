@@ -1,6 +1,5 @@
 -- What a meeting leaves: each seat has the entries that it had.
-use Rattle.workload_runners.proofs.Names.{[], ◌++◌, ◌+◌, ◌<◌, ◌∙◌, ◌∷◌, ◌≡◌, ◌≤◌, All, AllZip, AreMet, Cell, ReturnedSeats, HasSeenMore, IsEnded, Knows, List, NodeEntry, None, Op, Reply, Seat, Some, StartsWith, Turned, all_of, ap, append-nil, append_assoc, arith, dite, entries_of, get_or, length, length-set, refl, set, subst, suc, sym, vec_capacity, vec_len, zero, ℕ, ℕ_discrete}
-use Rattle.workload_runners.specs.declared.statements.Stop.{Stop}
+use Rattle.workload_runners.proofs.Names.{[], ◌++◌, ◌+◌, ◌<◌, ◌∙◌, ◌∷◌, ◌≡◌, ◌≤◌, All, AllZip, AreMet, Cell, HasSeenMore, Knows, List, NodeEntry, Seat, StartsWith, all_of, ap, append-nil, append_assoc, arith, dite, entries_of, get_or, length, length-set, refl, set, subst, suc, sym, zero, ℕ, ℕ_discrete}
 
 pub seen_nothing_more : (a : Seat) → HasSeenMore a a
 seen_nothing_more a = record { cell = refl; number = refl; terms = refl; seen = ([], sym (append-nil a.seen)); mine = refl; shown = refl }
@@ -116,21 +115,6 @@ met_more a m m' s s' xs ys zs n x l at more other one own is =
 
 pub met_all : (a m : Seat) (xs ys : List Seat) (n : ℕ) → length ys ≤ n → MetSoFar a m xs ys n → AreMet a m xs ys
 met_all a m xs ys n l x = record { main = x.main; len = x.len; others = x.others; knows = λ k d h. x.knows k d (omega arith) h }
-
--- Main met all, and made its call
-
-pub ended_turn : (o : Op) (c c' : ReturnedSeats) (met : Seat) (r : Reply) → AreMet c.main met c.others.items c'.others.items → Turned met o r c'.main
-    → vec_len c'.others ≡ vec_len c.others → vec_capacity c'.others ≡ vec_capacity c.others → c'.refused ≡ c.refused → c'.stop ≡ c.stop → IsEnded o c c'
-ended_turn o c c' met r m t len capacity refused stop =
-    record { len = len; capacity = capacity; refused = refused; turned = λ e. sym stop ∙ e; ended = λ clean. (met, r, m, t) }
-
-not_none : {A B : Type 0} {x : A} → Some x ≡ None → B
-not_none e = absurd (cc)
-
-pub ended_spent : (o : Op) (c c' : ReturnedSeats) (s : Stop) → vec_len c'.others ≡ vec_len c.others → vec_capacity c'.others ≡ vec_capacity c.others
-    → c'.refused ≡ c.refused → c'.stop ≡ Some s → IsEnded o c c'
-ended_spent o c c' s len capacity refused stop =
-    record { len = len; capacity = capacity; refused = refused; turned = λ e. not_none (sym stop ∙ e); ended = λ clean. not_none (sym stop ∙ clean.turned) }
 
 pub of_met : (z : Cell) (a m : Seat) (xs ys : List Seat) → AreMet a m xs ys → All (λ (s : Seat). s.cell ≡ z.id) xs → All (λ (s : Seat). s.cell ≡ z.id) ys
 of_met z a m xs ys x all = λ k d h. let n = x.len in (x.others k d d (omega arith)).cell ∙ all k d (omega arith)

@@ -1,72 +1,21 @@
--- What the threads of a run bring back.
-use Rattle.std.specs.Prelude.{◌≡◌, ℕ, ◌+◌, ◌-◌, ◌≤◌, ◌<◌, true, false, List, [], ◌∷◌, ◌++◌, All, vec_len, vec_capacity, None, slice_index_or, length, ◌⊎◌}
-use Rattle.workload_runners.specs.Names.{StartsWith, entries_of, Op, NodeEntry, Statement, Part, Close, Reply, CellView, HasSeenMore, JournaledTerms}
+-- What the threads of a node's callers and workers bring back.
+use Rattle.std.specs.Prelude.{◌≡◌, ◌+◌, ◌<◌, ◌≤◌, ◌⊎◌, ℕ, Bool, true, false, suc, List, [], ◌∷◌, ◌++◌, All, Option, None, Result, Ok, Err, IfOk, length, slice_index_or, Vec, vec_len, vec_capacity}
 use Rattle.std.specs.List.{AllZip}
-use Rattle.workload_runners.specs.declared.crew.back.Back.{Back}
-use Rattle.workload_runners.specs.declared.crew.back.ReturnedSeats.{ReturnedSeats}
-use Rattle.workload_runners.specs.declared.crew.back.Hands.{Hands}
-use Rattle.workload_runners.specs.declared.crew.back.AllHands.{AllHands}
+use Rattle.std.specs.declared.alloc.Global.{Global}
+use Rattle.workload_runners.specs.Names.{StartsWith, entries_of, Op, NodeEntry, Close, Reply, CellView, HasSeenMore, JournaledTerms, fresh_seat, fresh_seats}
+use Rattle.mtapi_machine.specs.declared.terms.Terms.{Terms}
 use Rattle.workload_runners.specs.Turns.{Seat, SameSeat, AddsOwn, Turned, Unturned}
 use Rattle.workload_runners.specs.Rounds.{AtRest, WorkerAs}
-use Rattle.workload_runners.specs.Carries.{MainAs, CallerIn}
-
--- what a seat that came back promises: the same seat, and, unless its holder had to stop, what it did
-pub record CameBack (R : ℕ → List NodeEntry → Type 0) (old : Seat) (b : Back) : Type 0 where
-  pub same : SameSeat old b.seat
-  pub did : b.stop ≡ None → AddsOwn R old b.seat
+use Rattle.workload_runners.specs.declared.crew.holder.Held.{Held}
+use Rattle.workload_runners.specs.declared.crew.jobs.Served.{Served}
+use Rattle.workload_runners.specs.declared.crew.end.Ended.{Ended}
+use Rattle.workload_runners.specs.declared.crew.callers.UnstartedCallers.{UnstartedCallers}
+use Rattle.workload_runners.specs.declared.crew.callers.ReturnedCallers.{ReturnedCallers}
+use Rattle.workload_runners.specs.declared.crew.workers.UnstartedThreads.{UnstartedThreads}
+use Rattle.workload_runners.specs.declared.crew.workers.Crew.{Crew}
 
 abbrev pub Cell : Type 0
 Cell = CellView JournaledTerms
-
--- no start was refused, and nobody had to stop
-pub record IsClean (c : ReturnedSeats) : Type 0 where
-  pub started : c.refused ≡ false
-  pub turned : c.stop ≡ None
-
--- main's seat, and those of the further callers, each with what it did
-pub record CallersDid (parts : List Part) (ss : List Statement) (main : Seat) (callers : List Seat) (c : ReturnedSeats) : Type 0 where
-  pub main_did : AddsOwn (MainAs ss) main c.main
-  pub called : AllZip (AddsOwn (CallerIn parts main.number)) callers c.others.items
-
--- the seat is of this cell, and there is a part for it
-pub record HasPart (z : Cell) (parts : List Part) (main : ℕ) (s : Seat) : Type 0 where
-  pub cell : s.cell ≡ z.id
-  pub behind : main < s.number
-  pub part : s.number - main < length parts
-
--- all seats are of this cell, each has a part, and there is room for those that come back
-pub record AreReady (z : Cell) (parts : List Part) (h : Hands) : Type 0 where
-  pub main : h.main.cell ≡ z.id
-  pub callers : All (HasPart z parts h.main.number) h.callers.items
-  pub empty : h.room.items ≡ []
-  pub room : vec_len h.callers ≤ vec_capacity h.room
-
--- all seats of the crew are of this cell
-pub record IsOf (z : Cell) (c : ReturnedSeats) : Type 0 where
-  pub main : c.main.cell ≡ z.id
-  pub others : All (λ (s : Seat). s.cell ≡ z.id) c.others.items
-
--- where a start was refused, main closed and made no other call; or the turns were used up, and it made none
-abbrev pub GaveUp : Seat → Seat → Type 0
-GaveUp old new = ((r : Reply) × Turned old Close r new) ⊎ Unturned old new
-
--- what is known of a crew of callers
-pub record IsCrewOf (z : Cell) (parts : List Part) (ss : List Statement) (h : Hands) (c : ReturnedSeats) : Type 0 where
-  pub of_cell : IsOf z c
-  pub len : vec_len c.others ≤ vec_len h.callers
-  pub room : vec_capacity h.room ≤ vec_capacity c.others
-  pub did : IsClean c → CallersDid parts ss h.main h.callers.items c
-  pub gave_up : c.refused ≡ true → GaveUp h.main c.main
-
--- one more seat came back
-pub record IsJoined (before : ReturnedSeats) (b : Back) (after : ReturnedSeats) : Type 0 where
-  pub main : after.main ≡ before.main
-  pub others : after.others.items ≡ before.others.items ++ b.seat ∷ []
-  pub len : vec_len after.others ≡ vec_len before.others + 1
-  pub capacity : vec_capacity before.others ≤ vec_capacity after.others
-  pub refused : after.refused ≡ before.refused
-  pub crew : after.stop ≡ None → before.stop ≡ None
-  pub back : after.stop ≡ None → b.stop ≡ None
 
 -- what main has seen begins with a history that has all entries of this seat
 pub record Knows (main s : Seat) : Type 0 where
@@ -81,47 +30,139 @@ pub record AreMet (old new : Seat) (before after : List Seat) : Type 0 where
   pub others : (k : ℕ) (d e : Seat) → k < length before → HasSeenMore (slice_index_or before k d) (slice_index_or after k e)
   pub knows : All (Knows new) after
 
--- main met all seats, and then made this call; where a start was refused, nothing is said
-pub record IsEnded (o : Op) (before after : ReturnedSeats) : Type 0 where
-  pub len : vec_len after.others ≡ vec_len before.others
-  pub capacity : vec_capacity after.others ≡ vec_capacity before.others
-  pub refused : after.refused ≡ before.refused
-  pub turned : after.stop ≡ None → before.stop ≡ None
-  pub ended : IsClean after → (met : Seat) × (r : Reply) × AreMet before.main met before.others.items after.others.items × Turned met o r after.main
+-- where a start was refused, main closed and made no other call; or the turns were used up, and it made none
+abbrev pub GaveUp : Seat → Seat → Type 0
+GaveUp old new = ((r : Reply) × Turned old Close r new) ⊎ Unturned old new
 
--- main's part of a run: what it executed; then it met the further callers, and closed
-pub record MainClosed (ss : List Statement) (old : Seat) (callers : List Seat) (new : Seat) : Type 0 where
-  pub carried_out : Seat
-  pub did : AddsOwn (MainAs ss) old carried_out
+-- nothing was given but a seat
+abbrev pub is_lost : {A B : Type 0} → Result A B → Bool
+is_lost (Ok x) = false
+is_lost (Err e) = true
+
+-- this worker's seat came back; unless the turns were used up, it made rounds and was told to stop
+pub record HasServed {A : Type 0} (old : Seat) (o : Served A) : Type 0 where
+  pub same : SameSeat old o.seat
+  pub did : o.spent ≡ None → AddsOwn WorkerAs old o.seat
+
+-- this caller's seat came back, and its holder's promise holds of the entries that it has
+pub record HasHeld {C T : Type 0} (P : C → Terms → ℕ → T → List NodeEntry → Type 0) (client : C) (old new : Seat) (told : T) : Type 0 where
+  pub same : SameSeat old new
+  pub kept : P client old.terms.node old.number told new.mine
+
+-- the seats are a new cell's: main's, and one for each client of a further caller; and there is room for what comes back
+pub record MayCall {C D U : Type 0} (z : Cell) (h : UnstartedCallers C D U) : Type 0 where
+  pub main : h.main ≡ fresh_seat z.terms z.id z.terms.node.settings.workers
+  pub seats : h.seats.items ≡ fresh_seats z.terms z.id (z.terms.node.settings.workers + 1) (length h.others.items)
+  pub empty : h.room.items ≡ []
+  pub untold : h.told.items ≡ []
+  pub room : vec_len h.others ≤ vec_capacity h.room
+  pub room_told : vec_len h.others ≤ vec_capacity h.told
+
+-- with the seats of a new cell from this number on these clients called, one each; the seats came back, and this was told
+abbrev pub EachHeld : {D U : Type 0} → (D → Terms → ℕ → U → List NodeEntry → Type 0) → Cell → ℕ → List D → List Seat → List U → Type 0
+EachHeld {D} {U} Q z who [] bs us = (bs ≡ []) × (us ≡ [])
+EachHeld {D} {U} Q z who (d ∷ ds) bs us =
+    (b : Seat) × (bs' : List Seat) × (u : U) × (us' : List U) × (bs ≡ b ∷ bs') × (us ≡ u ∷ us')
+    × HasHeld Q d (fresh_seat z.terms z.id who) b u × EachHeld Q z (suc who) ds bs' us'
+
+-- one more of the further callers came back
+pub record IsOneMore {T U : Type 0} (before : ReturnedCallers T U) (c : Held U) (after : ReturnedCallers T U) : Type 0 where
+  pub main : after.main ≡ before.main
+  pub told : after.told ≡ before.told
+  pub seats : after.seats.items ≡ before.seats.items ++ c.seat ∷ []
+  pub others : after.others.items ≡ before.others.items ++ c.told ∷ []
+  pub len : (vec_len after.seats ≡ vec_len before.seats + 1) × (vec_len after.others ≡ vec_len before.others + 1)
+  pub room : (vec_capacity before.seats ≤ vec_capacity after.seats) × (vec_capacity before.others ≤ vec_capacity after.others)
+
+-- main's seat came back, and those of the further callers, each with what its client was told
+pub record HaveHeld {C D T U : Type 0} (P : C → Terms → ℕ → T → List NodeEntry → Type 0) (Q : D → Terms → ℕ → U
+    → List NodeEntry → Type 0) (z : Cell) (h : UnstartedCallers C D U) (c : ReturnedCallers T U) : Type 0 where
+  pub main : HasHeld P h.client h.main c.main c.told
+  pub others : EachHeld Q z (z.terms.node.settings.workers + 1) h.others.items c.seats.items c.others.items
+  pub len : (vec_len c.seats ≡ vec_len h.others) × (vec_len c.others ≡ vec_len h.others)
+  pub room : (vec_capacity h.room ≤ vec_capacity c.seats) × (vec_capacity h.told ≤ vec_capacity c.others)
+
+-- main met these seats, and then made this call, unless the turns were used up
+pub record IsEnded (o : Op) (main : Seat) (before : List Seat) (e : Ended) : Type 0 where
   pub met : Seat
-  pub more : HasSeenMore carried_out met
-  pub knows : All (Knows met) callers
-  pub reply : Reply
-  pub closed : Turned met Close reply new
+  pub meets : AreMet main met before e.others.items
+  pub same : SameSeat met e.main
+  pub answered : IfOk e.answer (λ r. Turned met o r e.main)
 
--- main's seat, and those of the further callers and then of the workers, each with what it did
-pub record AllDid (parts : List Part) (ss : List Statement) (main : Seat) (callers workers : List Seat) (c : ReturnedSeats) : Type 0 where
+-- main met the further callers, and began the end
+pub record IsClosedBy {T U A : Type 0} (before : ReturnedCallers T U) (sets : Vec A Global) (c : Crew T U A) : Type 0 where
+  pub told : c.told ≡ before.told
+  pub others : c.others ≡ before.others
+  pub sets_are : c.sets ≡ sets
+  pub room : (vec_len c.seats ≡ vec_len before.seats) × (vec_capacity c.seats ≡ vec_capacity before.seats)
+  pub met : Seat
+  pub meets : AreMet before.main met before.seats.items c.seats.items
+  pub same : SameSeat met c.main
+  pub closed : c.spent ≡ None → (r : Reply) × Turned met Close r c.main
+
+-- the callers may call, and the workers' seats are the first of a new cell
+pub record AreReady {C D U A : Type 0} (z : Cell) (h : UnstartedThreads C D U A) : Type 0 where
+  pub workers : h.workers.items ≡ fresh_seats z.terms z.id 0 (vec_len h.workers)
+  pub few : vec_len h.workers ≤ z.terms.node.settings.workers
+  pub callers : MayCall z h.callers
+  pub none : vec_len h.sets ≡ 0
+  pub room : vec_len h.workers + vec_len h.callers.others ≤ vec_capacity h.callers.room
+  pub room_sets : vec_len h.workers ≤ vec_capacity h.sets
+
+-- one more worker came back
+pub record IsJoined {T U A : Type 0} (before : Crew T U A) (served : Served A) (after : Crew T U A) : Type 0 where
+  pub main : after.main ≡ before.main
+  pub told : after.told ≡ before.told
+  pub others : after.others ≡ before.others
+  pub seats : after.seats.items ≡ before.seats.items ++ served.seat ∷ []
+  pub len : (vec_len after.seats ≡ vec_len before.seats + 1) × (vec_len after.sets ≡ vec_len before.sets + 1)
+  pub room : (vec_capacity before.seats ≤ vec_capacity after.seats) × (vec_capacity before.sets ≤ vec_capacity after.sets)
+  pub crew : after.spent ≡ None → before.spent ≡ None
+  pub back : after.spent ≡ None → served.spent ≡ None
+
+-- main's part: its holder's promise holds of the seat as it was then; then it met the further callers, and began the end of the node
+pub record MainClosed {C T : Type 0} (P : C → Terms → ℕ → T → List NodeEntry → Type 0) (client : C) (old : Seat) (told : T) (callers : List Seat)
+    (spent : Option ℕ) (new : Seat) : Type 0 where
+  pub held : Seat
+  pub did : HasHeld P client old held told
+  pub met : Seat
+  pub more : HasSeenMore held met
+  pub knows : All (Knows met) callers
+  pub same : SameSeat met new
+  pub closed : spent ≡ None → (r : Reply) × Turned met Close r new
+
+-- all seats of main, of the further callers and of so many workers came back: main's, those of the further callers, each with what its client was
+-- told, and those of the workers
+pub record CameFrom {C D T U A : Type 0} (P : C → Terms → ℕ → T → List NodeEntry → Type 0) (Q : D → Terms → ℕ → U
+    → List NodeEntry → Type 0) (z : Cell) (client : C) (others : List D) (n : ℕ) (c : Crew T U A) : Type 0 where
   pub called : List Seat
   pub worked : List Seat
-  pub whole : c.others.items ≡ called ++ worked
-  pub main_closed : MainClosed ss main called c.main
-  pub callers_did : AllZip (AddsOwn (CallerIn parts main.number)) callers called
-  pub workers_did : AllZip (AddsOwn WorkerAs) workers worked
+  pub whole : c.seats.items ≡ called ++ worked
+  pub main : MainClosed P client (fresh_seat z.terms z.id z.terms.node.settings.workers) c.told called c.spent c.main
+  pub callers : EachHeld Q z (z.terms.node.settings.workers + 1) others called c.others.items
+  pub workers : AllZip SameSeat (fresh_seats z.terms z.id 0 n) worked
+  pub served : c.spent ≡ None → AllZip (AddsOwn WorkerAs) (fresh_seats z.terms z.id 0 n) worked
 
--- a worker's seat of this cell, on which no task runs
-pub record IsIdle (z : Cell) (s : Seat) : Type 0 where
-  pub cell : s.cell ≡ z.id
-  pub rest : AtRest s
+-- the same, with a set for each worker
+pub record HaveCome {C D T U A : Type 0} (P : C → Terms → ℕ → T → List NodeEntry → Type 0) (Q : D → Terms → ℕ → U
+    → List NodeEntry → Type 0) (z : Cell) (h : UnstartedThreads C D U A) (c : Crew T U A) : Type 0 where
+  pub came : CameFrom P Q z h.callers.client h.callers.others.items (vec_len h.workers) c
+  pub sets : vec_len c.sets ≡ vec_len h.workers
+  pub len : vec_len c.seats ≡ vec_len h.workers + vec_len h.callers.others
+  pub room : (vec_capacity h.callers.room ≤ vec_capacity c.seats) × (vec_capacity h.sets ≤ vec_capacity c.sets)
 
-pub record AreAllReady (z : Cell) (parts : List Part) (a : AllHands) : Type 0 where
-  pub hands : AreReady z parts a.hands
-  pub workers : All (IsIdle z) a.workers.items
-  pub room : vec_len a.workers + vec_len a.hands.callers ≤ vec_capacity a.hands.room
+-- all seats of the node came back, with some clients
+pub record IsWhole {C D T U A : Type 0} (P : C → Terms → ℕ → T → List NodeEntry → Type 0) (Q : D → Terms → ℕ → U
+    → List NodeEntry → Type 0) (z : Cell) (c : Crew T U A) : Type 0 where
+  pub client : C
+  pub others : List D
+  pub came : CameFrom P Q z client others z.terms.node.settings.workers c
+  pub count : z.terms.node.callers ≡ length others + 1
 
--- what is known of a whole crew
-pub record IsWholeCrewOf (z : Cell) (parts : List Part) (ss : List Statement) (a : AllHands) (c : ReturnedSeats) : Type 0 where
-  pub of_cell : IsOf z c
-  pub len : vec_len c.others ≤ vec_len a.workers + vec_len a.hands.callers
-  pub room : vec_capacity a.hands.room ≤ vec_capacity c.others
-  pub did : IsClean c → AllDid parts ss a.hands.main a.hands.callers.items a.workers.items c
-  pub gave_up : c.refused ≡ true → GaveUp a.hands.main c.main
+-- the seats of a new cell, dealt to its workers and to these clients
+pub record AreDealt {C D U A : Type 0} (z : Cell) (client : C) (others : Vec D Global) (h : UnstartedThreads C D U A) : Type 0 where
+  pub ready : AreReady z h
+  pub workers : vec_len h.workers ≡ z.terms.node.settings.workers
+  pub client_is : h.callers.client ≡ client
+  pub others_are : h.callers.others ≡ others
+  pub room : vec_len h.workers + vec_len h.callers.others < vec_capacity h.callers.room

@@ -6,6 +6,9 @@ pub mod Rounds
 pub mod Steps
 pub mod Carries
 pub mod Crews
+pub mod Ran
+pub mod Parts
 pub mod Bridges
+pub mod RunJournals
 pub mod Runs
 pub mod Reasons

@@ -14,7 +14,8 @@ pub use Rattle.mtapi_values.specs.declared.ends.TaskEnd.{TaskEnd}
 pub use Rattle.mtapi_values.specs.declared.handles.TaskHandle.{TaskHandle}
 pub use Rattle.mtapi_values.specs.declared.kinds.Kind.{Kind}
 pub use Rattle.mtapi_values.specs.declared.statuses.MtapiStatus.{MtapiStatus}
-pub use Rattle.node_core.specs.Logs.{KeptAs, journal_legal}
+pub use Rattle.node_core.specs.Keeping.{KeptAs}
+pub use Rattle.node_core.specs.Logs.{journal_legal}
 pub use Rattle.node_core.specs.declared.journaled.JournaledTerms.{JournaledTerms}
 pub use Rattle.run_beside.specs.Pairs.{Rose}
 pub use Rattle.turn_cell.specs.Seats.{CellView, HasSeenMore, IsSeatOf, SeatView, fresh_seat, fresh_seats}

@@ -1,24 +1,25 @@
-//! The run of a workload: a thread for each worker and for each further caller, and main on the calling thread.
-ghost use Rattle.std.specs.Prelude.{ℕ, ◌≡◌, ◌+◌, ◌-◌, ◌<◌, ◌≤◌, true, [], ◌∷◌, ◌++◌, length, vec_len, vec_capacity, IfOk, IfErr, Err};
-ghost use Rattle.turn_cell.specs.Seats.{IsComplete, fresh_seats};
+//! The run of a workload: its parts are the clients of a node's callers.
+ghost use Rattle.std.specs.Prelude.{◌≡◌, ◌+◌, ℕ, false, Err, Option, [], None, All, map, length, IfOk, IfErr, vec_len};
 ghost use Rattle.node_core.specs.Stands.{Stands, terms_of};
-ghost use Rattle.node_core.specs.Logs.{journal_seats};
+ghost use Rattle.node_journals.specs.declared.entries.Journal.{Journal};
 ghost use Rattle.run_beside.specs.Pairs.{Counts};
-ghost use Rattle.workload_runners.specs.Crews.{IsOf, IsClean};
-ghost use Rattle.workload_runners.specs.Runs.{terms_for, IsRun, Causes, Dealt, JournalOf, RefusedAs, GivesMain, is_refused};
+ghost use Rattle.workload_runners.specs.RunJournals.{terms_for, IsRun};
+ghost use Rattle.workload_runners.specs.Runs.{Causes, GivesMain, is_refused};
 ghost use Rattle.workload_runners.specs.Reasons.{HasReason};
+ghost use Rattle.workload_runners.specs.Parts.{IsUnstopped};
+ghost use Rattle.workload_runners.specs.declared.statements.Stop.{Stop};
 
-use crate::crew::back::{AllHands, Hands, ReturnedSeats};
-use crate::crew::workers::{end_with, start_workers};
+use crate::crew::run::{RanNode, run_crew};
+use crate::parts::{CallerPart, MainPart};
 use crate::statements::Stop;
 use action_fn::ActionSource;
-use node_core::{Journaled, Node, Op, RunJournal, journal_of};
+use node_core::{Journaled, Node, RunJournal};
 use run_beside::Beside;
 use std::alloc::{AllocError, Global};
 use std::sync::Wait;
 use std::thread::Threads as StartsThreads;
-use turn_cell::{Spent, TurnCell, TurnSeat};
-use workload_file::Workload;
+use turn_cell::{Spent, TurnSeat};
+use workload_file::{Part, Workload};
 
 /// Why a run gave no journal.
 #[derive(Drop)]
@@ -51,7 +52,7 @@ fn no_thread(main: TurnSeat<Journaled>) -> NoRun
 
 /// The reason without main's seat, which is let go here: a layer above that has no use for it drops none.
 pub fn without_seat(error: RunError) -> NoRun
-    ensures { (before after : ℕ) → Causes before after error → Counts (is_refused (Err error)) before after
+    ensures { (before after : ℕ) → Causes before after error → Counts (is_refused {A = Journal} (Err error)) before after
         → HasReason before after result }
 {
     match error {
@@ -61,76 +62,58 @@ pub fn without_seat(error: RunError) -> NoRun
     }
 }
 
-// The seats of a new cell for those who get them, and room for all that come back.
-fn deal(
-    alloc: Global,
-    cell: &TurnCell<Journaled>,
-    seats: Vec<TurnSeat<Journaled>>,
-    workers: usize,
-) -> Result<AllHands, AllocError>
-    requires fresh { seats.items ≡ fresh_seats cell.now.terms cell.now.id 0 (vec_len seats) }
-    requires some { workers < vec_len seats }
-    ensures { IfOk result (λ a. Dealt cell.now workers (vec_len seats - workers - 1) a) }
+// Why one had to stop, as the reason of the run.
+fn reason(stop: Stop) -> RunError
+    ensures { is_refused {A = Unit {0}} (Err result) ≡ false }
 {
-    let _ = cell;
-    let mut seats = seats;
-    let room = Vec::with_capacity(alloc, seats.len())?;
-    let mut rest = seats.split_off(workers)?;
-    let callers = rest.split_off(1)?;
-    let Some(main) = rest.pop() else {
-        unreachable!()
-    };
-    let hands = Hands {
-        main,
-        callers,
-        room,
-    };
-    Ok(AllHands {
-        workers: seats,
-        hands,
-    })
-}
-
-// All seats.
-fn with_main(
-    main: TurnSeat<Journaled>,
-    others: Vec<TurnSeat<Journaled>>,
-) -> Vec<TurnSeat<Journaled>>
-    requires { vec_len others < vec_capacity others }
-    ensures { result.items ≡ others.items ++ main ∷ [] }
-{
-    let mut others = others;
-    let _ = others.push(main);
-    others
-}
-
-// Closes the cell, where nobody had to stop.
-fn journal_after(cell: TurnCell<Journaled>, crew: ReturnedSeats) -> Result<RunJournal, RunError>
-    requires of_cell { IsOf cell crew }
-    requires keeps { cell.terms.keeps ≡ true }
-    requires room { vec_len crew.others < vec_capacity crew.others }
-    requires complete { IsClean crew → IsComplete (journal_seats cell.terms) (crew.others.items ++ crew.main ∷ []) }
-    ensures journal { IfOk result (JournalOf cell crew) }
-    ensures refused { RefusedAs crew result }
-{
-    let ReturnedSeats {
-        main,
-        others,
-        refused,
-        stop,
-    } = crew;
-    if refused {
-        return Err(RunError::Refused(main));
-    }
     match stop {
-        Some(Stop::Spent(spent)) => return Err(RunError::Spent(spent)),
-        Some(Stop::Memory) => return Err(RunError::Memory),
-        None => {}
+        Stop::Spent(spent) => RunError::Spent(spent),
+        Stop::Memory => RunError::Memory,
     }
-    match journal_of(cell.close(with_main(main, others))) {
-        Ok(journal) => Ok(journal),
-        Err(_) => Err(RunError::Memory),
+}
+
+// The first of those that had to stop.
+fn first_stop(stops: Vec<Option<Stop>>) -> Option<Stop>
+    ensures { result ≡ None → All (λ (s : Option Stop). s ≡ None) stops.items }
+{
+    for stop in stops {
+        if let Some(stop) = stop {
+            return Some(stop);
+        }
     }
+    None
+}
+
+// The journal, where nobody had to stop.
+fn unstopped<A: Drop>(ran: RanNode<Option<Stop>, Option<Stop>, A>) -> Result<RunJournal, RunError>
+    ensures run { IfOk result (IsUnstopped ran) }
+    ensures started { is_refused result ≡ false }
+{
+    let RanNode {
+        told,
+        others,
+        last: _,
+        journal,
+        sets: _,
+    } = ran;
+    if let Some(stop) = told {
+        return Err(reason(stop));
+    }
+    match first_stop(others) {
+        Some(stop) => Err(reason(stop)),
+        None => Ok(journal),
+    }
+}
+
+// A client for each of these parts.
+fn clients<'a>(alloc: Global, parts: &'a [Part]) -> Result<Vec<CallerPart<'a>>, AllocError>
+    ensures { IfOk result (λ v. map (λ c. c.part.now) v.items ≡ parts.now) }
+{
+    let mut all = Vec::with_capacity(alloc, parts.len())?;
+    for part in parts {
+        all.push(CallerPart { alloc, part })?;
+    }
+    Ok(all)
 }
 
 /// Carries a workload out on a new node: the workers and the further callers each in a thread of
@@ -161,17 +144,15 @@ pub fn run_node<S: ActionSource, B: Beside, R: StartsThreads + Wait + Sync>(
     ensures unbegun { IfErr result (GivesMain load.now.settings.workers) }
 {
     let parts = load.parts.as_slice();
-    let [main, ..] = parts else { unreachable!() };
-    let object = Journaled::with(alloc, node);
-    let Ok((cell, seats)) = TurnCell::new(alloc, object) else {
+    let [part, further @ ..] = parts else {
+        unreachable!()
+    };
+    let Ok(others) = clients(alloc, further) else {
         return Err(RunError::Memory);
     };
-    let workers = load.settings.workers();
-    let Ok(all) = deal(alloc, &cell, seats, workers as usize) else {
-        return Err(RunError::Memory);
-    };
-    let statements = main.statements.as_slice();
-    let crew = start_workers(rt, alloc, &cell, parts, statements, acts, beside, all);
-    let crew = end_with(rt, &cell, crew, Op::Final);
-    journal_after(cell, crew)
+    let main = MainPart { alloc, part };
+    match run_crew(rt, alloc, node, acts, beside, main, others) {
+        Ok(ran) => unstopped(ran),
+        Err(error) => Err(error),
+    }
 }

@@ -61,7 +61,48 @@ pub fn affected_by(op: &Op) -> Affected {
         | Op::QueueDelete { .. }
         | Op::GroupDelete { .. }
         | Op::Close => Affected::Everybody,
-        _ => Affected::Nobody,
+        Op::Initialize
+        | Op::Release
+        | Op::Enter
+        | Op::Final
+        | Op::JobGet { .. }
+        | Op::ActionCreate { .. }
+        | Op::TaskLook { .. }
+        | Op::GroupCreate
+        | Op::AllLook { .. }
+        | Op::AnyLook { .. }
+        | Op::QueueCreate { .. }
+        | Op::QueueGet { .. }
+        | Op::Pick
+        | Op::Finish { .. }
+        | Op::Asked { .. }
+        | Op::WatchEnd { .. }
+        | Op::TallyLock { .. }
+        | Op::TallyRead { .. }
+        | Op::TallyWrite { .. }
+        | Op::TallyEnd { .. }
+        | Op::MutexCreate { .. }
+        | Op::MutexGet { .. }
+        | Op::MutexDelete { .. }
+        | Op::MutexLook { .. }
+        | Op::MutexUnlock { .. }
+        | Op::SemCreate { .. }
+        | Op::SemGet { .. }
+        | Op::SemDelete { .. }
+        | Op::SemLook { .. }
+        | Op::SemUnlock { .. }
+        | Op::RwlCreate { .. }
+        | Op::RwlGet { .. }
+        | Op::RwlDelete { .. }
+        | Op::RwlLook { .. }
+        | Op::RwlUnlock { .. }
+        | Op::ShmemCreate { .. }
+        | Op::ShmemGet { .. }
+        | Op::ShmemDelete { .. }
+        | Op::ShmemAttach { .. }
+        | Op::ShmemDetach { .. }
+        | Op::ShmemRead { .. }
+        | Op::ShmemWrite { .. } => Affected::Nobody,
     }
 }
 

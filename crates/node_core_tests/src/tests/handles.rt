@@ -62,6 +62,6 @@ fn handles_of_each_kind(rt: HostRuntime) -> Result<(), Fail> {
     };
     let told = called.call(MAIN, cancel);
     assert!(rt; matches!(told, Some(Reply::Mtapi(MtapiStatus::ErrTaskInvalid))));
-    each_law(&called.into_journal().ok_or("no journal")?);
+    each_law(rt.alloc(), &called.into_journal().ok_or("no journal")?)?;
     Ok(())
 }

@@ -1,12 +1,17 @@
 //! What a journal keeps: of looks that are made again and again, of a cell that is closed, and of many calls.
 
-use crate::tests::asking::{Called, MAIN, TASK};
+use crate::tests::asking::{Called, GROUP, MAIN, QUEUE, SHMEM, TASK};
 use history::Object;
-use mtapi_machine::{Op, Reply};
-use mtapi_values::{Args, Kind, Layout, Mask, NodeAttr, TaskHandle};
+use mtapi_machine::{Entry, Op, Reply};
+use mtapi_values::{
+    Args, GroupHandle, Kind, Layout, Mask, MtapiStatus, NodeAttr, QueueHandle, ShmemHandle,
+    TaskEnd, TaskHandle,
+};
 use node_core::journaled::Journaled;
 use node_core::node::Node;
 use node_core::run_journals::journal_of;
+use node_journals::{ShortEntry, ShortList};
+use std::mem::size_of;
 use std::test::Fail;
 use turn_cell::TurnCell;
 
@@ -46,6 +51,69 @@ fn looks_until_the_last(rt: HostRuntime) -> Result<(), Fail> {
     Ok(())
 }
 
+// A call that is made often, and its reply.
+fn made_often(place: u32) -> (Op, Reply) {
+    let task = TaskHandle(TASK);
+    let ended = TaskEnd::Failed(MtapiStatus::ErrActionFailed);
+    match place {
+        0 => (Op::TaskLook { task, last: false }, Reply::Ended(ended)),
+        1 => (
+            Op::TaskEnqueue {
+                queue: QueueHandle(QUEUE),
+                args: Args::new(),
+                cores: Mask(1),
+                detached: false,
+                group: None,
+            },
+            Reply::Handle(TASK),
+        ),
+        2 => (
+            Op::AnyLook {
+                group: GroupHandle(GROUP),
+                last: false,
+            },
+            Reply::Given(task, ended),
+        ),
+        3 => (
+            Op::AllLook {
+                group: GroupHandle(GROUP),
+                last: false,
+            },
+            Reply::Ok,
+        ),
+        4 => (Op::TallyRead { task }, Reply::Number(5)),
+        _ => (
+            Op::ShmemRead {
+                shmem: ShmemHandle(SHMEM),
+                cell: 3,
+            },
+            Reply::Number(7),
+        ),
+    }
+}
+
+// None of them takes memory of its own.
+#[test]
+fn calls_made_often_are_kept_short(rt: HostRuntime) -> Result<(), Fail> {
+    assert_eq!(rt; size_of::<ShortEntry>(), 80);
+    let mut kept = ShortList::new(rt.alloc());
+    for place in 0..6 {
+        let (op, reply) = made_often(place);
+        kept.push(
+            Entry {
+                who: MAIN,
+                op,
+                reply,
+            },
+            0,
+        )?;
+    }
+    for short in kept.shorts() {
+        assert!(rt; !matches!(short, ShortEntry::Full(_)));
+    }
+    Ok(())
+}
+
 /// More entries than a slot has numbers of 16 bits.
 const MANY: u32 = 70_000;
 
@@ -57,9 +125,10 @@ fn many_calls_are_kept(rt: HostRuntime) -> Result<(), Fail> {
         assert!(rt; matches!(called.call(MAIN, Op::JobGet { job }), Some(Reply::Mtapi(_))));
     }
     let journal = called.into_journal().ok_or("no journal")?;
-    assert_eq!(rt; journal.entries.as_slice().len(), 70_000);
+    assert_eq!(rt; journal.entries.len(), 70_000);
     let mut next = 0u32;
-    for entry in journal.entries.as_slice() {
+    let entries = journal.entries.in_full(rt.alloc())?;
+    for entry in entries.as_slice() {
         assert!(rt; matches!(entry.op, Op::JobGet { job } if job == next));
         next = next.wrapping_add(1);
     }
@@ -87,9 +156,9 @@ fn a_closed_cell_gives_its_journal(rt: HostRuntime) -> Result<(), Fail> {
     let journal = run.journal();
     assert_eq!(rt; (journal.callers, journal.settings), (1, NodeAttr::new()));
     assert_eq!(rt; journal.layout, Layout::Two);
-    let entries = journal.entries.as_slice();
-    assert_eq!(rt; entries.len(), 1);
-    for entry in entries {
+    assert_eq!(rt; journal.entries.len(), 1);
+    let entries = journal.entries.in_full(rt.alloc())?;
+    for entry in entries.as_slice() {
         assert!(rt; matches!(entry.op, Op::Initialize));
         assert!(rt; entry.who == 1 && matches!(entry.reply, Reply::Ok));
     }

@@ -1,106 +1,38 @@
-//! Starts the further callers, and executes main's part.
-ghost use Rattle.std.specs.Prelude.{◌≡◌, ◌<◌, true, false, Some, None, [], vec_len, vec_capacity, IfOk};
+//! The threads of the further callers, and main beside them.
+
+ghost use Rattle.std.specs.Prelude.{◌≡◌, ◌≤◌, ◌<◌, [], vec_len, vec_capacity, IfOk, IfErr};
 ghost use Rattle.std.specs.Thread.{IsSync};
 ghost use Rattle.run_beside.specs.Pairs.{Counts};
-ghost use Rattle.workload_runners.specs.Turns.{SameSeat, AddsOwn};
-ghost use Rattle.workload_runners.specs.Carries.{OpensAs, MainAs};
-ghost use Rattle.workload_runners.specs.Crews.{AreReady, IsCrewOf, IsJoined, CameBack, GaveUp};
+ghost use Rattle.workload_runners.specs.Crews.{GaveUp, HaveHeld, IsOneMore, MayCall, is_lost};
 
-use crate::crew::back::{Back, Hands, ReturnedSeats, stopped};
+use crate::crew::holder::{Held, Holder};
 use crate::crew::jobs::CallerJob;
-use crate::statements::{Stop, carry_out};
 use node_core::{Journaled, Op};
 use run_beside::{Beside, pair};
-use std::alloc::Global;
 use std::sync::Wait;
 use std::thread::Threads as StartsThreads;
-use turn_cell::{Spent, TurnCell, TurnSeat};
+use turn_cell::{TurnCell, TurnSeat};
 use turn_looks::turn;
-use workload_file::{Part, Statement};
-use workload_runs::has_begin;
 
-// Main opens the node, and lets the others enter where no statement does.
-fn initialize<R: Wait>(
-    rt: &R,
-    cell: &TurnCell<Journaled>,
-    seat: &mut TurnSeat<Journaled>,
-    begins: bool,
-) -> Result<(), Spent>
-    requires cell { seat.old.cell ≡ cell.now.id }
-    ensures opened { IfOk result (λ _. AddsOwn (OpensAs begins) seat.old seat.new) }
-    ensures same { SameSeat seat.old seat.new }
-{
-    match turn(rt, cell, seat, Op::Initialize) {
-        Ok(_) => {
-            if begins {
-                return Ok(());
-            }
-            match turn(rt, cell, seat, Op::Release) {
-                Ok(_) => Ok(()),
-                Err(spent) => Err(spent),
-            }
-        }
-        Err(spent) => Err(spent),
-    }
+/// Main's seat and its client, the seats and the clients of the further callers that aren't started yet, and room for the seats that come back
+/// and for what they are told.
+#[derive(Drop)]
+pub struct UnstartedCallers<C: Drop, D: Drop, U: Drop> {
+    pub main: TurnSeat<Journaled>,
+    pub client: C,
+    pub seats: Vec<TurnSeat<Journaled>>,
+    pub others: Vec<D>,
+    pub room: Vec<TurnSeat<Journaled>>,
+    pub told: Vec<U>,
 }
 
-// Main opens the node, and carries its part out.
-fn main_call<R: Wait>(
-    rt: &R,
-    alloc: Global,
-    cell: &TurnCell<Journaled>,
-    seat: TurnSeat<Journaled>,
-    statements: &[Statement],
-) -> Back
-    requires cell { seat.cell ≡ cell.now.id }
-    ensures { CameBack (MainAs statements.now) seat result }
-{
-    let mut seat = seat;
-    // Room for every handle is had before the first call, so that no call is missing in the middle.
-    let Ok(mut bound) = Vec::with_capacity(alloc, statements.len()) else {
-        return stopped(seat, Stop::Memory);
-    };
-    let begins = has_begin(statements);
-    match initialize(rt, cell, &mut seat, begins) {
-        Ok(()) => match carry_out(rt, cell, &mut seat, statements, &mut bound) {
-            Ok(()) => Back { seat, stop: None },
-            Err(stop) => stopped(seat, stop),
-        },
-        Err(spent) => stopped(seat, Stop::Spent(spent)),
-    }
-}
-
-// Main's part, where all further callers have been started.
-fn main_part<R: Wait>(
-    rt: &R,
-    alloc: Global,
-    cell: &TurnCell<Journaled>,
-    parts: &[Part],
-    statements: &[Statement],
-    hands: Hands,
-) -> ReturnedSeats
-    requires ready { AreReady cell.now parts.now hands }
-    requires none { hands.callers.items ≡ [] }
-    ensures crew { IsCrewOf cell.now parts.now statements.now hands result }
-    ensures started { result.refused ≡ false }
-{
-    let _ = parts;
-    let Hands {
-        main,
-        callers: _,
-        room,
-    } = hands;
-    let Back { seat, stop } = main_call(rt, alloc, cell, main, statements);
-    let main = match &stop {
-        None => seat,
-        Some(_) => closed(rt, cell, seat),
-    };
-    ReturnedSeats {
-        main,
-        others: room,
-        refused: false,
-        stop,
-    }
+/// Main's seat and what its client was told, and those of the further callers whose threads are served, in the order of their numbers.
+#[derive(Drop)]
+pub struct ReturnedCallers<T: Drop, U: Drop> {
+    pub main: TurnSeat<Journaled>,
+    pub told: T,
+    pub seats: Vec<TurnSeat<Journaled>>,
+    pub others: Vec<U>,
 }
 
 // Main closes, where a ticket is left.
@@ -111,15 +43,14 @@ fn close<R: Wait>(rt: &R, cell: &TurnCell<Journaled>, seat: &mut TurnSeat<Journa
     let _ = turn(rt, cell, seat, Op::Close);
 }
 
-// Closes, so that nobody waits at the entrance any more.
-fn closed<R: Wait>(
+/// Begins the end of the node, so that nobody waits at the entrance any more, and wakes the workers.
+pub fn closed<R: Wait>(
     rt: &R,
     cell: &TurnCell<Journaled>,
     seat: TurnSeat<Journaled>,
 ) -> TurnSeat<Journaled>
     requires { seat.cell ≡ cell.now.id }
-    ensures cell { result.cell ≡ seat.cell }
-    ensures closed { GaveUp seat result }
+    ensures { GaveUp seat result }
 {
     let mut seat = seat;
     close(rt, cell, &mut seat);
@@ -127,96 +58,85 @@ fn closed<R: Wait>(
     seat
 }
 
-// Closes at once, where a start was refused, so that the threads that were started end.
-pub(crate) fn give_up<R: Wait>(
-    rt: &R,
-    cell: &TurnCell<Journaled>,
-    parts: &[Part],
-    statements: &[Statement],
-    hands: Hands,
-) -> ReturnedSeats
-    requires ready { AreReady cell.now parts.now hands }
-    ensures crew { IsCrewOf cell.now parts.now statements.now hands result }
-    ensures refused { result.refused ≡ true }
+// The returned with one more further caller, whose thread is served.
+fn joined<T: Drop, U: Drop>(returned: ReturnedCallers<T, U>, held: Held<U>) -> ReturnedCallers<T, U>
+    requires seats { vec_len returned.seats < vec_capacity returned.seats }
+    requires others { vec_len returned.others < vec_capacity returned.others }
+    ensures { IsOneMore returned held result }
 {
-    let _ = parts;
-    let _ = statements;
-    let Hands {
+    let ReturnedCallers {
         main,
-        callers: _,
-        room,
-    } = hands;
-    ReturnedSeats {
-        main: closed(rt, cell, main),
-        others: room,
-        refused: true,
-        stop: None,
-    }
-}
-
-// The crew with one more seat that came back.
-pub(crate) fn joined(crew: ReturnedSeats, back: Back) -> ReturnedSeats
-    requires { vec_len crew.others < vec_capacity crew.others }
-    ensures { IsJoined crew back result }
-{
-    let ReturnedSeats {
-        main,
+        told,
+        mut seats,
         mut others,
-        refused,
-        stop,
-    } = crew;
-    let Back { seat, stop: other } = back;
-    let _ = others.push(seat);
-    ReturnedSeats {
+    } = returned;
+    let _ = seats.push(held.seat);
+    let _ = others.push(held.told);
+    ReturnedCallers {
         main,
+        told,
+        seats,
         others,
-        refused,
-        stop: match stop {
-            Some(stop) => Some(stop),
-            None => other,
-        },
     }
 }
 
-/// Starts a thread for each further caller, one inside the other, and then executes main's part.
-pub(crate) fn start_callers<B: Beside, R: StartsThreads + Wait + Sync>(
+/// Starts a thread for each further caller, one inside the other, and has main's client call beside them. All of them have ended when it returns.
+/// Where a thread is refused the end of the node begins at once, and it gives main's seat back.
+pub(crate) fn start_callers<B: Beside, C: Holder, D: Holder + Send, R: StartsThreads + Wait + Sync>(
     rt: &R,
-    alloc: Global,
     cell: &TurnCell<Journaled>,
-    parts: &[Part],
-    statements: &[Statement],
     beside: &mut B,
-    hands: Hands,
-) -> ReturnedSeats
-    requires ready { AreReady cell.now parts.now hands }
-    ensures crew { IsCrewOf cell.now parts.now statements.now hands result }
-    ensures counts { Counts result.refused (B.refusals beside.old) (B.refusals beside.new) }
+    callers: UnstartedCallers<C, D, D::Told>,
+) -> Result<ReturnedCallers<C::Told, D::Told>, TurnSeat<Journaled>>
+where
+    D::Told: Send,
+    requires { MayCall cell.now callers }
+    ensures back { IfOk result (HaveHeld C.promise D.promise cell.now callers) }
+    ensures lost { IfErr result (GaveUp callers.main) }
+    ensures counts { Counts (is_lost result) (B.refusals beside.old) (B.refusals beside.new) }
 {
-    let mut hands = hands;
-    let Some(seat) = hands.callers.pop() else {
-        return main_part(rt, alloc, cell, parts, statements, hands);
+    let mut callers = callers;
+    let Some(client) = callers.others.pop() else {
+        let UnstartedCallers {
+            main,
+            client,
+            seats: _,
+            others: _,
+            room,
+            told: others,
+        } = callers;
+        let Held { seat, told } = client.hold(rt, cell, main);
+        return Ok(ReturnedCallers {
+            main: seat,
+            told,
+            seats: room,
+            others,
+        });
     };
-    let place = seat.number() - hands.main.number();
-    let part = &parts[place as usize];
-    let job = CallerJob {
-        alloc,
-        cell,
-        seat,
-        part,
+    let Some(seat) = callers.seats.pop() else {
+        unreachable!()
     };
+    let job = CallerJob { cell, seat, client };
     let outcome = pair(
         beside,
         rt,
         job,
-        hands,
-        |beside: &mut B, hands: Hands| -> ReturnedSeats
-            requires { AreReady cell.now parts.now hands × IsSync R.row }
-            ensures crew { IsCrewOf cell.entry.now parts.entry.now statements.entry.now hands result }
-            ensures counts { Counts result.refused (B.refusals beside.old) (B.refusals beside.new) }
-        { start_callers(rt, alloc, cell, parts, statements, beside, hands) },
+        callers,
+        |beside: &mut B, callers: UnstartedCallers<C, D, D::Told>| -> Result<
+            ReturnedCallers<C::Told, D::Told>,
+            TurnSeat<Journaled>,
+        >
+            requires { MayCall cell.now callers × IsSync R.row }
+            ensures back { IfOk result (HaveHeld C.promise D.promise cell.entry.now callers) }
+            ensures lost { IfErr result (GaveUp callers.main) }
+            ensures counts { Counts (is_lost result) (B.refusals beside.old) (B.refusals beside.new) }
+        { start_callers(rt, cell, beside, callers) },
     );
     match outcome {
-        Ok((back, crew)) => joined(crew, back),
-        Err((hands, _)) => give_up(rt, cell, parts, statements, hands),
+        Ok((held, returned)) => match returned {
+            Ok(returned) => Ok(joined(returned, held)),
+            Err(main) => Err(main),
+        },
+        Err((callers, _)) => Err(closed(rt, cell, callers.main)),
     }
 }

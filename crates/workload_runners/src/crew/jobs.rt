@@ -1,88 +1,16 @@
-//! What the threads do.
-ghost use Rattle.std.specs.Prelude.{◌≡◌, ◌<◌, []};
-ghost use Rattle.workload_runners.specs.Rounds.{AtRest};
-ghost use Rattle.workload_runners.specs.Carries.{CallerAs, is_ok};
-ghost use Rattle.workload_runners.specs.Crews.{CameBack};
+//! What the threads of a worker and of a further caller do.
 
-use crate::crew::back::{Back, stopped};
-use crate::looks::look;
-use crate::statements::{Stop, carry_out};
+ghost use Rattle.std.specs.Prelude.{◌≡◌, ◌<◌, ◌≤◌, []};
+ghost use Rattle.workload_runners.specs.Rounds.{AtRest};
+
+use crate::crew::holder::{Held, Holder};
 use crate::workers::Worker;
 use action_fn::ActionSet;
-use mtapi_values::Timeout;
-use node_core::{Journaled, Reply};
+use node_core::Journaled;
 use run_beside::Job;
-use std::alloc::Global;
 use std::sync::Wait;
-use turn_cell::{TurnCell, TurnSeat};
+use turn_cell::{Spent, TurnCell, TurnSeat};
 use turn_looks::ServeEnd;
-use workload_file::Part;
-use workload_runs::Wanted;
-
-// A further caller enters, and carries its part out.
-pub(crate) fn call_part<R: Wait>(
-    rt: &R,
-    alloc: Global,
-    cell: &TurnCell<Journaled>,
-    seat: TurnSeat<Journaled>,
-    part: &Part,
-) -> Back
-    requires cell { seat.cell ≡ cell.now.id }
-    ensures { CameBack (CallerAs part.now.statements) seat result }
-{
-    let mut seat = seat;
-    // Room for every handle is had before it enters, so that no call is missing in the middle.
-    let Ok(mut bound) = Vec::with_capacity(alloc, part.statements.as_slice().len()) else {
-        return stopped(seat, Stop::Memory);
-    };
-    match look(rt, cell, &mut seat, Wanted::Entrance, Timeout::Infinite) {
-        Ok(reply) => {
-            if !is_ok(&reply) {
-                return Back { seat, stop: None };
-            }
-            match carry_out(rt, cell, &mut seat, part.statements.as_slice(), &mut bound) {
-                Ok(()) => Back { seat, stop: None },
-                Err(stop) => stopped(seat, stop),
-            }
-        }
-        Err(spent) => stopped(seat, Stop::Spent(spent)),
-    }
-}
-
-fn is_ok(reply: &Reply) -> bool
-    ensures { result ≡ is_ok reply.now }
-{
-    matches!(reply, Reply::Ok)
-}
-
-/// A further caller, in a thread of its own.
-#[derive(Drop)]
-pub struct CallerJob<'a> {
-    pub alloc: Global,
-    pub cell: &'a TurnCell<Journaled>,
-    pub seat: TurnSeat<Journaled>,
-    pub part: &'a Part,
-    pub ghost of_cell: { seat.cell ≡ cell.now.id },
-}
-
-impl<'a> Job for CallerJob<'a> {
-    ghost use Rattle.workload_runners.specs.Carries.{CallerAs};
-    ghost use Rattle.workload_runners.specs.Crews.{CameBack};
-
-    type Done = Back;
-
-    ghost promise = { λ j b. CameBack (CallerAs j.part.now.statements) j.seat b };
-
-    fn go<R: Wait>(self, rt: &R) -> Back {
-        let CallerJob {
-            alloc,
-            cell,
-            seat,
-            part,
-        } = self;
-        call_part(rt, alloc, cell, seat, part)
-    }
-}
 
 /// A worker, in a thread of its own.
 #[derive(Drop)]
@@ -110,26 +38,66 @@ impl<'a, A: ActionSet + Drop> WorkerJob<'a, A> {
     }
 }
 
+/// A worker's seat, and its set of actions, once its thread has ended.
+#[derive(Drop)]
+pub struct Served<A: Drop> {
+    pub seat: TurnSeat<Journaled>,
+    pub set: A,
+    /// Where the turns were used up before it stopped.
+    pub spent: Option<Spent>,
+}
+
 impl<'a, A: ActionSet + Drop + Send> Job for WorkerJob<'a, A> {
-    ghost use Rattle.workload_runners.specs.Rounds.{WorkerAs};
-    ghost use Rattle.workload_runners.specs.Crews.{CameBack};
+    ghost use Rattle.workload_runners.specs.Crews.{HasServed};
 
-    type Done = Back;
+    type Done = Served<A>;
 
-    ghost promise = { λ j b. CameBack WorkerAs j.seat b };
+    ghost promise = { λ j d. HasServed j.seat d };
 
-    fn go<R: Wait>(self, rt: &R) -> Back {
+    fn go<R: Wait>(self, rt: &R) -> Served<A> {
         let WorkerJob {
             cell,
             seat,
             mut acts,
         } = self;
         match Worker::new(cell, seat).serve(rt, &mut acts) {
-            (seat, ServeEnd::Stopped) => Back { seat, stop: None },
-            (seat, ServeEnd::Spent(spent)) => Back {
+            (seat, ServeEnd::Stopped) => Served {
                 seat,
-                stop: Some(Stop::Spent(spent)),
+                set: acts,
+                spent: None,
+            },
+            (seat, ServeEnd::Spent(spent)) => Served {
+                seat,
+                set: acts,
+                spent: Some(spent),
             },
         }
+    }
+}
+
+/// A further caller, in a thread of its own.
+#[derive(Drop)]
+pub struct CallerJob<'a, D: Holder> {
+    pub cell: &'a TurnCell<Journaled>,
+    pub seat: TurnSeat<Journaled>,
+    pub client: D,
+    pub ghost of_cell: { seat.cell ≡ cell.now.id },
+    pub ghost caller: { seat.terms.node.settings.workers ≤ seat.number },
+    pub ghost new: { seat.mine ≡ [] },
+}
+
+impl<'a, D: Holder + Send> Job for CallerJob<'a, D>
+where
+    D::Told: Send,
+{
+    ghost use Rattle.workload_runners.specs.Crews.{HasHeld};
+
+    type Done = Held<D::Told>;
+
+    ghost promise = { λ j r. HasHeld D.promise j.client j.seat r.seat r.told };
+
+    fn go<R: Wait>(self, rt: &R) -> Held<D::Told> {
+        let CallerJob { cell, seat, client } = self;
+        client.hold(rt, cell, seat)
     }
 }

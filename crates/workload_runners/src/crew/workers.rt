@@ -1,113 +1,135 @@
-//! Starts the workers, and then the further callers.
-ghost use Rattle.std.specs.Prelude.{◌≡◌, true, vec_len, vec_capacity, All};
+//! The threads of the workers, and the callers beside them.
+
+ghost use Rattle.std.specs.Prelude.{◌≡◌, ◌≤◌, ◌<◌, All, vec_len, vec_capacity, IfOk, IfErr};
 ghost use Rattle.std.specs.Thread.{IsSync};
 ghost use Rattle.run_beside.specs.Pairs.{Counts};
 ghost use Rattle.workload_runners.specs.Turns.{Seat};
-ghost use Rattle.workload_runners.specs.Crews.{AreAllReady, IsWholeCrewOf, IsOf, IsEnded, AreMet};
+ghost use Rattle.workload_runners.specs.Crews.{AreReady, GaveUp, HaveCome, HaveHeld, IsClosedBy, IsJoined, is_lost};
 
-use crate::crew::back::{AllHands, ReturnedSeats};
-use crate::crew::callers::{give_up, joined, start_callers};
-use crate::crew::jobs::WorkerJob;
-use crate::statements::Stop;
+use crate::crew::callers::{ReturnedCallers, UnstartedCallers, closed, start_callers};
+use crate::crew::end::{Ended, end_with};
+use crate::crew::holder::Holder;
+use crate::crew::jobs::{Served, WorkerJob};
 use action_fn::ActionSource;
 use node_core::{Journaled, Op};
 use run_beside::{Beside, pair};
-use std::alloc::Global;
 use std::sync::Wait;
 use std::thread::Threads as StartsThreads;
-use turn_cell::{TurnCell, TurnSeat};
-use turn_looks::turn;
-use workload_file::{Part, Statement};
+use turn_cell::{Spent, TurnCell, TurnSeat};
 
-/// Main meets all seats that have come back, and then makes this call. Where a start was refused nothing is done.
-pub(crate) fn end_with<R: Wait>(
-    rt: &R,
-    cell: &TurnCell<Journaled>,
-    crew: ReturnedSeats,
-    op: Op,
-) -> ReturnedSeats
-    requires of_crew { IsOf cell.now crew }
-    ensures ended { IsEnded op crew result }
-    ensures of_cell { IsOf cell.now result }
-    ensures untouched { crew.refused ≡ true → result ≡ crew }
-{
-    if crew.refused {
-        return crew;
-    }
-    let ended = end_all(rt, cell, crew, op);
-    cell.work().ring_all();
-    ended
+/// The seats of the workers that aren't started yet, the callers, and room for the workers' sets.
+#[derive(Drop)]
+pub struct UnstartedThreads<C: Drop, D: Drop, U: Drop, A: Drop> {
+    pub workers: Vec<TurnSeat<Journaled>>,
+    pub callers: UnstartedCallers<C, D, U>,
+    pub sets: Vec<A>,
 }
 
-fn end_all<R: Wait>(
+/// What came back: main's seat, the further callers' and then the workers', what the clients were told, the sets, and whether the turns were
+/// used up.
+#[derive(Drop)]
+pub struct Crew<T: Drop, U: Drop, A: Drop> {
+    pub main: TurnSeat<Journaled>,
+    pub told: T,
+    pub seats: Vec<TurnSeat<Journaled>>,
+    pub others: Vec<U>,
+    pub sets: Vec<A>,
+    pub spent: Option<Spent>,
+}
+
+// Main meets the further callers, and begins the end of the node.
+fn begin_end<R: Wait, T: Drop, U: Drop, A: Drop>(
     rt: &R,
     cell: &TurnCell<Journaled>,
-    crew: ReturnedSeats,
-    op: Op,
-) -> ReturnedSeats
-    requires of_crew { IsOf cell.now crew }
-    ensures ended { IsEnded op crew result }
-    ensures of_cell { IsOf cell.now result }
+    returned: ReturnedCallers<T, U>,
+    sets: Vec<A>,
+) -> Crew<T, U, A>
+    requires main { returned.main.cell ≡ cell.now.id }
+    requires others { All (λ (s : Seat). s.cell ≡ cell.now.id) returned.seats.items }
+    ensures closed { IsClosedBy returned sets result }
 {
-    let ReturnedSeats {
-        mut main,
-        mut others,
-        refused,
-        stop,
+    let ReturnedCallers {
+        main,
+        told,
+        seats,
+        others,
+    } = returned;
+    let Ended {
+        main,
+        others: seats,
+        answer,
+    } = end_with(rt, cell, main, seats, Op::Close);
+    Crew {
+        main,
+        told,
+        seats,
+        others,
+        sets,
+        spent: answer.err(),
+    }
+}
+
+// The crew with one more worker, whose thread has ended.
+fn joined<T: Drop, U: Drop, A: Drop>(crew: Crew<T, U, A>, served: Served<A>) -> Crew<T, U, A>
+    requires seats { vec_len crew.seats < vec_capacity crew.seats }
+    requires sets { vec_len crew.sets < vec_capacity crew.sets }
+    ensures { IsJoined crew served result }
+{
+    let Crew {
+        main,
+        told,
+        mut seats,
+        others,
+        mut sets,
+        spent,
     } = crew;
-    meet_all(cell, &mut main, &mut others);
-    match turn(rt, cell, &mut main, op) {
-        Ok(_) => ReturnedSeats {
-            main,
-            others,
-            refused,
-            stop,
-        },
-        Err(spent) => ReturnedSeats {
-            main,
-            others,
-            refused,
-            stop: Some(Stop::Spent(spent)),
+    let _ = seats.push(served.seat);
+    let _ = sets.push(served.set);
+    Crew {
+        main,
+        told,
+        seats,
+        others,
+        sets,
+        spent: match spent {
+            Some(spent) => Some(spent),
+            None => served.spent,
         },
     }
 }
 
-// Main meets each of these seats, and then knows all that they have done.
-fn meet_all(
-    cell: &TurnCell<Journaled>,
-    main: &mut TurnSeat<Journaled>,
-    others: &mut Vec<TurnSeat<Journaled>>,
-)
-    requires main { main.old.cell ≡ cell.now.id }
-    requires others { All (λ (s : Seat). s.cell ≡ cell.now.id) others.old.items }
-    ensures met { AreMet main.old main.new others.old.items others.new.items }
-    ensures room { (vec_len others.new ≡ vec_len others.old) × (vec_capacity others.new ≡ vec_capacity others.old) }
-{
-    for i in 0..others.len() {
-        cell.meet(main, &mut others[i]);
-    }
-}
-
-/// Starts a thread for each worker, one inside the other, then runs the callers, and closes.
-pub(crate) fn start_workers<S: ActionSource, B: Beside, R: StartsThreads + Wait + Sync>(
+/// Starts a thread for each worker, one inside the other, then the callers, and begins the end of the node once all of them are back.
+pub(crate) fn start_workers<
+    S: ActionSource,
+    B: Beside,
+    C: Holder,
+    D: Holder + Send,
+    R: StartsThreads + Wait + Sync,
+>(
     rt: &R,
-    alloc: Global,
     cell: &TurnCell<Journaled>,
-    parts: &[Part],
-    statements: &[Statement],
     acts: &mut S,
     beside: &mut B,
-    all: AllHands,
-) -> ReturnedSeats
-    requires ready { AreAllReady cell.now parts.now all }
-    ensures crew { IsWholeCrewOf cell.now parts.now statements.now all result }
-    ensures counts { Counts result.refused (B.refusals beside.old) (B.refusals beside.new) }
+    threads: UnstartedThreads<C, D, D::Told, S::Set>,
+) -> Result<Crew<C::Told, D::Told, S::Set>, TurnSeat<Journaled>>
+where
+    D::Told: Send,
+    requires { AreReady cell.now threads }
+    ensures back { IfOk result (HaveCome C.promise D.promise cell.now threads) }
+    ensures lost { IfErr result (GaveUp threads.callers.main) }
+    ensures counts { Counts (is_lost result) (B.refusals beside.old) (B.refusals beside.new) }
 {
-    let mut all = all;
-    let Some(seat) = all.workers.pop() else {
-        let AllHands { workers: _, hands } = all;
-        let crew = start_callers(rt, alloc, cell, parts, statements, beside, hands);
-        return end_with(rt, cell, crew, Op::Close);
+    let mut threads = threads;
+    let Some(seat) = threads.workers.pop() else {
+        let UnstartedThreads {
+            workers: _,
+            callers,
+            sets,
+        } = threads;
+        return match start_callers(rt, cell, beside, callers) {
+            Ok(returned) => Ok(begin_end(rt, cell, returned, sets)),
+            Err(main) => Err(main),
+        };
     };
     let number = seat.number();
     let job = WorkerJob {
@@ -119,18 +141,25 @@ pub(crate) fn start_workers<S: ActionSource, B: Beside, R: StartsThreads + Wait 
         beside,
         rt,
         job,
-        all,
-        |beside: &mut B, all: AllHands| -> ReturnedSeats
-            requires { AreAllReady cell.now parts.now all × IsSync R.row }
-            ensures crew { IsWholeCrewOf cell.entry.now parts.entry.now statements.entry.now all result }
-            ensures counts { Counts result.refused (B.refusals beside.old) (B.refusals beside.new) }
-        { start_workers(rt, alloc, cell, parts, statements, acts, beside, all) },
+        threads,
+        |beside: &mut B, threads: UnstartedThreads<C, D, D::Told, S::Set>| -> Result<
+            Crew<C::Told, D::Told, S::Set>,
+            TurnSeat<Journaled>,
+        >
+            requires { AreReady cell.now threads × IsSync R.row }
+            ensures back { IfOk result (HaveCome C.promise D.promise cell.entry.now threads) }
+            ensures lost { IfErr result (GaveUp threads.callers.main) }
+            ensures counts { Counts (is_lost result) (B.refusals beside.old) (B.refusals beside.new) }
+        { start_workers(rt, cell, acts, beside, threads) },
     );
     match outcome {
-        Ok((back, crew)) => joined(crew, back),
-        Err((all, _)) => {
-            let AllHands { workers: _, hands } = all;
-            give_up(rt, cell, parts, statements, hands)
+        Ok((served, crew)) => match crew {
+            Ok(crew) => Ok(joined(crew, served)),
+            Err(main) => Err(main),
+        },
+        Err((threads, _)) => {
+            let callers = threads.callers;
+            Err(closed(rt, cell, callers.main))
         }
     }
 }

@@ -1,4 +1,5 @@
-use Rattle.std.proofs.Common.{IfOk}
+use Rattle.std.proofs.Common.{IfOk, map}
+use Rattle.node_journals.specs.Shorts.{entry_of}
 use Rattle.journal_check.specs.Judged.{IsLegalOr}
 use Rattle.journal_check.proofs.Names.{[], sym, subst, Terms, terms_with, Legal}
 use Rattle.journal_check.proofs.Prefixes.{empty_legal}
@@ -11,4 +12,4 @@ first_refused-requires-clause-legal c =
     (empty_legal terms (record { settings = c.is_kept.ensures; some_caller = c.if-callers-lt1.false; callers = c.if-callers-gt9.false }))
 
 pub returns : goal.returns
-returns c = subst (λ (t : Terms). IfOk c.first_refused.result (IsLegalOr t c.args.entries.now)) c.in_ok-follower.ensures.terms c.first_refused.ensures
+returns c = subst (λ (t : Terms). IfOk c.first_refused.result (IsLegalOr t (map entry_of c.args.shorts.now))) c.in_ok-follower.ensures.terms c.first_refused.ensures

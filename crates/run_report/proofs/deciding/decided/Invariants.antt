@@ -1,5 +1,5 @@
-use Rattle.run_report.proofs.Names.{◌≡◌, take, nows, decided}
+use Rattle.run_report.proofs.Names.{◌≡◌, take, map, nows, decided, entry_of}
 use Rattle.run_report.proofs.deciding.decided.Given as goal
 
-abbrev pub invariant-loop-entry : goal.invariant-loop-entry
-invariant-loop-entry l = nows l.replies.items ≡ decided l.who (take l.entry-index l.entries)
+abbrev pub invariant-loop-short : goal.invariant-loop-short
+invariant-loop-short l = nows l.found.items ≡ decided l.who (map entry_of (take l.short-index l.shorts))

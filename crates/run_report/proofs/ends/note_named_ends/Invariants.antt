@@ -1,6 +1,6 @@
-use Rattle.run_report.proofs.Names.{ℕ, take, nat_eq, get, nothing_seen, seen_from}
+use Rattle.run_report.proofs.Names.{ℕ, take, map, nat_eq, get, nothing_seen, seen_from, entry_of}
 use Rattle.run_report.proofs.NamedEnds.{Named}
 use Rattle.run_report.proofs.ends.note_named_ends.Given as goal
 
-abbrev pub invariant-loop-entry : goal.invariant-loop-entry
-invariant-loop-entry l = (workers : ℕ) → Named (get nat_eq l.ended) (seen_from workers nothing_seen (take l.entry-index l.entries))
+abbrev pub invariant-loop-short : goal.invariant-loop-short
+invariant-loop-short l = (workers : ℕ) → Named (get nat_eq l.ended) (seen_from workers nothing_seen (map entry_of (take l.short-index l.shorts)))

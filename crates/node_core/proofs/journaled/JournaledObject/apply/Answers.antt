@@ -6,7 +6,7 @@ add-requires-clause-room c = number_fits c.args.self.now.node c.args.self.now.lo
 
 pub returns-clause-stands : goal.returns-clause-stands
 returns-clause-stands c L st = record {
-  node = rw c.again-reply.ensures (c.execute.ensures.stands L st.node);
-  log = rw c.again-reply.ensures (journal_goes_on c.args.self.now.node c.execute.new.self c.args.self.now.log c.add.new.self L c.args.who c.args.op
-      c.execute.new.reply c.pends_alike-alike.result st.log c.execute.ensures.terms (c.pends_alike-alike.ensures L st.node) c.add.ensures);
+  node = c.execute.ensures.stands L st.node;
+  log = journal_goes_on c.args.self.now.node c.execute.new.self c.args.self.now.log c.add.new.self L c.args.who c.args.op
+      c.execute.new.reply c.pends_alike-alike.result st.log c.execute.ensures.terms (c.pends_alike-alike.ensures L st.node) c.add.ensures;
 }

@@ -1,15 +1,29 @@
-use Rattle.std.proofs.Common.{refl}
-use Rattle.workload_runners.proofs.CrewLemmas.{GaveOut, given_parts, got_part, joined_crew}
+use Rattle.std.proofs.Common.{refl, rules}
+use Rattle.std.proofs.lemmas.Result.{IfOk-at_ok}
+use Rattle.workload_runners.specs.Crews.{HaveHeld}
+use Rattle.workload_runners.proofs.CrewSeats.{taken_out, new_in, one_more_back}
 use Rattle.workload_runners.proofs.crew.callers.+fn-start_callers-pair+start_callers.Goals as goal
 
-pub returns-in-Ok-clause-crew : goal.returns-in-Ok-clause-crew
-returns-in-Ok-clause-crew g t c =
-    let e = c.in-Ok.ensures in
-    let p = c.in-Some.ensures in
-    let o : GaveOut c.args.hands (record { main = c.args.hands.main; callers = c.pop.new.self; room = c.args.hands.room }) c.in-Some.seat =
-    record { main = refl; room = refl; items = p.items; len = p.len } in
-    let has = (given_parts c.args.cell.now c.args.parts.now c.args.hands _ c.in-Some.seat c.requires.ready o).1 in
-    let part = got_part c.args.parts.now c.number.result c.number-2.result c.in-Some.seat.number c.args.hands.main.number c.index-parts-place.result _
-    c.number.ensures.number c.number-2.ensures.number has.part c.index-parts-place.is in
-    joined_crew c.args.cell.now c.args.parts.now c.args.statements.now c.args.hands _ c.in-Some.seat c.index-parts-place.result c.in-Ok.crew c.in-Ok.back
-    c.joined.result c.requires.ready o part e.done c.joined.ensures e.ran.met.0
+pub invariant_of-job : goal.invariant_of-job
+invariant_of-job g t c =
+    let n = new_in c.args.cell.now (record c.args.callers { seats = c.pop-2.new.self; others = c.pop.new.self }) c.in-Some-pop.seat
+    (taken_out c.args.cell.now c.args.callers c.pop-2.new.self c.pop.new.self c.in-Some-pop.seat c.in-Some.client c.requires c.in-Some.ensures.items
+    c.in-Some.ensures.len c.in-Some-pop.ensures.items) in
+    record { of_cell = n.cell; caller = n.number; new = n.new }
+
+pub pair-outcome-requires-after_bounds : goal.pair-outcome-requires-after_bounds
+pair-outcome-requires-after_bounds g t c κs within =
+    let out = taken_out c.args.cell.now c.args.callers c.pop-2.new.self c.pop.new.self c.in-Some-pop.seat c.in-Some.client c.requires
+    c.in-Some.ensures.items c.in-Some.ensures.len c.in-Some-pop.ensures.items in
+    let may = out.may in
+    search rules
+
+pub returns-in-Ok-returned-clause-back : goal.returns-in-Ok-returned-clause-back
+returns-in-Ok-returned-clause-back g t c =
+    let out = taken_out c.args.cell.now c.args.callers c.pop-2.new.self c.pop.new.self c.in-Some-pop.seat c.in-Some.client c.requires
+    c.in-Some.ensures.items c.in-Some.ensures.len c.in-Some-pop.ensures.items in
+    one_more_back g.C.Holder.promise g.D.Holder.promise c.args.cell.now c.args.callers c.pop-2.new.self c.pop.new.self c.in-Some-pop.seat
+    c.in-Some.client c.in-Ok-returned.returned c.joined.result c.in-Ok.held c.in-Some.ensures.items c.in-Some.ensures.len out c.in-Ok.ensures.done
+    c.joined.ensures
+    (IfOk-at_ok (HaveHeld g.C.Holder.promise g.D.Holder.promise c.args.cell.now
+    (record c.args.callers { seats = c.pop-2.new.self; others = c.pop.new.self })) c.in-Ok-returned.is c.in-Ok.ensures.ran.met.0)

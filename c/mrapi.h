@@ -1,0 +1,189 @@
+/* MRAPI 1.0, as this library has it: mutexes, semaphores, reader-writer locks and shared segments of the node of mtapi.h.
+ *
+ * What a caller owes stands at the head of mtapi.h. A lock is held by the thread that took it, and given back by it; a
+ * thread that ends while it holds one keeps its place among the callers. An action can't call these: its worker is refused
+ * with MRAPI_ERR_PARAMETER. docs/c.md has a table of what differs from the standard. */
+#ifndef MRAPI_H
+#define MRAPI_H
+
+#include <stddef.h>
+#include <stdint.h>
+
+#ifdef __cplusplus
+extern "C" {
+#endif
+
+#define MRAPI_IN const
+#define MRAPI_OUT
+#define MRAPI_INOUT
+#define MRAPI_NULL NULL
+#define MRAPI_FALSE 0
+#define MRAPI_TRUE 1
+
+typedef int32_t mrapi_int_t;
+typedef uint32_t mrapi_uint_t;
+typedef int64_t mrapi_int64_t;
+typedef uint32_t mrapi_boolean_t;
+typedef uint32_t mrapi_status_t;
+typedef uint32_t mrapi_domain_t;
+typedef uint32_t mrapi_node_t;
+typedef uint32_t mrapi_mutex_id_t;
+typedef uint32_t mrapi_sem_id_t;
+typedef uint32_t mrapi_rwl_id_t;
+typedef uint32_t mrapi_shmem_id_t;
+typedef uint32_t mrapi_key_t;
+typedef enum { MRAPI_RWL_READER = 0, MRAPI_RWL_WRITER = 1 } mrapi_rwl_mode_t;
+#define MRAPI_READER MRAPI_RWL_READER
+#define MRAPI_WRITER MRAPI_RWL_WRITER
+
+/* Milliseconds. */
+typedef uint32_t mrapi_timeout_t;
+#define MRAPI_TIMEOUT_IMMEDIATE ((mrapi_timeout_t)0)
+#define MRAPI_TIMEOUT_INFINITE ((mrapi_timeout_t)0xffffffff)
+
+typedef struct { uint64_t handle; } mrapi_mutex_hndl_t;
+typedef struct { uint64_t handle; } mrapi_sem_hndl_t;
+typedef struct { uint64_t handle; } mrapi_rwl_hndl_t;
+typedef struct { uint64_t handle; } mrapi_shmem_hndl_t;
+
+/* For an id that no other one has. */
+#define MRAPI_MUTEX_ID_ANY ((mrapi_mutex_id_t)0xffffffff)
+#define MRAPI_SEM_ID_ANY ((mrapi_sem_id_t)0xffffffff)
+#define MRAPI_RWL_ID_ANY ((mrapi_rwl_id_t)0xffffffff)
+#define MRAPI_SHMEM_ID_ANY ((mrapi_shmem_id_t)0xffffffff)
+
+/* ---- statuses: those of the node, by its numbers */
+enum {
+    MRAPI_SUCCESS = 0,
+    MRAPI_TIMEOUT = 1,
+    MRAPI_ERR_PARAMETER = 2,
+    MRAPI_ERR_NODE_NOTINIT = 3,
+    MRAPI_ERR_MUTEX_INVALID = 4,
+    MRAPI_ERR_MUTEX_ID_INVALID = 5,
+    MRAPI_ERR_MUTEX_EXISTS = 6,
+    MRAPI_ERR_MUTEX_LIMIT = 7,
+    MRAPI_ERR_MUTEX_LOCKED = 8,
+    MRAPI_ERR_MUTEX_NOTLOCKED = 9,
+    MRAPI_ERR_MUTEX_KEY = 10,
+    MRAPI_ERR_MUTEX_LOCKORDER = 11,
+    MRAPI_ERR_SEM_INVALID = 12,
+    MRAPI_ERR_SEM_ID_INVALID = 13,
+    MRAPI_ERR_SEM_EXISTS = 14,
+    MRAPI_ERR_SEM_LOCKED = 15,
+    MRAPI_ERR_SEM_NOTLOCKED = 16,
+    MRAPI_ERR_RWL_INVALID = 17,
+    MRAPI_ERR_RWL_ID_INVALID = 18,
+    MRAPI_ERR_RWL_EXISTS = 19,
+    MRAPI_ERR_RWL_LIMIT = 20,
+    MRAPI_ERR_RWL_LOCKED = 21,
+    MRAPI_ERR_RWL_NOTLOCKED = 22,
+    MRAPI_ERR_SHM_INVALID = 23,
+    MRAPI_ERR_SHM_ID_INVALID = 24,
+    MRAPI_ERR_SHM_EXISTS = 25,
+    MRAPI_ERR_SHM_LIMIT = 26,
+    MRAPI_ERR_SHM_ATTACHED = 27,
+    MRAPI_ERR_SHM_NOTATTACHED = 28,
+    MRAPI_ERR_SPENT = 29,
+    MRAPI_ERR_SEM_LIMIT = 30,
+
+    /* those of the glue */
+    MRAPI_ERR_NOT_SUPPORTED = 64,     /* the profile leaves this out */
+    MRAPI_ERR_NODE_INITFAILED = 65,   /* a thread was refused */
+    MRAPI_ERR_ATTRIBUTE_SIZE = 66,
+    MRAPI_ERR_ATTRIBUTE_NUM = 67,
+    MRAPI_ERR_ATTRIBUTE_READONLY = 68,
+    MRAPI_ERR_NODE_INITIALIZED = 69,
+    MRAPI_EXT_ERR_MEMORY = 99,        /* out of memory */
+    MRAPI_EXT_ERR_CALLER_LIMIT = 104, /* main and eight further threads have called, and none of them has ended */
+    MRAPI_EXT_ERR_DEADLOCK = 105      /* the node can't be finalized by an action */
+};
+
+/* Writes the name of a status into `message`, of `size` bytes, and gives `message`; MRAPI_NULL if it doesn't fit. */
+char *mrapi_display_status(mrapi_status_t status, char *message, size_t size);
+
+/* ---- attributes, by address and size. Each is a mrapi_uint_t. */
+enum {
+    MRAPI_MUTEX_RECURSIVE = 1, /* of a mutex (MRAPI_FALSE) */
+    MRAPI_ERROR_EXT = 2,       /* read-only: MRAPI_TRUE, each call is checked */
+    MRAPI_DOMAIN_SHARED = 3    /* read-only: MRAPI_FALSE */
+};
+
+typedef struct { mrapi_boolean_t is_recursive; } mrapi_mutex_attributes_t;
+typedef struct { char none; } mrapi_sem_attributes_t;
+typedef struct { char none; } mrapi_rwl_attributes_t;
+typedef struct { char none; } mrapi_shmem_attributes_t;
+
+/* ---- the node: the one of mtapi_initialize; where none stands, one with the default settings. It is finalized by
+ * mtapi_finalize, and where mrapi_initialize made it also by mrapi_finalize. */
+typedef const void *mrapi_parameters_t; /* not read */
+typedef struct { mrapi_uint_t mrapi_version, number_of_domains, number_of_nodes; } mrapi_info_t;
+
+void mrapi_initialize(mrapi_domain_t domain_id, mrapi_node_t node_id, mrapi_parameters_t init_parameters,
+    mrapi_info_t *mrapi_info, mrapi_status_t *status);
+void mrapi_finalize(mrapi_status_t *status);
+mrapi_domain_t mrapi_domain_id_get(mrapi_status_t *status);
+mrapi_node_t mrapi_node_id_get(mrapi_status_t *status);
+
+/* ---- mutexes. A lock gives a key, 1 to 64, which is its depth; the last key goes back first. */
+void mrapi_mutex_init_attributes(mrapi_mutex_attributes_t *attributes, mrapi_status_t *status);
+void mrapi_mutex_set_attribute(mrapi_mutex_attributes_t *attributes, mrapi_uint_t attribute_num, const void *attribute,
+    size_t attribute_size, mrapi_status_t *status);
+void mrapi_mutex_get_attribute(mrapi_mutex_hndl_t mutex, mrapi_uint_t attribute_num, void *attribute, size_t attribute_size,
+    mrapi_status_t *status);
+mrapi_mutex_hndl_t mrapi_mutex_create(mrapi_mutex_id_t mutex_id, const mrapi_mutex_attributes_t *attributes,
+    mrapi_status_t *status);
+mrapi_mutex_hndl_t mrapi_mutex_get(mrapi_mutex_id_t mutex_id, mrapi_status_t *status);
+void mrapi_mutex_delete(mrapi_mutex_hndl_t mutex, mrapi_status_t *status);
+void mrapi_mutex_lock(mrapi_mutex_hndl_t mutex, mrapi_key_t *lock_key, mrapi_timeout_t timeout, mrapi_status_t *status);
+mrapi_boolean_t mrapi_mutex_trylock(mrapi_mutex_hndl_t mutex, mrapi_key_t *lock_key, mrapi_status_t *status);
+void mrapi_mutex_unlock(mrapi_mutex_hndl_t mutex, const mrapi_key_t *lock_key, mrapi_status_t *status);
+
+/* ---- semaphores, held at most `shared_lock_limit` times at once, 1 to 65,535 */
+void mrapi_sem_init_attributes(mrapi_sem_attributes_t *attributes, mrapi_status_t *status);
+void mrapi_sem_set_attribute(mrapi_sem_attributes_t *attributes, mrapi_uint_t attribute_num, const void *attribute,
+    size_t attribute_size, mrapi_status_t *status);
+void mrapi_sem_get_attribute(mrapi_sem_hndl_t sem, mrapi_uint_t attribute_num, void *attribute, size_t attribute_size,
+    mrapi_status_t *status);
+mrapi_sem_hndl_t mrapi_sem_create(mrapi_sem_id_t sem_id, const mrapi_sem_attributes_t *attributes,
+    mrapi_uint_t shared_lock_limit, mrapi_status_t *status);
+mrapi_sem_hndl_t mrapi_sem_get(mrapi_sem_id_t sem_id, mrapi_status_t *status);
+void mrapi_sem_delete(mrapi_sem_hndl_t sem, mrapi_status_t *status);
+void mrapi_sem_lock(mrapi_sem_hndl_t sem, mrapi_timeout_t timeout, mrapi_status_t *status);
+mrapi_boolean_t mrapi_sem_trylock(mrapi_sem_hndl_t sem, mrapi_status_t *status);
+void mrapi_sem_unlock(mrapi_sem_hndl_t sem, mrapi_status_t *status);
+
+/* ---- reader-writer locks, for at most `reader_lock_limit` readers at once, 1 to 32 */
+void mrapi_rwl_init_attributes(mrapi_rwl_attributes_t *attributes, mrapi_status_t *status);
+void mrapi_rwl_set_attribute(mrapi_rwl_attributes_t *attributes, mrapi_uint_t attribute_num, const void *attribute,
+    size_t attribute_size, mrapi_status_t *status);
+void mrapi_rwl_get_attribute(mrapi_rwl_hndl_t rwl, mrapi_uint_t attribute_num, void *attribute, size_t attribute_size,
+    mrapi_status_t *status);
+mrapi_rwl_hndl_t mrapi_rwl_create(mrapi_rwl_id_t rwl_id, const mrapi_rwl_attributes_t *attributes,
+    mrapi_uint_t reader_lock_limit, mrapi_status_t *status);
+mrapi_rwl_hndl_t mrapi_rwl_get(mrapi_rwl_id_t rwl_id, mrapi_status_t *status);
+void mrapi_rwl_delete(mrapi_rwl_hndl_t rwl, mrapi_status_t *status);
+void mrapi_rwl_lock(mrapi_rwl_hndl_t rwl, mrapi_rwl_mode_t mode, mrapi_timeout_t timeout, mrapi_status_t *status);
+mrapi_boolean_t mrapi_rwl_trylock(mrapi_rwl_hndl_t rwl, mrapi_rwl_mode_t mode, mrapi_status_t *status);
+void mrapi_rwl_unlock(mrapi_rwl_hndl_t rwl, mrapi_rwl_mode_t mode, mrapi_status_t *status);
+
+/* ---- segments of 1 to 4,096 cells of eight bytes each, at first 0; `size` counts bytes. mrapi_shmem_attach gives
+ * MRAPI_NULL and no address: cells are read and written by calls. `nodes` isn't read. */
+void mrapi_shmem_init_attributes(mrapi_shmem_attributes_t *attributes, mrapi_status_t *status);
+void mrapi_shmem_set_attribute(mrapi_shmem_attributes_t *attributes, mrapi_uint_t attribute_num, const void *attribute,
+    size_t attribute_size, mrapi_status_t *status);
+void mrapi_shmem_get_attribute(mrapi_shmem_hndl_t shmem, mrapi_uint_t attribute_num, void *attribute, size_t attribute_size,
+    mrapi_status_t *status);
+mrapi_shmem_hndl_t mrapi_shmem_create(mrapi_shmem_id_t shmem_id, mrapi_uint_t size, const mrapi_node_t *nodes,
+    mrapi_uint_t nodes_size, const mrapi_shmem_attributes_t *attributes, mrapi_status_t *status);
+mrapi_shmem_hndl_t mrapi_shmem_get(mrapi_shmem_id_t shmem_id, mrapi_status_t *status);
+void mrapi_shmem_delete(mrapi_shmem_hndl_t shmem, mrapi_status_t *status);
+void *mrapi_shmem_attach(mrapi_shmem_hndl_t shmem, mrapi_status_t *status);
+void mrapi_shmem_detach(mrapi_shmem_hndl_t shmem, mrapi_status_t *status);
+mrapi_int64_t mrapi_ext_shmem_read(mrapi_shmem_hndl_t shmem, mrapi_uint_t cell, mrapi_status_t *status);
+void mrapi_ext_shmem_write(mrapi_shmem_hndl_t shmem, mrapi_uint_t cell, mrapi_int64_t value, mrapi_status_t *status);
+
+#ifdef __cplusplus
+}
+#endif
+
+#endif

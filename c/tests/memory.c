@@ -1,0 +1,108 @@
+/* Want of memory: whichever call of malloc, calloc or realloc is the first to fail in mtapi_initialize, it answers a status,
+ * leaves nothing behind, and may be called again. */
+#include "check.h"
+#include <stdatomic.h>
+
+static atomic_long left = -1; /* calls until one fails, and all behind it; -1: none does */
+static atomic_long given, back;
+
+static bool is_refused(void)
+{
+    long now = atomic_load(&left);
+    if (now < 0) return false;
+    if (now == 0) return true;
+    atomic_store(&left, now - 1);
+    return false;
+}
+
+/* The linker puts these between the library and the heap (--wrap). */
+void *__real_malloc(size_t size);
+void *__real_calloc(size_t count, size_t size);
+void *__real_realloc(void *old, size_t size);
+void __real_free(void *block);
+void *__wrap_malloc(size_t size);
+void *__wrap_calloc(size_t count, size_t size);
+void *__wrap_realloc(void *old, size_t size);
+void __wrap_free(void *block);
+
+void *__wrap_malloc(size_t size)
+{
+    void *block = is_refused() ? NULL : __real_malloc(size);
+    if (block) atomic_fetch_add(&given, 1);
+    return block;
+}
+
+void *__wrap_calloc(size_t count, size_t size)
+{
+    void *block = is_refused() ? NULL : __real_calloc(count, size);
+    if (block) atomic_fetch_add(&given, 1);
+    return block;
+}
+
+void *__wrap_realloc(void *old, size_t size)
+{
+    void *block = is_refused() ? NULL : __real_realloc(old, size);
+    if (block && !old) atomic_fetch_add(&given, 1);
+    return block;
+}
+
+void __wrap_free(void *block)
+{
+    if (block) atomic_fetch_add(&back, 1);
+    __real_free(block);
+}
+
+ACTION(add_one)
+{
+    UNUSED;
+    *(int *)result = *(const int *)arguments + 1;
+}
+
+static void work(void)
+{
+    mtapi_status_t status;
+    int argument = 4, result = 0;
+    mtapi_task_wait(start(job_of(1, add_one), &argument, sizeof argument, &result, sizeof result), MTAPI_INFINITE, &status);
+    OK;
+    CHECK(result == 5);
+}
+
+/* Whether the node, which works, has kept a journal: else memory was short for that, which is told at the end. */
+static bool has_ended_well(void)
+{
+    mtapi_status_t status;
+    FILE *file = tmpfile();
+    CHECK(file);
+    work();
+    mtapi_ext_finalize(file, &status);
+    fclose(file);
+    if (status == MTAPI_EXT_ERR_JOURNAL) return false;
+    OK;
+    return true;
+}
+
+int main(void)
+{
+    mtapi_status_t status;
+    mtapi_node_attributes_t attributes = settings(2);
+    begin(2); /* what C's own library takes once is taken now */
+    work();
+    end("memory");
+    long refused = 0;
+    for (long first = 0;; first++) {
+        long held = atomic_load(&given) - atomic_load(&back);
+        atomic_store(&left, first);
+        mtapi_initialize(1, 1, &attributes, NULL, &status);
+        atomic_store(&left, -1);
+        if (status == MTAPI_SUCCESS && has_ended_well()) break;
+        if (status == MTAPI_SUCCESS) continue;
+        WANT(MTAPI_EXT_ERR_MEMORY);
+        CHECK(atomic_load(&given) - atomic_load(&back) == held);
+        mtapi_finalize(&status);
+        WANT(MTAPI_ERR_NODE_NOTINIT);
+        refused++;
+    }
+    CHECK(refused >= 3);
+    CHECK(atomic_load(&given) == atomic_load(&back));
+    return 0;
+}

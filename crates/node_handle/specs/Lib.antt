@@ -1,0 +1,4 @@
+pub mod Turns
+pub mod Owning
+pub mod Handles
+pub mod Texts

@@ -1,8 +1,0 @@
-use Rattle.std.proofs.Common.{vec_len}
-use Rattle.node_with_workers.proofs.crew.+fn-start_workers-pair+start_workers.Given as goal
-
-abbrev pub decreases-pair : goal.decreases-pair
-decreases-pair g l = vec_len l.hands.workers
-
-abbrev pub decreases-start_workers : goal.decreases-start_workers
-decreases-start_workers g l = vec_len l.hands.workers
