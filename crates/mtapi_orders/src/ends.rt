@@ -63,7 +63,8 @@ fn plain_text(end: OrdersEnd) -> &'static [u8] {
         OrdersEnd::Usage => b"usage: mtapi orders [--one | --journals] [STATES]\n",
         OrdersEnd::TooLong => b"mtapi: workload too long\n",
         OrdersEnd::TooLarge => b"mtapi: orders: a workload of more than 65,000 statements\n",
-        OrdersEnd::Retires => b"mtapi: orders: with these generations and limits a slot may retire, which orders doesn't follow\n",
+        OrdersEnd::Retires =>
+            b"mtapi: orders: with these generations and limits a slot may retire, which orders doesn't follow\n",
         OrdersEnd::ReadFault => b"mtapi: read fault\n",
         OrdersEnd::WriteFault => b"mtapi: write fault\n",
         OrdersEnd::Memory => b"mtapi: out of memory\n",
@@ -81,7 +82,9 @@ fn text_of(alloc: Global, end: OrdersEnd) -> Result<Vec<u8>, AllocError> {
             text.extend_from_slice(said.as_bytes())?;
         }
         OrdersEnd::Misjudged(count) => {
-            let said = format!(in alloc; "mtapi: orders: {count} of the journals that it made are none of a run: it is at fault, and reports may be missing\n")?;
+            let said = format!(in alloc;
+                "mtapi: orders: {count} of the journals that it made are none of a run: it is at fault, and reports may be missing\n"
+            )?;
             text.extend_from_slice(said.as_bytes())?;
         }
         other => text.extend_from_slice(plain_text(other))?,

@@ -29,7 +29,13 @@ pub fn push_journals(alloc: Global, out: &mut Vec<u8>, orders: &Orders) -> Resul
     number = 0;
     for deadlock in &orders.deadlocks {
         number = number.saturating_add(1);
-        push_journal(alloc, out, b"journal of deadlock ", number, &deadlock.journal)?;
+        push_journal(
+            alloc,
+            out,
+            b"journal of deadlock ",
+            number,
+            &deadlock.journal,
+        )?;
     }
     Ok(())
 }

@@ -73,7 +73,12 @@ fn run_host(rt: &HostRuntime) -> OrdersEnd {
     let mut out = StdSink::new(rt.stdout());
     match asked(rt) {
         Ok(Some(request)) => {
-            match run(rt.alloc(), request, &mut StdSource::new(rt.stdin()), &mut out) {
+            match run(
+                rt.alloc(),
+                request,
+                &mut StdSource::new(rt.stdin()),
+                &mut out,
+            ) {
                 Ok(end) => end,
                 Err(end) => end,
             }

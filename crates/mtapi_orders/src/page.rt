@@ -10,7 +10,12 @@ use workload_orders::{Deadlock, Orders, Report};
 const MOST_WHOLE: usize = 100;
 
 /// A number and what is counted, with an `s` unless there is one.
-fn push_count(alloc: Global, out: &mut Vec<u8>, count: usize, what: &[u8]) -> Result<(), AllocError> {
+fn push_count(
+    alloc: Global,
+    out: &mut Vec<u8>,
+    count: usize,
+    what: &[u8],
+) -> Result<(), AllocError> {
     push_number(alloc, out, count as u64)?;
     push_bytes(out, b" ")?;
     push_bytes(out, what)?;
@@ -135,7 +140,11 @@ fn sign_of(differ: bool) -> &'static [u8] {
 }
 
 /// The line of one slot, or its alternatives.
-fn push_slot(out: &mut Vec<u8>, slot: &Slot, alternatives: &Alternatives) -> Result<(), AllocError> {
+fn push_slot(
+    out: &mut Vec<u8>,
+    slot: &Slot,
+    alternatives: &Alternatives,
+) -> Result<(), AllocError> {
     let differ = alternatives.differ();
     let mut sign = sign_of(differ);
     for line in &alternatives.texts {
@@ -214,7 +223,11 @@ fn push_indented(out: &mut Vec<u8>, text: &[u8]) -> Result<(), AllocError> {
 }
 
 /// Each deadlock, with a line for each that waits.
-fn push_deadlocks(alloc: Global, out: &mut Vec<u8>, deadlocks: &[Deadlock]) -> Result<(), AllocError> {
+fn push_deadlocks(
+    alloc: Global,
+    out: &mut Vec<u8>,
+    deadlocks: &[Deadlock],
+) -> Result<(), AllocError> {
     let mut number = 0usize;
     for deadlock in deadlocks {
         number = number.saturating_add(1);

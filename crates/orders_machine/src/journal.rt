@@ -9,7 +9,7 @@ use crate::workers::{looks_of, pure_answer};
 use action_fn::{ActEnd, Finished};
 use mtapi_machine::{Entry, Op, Reply};
 use mtapi_values::{ActionHandle, Args, Kind, MtapiStatus, ObjectKind, TaskEnd, TaskHandle};
-use node_journals::EntryList;
+use node_journals::ShortList;
 use std::alloc::{AllocError, Global};
 use workload_file::Deed;
 use workload_runs::{Call, call_of};
@@ -157,7 +157,7 @@ impl Machine<'_> {
         after: &State,
         site: Site,
         late: bool,
-        entries: &mut EntryList,
+        entries: &mut ShortList,
     ) -> Result<(), AllocError> {
         let Some(deed) = self.deed(site) else {
             return Ok(());
@@ -184,14 +184,14 @@ impl Machine<'_> {
     }
 
     /// An entry of main.
-    fn tell_main(&self, op: Op, entries: &mut EntryList) -> Result<(), AllocError> {
+    fn tell_main(&self, op: Op, entries: &mut ShortList) -> Result<(), AllocError> {
         let who = self.seat_of_part(0);
         let reply = Reply::Ok;
         entries.push(Entry { who, op, reply }, 0)
     }
 
     /// Each worker stops, and main finalizes the node.
-    fn tell_final(&self, entries: &mut EntryList) -> Result<(), AllocError> {
+    fn tell_final(&self, entries: &mut ShortList) -> Result<(), AllocError> {
         for who in 0..self.load.settings.workers() {
             let op = Op::Pick;
             let reply = Reply::Stop;
@@ -218,7 +218,7 @@ impl Machine<'_> {
         task: u16,
         action: u16,
         seats: &mut Seats,
-        entries: &mut EntryList,
+        entries: &mut ShortList,
     ) -> Result<(), AllocError> {
         let (Some(who), Some(plan), Some(made)) = (
             self.idle_worker(seats.as_slice(), class),
@@ -249,7 +249,7 @@ impl Machine<'_> {
         before: Task,
         end: Option<TaskEnd>,
         args: &Args,
-        entries: &mut EntryList,
+        entries: &mut ShortList,
     ) -> Result<(), AllocError> {
         if let Some(end) = end {
             let op = Op::WatchEnd { task };
@@ -277,7 +277,7 @@ impl Machine<'_> {
         stage: Stage,
         end: Option<TaskEnd>,
         number: i64,
-        entries: &mut EntryList,
+        entries: &mut ShortList,
     ) -> Result<(), AllocError> {
         let (op, reply) = match (end, stage) {
             (Some(end), _) => (Op::TallyEnd { task }, Reply::Ended(end)),
@@ -299,7 +299,7 @@ impl Machine<'_> {
         task: TaskHandle,
         kind: Kind,
         args: &Args,
-        entries: &mut EntryList,
+        entries: &mut ShortList,
     ) -> Result<(), AllocError> {
         let Some(done) = finished(kind, args) else {
             return Ok(());
@@ -317,7 +317,7 @@ impl Machine<'_> {
         after: &State,
         task: u16,
         seats: &mut Seats,
-        entries: &mut EntryList,
+        entries: &mut ShortList,
     ) -> Result<(), AllocError> {
         let place = usize::from(task);
         let (Some(who), Some(now), Some(plan)) = (
@@ -352,7 +352,7 @@ impl Machine<'_> {
         before: &State,
         after: &State,
         seats: &mut Seats,
-        entries: &mut EntryList,
+        entries: &mut ShortList,
     ) -> Result<(), AllocError> {
         match label {
             Label::Initialize => self.tell_main(Op::Initialize, entries),
@@ -391,7 +391,7 @@ impl Machine<'_> {
         after: &State,
         part: u8,
         late: bool,
-        entries: &mut EntryList,
+        entries: &mut ShortList,
     ) -> Result<(), AllocError> {
         match self.next_site(before, usize::from(part)) {
             Some(site) => self.tell_statement(alloc, after, site, late, entries),
@@ -401,8 +401,8 @@ impl Machine<'_> {
 
     /// The entries of a path from the opening, in layout two, with the number of looks that were left out before each. Labels that are
     /// no path are told as far as they are one. It fails for want of memory alone.
-    pub fn entries(&self, alloc: Global, path: &[Label]) -> Result<EntryList, AllocError> {
-        let mut entries = EntryList::new(alloc);
+    pub fn entries(&self, alloc: Global, path: &[Label]) -> Result<ShortList, AllocError> {
+        let mut entries = ShortList::new(alloc);
         let mut state = self.opening(alloc)?;
         let mut seats = vec![in alloc; None; self.load.settings.workers() as usize]?;
         for label in path {

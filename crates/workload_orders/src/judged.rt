@@ -6,13 +6,13 @@ ghost use Rattle.workload_orders.specs.Shown.{Shows, HasHistory};
 use crate::listed::{Deadlock, Report};
 use journal_check::{Verdict, check_run};
 use mtapi_values::Layout;
-use node_journals::{EntryList, Journal};
+use node_journals::{ShortList, Journal};
 use run_report::report_of;
 use std::alloc::{AllocError, Global};
 use workload_file::Workload;
 
 /// A journal of these entries, with the settings and the callers of a workload.
-pub(crate) fn journal_of(load: &Workload, entries: EntryList) -> Journal {
+pub(crate) fn journal_of(load: &Workload, entries: ShortList) -> Journal {
     let mut callers = 0;
     for _ in load.parts.as_slice() {
         callers = if callers < 9 { callers + 1 } else { 9 };
