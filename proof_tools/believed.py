@@ -24,6 +24,7 @@ ASKED = [
     "workload_runners::run_node",
     "node_with_workers::with_callers",
     "typed_pieces::map_pieces",
+    "workload_orders::orders",
 ]
 WHAT = {
     "mtapi_values": "names, numbers and ranges",
