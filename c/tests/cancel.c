@@ -208,6 +208,7 @@ static void first_of_queue(void)
     WANT(MTAPI_TIMEOUT);
     mtapi_task_cancel(first, &status);
     OK;
+    NAP(20); /* the worker sleeps again */
     mtapi_queue_enable(queue, &status);
     OK;
     mtapi_task_wait(second, 20000, &status);

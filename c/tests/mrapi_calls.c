@@ -480,8 +480,9 @@ static void segments(void)
     end("segments");
 }
 
-/* Four threads add to one number of theirs, under a mutex, a semaphore and a lock for one writer. */
-enum { THREADS = 4, EACH = 500 };
+/* Four threads add to one number of theirs, under a mutex, a semaphore and a lock for one writer. Each now and then holds what it
+ * has for a while, so that the others sleep and have to be woken. */
+enum { THREADS = 4, EACH = 200 };
 static mrapi_mutex_hndl_t by_mutex;
 static mrapi_sem_hndl_t by_sem;
 static mrapi_rwl_hndl_t by_rwl;
@@ -496,14 +497,17 @@ static void *adds(void *unused)
         mrapi_mutex_lock(by_mutex, &key, MRAPI_TIMEOUT_INFINITE, &status);
         OK;
         sum++;
+        if (i % 20 == 0) NAP(1);
         mrapi_mutex_unlock(by_mutex, &key, &status);
         OK;
         mrapi_sem_lock(by_sem, MRAPI_TIMEOUT_INFINITE, &status);
         OK;
+        if (i % 20 == 7) NAP(1);
         mrapi_sem_unlock(by_sem, &status);
         OK;
         mrapi_rwl_lock(by_rwl, i % 2 ? MRAPI_RWL_WRITER : MRAPI_RWL_READER, MRAPI_TIMEOUT_INFINITE, &status);
         OK;
+        if (i % 20 == 13) NAP(1);
         mrapi_rwl_unlock(by_rwl, i % 2 ? MRAPI_RWL_WRITER : MRAPI_RWL_READER, &status);
         OK;
     }
@@ -517,7 +521,7 @@ static void contention(void)
     begin(1);
     by_mutex = mrapi_mutex_create(1, NULL, &status);
     OK;
-    by_sem = mrapi_sem_create(1, NULL, 2, &status);
+    by_sem = mrapi_sem_create(1, NULL, 1, &status);
     OK;
     by_rwl = mrapi_rwl_create(1, NULL, 4, &status);
     OK;

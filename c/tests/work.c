@@ -345,6 +345,40 @@ static void statuses(void)
     end("statuses");
 }
 
+/* An action is given the addresses and sizes that its task and its making have. */
+static struct {
+    const void *arguments, *data;
+    void *result;
+    mtapi_size_t sizes[3];
+} seen;
+
+ACTION(look)
+{
+    UNUSED;
+    seen.arguments = arguments;
+    seen.result = result;
+    seen.data = data;
+    seen.sizes[0] = arguments_size;
+    seen.sizes[1] = result_size;
+    seen.sizes[2] = data_size;
+}
+
+static void buffers(void)
+{
+    static char arguments[3], result[5], data[7];
+    mtapi_status_t status;
+    begin(1);
+    mtapi_action_create(JOB, look, data, sizeof data, MTAPI_DEFAULT_ACTION_ATTRIBUTES, &status);
+    OK;
+    mtapi_job_hndl_t job = mtapi_job_get(JOB, 1, &status);
+    OK;
+    mtapi_task_wait(start(job, arguments, sizeof arguments, result, sizeof result), MTAPI_INFINITE, &status);
+    OK;
+    CHECK(seen.arguments == arguments && seen.result == result && seen.data == data);
+    CHECK(seen.sizes[0] == 3 && seen.sizes[1] == 5 && seen.sizes[2] == 7);
+    end("buffers");
+}
+
 int main(void)
 {
     groups();
@@ -356,5 +390,6 @@ int main(void)
     affinity_in_order();
     detached();
     statuses();
+    buffers();
     return 0;
 }
