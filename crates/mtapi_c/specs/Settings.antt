@@ -43,6 +43,8 @@ TellsWrong (suc wrong) status = status ≡ mtapi_number ErrParameter
 
 -- the status is 0, and the handle holds a new node with the settings, the callers and a journal as asked; else it is as it was
 abbrev pub IfCreated : NodeHandle → Settings → ℕ → Bool → ℕ → NodeHandle → Type 0
-IfCreated old s callers journal zero new = IsNew new (record { node = record { layout = Two; settings = asked_settings s; callers = callers };
-    keeps = journal })
+IfCreated old s callers journal zero new = IsNew new (record {
+  node = record { layout = Two; settings = asked_settings s; callers = callers };
+  keeps = journal;
+})
 IfCreated old s callers journal (suc status) new = new ≡ old

@@ -6,7 +6,7 @@ ghost use Rattle.workload_orders.specs.Shown.{Shows, HasHistory};
 use crate::listed::{Deadlock, Report};
 use journal_check::{Verdict, check_run};
 use mtapi_values::Layout;
-use node_journals::{ShortList, Journal};
+use node_journals::{Journal, ShortList};
 use run_report::report_of;
 use std::alloc::{AllocError, Global};
 use workload_file::Workload;

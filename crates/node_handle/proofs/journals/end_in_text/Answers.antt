@@ -16,7 +16,7 @@ pub returns : goal.returns
 unfolding node_or
 returns c n e =
     let there : c.take-boxed.result.value ≡ held.Node c.take_node.result = let at = c.deref_mut.ensures.value in let was = c.take_node.ensures
-        in search rules in
+    in search rules in
     let first : c.args.node.now.held ≡ Some (held.Node c.take_node.result) = c.take-boxed.ensures.taken ∙ ap Some there in
     let same : c.take_node.result ≡ n = ap (node_or n) (sym first ∙ e) in
     record {
