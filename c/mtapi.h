@@ -221,7 +221,7 @@ void mtapi_node_get_attribute(mtapi_node_t node, mtapi_uint_t attribute_num, voi
 void mtapi_initialize(mtapi_domain_t domain_id, mtapi_node_t node_id, const mtapi_node_attributes_t *attributes,
     mtapi_info_t *mtapi_info, mtapi_status_t *status);
 void mtapi_finalize(mtapi_status_t *status);
-/* The same, and writes the text of the journal to the file, which `mtapi judge` reads. */
+/* The same, and writes the text of the journal to the file, which `mtapi picture` draws and `mtapi trace` writes as a trace. */
 void mtapi_ext_finalize(FILE *journal, mtapi_status_t *status);
 mtapi_domain_t mtapi_domain_id_get(mtapi_status_t *status);
 mtapi_node_t mtapi_node_id_get(mtapi_status_t *status);

@@ -1,6 +1,6 @@
 /* Tasks that start tasks: each node of a binary tree of depth 10 is one. All are in one group, which no task has left before
  * it has started its two children; so a wait for the group is a wait for the tree. At the end the run's journal goes to standard
- * output, and `tree | mtapi judge -` judges it. */
+ * output: `./tree | mtapi trace - >tree.json`. */
 #include <mtapi.h>
 #include <stdatomic.h>
 #include <stdio.h>
