@@ -30,20 +30,11 @@ PROVED_WITHIN = 7200  # and a proof
 USAGE = re.search(r'^message end\.Usage = codes "(.*)" \+\+', open(f"{TOP}/crates/mtapi_top/specs/Command.antt").read(), re.M)[1]
 FIRST = "examples/first.workload"
 ACTION = "action a job=1 kind=add\n"
-# Words that are none, and what the error output then begins with.
+# Words that are none, and what the error output then begins with: a few, for their time. `mtapi test` has one of each word.
 FAULTY = [
-    ("", USAGE), ("it", "mtapi: no word 'it'"), ("Run", "mtapi: no word 'Run': perhaps run\n"),
-    ("rnu", "mtapi: no word 'rnu': perhaps run\n" + USAGE), ("explian", "mtapi: no word 'explian': perhaps explain\n"),
-    ("run --jurnal", "mtapi: no option '--jurnal': perhaps --journal\n"), ("run a b", "usage: mtapi run [FILE]\n"),
-    ("gen", "usage: mtapi gen N [W]\n"), ("gen 5 4 3", "usage: mtapi gen N [W]\n"),
-    *[(f"gen {it}", f"mtapi: no number of tasks: {it}: 1 to 19,000\n") for it in ("0", "20000", "05", "+5")],
-    *[(f"gen 5 {it}", f"mtapi: no number of workers: {it}: 1 to 16\n") for it in (0, 17)],
-    ("check a b c", "usage: mtapi check [FILE [KEPT]]\n"), ("picture a b c", "usage: mtapi picture [FILE [KEPT]]\n"),
-    ("trace a b c", "usage: mtapi trace [FILE [KEPT]]\n"), ("trcae", "mtapi: no word 'trcae': perhaps trace\n"),
-    ("prove it", "mtapi: no option 'it': perhaps --command\n"), ("test it", "usage: mtapi test\n"),
-    ("verify", "usage: mtapi verify [-v] FILE\n"), ("expect FILE", "usage: mtapi expect [-v] FILE REPORT\n"),
-    ("bounded", "usage: mtapi bounded [-v] FILE [LOOKS]\n"), ("bounded FILE 1000001", "mtapi: no number of looks: 1000001: 0 to "),
-    ("new", "usage: mtapi new FOLDER [NAME]\n"), ("install a b", "usage: mtapi install [PREFIX]\n"),
+    ("", USAGE), ("it", "mtapi: no word 'it'"), ("rnu", "mtapi: no word 'rnu': perhaps run\n" + USAGE),
+    ("run --jurnal", "mtapi: no option '--jurnal': perhaps --journal\n"),
+    ("gen 0", "mtapi: no number of tasks: 0: 1 to 19,000\n"), ("bounded", "usage: mtapi bounded [-v] FILE [LOOKS]\n"),
 ]
 # A call: its name, the command line of a shell, and the status, the output and what the error output says.
 TOLD = [

@@ -1,5 +1,6 @@
 #!/usr/bin/env python3
-"""What a node takes of tasks of 10 µs, 100 µs and 1 ms, and what they gain from workers: one table.
+"""What a node takes of tasks of 10 µs, 100 µs and 1 ms, and what they gain from workers: one table, with which docs/performance.md
+begins: `bench/grains.py page` measures and puts it there.
 
 So many items of equal work, a loop of sums that nothing shortens, are handed to `map_pieces` with 1, 2 and 4 workers, to
 the kit's `rayon`, which has a thread for each processor, and to threads of std in plain Rust (`bench/peer/grains.rs`);
@@ -8,19 +9,23 @@ thread. Each figure is the least of some tries, in turns.
 
 Needs `rustc`, and the folder `crates` as checks have passed it: the program below is proved and built over a copy of it by
 `rt run`, which begins with what checks kept on this machine. A path behind the script's name is that of the program, where
-it was built before; with `keep PATH` the built one is copied there first. The figures are fair only if the processors have
+it was built before, and it may stand behind `page` too; with `keep PATH` the built one is copied there first. The figures are fair only if the processors have
 nothing else to do, so the load is printed first, with the processor and the commit.
 """
 
 import os
+import re
 import shutil
 import subprocess
 import sys
 import tempfile
+import textwrap
 import time
 
 import common
 
+PAGE = os.path.join(common.TOP, "docs", "performance.md")
+SECTION = "## What your tasks gain"
 PEER = os.path.join(common.TOP, "bench", "peer", "grains.rs")
 TRIES = int(os.environ.get("TRIES", "7"))
 NAME = "grains"
@@ -146,7 +151,8 @@ def measured(program, room):
     first = common.go_first()
     processor = next((line.split(":")[1].strip() for line in open("/proc/cpuinfo") if line.startswith("model name")), "?")
     commit = subprocess.run(["git", "-C", common.TOP, "rev-parse", "--short", "HEAD"], capture_output=True, text=True).stdout.strip()
-    print(f"load {os.getloadavg()[0]:.1f}, {'before' if first else 'beside'} all other work; {os.cpu_count()} x {processor}; {time.strftime('%F')}; {commit}")
+    load, rows = os.getloadavg()[0], []
+    print(f"load {load:.1f}, {'before' if first else 'beside'} all other work; {os.cpu_count()} x {processor}; {time.strftime('%F')}; {commit}")
     rounds_of_1_ms = 1_000_000 * 1_000_000 // max(told_by([program, "one", 1, 1, 1_000_000, TRIES])[0], 1)
     print(f"{'an item of':>10} {'items':>6} {'overhead':>10} {'node x2':>8} {'x4':>6} {'threads x2':>11} {'x4':>6} {'rayon':>6}")
     for micros, items in GRAINS:
@@ -156,10 +162,38 @@ def measured(program, room):
         one = least["one"]
         gains = [one / least[it] for it in (("node", 2), ("node", 4), ("threads", 2), ("threads", 4), "rayon")]
         print(f"{micros:7} µs {items:6} {(least['node', 1] - one) / items / 1000:7.2f} µs {gains[0]:8.2f} {gains[1]:6.2f} {gains[2]:11.2f} {gains[3]:6.2f} {gains[4]:6.2f}")
+        each = (least["node", 1] - one) / items / 1000
+        span = f"{micros} µs" if micros < 1000 else f"{micros // 1000} ms"
+        rows.append(f"| {span} | {each:.1f} µs | " + " | ".join(f"{gain:.2f}" for gain in gains) + " |")
+    told = f"{os.cpu_count()} processors of the kind {processor}, {time.strftime('%F')}, at {commit}, with a load of {load:.1f}"
+    return told, rows
+
+
+def section(told, rows):
+    """The part of the page, in lines of at most 120 letters."""
+    text = (
+        "`map_pieces` over equal items of pure computing, and the same by threads of std in plain Rust and by the kit's rayon: *overhead* is what "
+        "an item takes longer on one worker than in a loop on one thread, and the other columns are how many times as fast as that loop it is. "
+        f"{told} (`bench/grains.py`). What stands below is the record of how the costs came about."
+    )
+    head = ["| An item of | Overhead | 2 workers | 4 workers | 2 threads | 4 threads | rayon |", "|---|---|---|---|---|---|---|"]
+    return "\n".join([SECTION, "", *head, *rows, "", textwrap.fill(text, 120, break_long_words=False, break_on_hyphens=False), "", ""])
+
+
+def put_on_page(text):
+    """Puts the section before all others, in place of the one that stands there."""
+    with open(PAGE) as file:
+        page = file.read()
+    page = re.sub(re.escape(SECTION) + r"\n.*?(?=^## )", "", page, flags=re.M | re.S)
+    place = page.index("## ")
+    with open(PAGE, "w") as file:
+        file.write(page[:place] + text + page[place:])
 
 
 def main():
     words = sys.argv[1:]
+    on_page = words[:1] == ["page"]
+    words = words[1:] if on_page else words
     with tempfile.TemporaryDirectory() as room:
         if not words or words[0] == "keep":
             program = common.built(os.path.join(room, "crates_of_it"), NAME, LIBRARIES, {"main.rt": MAIN})
@@ -167,7 +201,9 @@ def main():
                 shutil.copy2(program, words[1])
         else:
             program = os.path.abspath(words[0])
-        measured(program, room)
+        told, rows = measured(program, room)
+    if on_page:
+        put_on_page(section(told, rows))
 
 
 if __name__ == "__main__":

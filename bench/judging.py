@@ -1,11 +1,12 @@
 #!/usr/bin/env python3
-"""Compares what `mtapi check` says of many journals with the judge of `reference.py`: `bench/judging.py [SEED]`.
+"""Compares what `mtapi check` says of many journals with the judge of `reference.py`: `bench/judging.py [few] [SEED]`.
 
 The journals are those of runs of the examples, of some short workloads and of twenty generated ones, in both texts,
 each with one thing changed; histories that the reference machine walks by itself, through all ops and most refusals,
 with one reply changed; and the table of changed journals of `crates/mtapi_examples`. Prints a line for each kind of
 change, with how many journals were judged in which way, and each difference in full, and ends with 1 where there is
-one. The command has to be built: run `./mtapi prove` before.
+one. With `few` it is 200 of the journals, of some of the workloads, in 20 seconds, which is a part of the gate. The command has to
+be built: run `./mtapi prove` before.
 """
 
 import os
@@ -23,6 +24,7 @@ from reference_text import MRAPI, MTAPI, OPS, read_journal
 
 HANG = 60.0  # seconds after which a run or a check is stopped
 TRIES = 12  # changes of each kind for each journal
+FEW, FEW_LOADS, FEW_WALKS = 200, 6, 40  # journals, workloads and walks with `few`
 TABLE = os.path.join(TOP, "crates", "mtapi_examples", "data", "cases")
 
 
@@ -300,8 +302,12 @@ def main():
     rows = list(table())
     others = [row for row in rows if verdict(row[1], row[2]) + "\n" != row[3]]
     print(f"{len(rows)} rows of the stored table, of which the reference says another thing of {len(others)}")
-    rng = random.Random(int(sys.argv[1]) if len(sys.argv) > 1 else 1)
+    few = sys.argv[1:2] == ["few"]
+    seeds = sys.argv[2:] if few else sys.argv[1:]
+    rng = random.Random(int(seeds[0]) if seeds else 1)
     loads = workloads(rng)
+    if few:
+        loads = rng.sample(loads, FEW_LOADS)
     journals = [row[:3] for row in rows]
     for workload, output in zip(loads, answers(["run", "--journal"], loads)):
         if "mtapi-journal " not in output:
@@ -310,7 +316,9 @@ def main():
         for kept in (text, in_text_one(text)):
             if kept:
                 journals += changed(rng, workload, kept)
-    journals += walked(rng)
+    journals += walked(rng, FEW_WALKS) if few else walked(rng)
+    if few:
+        journals = rng.sample(journals, FEW)
     differences = compared(journals)
     print(f"{len(journals)} journals, {differences} differences")
     sys.exit(1 if differences or others else 0)

@@ -255,9 +255,9 @@ def written(text, settings, entries):
     return "".join(line + "\n" for line in lines)
 
 
-def walked(rng):
-    """Histories that the machine walks or that stand above: the kind of change, the workload, the text."""
-    walks = [Walk(rng) for _ in range(WALKS)]
+def walked(rng, count=WALKS):
+    """Histories that the machine walks, so many, or that stand above: the kind of change, the workload, the text."""
+    walks = [Walk(rng) for _ in range(count)]
     walks = [("a walk", WRONG, walk.text, walk.settings, walk.entries) for walk in walks]
     for text in HISTORIES:
         kept = read_journal(text.replace("ALL", str(2**64 - 1)))

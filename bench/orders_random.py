@@ -1,10 +1,12 @@
 #!/usr/bin/env python3
-"""Compares `mtapi orders` with a search that leaves nothing out: `bench/orders_random.py [COUNT [SEED]]`.
+"""Compares `mtapi orders` with a search that leaves nothing out, and with real runs: `bench/orders_random.py [COUNT [SEED]]`.
 
 COUNT random workloads of up to four parts (300 if not given), and the examples and cases that are small enough: the
 set of reports, and whether there is a deadlock, have to be those of `reference_orders.py`, over the machine of
-`reference_machine.py`. Workloads with too many states or reports for either are counted and left out. Prints a line for
-each difference, and the counts; ends with 1 where something differs. Build the programs first: `./mtapi prove`.
+`reference_machine.py`; and the report of each of three runs by the command has to be in the set, where a run that
+doesn't end wants a deadlock. Workloads with too many states or reports for either are counted and left out. Prints a
+line for each difference, and the counts; ends with 1 where something differs. Build the programs first: `./mtapi
+prove`; or ORDERS and MTAPI in the environment name other builds of `mtapi_orders` and of the command.
 """
 
 import os
@@ -18,7 +20,9 @@ from reference_orders import all_orders
 from reference_text import PURE
 
 PROGRAM = os.environ.get("ORDERS", os.path.join(TOP, "crates", "mtapi_orders", "out", "mtapi_orders"))
+COMMAND = os.environ.get("MTAPI", os.path.join(TOP, "crates", "mtapi_cli", "out", "mtapi_cli"))
 MOST_STATES, MOST_SECONDS = 12_000, 20.0
+REAL_RUNS, RUN_SECONDS = 3, 5.0
 
 
 def small(rng):
@@ -71,18 +75,33 @@ def waits_changed(rng, line):
 
 
 def found_by_program(text):
-    """The reports and the count of deadlocks that the program tells; None where it tells no whole answer."""
-    done = subprocess.run([PROGRAM, "200000"], input=text, capture_output=True, text=True, timeout=120)
+    """What the program tells: its reports, or None where it tells them by line; each text of a line; how many reports there
+    are; the count of deadlocks. None where it tells no whole answer."""
+    try:
+        done = subprocess.run([PROGRAM, "200000"], input=text, capture_output=True, text=True, timeout=MOST_SECONDS)
+    except subprocess.TimeoutExpired:
+        return None
     if done.returncode in (3, 10):
         return None
     if done.returncode != 0:
         raise ValueError(f"status {done.returncode}: {done.stderr.strip()}")
     lines = done.stdout.split("\n")[:-1]
     words = lines[0].split()
-    count, deadlocks = int(words[0]), int(words[3])
-    if count > 100:
+    if words[0] == "at":
         return None
-    return reports_in(lines[1:], count), deadlocks
+    count, deadlocks = int(words[0]), int(words[3])
+    return None if count > 100 else reports_in(lines[1:], count), texts_in(lines[1:]), count, deadlocks
+
+
+def texts_in(lines):
+    """Each text of a line that a page tells before it tells reports and deadlocks by themselves."""
+    found = set()
+    for line in lines:
+        if line.startswith(("report ", "deadlock ")):
+            break
+        if not line[2:].startswith("(no "):
+            found.add(line[2:])
+    return found
 
 
 def reports_in(lines, count):
@@ -113,12 +132,36 @@ def reports_in(lines, count):
     return found
 
 
+def run_for_real(name, text, told, counts):
+    """Runs a workload by the command. Whether a run shows what the program doesn't tell."""
+    for _ in range(REAL_RUNS):
+        try:
+            done = subprocess.run([COMMAND, "run"], input=text, capture_output=True, text=True, timeout=RUN_SECONDS)
+        except subprocess.TimeoutExpired:
+            counts["runs that hung"] += 1
+            if told[3] == 0:
+                print(f"{name}: a run doesn't end, and no deadlock is told")
+                return True
+            continue
+        if done.returncode != 0:
+            print(f"{name}: a run ends with status {done.returncode}: {done.stderr.strip()}")
+            return True
+        counts["real runs"] += 1
+        report = tuple(done.stdout.split("\n")[:-1])
+        if report not in told[0] if told[0] is not None else not set(report) <= told[1]:
+            print(f"{name}: the report of a run isn't told: " + "; ".join(report))
+            return True
+    return False
+
+
 def compared(name, text, counts):
     """Compares one workload. Whether it differs."""
     try:
         told = found_by_program(text)
-    except (ValueError, subprocess.TimeoutExpired) as error:
-        print(f"{name}: {error}")
+    except ValueError as error:
+        print(f"{name}: {error}", flush=True)
+        return True
+    if told and run_for_real(name, text, told, counts):
         return True
     whole = told and all_orders(text, MOST_STATES, MOST_SECONDS)
     if not whole:
@@ -127,12 +170,17 @@ def compared(name, text, counts):
     reports, stuck = whole
     counts["compared"] += 1
     counts["with several reports"] += len(reports) > 1
+    counts["by line"] += told[0] is None
     counts["with a deadlock"] += stuck
-    if told[0] == reports and (told[1] > 0) == stuck:
+    texts = {line for report in reports for line in report}
+    same = told[0] in (None, reports) and told[1] == texts and told[2] == len(reports)
+    if same and (told[3] > 0) == stuck:
         return False
-    print(f"{name}: {len(told[0])} reports and {told[1]} deadlocks in place of {len(reports)} and {stuck}")
-    for report in sorted(reports ^ told[0])[:2]:
-        print("  " + ("made up: " if report in told[0] else "missed: ") + "; ".join(report))
+    print(f"{name}: {told[2]} reports and {told[3]} deadlocks in place of {len(reports)} and {stuck}")
+    for report in sorted(reports ^ (told[0] or set()))[:2]:
+        print("  " + ("made up: " if report in (told[0] or set()) else "missed: ") + "; ".join(report))
+    for text in sorted(texts ^ told[1])[:4]:
+        print(f"  line {'made up' if text in told[1] else 'missed'}: {text}")
     return True
 
 
@@ -151,7 +199,8 @@ def main():
     seed = int(sys.argv[2]) if len(sys.argv) > 2 else 1
     if not os.access(PROGRAM, os.X_OK):
         sys.exit("build the programs first: ./mtapi prove")
-    counts, differ = {"compared": 0, "with several reports": 0, "with a deadlock": 0, "left out": 0}, 0
+    words = ("compared", "with several reports", "by line", "with a deadlock", "left out", "real runs", "runs that hung")
+    counts, differ = dict.fromkeys(words, 0), 0
     for name, text in stored():
         differ += compared(name, text, counts)
     for number in range(seed, seed + count):

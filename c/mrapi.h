@@ -22,7 +22,14 @@ extern "C" {
 
 typedef int32_t mrapi_int_t;
 typedef uint32_t mrapi_uint_t;
+typedef int8_t mrapi_int8_t;
+typedef int16_t mrapi_int16_t;
+typedef int32_t mrapi_int32_t;
 typedef int64_t mrapi_int64_t;
+typedef uint8_t mrapi_uint8_t;
+typedef uint16_t mrapi_uint16_t;
+typedef uint32_t mrapi_uint32_t;
+typedef uint64_t mrapi_uint64_t;
 typedef uint32_t mrapi_boolean_t;
 typedef uint32_t mrapi_status_t;
 typedef uint32_t mrapi_domain_t;
@@ -89,13 +96,18 @@ enum {
     /* those of the glue */
     MRAPI_ERR_NOT_SUPPORTED = 64,     /* the profile leaves this out */
     MRAPI_ERR_NODE_INITFAILED = 65,   /* a thread was refused */
-    MRAPI_ERR_ATTRIBUTE_SIZE = 66,
-    MRAPI_ERR_ATTRIBUTE_NUM = 67,
-    MRAPI_ERR_ATTRIBUTE_READONLY = 68,
+    MRAPI_ERR_ATTR_SIZE = 66,
+    MRAPI_ERR_ATTR_NUM = 67,
+    MRAPI_ERR_ATTR_READONLY = 68,
     MRAPI_ERR_NODE_INITIALIZED = 69,
     MRAPI_EXT_ERR_MEMORY = 99,        /* out of memory */
     MRAPI_EXT_ERR_CALLER_LIMIT = 104, /* main and eight further threads have called, and none of them has ended */
-    MRAPI_EXT_ERR_DEADLOCK = 105      /* the node can't be finalized by an action */
+    MRAPI_EXT_ERR_DEADLOCK = 105,     /* nothing can happen any more, or an action would finalize the node */
+
+    /* those of the standard that nothing here answers: what was deleted is invalid */
+    MRAPI_ERR_MUTEX_DELETED = 80,
+    MRAPI_ERR_SEM_DELETED = 81,
+    MRAPI_ERR_RWL_DELETED = 82
 };
 
 /* Writes the name of a status into `message`, of `size` bytes, and gives `message`; MRAPI_NULL if it doesn't fit. */
@@ -116,7 +128,9 @@ typedef struct { char none; } mrapi_shmem_attributes_t;
 /* ---- the node: the one of mtapi_initialize; where none stands, one with the default settings. It is finalized by
  * mtapi_finalize, and where mrapi_initialize made it also by mrapi_finalize. */
 typedef const void *mrapi_parameters_t; /* not read */
-typedef struct { mrapi_uint_t mrapi_version, number_of_domains, number_of_nodes; } mrapi_info_t;
+typedef struct {
+    mrapi_uint_t mrapi_version, organization_id, implementation_version, number_of_domains, number_of_nodes;
+} mrapi_info_t;
 
 void mrapi_initialize(mrapi_domain_t domain_id, mrapi_node_t node_id, mrapi_parameters_t init_parameters,
     mrapi_info_t *mrapi_info, mrapi_status_t *status);
@@ -166,21 +180,91 @@ void mrapi_rwl_lock(mrapi_rwl_hndl_t rwl, mrapi_rwl_mode_t mode, mrapi_timeout_t
 mrapi_boolean_t mrapi_rwl_trylock(mrapi_rwl_hndl_t rwl, mrapi_rwl_mode_t mode, mrapi_status_t *status);
 void mrapi_rwl_unlock(mrapi_rwl_hndl_t rwl, mrapi_rwl_mode_t mode, mrapi_status_t *status);
 
-/* ---- segments of 1 to 4,096 cells of eight bytes each, at first 0; `size` counts bytes. mrapi_shmem_attach gives
- * MRAPI_NULL and no address: cells are read and written by calls. `nodes` isn't read. */
+/* ---- segments of 1 to 4,096 cells of eight bytes each, at first 0; `size` counts bytes. A caller attaches itself by
+ * mrapi_ext_shmem_attach and reads and writes cells by calls; mrapi_shmem_detach ends that. There is no address, so
+ * mrapi_shmem_attach gives MRAPI_NULL with MRAPI_ERR_NOT_SUPPORTED. `nodes` and `attributes` aren't read. */
 void mrapi_shmem_init_attributes(mrapi_shmem_attributes_t *attributes, mrapi_status_t *status);
 void mrapi_shmem_set_attribute(mrapi_shmem_attributes_t *attributes, mrapi_uint_t attribute_num, const void *attribute,
     size_t attribute_size, mrapi_status_t *status);
 void mrapi_shmem_get_attribute(mrapi_shmem_hndl_t shmem, mrapi_uint_t attribute_num, void *attribute, size_t attribute_size,
     mrapi_status_t *status);
 mrapi_shmem_hndl_t mrapi_shmem_create(mrapi_shmem_id_t shmem_id, mrapi_uint_t size, const mrapi_node_t *nodes,
-    mrapi_uint_t nodes_size, const mrapi_shmem_attributes_t *attributes, mrapi_status_t *status);
+    mrapi_uint_t nodes_size, const mrapi_shmem_attributes_t *attributes, mrapi_uint_t attributes_size, mrapi_status_t *status);
 mrapi_shmem_hndl_t mrapi_shmem_get(mrapi_shmem_id_t shmem_id, mrapi_status_t *status);
 void mrapi_shmem_delete(mrapi_shmem_hndl_t shmem, mrapi_status_t *status);
 void *mrapi_shmem_attach(mrapi_shmem_hndl_t shmem, mrapi_status_t *status);
+void mrapi_ext_shmem_attach(mrapi_shmem_hndl_t shmem, mrapi_status_t *status);
 void mrapi_shmem_detach(mrapi_shmem_hndl_t shmem, mrapi_status_t *status);
 mrapi_int64_t mrapi_ext_shmem_read(mrapi_shmem_hndl_t shmem, mrapi_uint_t cell, mrapi_status_t *status);
 void mrapi_ext_shmem_write(mrapi_shmem_hndl_t shmem, mrapi_uint_t cell, mrapi_int64_t value, mrapi_status_t *status);
+
+/* ---- left out: each answers MRAPI_ERR_NOT_SUPPORTED and does nothing. Remote memory, requests that aren't done when the call
+ * returns, trees of resources with their metadata and callbacks, and attributes of a node. */
+typedef uint32_t mrapi_rmem_id_t;
+typedef uint32_t mrapi_rmem_atype_t;
+typedef uint32_t mrapi_event_t;
+typedef uint32_t mrapi_resource_filter_t;
+typedef size_t mrapi_size_t;
+#define MRAPI_RMEM_DEFAULT ((mrapi_rmem_atype_t)0)
+#define MRAPI_RSRC_MEM ((mrapi_resource_filter_t)0)
+#define MRAPI_RSRC_CACHE ((mrapi_resource_filter_t)1)
+#define MRAPI_RSRC_DMA ((mrapi_resource_filter_t)2)
+#define MRAPI_RSRC_CPU ((mrapi_resource_filter_t)3)
+typedef struct { uint64_t handle; } mrapi_rmem_hndl_t;
+typedef struct { uint64_t handle; } mrapi_request_t;
+typedef struct { char none; } mrapi_rmem_attributes_t;
+typedef struct { char none; } mrapi_node_attributes_t;
+typedef struct mrapi_resource_struct mrapi_resource_t;
+typedef void (*mrapi_callback_t)(mrapi_event_t event);
+
+void mrapi_node_init_attributes(mrapi_node_attributes_t *attributes, mrapi_status_t *status);
+void mrapi_node_set_attribute(mrapi_node_attributes_t *attributes, mrapi_uint_t attribute_num, const void *attribute,
+    size_t attribute_size, mrapi_status_t *status);
+void mrapi_node_get_attribute(mrapi_node_t node, mrapi_uint_t attribute_num, void *attribute, size_t attribute_size,
+    mrapi_status_t *status);
+void mrapi_rmem_init_attributes(mrapi_rmem_attributes_t *attributes, mrapi_status_t *status);
+void mrapi_rmem_set_attribute(mrapi_rmem_attributes_t *attributes, mrapi_uint_t attribute_num, const void *attribute,
+    size_t attribute_size, mrapi_status_t *status);
+void mrapi_rmem_get_attribute(mrapi_rmem_hndl_t rmem, mrapi_uint_t attribute_num, void *attribute,
+    size_t attribute_size, mrapi_status_t *status);
+mrapi_rmem_hndl_t mrapi_rmem_create(mrapi_rmem_id_t rmem_id, void *mem, mrapi_rmem_atype_t access_type,
+    const mrapi_rmem_attributes_t *attributes, mrapi_uint_t size, mrapi_status_t *status);
+mrapi_rmem_hndl_t mrapi_rmem_get(mrapi_rmem_id_t rmem_id, mrapi_rmem_atype_t access_type, mrapi_status_t *status);
+void mrapi_rmem_attach(mrapi_rmem_hndl_t rmem, mrapi_rmem_atype_t access_type, mrapi_status_t *status);
+void mrapi_rmem_detach(mrapi_rmem_hndl_t rmem, mrapi_status_t *status);
+void mrapi_rmem_delete(mrapi_rmem_hndl_t rmem, mrapi_status_t *status);
+void mrapi_rmem_read(mrapi_rmem_hndl_t rmem, mrapi_uint32_t rmem_offset, void *local_buf, mrapi_uint32_t local_offset,
+    mrapi_uint32_t bytes_per_access, mrapi_uint32_t num_strides, mrapi_uint32_t rmem_stride,
+    mrapi_uint32_t local_stride, mrapi_status_t *status);
+void mrapi_rmem_write(mrapi_rmem_hndl_t rmem, mrapi_uint32_t rmem_offset, const void *local_buf,
+    mrapi_uint32_t local_offset, mrapi_uint32_t bytes_per_access, mrapi_uint32_t num_strides,
+    mrapi_uint32_t rmem_stride, mrapi_uint32_t local_stride, mrapi_status_t *status);
+mrapi_request_t mrapi_rmem_read_i(mrapi_rmem_hndl_t rmem, mrapi_uint32_t rmem_offset, void *local_buf,
+    mrapi_uint32_t local_offset, mrapi_uint32_t bytes_per_access, mrapi_uint32_t num_strides,
+    mrapi_uint32_t rmem_stride, mrapi_uint32_t local_stride, mrapi_status_t *status);
+mrapi_request_t mrapi_rmem_write_i(mrapi_rmem_hndl_t rmem, mrapi_uint32_t rmem_offset, const void *local_buf,
+    mrapi_uint32_t local_offset, mrapi_uint32_t bytes_per_access, mrapi_uint32_t num_strides,
+    mrapi_uint32_t rmem_stride, mrapi_uint32_t local_stride, mrapi_status_t *status);
+void mrapi_rmem_flush(mrapi_rmem_hndl_t rmem, mrapi_status_t *status);
+void mrapi_rmem_sync(mrapi_rmem_hndl_t rmem, mrapi_status_t *status);
+mrapi_boolean_t mrapi_test(const mrapi_request_t *request, size_t *size, mrapi_status_t *status);
+mrapi_boolean_t mrapi_wait(const mrapi_request_t *request, size_t *size, mrapi_timeout_t timeout,
+    mrapi_status_t *status);
+mrapi_uint_t mrapi_wait_any(size_t number, const mrapi_request_t *requests, size_t *size, mrapi_timeout_t timeout,
+    mrapi_status_t *status);
+void mrapi_cancel(const mrapi_request_t *request, mrapi_status_t *status);
+mrapi_resource_t *mrapi_resources_get(mrapi_resource_filter_t subsystem_filter, mrapi_status_t *status);
+void mrapi_resource_get_attribute(const mrapi_resource_t *resource, mrapi_uint_t attribute_num, void *attribute_value,
+    size_t attribute_size, mrapi_status_t *status);
+void mrapi_dynamic_attribute_start(const mrapi_resource_t *resource, mrapi_uint_t attribute_num,
+    mrapi_status_t *status);
+void mrapi_dynamic_attribute_reset(const mrapi_resource_t *resource, mrapi_uint_t attribute_num,
+    mrapi_status_t *status);
+void mrapi_dynamic_attribute_stop(const mrapi_resource_t *resource, mrapi_uint_t attribute_num,
+    mrapi_status_t *status);
+void mrapi_resource_register_callback(mrapi_event_t event, mrapi_uint_t frequency, mrapi_callback_t callback_function,
+    mrapi_status_t *status);
+void mrapi_resource_tree_free(mrapi_resource_t **root, mrapi_status_t *status);
 
 #ifdef __cplusplus
 }

@@ -29,6 +29,14 @@ extern "C" {
 
 typedef int32_t mtapi_int_t;
 typedef uint32_t mtapi_uint_t;
+typedef int8_t mtapi_int8_t;
+typedef int16_t mtapi_int16_t;
+typedef int32_t mtapi_int32_t;
+typedef int64_t mtapi_int64_t;
+typedef uint8_t mtapi_uint8_t;
+typedef uint16_t mtapi_uint16_t;
+typedef uint32_t mtapi_uint32_t;
+typedef uint64_t mtapi_uint64_t;
 typedef size_t mtapi_size_t;
 typedef uint32_t mtapi_boolean_t;
 typedef uint32_t mtapi_status_t;
@@ -94,7 +102,6 @@ enum {
     MTAPI_ERR_ATTR_READONLY = 27,
     MTAPI_ERR_CORE_NUM = 28,
     MTAPI_ERR_SPENT = 29,
-    MTAPI_ERR_ACTION_CANCELLED = MTAPI_ERR_TASK_CANCELLED, /* the standard's name */
 
     /* those of the glue */
     MTAPI_ERR_FUNC_NOT_IMPLEMENTED = 64, /* the profile leaves this out */
@@ -102,9 +109,10 @@ enum {
     MTAPI_ERR_ATTR_SIZE = 66,
     MTAPI_ERR_CONTEXT_INVALID = 67,      /* no context */
     MTAPI_ERR_CONTEXT_OUTOFCONTEXT = 68, /* not the context of the action that this thread runs */
+    MTAPI_ERR_DOMAIN_NOTSHARED = 85,     /* not the domain of the node */
     MTAPI_EXT_ERR_MEMORY = 99,           /* out of memory */
     MTAPI_EXT_ERR_CALLER_LIMIT = 104,    /* main and eight further threads have called, and none of them has ended */
-    MTAPI_EXT_ERR_DEADLOCK = 105,        /* a wait in an action, while every worker waits in one and no task can run */
+    MTAPI_EXT_ERR_DEADLOCK = 105,        /* a wait without end: every worker waits in an action, or nothing can happen any more */
     MTAPI_EXT_ERR_JOURNAL = 106,         /* the node keeps no journal, or it couldn't be written */
 
     /* those of the standard that nothing here answers by itself; an action may set them */
@@ -113,7 +121,11 @@ enum {
     MTAPI_ERR_ACTION_EXISTS = 82,
     MTAPI_ERR_NODE_INVALID = 83,
     MTAPI_ERR_DOMAIN_INVALID = 84,
-    MTAPI_ERR_DOMAIN_NOTSHARED = 85
+    MTAPI_ERR_NODE_FINALFAILED = 86,
+    MTAPI_ERR_ACTION_CANCELLED = 87,
+    MTAPI_ERR_ACTION_NUM_INVALID = 88,
+    MTAPI_ERR_BUFFER_SIZE = 89,
+    MTAPI_ERR_ARG_NOT_IMPLEMENTED = 90
 };
 
 /* The name of a status, or "?". */
@@ -141,6 +153,10 @@ enum {
     MTAPI_NODE_MAX_JOBS = 35,
     MTAPI_NODE_MAX_ACTIONS_PER_JOB = 36
 };
+
+/* What MTAPI_NODE_TYPE has in the standard. */
+#define MTAPI_NODE_TYPE_SMP 1
+#define MTAPI_NODE_TYPE_DSP 2
 
 /* Of an action. */
 enum {
@@ -175,6 +191,11 @@ enum {
 #define MTAPI_NODE_MAX_GROUPS_SIZE sizeof(mtapi_uint_t)
 #define MTAPI_NODE_MAX_QUEUES_SIZE sizeof(mtapi_uint_t)
 #define MTAPI_NODE_MAX_PRIORITIES_SIZE sizeof(mtapi_uint_t)
+#define MTAPI_NODE_CORE_AFFINITY_SIZE sizeof(mtapi_affinity_t)
+#define MTAPI_NODE_TYPE_SIZE sizeof(mtapi_uint_t)
+#define MTAPI_NODE_QUEUE_LIMIT_SIZE sizeof(mtapi_uint_t)
+#define MTAPI_NODE_MAX_JOBS_SIZE sizeof(mtapi_uint_t)
+#define MTAPI_NODE_MAX_ACTIONS_PER_JOB_SIZE sizeof(mtapi_uint_t)
 #define MTAPI_ACTION_GLOBAL_SIZE sizeof(mtapi_boolean_t)
 #define MTAPI_ACTION_AFFINITY_SIZE sizeof(mtapi_affinity_t)
 #define MTAPI_ACTION_DOMAIN_SHARED_SIZE sizeof(mtapi_boolean_t)
@@ -211,7 +232,10 @@ typedef struct { char none; } mtapi_group_attributes_t;
 #define MTAPI_DEFAULT_GROUP_ATTRIBUTES MTAPI_NULL
 
 /* ---- the node */
-typedef struct { mtapi_uint_t mtapi_version, number_of_domains, number_of_nodes, hardware_concurrency; } mtapi_info_t;
+/* The version of the standard, 0x0100, and of this library; the workers are its concurrency. */
+typedef struct {
+    mtapi_uint_t mtapi_version, organization_id, implementation_version, number_of_domains, number_of_nodes, hardware_concurrency;
+} mtapi_info_t;
 
 void mtapi_nodeattr_init(mtapi_node_attributes_t *attributes, mtapi_status_t *status);
 void mtapi_nodeattr_set(mtapi_node_attributes_t *attributes, mtapi_uint_t attribute_num, const void *attribute,

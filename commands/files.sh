@@ -152,6 +152,7 @@ check_input() {
     take_file - whole 'read fault'
     program_on "$command_crate" whole verdict check
     show "$scratch/verdict"
+    tell_why_not_legal whole
     if [ "$ended_with" -eq "$refused" ] && has_journal whole && begins_with_report whole; then
         tell "a report stands in front of the journal: use check FILE -"
     fi
@@ -175,6 +176,7 @@ check() {
     fi
     program_on "$command_crate" whole verdict check
     show "$scratch/verdict"
+    if [ $# -eq 2 ]; then tell_why_not_legal kept; else tell_why_not_legal whole; fi
     leave "$ended_with"
 }
 
@@ -200,24 +202,45 @@ take_run() {
     fi
 }
 
+# Puts the names of a file before a run, as comments: each line of it is a handle and a name of 1 to 15 letters.
+name_objects() {
+    local wrong letters=$' !#-%\x27-;=?-~' # none that the SVG would have to write otherwise
+    take_file "$1" names
+    wrong=$(LC_ALL=C sed -E '/^($|#)/d' "$scratch/names" | LC_ALL=C grep -avxE "[atgqmsrh][0-9]+\.[0-9]+ [$letters]{1,15}" | head -n 1)
+    if [ -n "$wrong" ]; then
+        tell "$(name_of "$1"): no handle and name of 1 to 15 letters: $wrong"
+        leave "$refused"
+    fi
+    LC_ALL=C sed -E '/^($|#)/d; s/^/# /' "$scratch/names" | cat - "$scratch/whole" >"$scratch/named"
+    mv "$scratch/named" "$scratch/whole"
+}
+
 # Shows a run by the program of a crate.
 show_run() {
-    local crate=$1
+    local crate=$1 names=''
     shift
-    make_scratch
-    on_signals true
-    take_run "$@"
+    if [ "${1-}" = --names ]; then names=$2 && shift 2; fi
+    if [ "${1-}" = --bounded ]; then
+        take_bounded_run "${@:2}"
+        on_signals true
+        join_journal bounded ran whole
+    else
+        make_scratch
+        on_signals true
+        take_run "$@"
+    fi
+    if [ -n "$names" ]; then name_objects "$names"; fi
     program_on "$crate" whole shown
     show "$scratch/shown"
     leave "$ended_with"
 }
 
-# `picture [FILE [KEPT]]`.
+# `picture [--names NAMES] [FILE [KEPT]]` and `picture --bounded FILE [LOOKS]`.
 picture() {
     show_run mtapi_picture "$@"
 }
 
-# `trace [FILE [KEPT]]`.
+# `trace`, with the same.
 trace() {
     show_run mtapi_trace "$@"
 }

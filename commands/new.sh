@@ -1,7 +1,7 @@
 # `mtapi new FOLDER [NAME]`: a repository with a program of one's own, and all crates that it stands on. Sourced by `mtapi`.
 # shellcheck shell=bash disable=SC2154 # what isn't set here is of the script that sources this
 
-own_uses=(typed_pieces mtapi_values) # what the program names
+own_uses=(typed_pieces write_run byte_io mtapi_values) # what the program names
 reserved='abstract as async await become box break const continue crate do dyn else ensures enum extern false final fn for
 gen ghost if impl in let loop macro match mod move mut override priv pub ref requires return self static struct super trait
 true try type typeof unsafe unsized use virtual where while yield core std'
@@ -107,6 +107,7 @@ tell_next() {
         echo "              yet ('./mtapi prove' before './mtapi new' spares that)"
     fi
     echo "  rt run      to prove, build and run it: half a minute once it is proved"
+    echo "  rt run -- journal > kept      to keep its run, which './mtapi picture kept' and './mtapi trace kept' show"
     echo "$folder/crates/$name/src/main.rt is yours to change; docs/embedding.md tells what else there is."
 }
 

@@ -56,6 +56,8 @@ begin_cases() {
 
 begin_run() {
     case $1 in
+    words:script) test_words >"$scratch/$1.out" 2>"$scratch/$1.err" & ;;
+    prove:script) test_prove >"$scratch/$1.out" 2>"$scratch/$1.err" & ;;
     *:tests) begin_tests_of "${1%:*}" ;;
     *:cases) begin_cases "${1%:*}" ;;
     *) begin_program "${1%:*}" ;;
@@ -63,7 +65,10 @@ begin_run() {
     processes+=("$!")
     test_of[$!]=$1
     begin_part "$1"
-    end_the_look_at_names "$!" </dev/null >/dev/null 2>&1 &
+    case $1 in
+    *:script) ;;
+    *) end_the_look_at_names "$!" </dev/null >"$scratch/$1.look" 2>/dev/null & ;;
+    esac
 }
 
 # Counts a run that ended: its name, its seconds, how many passed and failed, and what was wrong.
@@ -160,6 +165,29 @@ test_c() {
     show_output c_tests
 }
 
+# The tests of the script itself, whose last line tells how many passed and failed.
+end_script_tests() {
+    local last
+    last=$(tail -n 1 "$scratch/$1.out")
+    if [[ $last =~ ^[a-z]+:\ ([0-9]+)\ passed,\ ([0-9]+)\ failed$ ]] && [ "${BASH_REMATCH[1]}" -gt 0 ]; then
+        count_run "$1" "$2" "${BASH_REMATCH[1]}" "${BASH_REMATCH[2]}"
+        [ "${BASH_REMATCH[2]}" -ne 0 ] || return
+    else
+        count_run "$1" "$2" 0 1 'no answer'
+    fi
+    show_output "$1"
+}
+
+# What commands/unproved.sh ends beside a run was there beside one of these.
+test_look_at_names() {
+    if grep -qs ended "$scratch"/*.look; then
+        count_run "the look at names beside a run" 0 1 0
+    else
+        count_run "the look at names beside a run" 0 0 1 \
+            "rt starts none that commands/unproved.sh knows by its words '$words_of_the_look': unproved runs take longer"
+    fi
+}
+
 # Tells of a run that has ended, and of what is left.
 end_run() {
     local seconds=$((SECONDS - began_at[$1]))
@@ -167,6 +195,7 @@ end_run() {
     case $1 in
     *:tests) end_tests "$1" "$seconds" ;;
     *:cases) end_cases "$1" "$seconds" ;;
+    *:script) end_script_tests "$1" "$seconds" ;;
     *) end_program "$1" "$seconds" ;;
     esac
     if [ "$ended" -lt "${#parts[@]}" ]; then tell "$ended of ${#parts[@]} ended, $(time_left) left"; fi
@@ -187,6 +216,8 @@ test_all() {
     make_scratch
     on_signals true
     expect_rate 1000000 80
+    add_part prove:script 200000 200000
+    add_part words:script 200000 200000
     while read -r size name; do add_part "$name" "$size" "$size"; done < <(test_runs)
     at_once=$(count_at_once "$test_memory")
     echo "every test and every program, unproved, $at_once at a time. This proves nothing: .ci/run does, and runs them again."
@@ -205,6 +236,7 @@ test_all() {
         look_at_ended
     done
     echo "${#parts[@]} crates and programs in $SECONDS s"
+    test_look_at_names
     test_c
     echo "$tests_passed passed, $tests_failed failed"
     if [ "$tests_failed" -ne 0 ] || [ "$tests_passed" -eq 0 ]; then leave 1; fi

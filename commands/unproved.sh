@@ -27,6 +27,8 @@ take_input() {
     fi
 }
 
+words_of_the_look='--start no function' # of the process that is ended, by which it is known: `mtapi test` looks whether it still is
+
 # Beside a run of rt, which is this process, rt looks for names that a check would refuse. That says nothing of the run,
 # and takes as much of the processors as a fourth of all else, so it is ended; where it isn't found, it only takes its time.
 end_the_look_at_names() {
@@ -35,8 +37,8 @@ end_the_look_at_names() {
         kill -0 "$1" 2>/dev/null || return
         mapfile -d ' ' -t children < <(cat /proc/"$1"/task/*/children 2>/dev/null)
         for child in "${children[@]}"; do
-            if tr '\0' ' ' 2>/dev/null <"/proc/$child/cmdline" | grep -q -- '--start no function'; then
-                kill "$child" 2>/dev/null
+            if tr '\0' ' ' 2>/dev/null <"/proc/$child/cmdline" | grep -q -- "$words_of_the_look"; then
+                kill "$child" 2>/dev/null && echo ended
                 return
             fi
         done
@@ -106,7 +108,7 @@ run_unproved() {
     (cd "$top/crates/$crate" && exec setsid rt try --steps 1 --seconds "$most_seconds" -- "$@") \
         <"$scratch/in" >"$scratch/out" 2>"$scratch/err" &
     processes=($!)
-    end_the_look_at_names "$!"
+    end_the_look_at_names "$!" >/dev/null
     wait "${processes[0]}"
     processes=()
     pass_on

@@ -41,6 +41,7 @@ verify() {
     text_before_journal ran >"$scratch/report"
     paint_verdict <"$scratch/verdict" >"$scratch/painted"
     show "$scratch/report" "$scratch/painted"
+    tell_why_not_legal ran
     leave "$ended_with"
 }
 
@@ -64,13 +65,18 @@ tell_of_fewer_looks() {
     tell "stopped; with fewer looks than $looks it ends sooner: '$called bounded $workload LOOKS'"
 }
 
-# Each `timeout=inf` becomes so many looks. The lines of the workload stay what they are. The status is 1 where a wait ran out.
-bounded() {
+# Runs a workload in which each `timeout=inf` has become so many looks. The lines of the workload stay what they are.
+take_bounded_run() {
     looks=${2-$default_looks}
     begin_on_file "$1"
     if is_proved "$command_crate"; then on_signals tell_of_fewer_looks; fi
     LC_ALL=C sed -E "/^ *#/!s/ timeout=inf( |\$)/ timeout=$looks\\1/" "$scratch/workload" >"$scratch/bounded"
     command_on bounded ran run --journal
+}
+
+# The report of such a run, and each wait that ran out, with which the status is 1.
+bounded() {
+    take_bounded_run "$@"
     text_before_journal ran >"$scratch/report"
     show "$scratch/report"
     waits_that_ran_out "$looks" >"$scratch/waits"

@@ -15,15 +15,18 @@ command|run [FILE]|runs the workload in FILE and writes its report
 command|run --journal [FILE]|writes behind it each call of the run and its answer
 command|check [FILE [KEPT]]|judges a workload with a journal behind it; or FILE by what 'run --journal' wrote into KEPT
 command|gen N [W]|runs a workload of N tasks (1 to $most_tasks) with W workers (1 to $most_workers, or 4)
+beside|judge [KEPT]|tells whether a journal, of 'run --journal' or of any program, is a legal history by itself; if not, the first line that isn't allowed
 beside|explain [FILE]|tells every mistake for which FILE is no workload
 beside|verify [-v] FILE|runs the workload in FILE and checks its journal; writes report and verdict
 beside|expect [-v] FILE REPORT|runs the workload in FILE; status 1 and the difference if it doesn't write REPORT
 beside|bounded [-v] FILE [LOOKS]|runs it with LOOKS looks ($default_looks if not given) in place of each timeout=inf, and names the waits that ran out
-beside|orders FILE [N]|tells the reports that the schedules of the workload in FILE give, and their deadlocks, as far as N states ($default_states if not given) show them
+beside|orders FILE [N]|tells the reports that the schedules of the workload in FILE give, or the texts of each line where these are many, and their deadlocks, as far as N states ($default_states if not given) show them
 beside|orders --one FILE [N]|with status 1 unless one report is found and no deadlock
-beside|orders --journals FILE [N]|puts the journal of a run with each report, and of the way to each deadlock, into the folder FILE.orders
-beside|picture [FILE [KEPT]]|draws a run as an SVG: of what 'run --journal' wrote, or of the workload in FILE, which it runs unless KEPT has the journal
-beside|trace [FILE [KEPT]]|writes such a run as a trace, which Perfetto and chrome://tracing show
+beside|orders --journals FILE [N]|puts the journal of a run with each report, or with each text of a line, and of the way to each deadlock, into the folder FILE.orders
+beside|picture [--names NAMES] [FILE [KEPT]]|draws a run as an SVG: of what 'run --journal' wrote, or of the workload in FILE, which it runs unless KEPT has the journal; with the names that NAMES gives to handles
+beside|picture --bounded FILE [LOOKS]|draws the run that 'bounded' makes
+beside|trace [--names NAMES] [FILE [KEPT]]|writes such a run as a trace, which Perfetto and chrome://tracing show
+beside|trace --bounded FILE [LOOKS]|writes the trace of the run that 'bounded' makes
 repository|test|runs every test and every program, unproved, in minutes, and the tests in C where their library is proved; proves nothing
 repository|prove|proves and builds the programs, which run from then on, until a source changes, and proves the libraries on which a program of one's own stands, and the one for C
 repository|prove --command|proves and builds the programs alone
@@ -39,7 +42,7 @@ status_table() {
     if [ -n "$installed" ]; then failed='' no_toolchain=''; fi
     cat <<END
 0|if all was written; with check the verdict is yes
-1|with expect if the report is another one; with bounded if a wait ran out; with orders --one if what is found isn't one report alone$failed
+1|with judge if the journal isn't legal; with expect if the report is another one; with bounded if a wait ran out; with orders --one if what is found isn't one report alone$failed
 2|if the words are none
 3|if the input is refused
 4, 5|if a read failed; if a write failed
@@ -99,6 +102,13 @@ nearest() {
         END { print found }'
 }
 
+# This is no option, and which of these it may be meant to be.
+tell_no_option() {
+    local near
+    near=$(nearest "$@")
+    tell "no option '$1'${near:+: perhaps $near}"
+}
+
 # Why these words are none, where that can be said in a line.
 tell_why() {
     local near words
@@ -122,8 +132,15 @@ tell_why() {
         if [[ ${2-} = --one || ${2-} = --journals ]]; then set -- "$1" "${@:3}"; fi
         if [ $# -eq 3 ] && ! is_state_count "$3"; then tell "no number of states: $3: 1 to 100,000,000"; fi
         ;;
-    run) if [ $# -gt 1 ] && ! is_file "$2"; then tell "no option '$2': perhaps --journal"; fi ;;
-    prove) if [ $# -gt 1 ]; then tell "no option '$2': perhaps --command"; fi ;;
+    run) if [ $# -gt 1 ] && ! is_file "$2"; then tell_no_option "$2" --journal; fi ;;
+    picture | trace)
+        if [ "${2-}" = --bounded ]; then
+            if [ $# -eq 4 ] && ! is_look_count "$4"; then tell "no number of looks: $4: 0 to 1,000,000"; fi
+        elif [ $# -gt 1 ] && [ "$2" != --names ] && ! is_file "$2"; then
+            tell_no_option "$2" --names --bounded
+        fi
+        ;;
+    prove) if [ $# -gt 1 ]; then tell_no_option "$2" --command; fi ;;
     esac
 }
 
@@ -164,6 +181,11 @@ are_files() {
     for each in "$@"; do is_file "$each" || return; done
 }
 
+# Whether these are a file, and a number of looks if there are two.
+is_bounded() {
+    { [ $# -eq 1 ] || { [ $# -eq 2 ] && is_look_count "$2"; }; } && is_file "$1"
+}
+
 # Whether the script takes these words: each has a case in `mtapi` too.
 are_known() {
     local word=$1
@@ -177,12 +199,19 @@ are_known() {
     case $word in
     -h | --help) [ $# -eq 0 ] || { [ $# -eq 1 ] && is_word "$1"; } ;;
     --version | test) [ $# -eq 0 ] ;;
-    run | explain) are_files 1 "$@" ;;
-    check | picture | trace) are_files 2 "$@" ;;
+    run | explain | judge) are_files 1 "$@" ;;
+    check) are_files 2 "$@" ;;
+    picture | trace)
+        case ${1-} in
+        --bounded) is_bounded "${@:2}" ;;
+        --names) [ $# -ge 2 ] && are_files 3 "${@:2}" ;;
+        *) are_files 2 "$@" ;;
+        esac
+        ;;
     gen) { [ $# -eq 1 ] || [ $# -eq 2 ]; } && is_number "$1" "$most_tasks" && is_number "${2-1}" "$most_workers" ;;
     verify) [ $# -eq 1 ] && is_file "$1" ;;
     expect) [ $# -eq 2 ] && are_files 2 "$@" ;;
-    bounded) { [ $# -eq 1 ] || { [ $# -eq 2 ] && is_look_count "$2"; }; } && is_file "$1" ;;
+    bounded) is_bounded "$@" ;;
     orders) { [ $# -eq 1 ] || { [ $# -eq 2 ] && is_state_count "$2"; }; } && is_file "$1" ;;
     prove) [ $# -eq 0 ] || { [ $# -eq 1 ] && [ "$1" = --command ]; } ;;
     new) [ $# -ge 1 ] && are_files 2 "$@" ;;

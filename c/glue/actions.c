@@ -1,5 +1,5 @@
-/* Actions and jobs. A function of C runs under the node's kind `echo`: its task's numbers are addresses and sizes, which the
- * node gives back as they are. */
+/* Actions and jobs. A function of C runs under the node's kind `echo`: its task's number is the address of its arguments, which the
+ * node gives back as it is. */
 #include "glue.h"
 
 static void note_action(uint64_t handle, mtapi_action_function_t function, const void *data, mtapi_size_t size, uint64_t affinity)
@@ -16,7 +16,7 @@ mtapi_action_hndl_t mtapi_action_create(mtapi_job_id_t job_id, mtapi_action_func
     mtapi_affinity_t affinity = attributes ? attributes->affinity : glue_default_action.affinity;
     mtapi_action_hndl_t action = {0};
     uint32_t who, code = glue_begin(&who);
-    if (code == 0 && !function) code = MTAPI_ERR_PARAMETER;
+    if (code == 0 && (!function || glue_is_missing(node_local_data, node_local_data_size))) code = MTAPI_ERR_PARAMETER;
     if (code == 0) code = mtapi_c_action_create(&glue.node, who, job_id, MTAPI_C_ECHO, affinity, &action.handle);
     if (code == 0) note_action(action.handle, function, node_local_data, node_local_data_size, affinity);
     glue_end(code, status);
@@ -25,10 +25,10 @@ mtapi_action_hndl_t mtapi_action_create(mtapi_job_id_t job_id, mtapi_action_func
 
 mtapi_job_hndl_t mtapi_job_get(mtapi_job_id_t job_id, mtapi_domain_t domain_id, mtapi_status_t *status)
 {
-    (void)domain_id;
     int64_t number = 0;
     mtapi_job_hndl_t job = {0};
     uint32_t who, code = glue_begin(&who);
+    if (code == 0 && domain_id != glue.domain) code = MTAPI_ERR_DOMAIN_NOTSHARED;
     if (code == 0) code = mtapi_c_job_get(&glue.node, who, job_id, &number);
     if (code == 0) job.handle = (uint64_t)number;
     glue_end(code, status);

@@ -18,8 +18,9 @@ enum {
     MOST_GROUPS = 1024,
     MOST_QUEUES = 256,
     MOST_OBJECTS = 256,
-    CALLERS = 9, /* main and eight further ones */
-    NUMBERS = 4  /* of a task: address and size of its arguments, address and size of its result buffer */
+    CALLERS = 9,             /* main and eight further ones */
+    IMPLEMENTATION = 0x0101, /* the version of this library, 1.1 */
+    NUMBERS = 1              /* of a task: the address of its arguments; an entry of the journal with more takes five times the room */
 };
 
 /* Where the object of a handle stands in its table. */
@@ -39,6 +40,7 @@ enum task_state { SCHEDULED, RUNNING, ENDED }; /* a task that a call of many end
 
 struct task_record {
     uint64_t handle, group, queue;
+    mtapi_size_t arguments_size, result_size;
     void *result;
     mtapi_task_attributes_t attributes;
     enum task_state state;
@@ -75,6 +77,8 @@ struct mtapi_task_context_struct {
 struct worker {
     pthread_t thread;
     uint64_t task, action, queue; /* what it runs, 0 for nothing */
+    bool is_idle;                 /* it found no task, when the bell had rung so often */
+    unsigned rings;
 };
 
 struct caller {
@@ -103,6 +107,8 @@ uint32_t glue_wait(enum wait_kind kind, uint64_t object, int64_t milliseconds, l
 /* Those who wait for this look again. The lock is held. */
 void glue_wake(enum wait_kind kind, uint64_t object);
 void glue_wake_all(void);
+/* A worker found no task: if nothing can happen any more, somebody who waits is woken, and told so. */
+void glue_wake_stuck(void);
 
 /* ---- the lock, and the bell of the workers */
 
@@ -175,6 +181,12 @@ extern _Thread_local mtapi_task_context_t *glue_context;
 static inline void glue_say(mtapi_status_t *status, uint32_t code)
 {
     if (status) *status = code;
+}
+
+/* Whether there are no bytes where some are to be. */
+static inline bool glue_is_missing(const void *bytes, mtapi_size_t size)
+{
+    return !bytes && size > 0;
 }
 
 struct group_record *glue_group_of(const struct task_record *task);

@@ -19,6 +19,10 @@ enum {
 static atomic_bool taken;
 static atomic_uint work_rings, work_sleepers;
 
+/* One worker at a time spins for work, and hears the next ring without being woken; the others sleep. */
+enum { NOBODY, SPINS_NOW, TOLD };
+static atomic_uint spinner;
+
 static void pause_a_little(void)
 {
 #if defined(__x86_64__) || defined(__i386__)
@@ -56,12 +60,16 @@ uint64_t glue_now(void)
     return (uint64_t)now.tv_sec * 1000000000u + (uint64_t)now.tv_nsec;
 }
 
-void glue_sleep(atomic_uint *word, unsigned value, atomic_uint *asleep, uint64_t until)
+static void spin(atomic_uint *word, unsigned value)
 {
     for (int i = 0; i < SPINS; i++) {
         if (atomic_load_explicit(word, memory_order_relaxed) != value) break;
         pause_a_little();
     }
+}
+
+static void sleep_until(atomic_uint *word, unsigned value, atomic_uint *asleep, uint64_t until)
+{
     struct timespec end = {(time_t)(until / 1000000000u), (long)(until % 1000000000u)};
     atomic_fetch_add(asleep, 1);
     /* A signal, or a wake for nothing, only makes it look again. */
@@ -72,6 +80,12 @@ void glue_sleep(atomic_uint *word, unsigned value, atomic_uint *asleep, uint64_t
     atomic_fetch_sub(asleep, 1);
 }
 
+void glue_sleep(atomic_uint *word, unsigned value, atomic_uint *asleep, uint64_t until)
+{
+    spin(word, value);
+    sleep_until(word, value, asleep, until);
+}
+
 void glue_wake_sleepers(atomic_uint *word, int most)
 {
     syscall(SYS_futex, word, FUTEX_WAKE_PRIVATE, most, NULL, NULL, 0);
@@ -79,7 +93,9 @@ void glue_wake_sleepers(atomic_uint *word, int most)
 
 void glue_ring_workers(bool all)
 {
+    unsigned spins = SPINS_NOW;
     atomic_fetch_add(&work_rings, 1);
+    if (!all && atomic_compare_exchange_strong(&spinner, &spins, TOLD)) return;
     if (atomic_load(&work_sleepers)) glue_wake_sleepers(&work_rings, all ? INT_MAX : 1);
 }
 
@@ -90,5 +106,10 @@ unsigned glue_work_rings(void)
 
 void glue_hear_work(unsigned rings)
 {
-    glue_sleep(&work_rings, rings, &work_sleepers, 0);
+    unsigned nobody = NOBODY;
+    if (atomic_compare_exchange_strong(&spinner, &nobody, SPINS_NOW)) {
+        spin(&work_rings, rings);
+        atomic_store(&spinner, NOBODY);
+    }
+    sleep_until(&work_rings, rings, &work_sleepers, 0);
 }

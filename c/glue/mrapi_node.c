@@ -20,7 +20,7 @@ void mrapi_initialize(mrapi_domain_t domain_id, mrapi_node_t node_id, mrapi_para
     (void)init_parameters;
     glue_lock();
     uint32_t code = initialize(domain_id, node_id);
-    if (code == 0 && mrapi_info) *mrapi_info = (mrapi_info_t){0x0100, 1, 1};
+    if (code == 0 && mrapi_info) *mrapi_info = (mrapi_info_t){0x0100, 0, IMPLEMENTATION, 1, 1};
     glue_end_mrapi(code, status);
 }
 

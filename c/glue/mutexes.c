@@ -11,7 +11,7 @@ static uint32_t set_recursive(mrapi_mutex_attributes_t *attributes, const void *
 {
     uint32_t value;
     if (!attribute) return MRAPI_ERR_PARAMETER;
-    if (size != sizeof value) return MRAPI_ERR_ATTRIBUTE_SIZE;
+    if (size != sizeof value) return MRAPI_ERR_ATTR_SIZE;
     glue_read_value(attribute, size, &value);
     if (value > MRAPI_TRUE) return MRAPI_ERR_PARAMETER;
     attributes->is_recursive = value;

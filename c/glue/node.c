@@ -147,7 +147,7 @@ void mtapi_initialize(mtapi_domain_t domain_id, mtapi_node_t node_id, const mtap
 {
     glue_lock();
     uint32_t code = initialize(domain_id, node_id, attributes);
-    if (code == 0 && mtapi_info) *mtapi_info = (mtapi_info_t){0x0100, 1, 1, glue.workers};
+    if (code == 0 && mtapi_info) *mtapi_info = (mtapi_info_t){0x0100, 0, IMPLEMENTATION, 1, 1, glue.workers};
     glue_end(code, status);
 }
 

@@ -28,9 +28,9 @@ mtapi_queue_hndl_t mtapi_queue_create(mtapi_queue_id_t queue_id, mtapi_job_hndl_
 
 mtapi_queue_hndl_t mtapi_queue_get(mtapi_queue_id_t queue_id, mtapi_domain_t domain_id, mtapi_status_t *status)
 {
-    (void)domain_id;
     mtapi_queue_hndl_t queue = {0};
     uint32_t who, code = glue_begin(&who);
+    if (code == 0 && domain_id != glue.domain) code = MTAPI_ERR_DOMAIN_NOTSHARED;
     if (code == 0) code = mtapi_c_queue_get(&glue.node, who, queue_id, &queue.handle);
     glue_end(code, status);
     return queue;

@@ -89,7 +89,7 @@ static bool is_fixed(mrapi_uint_t number)
 
 void glue_no_setting(mrapi_uint_t number, mrapi_status_t *status)
 {
-    glue_say(status, is_fixed(number) ? MRAPI_ERR_ATTRIBUTE_READONLY : MRAPI_ERR_ATTRIBUTE_NUM);
+    glue_say(status, is_fixed(number) ? MRAPI_ERR_ATTR_READONLY : MRAPI_ERR_ATTR_NUM);
 }
 
 static const uint32_t invalid[KINDS] = {MRAPI_ERR_MUTEX_INVALID, MRAPI_ERR_SEM_INVALID, MRAPI_ERR_RWL_INVALID,
@@ -100,9 +100,9 @@ static uint32_t get_setting(enum object_kind kind, uint64_t object, mrapi_uint_t
     const struct object_record *record = &glue.objects[kind][SLOT(object) % MOST_OBJECTS];
     uint32_t value = number == MRAPI_ERROR_EXT || (number == MRAPI_MUTEX_RECURSIVE && record->recursive);
     if (object == 0 || record->handle != object) return MTAPI_C_MRAPI + invalid[kind];
-    if (!is_fixed(number) && !(kind == MUTEX && number == MRAPI_MUTEX_RECURSIVE)) return MRAPI_ERR_ATTRIBUTE_NUM;
+    if (!is_fixed(number) && !(kind == MUTEX && number == MRAPI_MUTEX_RECURSIVE)) return MRAPI_ERR_ATTR_NUM;
     uint32_t code = glue_write_value(attribute, size, value);
-    return code == MTAPI_ERR_ATTR_SIZE ? (uint32_t)MRAPI_ERR_ATTRIBUTE_SIZE : code;
+    return code == MTAPI_ERR_ATTR_SIZE ? (uint32_t)MRAPI_ERR_ATTR_SIZE : code;
 }
 
 void glue_get_setting(enum object_kind kind, uint64_t object, mrapi_uint_t number, void *attribute, size_t size,

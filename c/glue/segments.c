@@ -30,11 +30,10 @@ static uint32_t make(uint32_t who, uint32_t id, uint32_t cells, uint64_t *shmem)
 }
 
 mrapi_shmem_hndl_t mrapi_shmem_create(mrapi_shmem_id_t shmem_id, mrapi_uint_t size, const mrapi_node_t *nodes,
-    mrapi_uint_t nodes_size, const mrapi_shmem_attributes_t *attributes, mrapi_status_t *status)
+    mrapi_uint_t nodes_size, const mrapi_shmem_attributes_t *attributes, mrapi_uint_t attributes_size,
+    mrapi_status_t *status)
 {
-    (void)nodes;
-    (void)nodes_size;
-    (void)attributes;
+    (void)nodes, (void)nodes_size, (void)attributes, (void)attributes_size;
     uint32_t cells = size / CELL + (size % CELL != 0);
     return (mrapi_shmem_hndl_t){glue_make_object(make, SHMEM, shmem_id, cells, status)};
 }
@@ -49,13 +48,12 @@ void mrapi_shmem_delete(mrapi_shmem_hndl_t shmem, mrapi_status_t *status)
     glue_delete_object(mtapi_c_shmem_delete, SHMEM, shmem.handle, status);
 }
 
-void *mrapi_shmem_attach(mrapi_shmem_hndl_t shmem, mrapi_status_t *status)
+void mrapi_ext_shmem_attach(mrapi_shmem_hndl_t shmem, mrapi_status_t *status)
 {
     uint32_t who, code = glue_begin(&who);
     if (code == 0) code = mtapi_c_shmem_attach(&glue.node, who, shmem.handle);
     if (code == 0) glue_hold(who);
     glue_end_mrapi(code, status);
-    return NULL;
 }
 
 void mrapi_shmem_detach(mrapi_shmem_hndl_t shmem, mrapi_status_t *status)

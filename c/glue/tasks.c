@@ -47,6 +47,8 @@ void glue_forget_failure(struct task_record *task)
 /* What is asked for with a task, beside its job or its queue. */
 struct order {
     int64_t numbers[NUMBERS];
+    mtapi_size_t arguments_size, result_size;
+    void *result;
     mtapi_task_attributes_t attributes;
     uint64_t group, queue;
 };
@@ -55,9 +57,14 @@ static struct order order_of(const void *arguments, mtapi_size_t arguments_size,
     const mtapi_task_attributes_t *attributes, uint64_t group, uint64_t queue)
 {
     struct order order = {
-        {(int64_t)(uintptr_t)arguments, (int64_t)arguments_size, (int64_t)(uintptr_t)result, (int64_t)result_size},
-        attributes ? *attributes : glue_default_task, group, queue};
+        {(int64_t)(uintptr_t)arguments}, arguments_size, result_size, result, attributes ? *attributes : glue_default_task, group,
+        queue};
     return order;
+}
+
+static bool is_short_of_bytes(const void *arguments, const struct order *order)
+{
+    return glue_is_missing(arguments, order->arguments_size) || glue_is_missing(order->result, order->result_size);
 }
 
 /* Notes a new task, and calls a worker that may take it. */
@@ -68,7 +75,9 @@ static void note_start(uint64_t handle, const struct order *order)
     task->handle = handle;
     task->group = order->group;
     task->queue = order->queue;
-    task->result = (void *)(uintptr_t)order->numbers[2];
+    task->arguments_size = order->arguments_size;
+    task->result = order->result;
+    task->result_size = order->result_size;
     task->attributes = order->attributes;
     task->state = SCHEDULED;
     task->status = MTAPI_SUCCESS;
@@ -87,6 +96,7 @@ mtapi_task_hndl_t mtapi_task_start(mtapi_task_id_t task_id, mtapi_job_hndl_t job
     struct order o = order_of(arguments, arguments_size, result_buffer, result_size, attributes, group.handle, 0);
     mtapi_task_hndl_t task = {0};
     uint32_t who, code = glue_begin(&who);
+    if (code == 0 && is_short_of_bytes(arguments, &o)) code = MTAPI_ERR_PARAMETER;
     if (code == 0 && job.handle > UINT32_MAX) code = MTAPI_ERR_JOB_INVALID;
     if (code == 0)
         code = mtapi_c_task_start(&glue.node, who, (uint32_t)job.handle, o.numbers, NUMBERS, o.attributes.priority,
@@ -104,6 +114,7 @@ mtapi_task_hndl_t mtapi_task_enqueue(mtapi_task_id_t task_id, mtapi_queue_hndl_t
     struct order o = order_of(arguments, arguments_size, result_buffer, result_size, attributes, group.handle, queue.handle);
     mtapi_task_hndl_t task = {0};
     uint32_t who, code = glue_begin(&who);
+    if (code == 0 && is_short_of_bytes(arguments, &o)) code = MTAPI_ERR_PARAMETER;
     if (code == 0)
         code = mtapi_c_task_enqueue(&glue.node, who, queue.handle, o.numbers, NUMBERS, o.attributes.affinity,
             o.attributes.is_detached != 0, o.group, &task.handle);

@@ -5,6 +5,8 @@
 struct run {
     mtapi_c_picked picked;
     int64_t numbers[NUMBERS];
+    mtapi_size_t arguments_size, result_size;
+    void *result;
     struct action_record action;
 };
 
@@ -12,9 +14,8 @@ struct run {
 static mtapi_status_t call_action(const struct run *run, uint32_t core)
 {
     mtapi_task_context_t context = {core, run->picked.task, MTAPI_SUCCESS};
-    const int64_t *n = run->numbers;
     glue_context = &context;
-    run->action.function((const void *)(uintptr_t)n[0], (mtapi_size_t)n[1], (void *)(uintptr_t)n[2], (mtapi_size_t)n[3],
+    run->action.function((const void *)(uintptr_t)run->numbers[0], run->arguments_size, run->result, run->result_size,
         run->action.data, run->action.size, &context);
     glue_context = NULL;
     return context.status;
@@ -24,6 +25,9 @@ static void note_begin(struct worker *worker, struct run *run)
 {
     struct task_record *task = &glue.tasks[SLOT(run->picked.task)];
     run->action = glue.actions[SLOT(run->picked.action)];
+    run->arguments_size = task->arguments_size;
+    run->result = task->result;
+    run->result_size = task->result_size;
     task->state = RUNNING;
     worker->task = run->picked.task;
     worker->action = run->picked.action;
@@ -67,10 +71,13 @@ void *glue_serve(void *place)
     for (;;) {
         uint32_t code = mtapi_c_pick(&glue.node, me, &run.picked, run.numbers, NUMBERS);
         if (code == MTAPI_C_IDLE) {
-            unsigned rings = glue_work_rings();
+            unsigned rings = worker->rings = glue_work_rings();
+            worker->is_idle = true;
+            glue_wake_stuck();
             glue_unlock();
             glue_hear_work(rings);
             glue_lock();
+            worker->is_idle = false;
             continue;
         }
         if (code != 0) break; /* MTAPI_C_STOP, or the node's turns are used up */

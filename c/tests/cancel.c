@@ -80,7 +80,7 @@ static void before(void)
     mtapi_task_cancel(second, &status);
     OK;
     mtapi_task_wait(second, MTAPI_NOWAIT, &status);
-    WANT(MTAPI_ERR_ACTION_CANCELLED);
+    WANT(MTAPI_ERR_TASK_CANCELLED);
     mtapi_task_cancel(third, &status);
     OK;
     mtapi_task_cancel(third, &status); /* once more changes nothing */
@@ -274,6 +274,41 @@ static void many(void)
     end("many");
 }
 
+/* Each way in which a task can end that never begins, as each wait tells it. */
+static void each_end(void)
+{
+    static const mtapi_status_t wanted[4] = {MTAPI_ERR_TASK_CANCELLED, MTAPI_ERR_ACTION_DELETED, MTAPI_ERR_ACTION_DISABLED,
+        MTAPI_ERR_QUEUE_DELETED};
+    mtapi_status_t status;
+    begin(1);
+    close_gate();
+    mtapi_job_hndl_t job = job_of(9, at_gate);
+    start_in(job, MTAPI_GROUP_NONE);
+    wait_until_runs(1);
+    for (mtapi_job_id_t way = 0; way < 4; way++) {
+        mtapi_group_hndl_t group[3] = {MTAPI_GROUP_NONE, new_group(), new_group()};
+        mtapi_task_hndl_t task[3];
+        mtapi_action_hndl_t action = mtapi_action_create(way + 1, at_gate, NULL, 0, NULL, &status);
+        OK;
+        mtapi_queue_hndl_t queue = mtapi_queue_create(way, mtapi_job_get(way + 1, 1, NULL), MTAPI_NULL, &status);
+        OK;
+        for (int i = 0; i < 3; i++) task[i] = enqueue(queue, group[i]);
+        for (int i = 0; i < 3 && way == 0; i++) mtapi_task_cancel(task[i], &status);
+        if (way == 1) mtapi_action_delete(action, MTAPI_INFINITE, &status);
+        if (way == 2) mtapi_action_disable(action, MTAPI_INFINITE, &status);
+        if (way == 3) mtapi_queue_delete(queue, MTAPI_INFINITE, &status);
+        OK;
+        mtapi_task_wait(task[0], MTAPI_INFINITE, &status);
+        CHECK(status == wanted[way]);
+        mtapi_group_wait_all(group[1], MTAPI_INFINITE, &status);
+        CHECK(status == wanted[way]);
+        mtapi_group_wait_any(group[2], MTAPI_NULL, MTAPI_INFINITE, &status);
+        CHECK(status == wanted[way]);
+    }
+    atomic_store(&gate, 1);
+    end("each_end");
+}
+
 /* A deleted group's members go on; a task of a deleted action too, and the call waits for it as long as it is told. */
 static void running_ones(void)
 {
@@ -340,6 +375,7 @@ int main(void)
     under_a_wait();
     first_of_queue();
     many();
+    each_end();
     running_ones();
     none_left();
     return 0;

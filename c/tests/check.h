@@ -38,6 +38,15 @@
         const void *data, mtapi_size_t data_size, mtapi_task_context_t *context)
 #define UNUSED (void)arguments, (void)arguments_size, (void)result, (void)result_size, (void)data, (void)data_size, (void)context
 
+/* ThreadSanitizer has a thread of its own, so that the library never knows that no other one can call. */
+#if defined(__SANITIZE_THREAD__)
+#define WATCHED_BY_A_THREAD
+#elif defined(__has_feature)
+#if __has_feature(thread_sanitizer)
+#define WATCHED_BY_A_THREAD
+#endif
+#endif
+
 #define NAP(milliseconds) nanosleep(&(struct timespec){(milliseconds) / 1000, (milliseconds) % 1000 * 1000000L}, NULL)
 
 #define FOREIGN(kind) ((kind){0xfeedface12345678u})

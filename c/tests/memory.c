@@ -103,6 +103,10 @@ int main(void)
         refused++;
     }
     CHECK(refused >= 3);
+    atomic_store(&left, 0);
+    mrapi_initialize(1, 1, MRAPI_NULL, MRAPI_NULL, &status);
+    atomic_store(&left, -1);
+    WANT(MRAPI_EXT_ERR_MEMORY);
     CHECK(atomic_load(&given) == atomic_load(&back));
     return 0;
 }

@@ -56,7 +56,7 @@ static void without_a_node(void)
     WANT(MRAPI_ERR_NODE_NOTINIT);
     mrapi_rwl_lock(rwl, MRAPI_RWL_READER, MRAPI_TIMEOUT_INFINITE, &status);
     WANT(MRAPI_ERR_NODE_NOTINIT);
-    mrapi_shmem_attach(shmem, &status);
+    mrapi_ext_shmem_attach(shmem, &status);
     WANT(MRAPI_ERR_NODE_NOTINIT);
     mrapi_ext_shmem_read(shmem, 0, &status);
     WANT(MRAPI_ERR_NODE_NOTINIT);
@@ -91,10 +91,15 @@ static void nodes(void)
     WANT(MRAPI_ERR_NODE_NOTINIT);
     CHECK(mrapi_mutex_create(1, NULL, &status).handle != 0); /* the node stands on */
     OK;
+    mrapi_initialize(3, 4, MRAPI_NULL, MRAPI_NULL, &status);
+    OK;
     end("nodes_of_both");
+    mrapi_finalize(&status); /* it has ended for both */
+    WANT(MRAPI_ERR_NODE_NOTINIT);
     CHECK(mrapi_display_status(MRAPI_ERR_SEM_LOCKED, message, sizeof message) == message);
     CHECK(strcmp(message, "MRAPI_ERR_SEM_LOCKED") == 0);
     CHECK(!mrapi_display_status(MRAPI_ERR_SEM_LOCKED, message, 20));
+    CHECK(strcmp(mrapi_display_status(MRAPI_ERR_RWL_DELETED, message, sizeof message), "MRAPI_ERR_RWL_DELETED") == 0);
     CHECK(mrapi_display_status(MRAPI_ERR_SEM_LOCKED, message, 21));
 }
 
@@ -173,6 +178,8 @@ static void mutexes(void)
     for (int i = 0; i < 3; i++) {
         mrapi_mutex_lock(wrong[i], &key, MRAPI_TIMEOUT_INFINITE, &status);
         WANT(MRAPI_ERR_MUTEX_INVALID);
+        CHECK(!mrapi_mutex_trylock(wrong[i], &key, &status));
+        WANT(MRAPI_ERR_MUTEX_INVALID);
         mrapi_mutex_unlock(wrong[i], &key, &status);
         WANT(MRAPI_ERR_MUTEX_INVALID);
         mrapi_mutex_delete(wrong[i], &status);
@@ -201,13 +208,13 @@ static void attributes(void)
     mrapi_mutex_set_attribute(&of_mutex, MRAPI_MUTEX_RECURSIVE, &value, sizeof value, &status);
     WANT(MRAPI_ERR_PARAMETER);
     mrapi_mutex_set_attribute(&of_mutex, MRAPI_MUTEX_RECURSIVE, &value, 1, &status);
-    WANT(MRAPI_ERR_ATTRIBUTE_SIZE);
+    WANT(MRAPI_ERR_ATTR_SIZE);
     mrapi_mutex_set_attribute(&of_mutex, MRAPI_MUTEX_RECURSIVE, NULL, sizeof value, &status);
     WANT(MRAPI_ERR_PARAMETER);
     mrapi_mutex_set_attribute(&of_mutex, MRAPI_ERROR_EXT, &value, sizeof value, &status);
-    WANT(MRAPI_ERR_ATTRIBUTE_READONLY);
+    WANT(MRAPI_ERR_ATTR_READONLY);
     mrapi_mutex_set_attribute(&of_mutex, 9, &value, sizeof value, &status);
-    WANT(MRAPI_ERR_ATTRIBUTE_NUM);
+    WANT(MRAPI_ERR_ATTR_NUM);
     mrapi_mutex_hndl_t mutex = mrapi_mutex_create(1, &of_mutex, &status);
     OK;
     mrapi_mutex_get_attribute(mutex, MRAPI_MUTEX_RECURSIVE, &value, sizeof value, &status);
@@ -220,9 +227,9 @@ static void attributes(void)
     OK;
     CHECK(value == MRAPI_FALSE);
     mrapi_mutex_get_attribute(mutex, 9, &value, sizeof value, &status);
-    WANT(MRAPI_ERR_ATTRIBUTE_NUM);
+    WANT(MRAPI_ERR_ATTR_NUM);
     mrapi_mutex_get_attribute(mutex, MRAPI_ERROR_EXT, &value, 1, &status);
-    WANT(MRAPI_ERR_ATTRIBUTE_SIZE);
+    WANT(MRAPI_ERR_ATTR_SIZE);
     mrapi_mutex_get_attribute(mutex, MRAPI_ERROR_EXT, NULL, sizeof value, &status);
     WANT(MRAPI_ERR_PARAMETER);
     mrapi_sem_init_attributes(NULL, &status);
@@ -230,19 +237,19 @@ static void attributes(void)
     mrapi_sem_init_attributes(&of_sem, &status);
     OK;
     mrapi_sem_set_attribute(&of_sem, MRAPI_MUTEX_RECURSIVE, &value, sizeof value, &status);
-    WANT(MRAPI_ERR_ATTRIBUTE_NUM);
+    WANT(MRAPI_ERR_ATTR_NUM);
     mrapi_sem_hndl_t sem = mrapi_sem_create(1, &of_sem, 1, &status);
     OK;
     mrapi_sem_get_attribute(sem, MRAPI_ERROR_EXT, &value, sizeof value, &status);
     OK;
     mrapi_sem_get_attribute(sem, MRAPI_MUTEX_RECURSIVE, &value, sizeof value, &status);
-    WANT(MRAPI_ERR_ATTRIBUTE_NUM);
+    WANT(MRAPI_ERR_ATTR_NUM);
     mrapi_rwl_init_attributes(NULL, &status);
     WANT(MRAPI_ERR_PARAMETER);
     mrapi_rwl_init_attributes(&of_rwl, &status);
     OK;
     mrapi_rwl_set_attribute(&of_rwl, MRAPI_DOMAIN_SHARED, &value, sizeof value, &status);
-    WANT(MRAPI_ERR_ATTRIBUTE_READONLY);
+    WANT(MRAPI_ERR_ATTR_READONLY);
     mrapi_rwl_hndl_t rwl = mrapi_rwl_create(1, &of_rwl, 1, &status);
     OK;
     mrapi_rwl_get_attribute(rwl, MRAPI_DOMAIN_SHARED, &value, sizeof value, &status);
@@ -252,13 +259,43 @@ static void attributes(void)
     mrapi_shmem_init_attributes(&of_shmem, &status);
     OK;
     mrapi_shmem_set_attribute(&of_shmem, MRAPI_DOMAIN_SHARED, &value, sizeof value, &status);
-    WANT(MRAPI_ERR_ATTRIBUTE_READONLY);
-    mrapi_shmem_hndl_t shmem = mrapi_shmem_create(1, 8, NULL, 0, &of_shmem, &status);
+    WANT(MRAPI_ERR_ATTR_READONLY);
+    mrapi_shmem_hndl_t shmem = mrapi_shmem_create(1, 8, NULL, 0, &of_shmem, sizeof of_shmem, &status);
     OK;
     mrapi_shmem_get_attribute(shmem, MRAPI_DOMAIN_SHARED, &value, sizeof value, &status);
     OK;
     mrapi_shmem_get_attribute(FOREIGN(mrapi_shmem_hndl_t), MRAPI_DOMAIN_SHARED, &value, sizeof value, &status);
     WANT(MRAPI_ERR_SHM_INVALID);
+    mrapi_sem_set_attribute(&of_sem, MRAPI_ERROR_EXT, &value, sizeof value, &status);
+    WANT(MRAPI_ERR_ATTR_READONLY);
+    mrapi_sem_set_attribute(&of_sem, 9, &value, sizeof value, &status);
+    WANT(MRAPI_ERR_ATTR_NUM);
+    mrapi_sem_get_attribute(sem, 9, &value, sizeof value, &status);
+    WANT(MRAPI_ERR_ATTR_NUM);
+    mrapi_sem_get_attribute(sem, MRAPI_ERROR_EXT, &value, 1, &status);
+    WANT(MRAPI_ERR_ATTR_SIZE);
+    mrapi_sem_get_attribute(sem, MRAPI_ERROR_EXT, NULL, sizeof value, &status);
+    WANT(MRAPI_ERR_PARAMETER);
+    mrapi_rwl_set_attribute(&of_rwl, MRAPI_ERROR_EXT, &value, sizeof value, &status);
+    WANT(MRAPI_ERR_ATTR_READONLY);
+    mrapi_rwl_set_attribute(&of_rwl, 9, &value, sizeof value, &status);
+    WANT(MRAPI_ERR_ATTR_NUM);
+    mrapi_rwl_get_attribute(rwl, 9, &value, sizeof value, &status);
+    WANT(MRAPI_ERR_ATTR_NUM);
+    mrapi_rwl_get_attribute(rwl, MRAPI_ERROR_EXT, &value, 1, &status);
+    WANT(MRAPI_ERR_ATTR_SIZE);
+    mrapi_rwl_get_attribute(rwl, MRAPI_ERROR_EXT, NULL, sizeof value, &status);
+    WANT(MRAPI_ERR_PARAMETER);
+    mrapi_shmem_set_attribute(&of_shmem, MRAPI_ERROR_EXT, &value, sizeof value, &status);
+    WANT(MRAPI_ERR_ATTR_READONLY);
+    mrapi_shmem_set_attribute(&of_shmem, 9, &value, sizeof value, &status);
+    WANT(MRAPI_ERR_ATTR_NUM);
+    mrapi_shmem_get_attribute(shmem, 9, &value, sizeof value, &status);
+    WANT(MRAPI_ERR_ATTR_NUM);
+    mrapi_shmem_get_attribute(shmem, MRAPI_ERROR_EXT, &value, 1, &status);
+    WANT(MRAPI_ERR_ATTR_SIZE);
+    mrapi_shmem_get_attribute(shmem, MRAPI_ERROR_EXT, NULL, sizeof value, &status);
+    WANT(MRAPI_ERR_PARAMETER);
     end("attributes");
 }
 
@@ -316,6 +353,8 @@ static void semaphores(void)
     for (int i = 0; i < 3; i++) {
         mrapi_uint_t value;
         mrapi_sem_lock(wrong[i], MRAPI_TIMEOUT_INFINITE, &status);
+        WANT(MRAPI_ERR_SEM_INVALID);
+        CHECK(!mrapi_sem_trylock(wrong[i], &status));
         WANT(MRAPI_ERR_SEM_INVALID);
         mrapi_sem_unlock(wrong[i], &status);
         WANT(MRAPI_ERR_SEM_INVALID);
@@ -375,6 +414,10 @@ static void rwlocks(void)
     OK;
     mrapi_rwl_lock(rwl, MRAPI_RWL_WRITER, MRAPI_TIMEOUT_INFINITE, &status);
     WANT(MRAPI_ERR_RWL_LOCKED);
+    CHECK(!mrapi_rwl_trylock(rwl, MRAPI_RWL_READER, &status));
+    WANT(MRAPI_ERR_RWL_LOCKED);
+    CHECK(!mrapi_rwl_trylock(rwl, (mrapi_rwl_mode_t)2, &status));
+    WANT(MRAPI_ERR_PARAMETER);
     as_another(reads_too, &rwl);
     mrapi_rwl_unlock(rwl, MRAPI_RWL_WRITER, &status);
     WANT(MRAPI_ERR_RWL_NOTLOCKED);
@@ -396,6 +439,8 @@ static void rwlocks(void)
         mrapi_uint_t value;
         mrapi_rwl_lock(wrong[i], MRAPI_RWL_READER, MRAPI_TIMEOUT_INFINITE, &status);
         WANT(MRAPI_ERR_RWL_INVALID);
+        CHECK(!mrapi_rwl_trylock(wrong[i], MRAPI_RWL_READER, &status));
+        WANT(MRAPI_ERR_RWL_INVALID);
         mrapi_rwl_unlock(wrong[i], MRAPI_RWL_READER, &status);
         WANT(MRAPI_ERR_RWL_INVALID);
         mrapi_rwl_delete(wrong[i], &status);
@@ -416,7 +461,7 @@ static void *reads_cell(void *place)
     WANT(MRAPI_ERR_SHM_NOTATTACHED);
     mrapi_shmem_detach(shmem, &status);
     WANT(MRAPI_ERR_SHM_NOTATTACHED);
-    mrapi_shmem_attach(shmem, &status);
+    mrapi_ext_shmem_attach(shmem, &status);
     OK;
     CHECK(mrapi_ext_shmem_read(shmem, 1, &status) == -77);
     OK;
@@ -429,25 +474,29 @@ static void segments(void)
 {
     mrapi_status_t status;
     begin_small();
-    mrapi_shmem_create(1, 0, NULL, 0, NULL, &status);
+    mrapi_shmem_create(1, 0, NULL, 0, NULL, 0, &status);
     WANT(MRAPI_ERR_PARAMETER);
-    mrapi_shmem_create(1, 8 * 4096 + 1, NULL, 0, NULL, &status);
+    mrapi_shmem_create(1, 8 * 4096 + 1, NULL, 0, NULL, 0, &status);
     WANT(MRAPI_ERR_PARAMETER);
-    mrapi_shmem_hndl_t shmem = mrapi_shmem_create(1, 17, NULL, 0, NULL, &status), gone; /* three cells */
+    mrapi_shmem_hndl_t shmem = mrapi_shmem_create(1, 17, NULL, 0, NULL, 0, &status), gone; /* three cells */
     OK;
-    mrapi_shmem_create(1, 8, NULL, 0, NULL, &status);
+    mrapi_shmem_create(1, 8, NULL, 0, NULL, 0, &status);
     WANT(MRAPI_ERR_SHM_EXISTS);
-    gone = mrapi_shmem_create(MRAPI_SHMEM_ID_ANY, 8 * 4096, NULL, 0, NULL, &status);
+    gone = mrapi_shmem_create(MRAPI_SHMEM_ID_ANY, 8 * 4096, NULL, 0, NULL, 0, &status);
     OK;
-    mrapi_shmem_create(2, 8, NULL, 0, NULL, &status);
+    mrapi_shmem_create(2, 8, NULL, 0, NULL, 0, &status);
     WANT(MRAPI_ERR_SHM_LIMIT);
     CHECK(mrapi_shmem_get(1, &status).handle == shmem.handle);
     OK;
     mrapi_shmem_get(2, &status);
     WANT(MRAPI_ERR_SHM_ID_INVALID);
-    CHECK(mrapi_shmem_attach(shmem, &status) == NULL);
+    CHECK(mrapi_shmem_attach(shmem, &status) == NULL); /* no address is there to be had, and nothing is attached */
+    WANT(MRAPI_ERR_NOT_SUPPORTED);
+    mrapi_shmem_detach(shmem, &status);
+    WANT(MRAPI_ERR_SHM_NOTATTACHED);
+    mrapi_ext_shmem_attach(shmem, &status);
     OK;
-    mrapi_shmem_attach(shmem, &status);
+    mrapi_ext_shmem_attach(shmem, &status);
     WANT(MRAPI_ERR_SHM_ATTACHED);
     CHECK(mrapi_ext_shmem_read(shmem, 2, &status) == 0);
     OK;
@@ -466,7 +515,7 @@ static void segments(void)
     OK;
     mrapi_shmem_hndl_t wrong[3] = {gone, FOREIGN(mrapi_shmem_hndl_t), {0}};
     for (int i = 0; i < 3; i++) {
-        mrapi_shmem_attach(wrong[i], &status);
+        mrapi_ext_shmem_attach(wrong[i], &status);
         WANT(MRAPI_ERR_SHM_INVALID);
         mrapi_shmem_detach(wrong[i], &status);
         WANT(MRAPI_ERR_SHM_INVALID);
@@ -531,8 +580,77 @@ static void contention(void)
     end("contention");
 }
 
+/* What the profile leaves out says so. */
+static void left_out(void)
+{
+    mrapi_status_t status;
+    mrapi_node_attributes_t of_node;
+    mrapi_rmem_attributes_t of_rmem;
+    mrapi_rmem_hndl_t rmem = {0};
+    mrapi_request_t request = {0};
+    size_t size;
+    char byte = 0;
+    mrapi_node_init_attributes(&of_node, &status);
+    WANT(MRAPI_ERR_NOT_SUPPORTED);
+    mrapi_node_set_attribute(&of_node, 1, &byte, 1, &status);
+    WANT(MRAPI_ERR_NOT_SUPPORTED);
+    mrapi_node_get_attribute(1, 1, &byte, 1, &status);
+    WANT(MRAPI_ERR_NOT_SUPPORTED);
+    mrapi_rmem_init_attributes(&of_rmem, &status);
+    WANT(MRAPI_ERR_NOT_SUPPORTED);
+    mrapi_rmem_set_attribute(&of_rmem, 1, &byte, 1, &status);
+    WANT(MRAPI_ERR_NOT_SUPPORTED);
+    mrapi_rmem_get_attribute(rmem, 1, &byte, 1, &status);
+    WANT(MRAPI_ERR_NOT_SUPPORTED);
+    CHECK(mrapi_rmem_create(1, &byte, 1, &of_rmem, 1, &status).handle == 0);
+    WANT(MRAPI_ERR_NOT_SUPPORTED);
+    CHECK(mrapi_rmem_get(1, 1, &status).handle == 0);
+    WANT(MRAPI_ERR_NOT_SUPPORTED);
+    mrapi_rmem_attach(rmem, MRAPI_RMEM_DEFAULT, &status);
+    WANT(MRAPI_ERR_NOT_SUPPORTED);
+    mrapi_rmem_detach(rmem, &status);
+    WANT(MRAPI_ERR_NOT_SUPPORTED);
+    mrapi_rmem_delete(rmem, &status);
+    WANT(MRAPI_ERR_NOT_SUPPORTED);
+    mrapi_rmem_read(rmem, 1, &byte, 1, 1, 1, 1, 1, &status);
+    WANT(MRAPI_ERR_NOT_SUPPORTED);
+    mrapi_rmem_write(rmem, 1, &byte, 1, 1, 1, 1, 1, &status);
+    WANT(MRAPI_ERR_NOT_SUPPORTED);
+    CHECK(mrapi_rmem_read_i(rmem, 1, &byte, 1, 1, 1, 1, 1, &status).handle == 0);
+    WANT(MRAPI_ERR_NOT_SUPPORTED);
+    CHECK(mrapi_rmem_write_i(rmem, 1, &byte, 1, 1, 1, 1, 1, &status).handle == 0);
+    WANT(MRAPI_ERR_NOT_SUPPORTED);
+    mrapi_rmem_flush(rmem, &status);
+    WANT(MRAPI_ERR_NOT_SUPPORTED);
+    mrapi_rmem_sync(rmem, &status);
+    WANT(MRAPI_ERR_NOT_SUPPORTED);
+    CHECK(mrapi_test(&request, &size, &status) == 0);
+    WANT(MRAPI_ERR_NOT_SUPPORTED);
+    CHECK(mrapi_wait(&request, &size, MRAPI_TIMEOUT_INFINITE, &status) == 0);
+    WANT(MRAPI_ERR_NOT_SUPPORTED);
+    CHECK(mrapi_wait_any(1, &request, &size, MRAPI_TIMEOUT_INFINITE, &status) == 0);
+    WANT(MRAPI_ERR_NOT_SUPPORTED);
+    mrapi_cancel(&request, &status);
+    WANT(MRAPI_ERR_NOT_SUPPORTED);
+    CHECK(!mrapi_resources_get(MRAPI_RSRC_CPU, &status));
+    WANT(MRAPI_ERR_NOT_SUPPORTED);
+    mrapi_resource_get_attribute(MRAPI_NULL, 1, &byte, 1, &status);
+    WANT(MRAPI_ERR_NOT_SUPPORTED);
+    mrapi_dynamic_attribute_start(MRAPI_NULL, 1, &status);
+    WANT(MRAPI_ERR_NOT_SUPPORTED);
+    mrapi_dynamic_attribute_reset(MRAPI_NULL, 1, &status);
+    WANT(MRAPI_ERR_NOT_SUPPORTED);
+    mrapi_dynamic_attribute_stop(MRAPI_NULL, 1, &status);
+    WANT(MRAPI_ERR_NOT_SUPPORTED);
+    mrapi_resource_register_callback(1, 1, MRAPI_NULL, &status);
+    WANT(MRAPI_ERR_NOT_SUPPORTED);
+    mrapi_resource_tree_free(MRAPI_NULL, &status);
+    WANT(MRAPI_ERR_NOT_SUPPORTED);
+}
+
 int main(void)
 {
+    left_out();
     without_a_node();
     nodes();
     mutexes();

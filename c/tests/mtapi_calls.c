@@ -176,7 +176,9 @@ static void node_attributes(void)
     WANT(MTAPI_ERR_PARAMETER);
     mtapi_node_get_attribute(1, 10, &value, sizeof value, &status);
     WANT(MTAPI_ERR_ATTR_NUM);
-    mtapi_node_get_attribute(1, MTAPI_NODE_TYPE, &value, sizeof value, &status);
+    mtapi_node_get_attribute(1, MTAPI_NODE_TYPE, &value, MTAPI_NODE_TYPE_SIZE, &status);
+    WANT(MTAPI_ERR_FUNC_NOT_IMPLEMENTED);
+    mtapi_nodeattr_set(&attributes, MTAPI_NODE_TYPE, AS_VALUE(MTAPI_NODE_TYPE_SMP), &status);
     WANT(MTAPI_ERR_FUNC_NOT_IMPLEMENTED);
     end("node_attributes");
 }
@@ -215,10 +217,16 @@ static void actions(void)
     WANT(MTAPI_ERR_JOB_INVALID);
     mtapi_action_create(1, NULL, NULL, 0, NULL, &status);
     WANT(MTAPI_ERR_PARAMETER);
+    mtapi_action_create(1, at_gate, NULL, 1, NULL, &status);
+    WANT(MTAPI_ERR_PARAMETER);
     mtapi_action_hndl_t action = mtapi_action_create(1, at_gate, NULL, 0, &action_attributes, &status);
     OK;
     CHECK(mtapi_job_get(1, 1, &status).handle == 1);
     OK;
+    CHECK(mtapi_job_get(1, 2, &status).handle == 0);
+    WANT(MTAPI_ERR_DOMAIN_NOTSHARED);
+    mtapi_job_get(2, 2, &status); /* nor is it said whether the other domain has it */
+    WANT(MTAPI_ERR_DOMAIN_NOTSHARED);
     mtapi_action_create(1, at_gate, NULL, 0, NULL, &status);
     OK;
     mtapi_action_create(1, at_gate, NULL, 0, NULL, &status);
@@ -228,6 +236,8 @@ static void actions(void)
     CHECK(got == 5);
     mtapi_action_get_attribute(action, MTAPI_ACTION_AFFINITY, &got, 4, &status);
     WANT(MTAPI_ERR_ATTR_SIZE);
+    mtapi_action_get_attribute(action, MTAPI_ACTION_AFFINITY, NULL, sizeof got, &status);
+    WANT(MTAPI_ERR_PARAMETER);
     mtapi_action_get_attribute(action, MTAPI_ACTION_GLOBAL, &value, sizeof value, &status);
     OK;
     CHECK(value == MTAPI_FALSE);
@@ -240,6 +250,8 @@ static void actions(void)
     mtapi_action_enable(action, &status);
     OK;
     mtapi_action_delete(action, -5, &status);
+    WANT(MTAPI_ERR_PARAMETER);
+    mtapi_action_disable(action, -2, &status);
     WANT(MTAPI_ERR_PARAMETER);
     mtapi_action_delete(action, MTAPI_INFINITE, &status);
     OK;
@@ -299,6 +311,10 @@ static void tasks(void)
     CHECK(start_with(FOREIGN(mtapi_job_hndl_t), NULL, MTAPI_GROUP_NONE) == MTAPI_ERR_JOB_INVALID);
     CHECK(start_with(job, NULL, FOREIGN(mtapi_group_hndl_t)) == MTAPI_ERR_GROUP_INVALID);
     CHECK(start_with(job, &elsewhere, MTAPI_GROUP_NONE) == MTAPI_ERR_NO_CORE);
+    CHECK(mtapi_task_start(1, job, NULL, 8, NULL, 0, NULL, MTAPI_GROUP_NONE, &status).handle == 0);
+    WANT(MTAPI_ERR_PARAMETER);
+    CHECK(mtapi_task_start(1, job, NULL, 0, NULL, 1, NULL, MTAPI_GROUP_NONE, &status).handle == 0);
+    WANT(MTAPI_ERR_PARAMETER);
     mtapi_action_hndl_t second = mtapi_action_create(2, at_gate, NULL, 0, NULL, &status);
     OK;
     mtapi_action_disable(second, MTAPI_INFINITE, &status);
@@ -404,6 +420,10 @@ static void task_attributes(void)
         WANT(MTAPI_ERR_FUNC_NOT_IMPLEMENTED);
         mtapi_task_get_attribute(task[i], 5, &value, sizeof value, &status);
         WANT(MTAPI_ERR_ATTR_NUM);
+        mtapi_task_get_attribute(task[i], MTAPI_TASK_PRIORITY, &value, 1, &status);
+        WANT(MTAPI_ERR_ATTR_SIZE);
+        mtapi_task_get_attribute(task[i], MTAPI_TASK_PRIORITY, NULL, sizeof value, &status);
+        WANT(MTAPI_ERR_PARAMETER);
     }
     atomic_store(&gate, 1);
     end("task_attributes");
@@ -496,9 +516,15 @@ static void queues(void)
     WANT(MTAPI_ERR_QUEUE_INVALID);
     mtapi_queue_get(MTAPI_QUEUE_ID_NONE, 1, &status);
     WANT(MTAPI_ERR_QUEUE_INVALID);
+    CHECK(mtapi_queue_get(1, 2, &status).handle == 0);
+    WANT(MTAPI_ERR_DOMAIN_NOTSHARED);
     CHECK(enqueue_with(queue, &loose, group) == MTAPI_ERR_PARAMETER);
     CHECK(enqueue_with(queue, NULL, FOREIGN(mtapi_group_hndl_t)) == MTAPI_ERR_GROUP_INVALID);
     CHECK(enqueue_with(queue, &elsewhere, MTAPI_GROUP_NONE) == MTAPI_ERR_NO_CORE);
+    CHECK(mtapi_task_enqueue(1, queue, NULL, 1, NULL, 0, NULL, MTAPI_GROUP_NONE, &status).handle == 0);
+    WANT(MTAPI_ERR_PARAMETER);
+    CHECK(mtapi_task_enqueue(1, queue, NULL, 0, NULL, 8, NULL, MTAPI_GROUP_NONE, &status).handle == 0);
+    WANT(MTAPI_ERR_PARAMETER);
     mtapi_action_disable(second, MTAPI_NOWAIT, &status);
     OK;
     CHECK(enqueue_with(spare, NULL, MTAPI_GROUP_NONE) == MTAPI_ERR_ACTION_DISABLED);
@@ -516,6 +542,8 @@ static void queues(void)
     CHECK(enqueue_with(queue, NULL, group) == MTAPI_SUCCESS); /* of four tasks two ended cancelled, and stay in the group */
     CHECK(enqueue_with(queue, NULL, group) == MTAPI_ERR_TASK_LIMIT);
     mtapi_queue_delete(queue, -3, &status);
+    WANT(MTAPI_ERR_PARAMETER);
+    mtapi_queue_disable(queue, -2, &status);
     WANT(MTAPI_ERR_PARAMETER);
     mtapi_queue_delete(queue, MTAPI_INFINITE, &status);
     OK;
@@ -585,6 +613,8 @@ static void queue_attributes(void)
     WANT(MTAPI_ERR_ATTR_NUM);
     mtapi_queue_get_attribute(queue, MTAPI_QUEUE_LIMIT, &value, 1, &status);
     WANT(MTAPI_ERR_ATTR_SIZE);
+    mtapi_queue_get_attribute(queue, MTAPI_QUEUE_LIMIT, NULL, sizeof value, &status);
+    WANT(MTAPI_ERR_PARAMETER);
     mtapi_queue_set_attribute(queue, MTAPI_QUEUE_LIMIT, AS_VALUE(1), &status);
     WANT(MTAPI_ERR_FUNC_NOT_IMPLEMENTED);
     end("queue_attributes");
@@ -621,6 +651,14 @@ static void masks(void)
     WANT(MTAPI_ERR_PARAMETER);
     CHECK(strcmp(mtapi_ext_status_name(MTAPI_ERR_NO_CORE), "MTAPI_ERR_NO_CORE") == 0);
     CHECK(strcmp(mtapi_ext_status_name(15), "?") == 0);
+    switch (MTAPI_ERR_ACTION_CANCELLED) { /* each name of the standard has a number of its own */
+    case MTAPI_ERR_TASK_CANCELLED:
+    case MTAPI_ERR_ACTION_NUM_INVALID:
+    case MTAPI_ERR_BUFFER_SIZE:
+    case MTAPI_ERR_ARG_NOT_IMPLEMENTED: CHECK(false); break;
+    case MTAPI_ERR_ACTION_CANCELLED: break;
+    }
+    CHECK(strcmp(mtapi_ext_status_name(MTAPI_ERR_ACTION_CANCELLED), "MTAPI_ERR_ACTION_CANCELLED") == 0);
 }
 
 int main(void)

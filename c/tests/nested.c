@@ -136,6 +136,45 @@ static void chain(void)
     end("chain");
 }
 
+/* Recursion deeper than there are workers: a child that hasn't begun when its parent comes to it is taken back, and the parent
+ * does its work; so a wait is for one that runs, and none is refused. */
+static mtapi_job_hndl_t part;
+
+static long fibonacci(intptr_t n)
+{
+    mtapi_status_t status;
+    long first = 0, second;
+    if (n < 2) return (long)n;
+    mtapi_task_hndl_t task =
+        mtapi_task_start(1, part, (void *)(n - 1), 0, &first, sizeof first, NULL, MTAPI_GROUP_NONE, &status);
+    if (status != 0) abort();
+    second = fibonacci(n - 2);
+    mtapi_task_cancel(task, &status);
+    if (status != 0) abort();
+    mtapi_task_wait(task, MTAPI_INFINITE, &status);
+    if (status == MTAPI_ERR_TASK_CANCELLED) first = fibonacci(n - 1);
+    else if (status != 0) abort();
+    return first + second;
+}
+
+ACTION(number_of)
+{
+    UNUSED;
+    *(long *)result = fibonacci((intptr_t)arguments);
+}
+
+static void recursion(unsigned workers)
+{
+    mtapi_status_t status;
+    long number = 0;
+    begin(workers);
+    part = job_of(JOB, number_of);
+    mtapi_task_wait(start(part, (void *)(intptr_t)13, 0, &number, sizeof number), MTAPI_INFINITE, &status);
+    OK;
+    CHECK(number == 233);
+    end("recursion");
+}
+
 /* What an action can't do: it has no lock, and can't finalize the node. */
 ACTION(cannot)
 {
@@ -148,20 +187,27 @@ ACTION(cannot)
     mtapi_context_status_set(MTAPI_NULL, MTAPI_ERR_UNKNOWN, &answers[4]);
     mtapi_context_status_set(context, 100, &answers[5]);
     mtapi_context_runtime_notify(context, 0, NULL, 0, &answers[6]);
+    mtapi_ext_finalize(MTAPI_NULL, &answers[7]);
+    mtapi_context_taskstate_get(MTAPI_NULL, &answers[8]);
+    mtapi_context_instnum_get(MTAPI_NULL, &answers[9]);
+    mtapi_context_numinst_get(MTAPI_NULL, &answers[10]);
+    mtapi_context_corenum_get(MTAPI_NULL, &answers[11]);
 }
 
 static void refused_in_actions(void)
 {
-    static const mtapi_status_t wanted[7] = {MRAPI_ERR_PARAMETER, MTAPI_EXT_ERR_DEADLOCK, MRAPI_EXT_ERR_DEADLOCK,
-        MTAPI_ERR_CONTEXT_OUTOFCONTEXT, MTAPI_ERR_CONTEXT_INVALID, MTAPI_ERR_PARAMETER, MTAPI_ERR_FUNC_NOT_IMPLEMENTED};
-    mtapi_status_t status, answers[7];
+    static const mtapi_status_t wanted[12] = {MRAPI_ERR_PARAMETER, MTAPI_EXT_ERR_DEADLOCK, MRAPI_EXT_ERR_DEADLOCK,
+        MTAPI_ERR_CONTEXT_OUTOFCONTEXT, MTAPI_ERR_CONTEXT_INVALID, MTAPI_ERR_PARAMETER, MTAPI_ERR_FUNC_NOT_IMPLEMENTED,
+        MTAPI_EXT_ERR_DEADLOCK, MTAPI_ERR_CONTEXT_INVALID, MTAPI_ERR_CONTEXT_INVALID, MTAPI_ERR_CONTEXT_INVALID,
+        MTAPI_ERR_CONTEXT_INVALID};
+    mtapi_status_t status, answers[12];
     begin(1);
     mrapi_initialize(1, 1, MRAPI_NULL, MRAPI_NULL, &status);
     OK;
     mtapi_job_hndl_t job = job_of(JOB, cannot);
     mtapi_task_wait(start(job, NULL, 0, answers, sizeof answers), MTAPI_INFINITE, &status);
     OK;
-    for (int i = 0; i < 7; i++) CHECK(answers[i] == wanted[i]);
+    for (int i = 0; i < 12; i++) CHECK(answers[i] == wanted[i]);
     end("refused_in_actions");
 }
 
@@ -200,6 +246,7 @@ int main(void)
     waits_in_actions(2, MTAPI_SUCCESS);
     no_worker_left();
     chain();
+    for (unsigned workers = 1; workers <= 4; workers++) recursion(workers);
     refused_in_actions();
     out_of_context();
     return 0;

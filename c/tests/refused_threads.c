@@ -39,6 +39,9 @@ int main(void)
         left = first;
         mtapi_initialize(1, 1, &attributes, NULL, &status);
         WANT(MTAPI_ERR_NODE_INITFAILED);
+        left = 0;
+        mrapi_initialize(1, 1, MRAPI_NULL, MRAPI_NULL, &status);
+        WANT(MRAPI_ERR_NODE_INITFAILED);
         for (int i = 0; threads() != before; i++) {
             CHECK(i < 10000);
             NAP(1);

@@ -174,6 +174,8 @@ static void deadlines(void)
     WANT(MTAPI_ERR_PARAMETER);
     mtapi_group_wait_all(group, -2, &status);
     WANT(MTAPI_ERR_PARAMETER);
+    mtapi_group_wait_any(group, NULL, -2, &status);
+    WANT(MTAPI_ERR_PARAMETER);
     atomic_store(&gate, 1);
     mtapi_task_wait(task, 20000, &status);
     OK;

@@ -3,12 +3,14 @@
 #![tactic(auto)]
 
 mod ends;
+mod own_names;
 mod reading;
 mod showing;
 mod streams;
 pub mod worked;
 
 pub use ends::{RunView, ShowEnd, tell};
+pub use own_names::OwnNames;
 pub use reading::KeptRun;
 pub use showing::{RunText, show};
 pub use streams::program;

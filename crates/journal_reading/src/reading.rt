@@ -3,6 +3,7 @@ ghost use Rattle.std.specs.Prelude.{◌≡◌, ◌≤◌, length, IfOk, IfErr};
 ghost use Rattle.journal_reading.specs.Ends.{FrontGives, RestGives, InputFails, IsRunOf};
 
 use crate::ends::{RunView, ShowEnd};
+use crate::own_names::OwnNames;
 use journal_text::{InputPart, JournalError, parts_of, read_journal};
 use node_journals::Journal;
 use std::alloc::Global;
@@ -13,6 +14,8 @@ use workload_file::{LoadError, Workload, read_workload};
 pub struct KeptRun {
     /// Its workload, for its names, where that is known.
     pub workload: Option<Workload>,
+    /// Names for its objects that stand in comments before its journal.
+    pub names: OwnNames,
     pub journal: Journal,
 }
 
@@ -63,8 +66,15 @@ pub fn run_in(alloc: Global, view: RunView, bytes: &[u8]) -> Result<KeptRun, Sho
         Ok(workload) => workload,
         Err(end) => return Err(end),
     };
+    let Ok(names) = OwnNames::before_journal(alloc, front) else {
+        return Err(ShowEnd::Memory);
+    };
     match journal_in(alloc, rest) {
-        Ok(journal) => Ok(KeptRun { workload, journal }),
+        Ok(journal) => Ok(KeptRun {
+            workload,
+            names,
+            journal,
+        }),
         Err(end) => Err(end),
     }
 }

@@ -1,14 +1,15 @@
 //! A parallel histogram: the workers of a node count how often each letter stands in the parts of a text on standard input, and the counts
-//! are added up. The number of workers may be given; it is 4 else.
+//! are added up. The number of workers may be given; it is 4 else. With a second word it writes its run into the file of that name.
 #![tactic(auto)]
 
-use byte_io::{StdSource, read_all};
+use byte_io::{StdSink, StdSource, read_all};
 use mtapi_values::NodeAttr;
 use std::alloc::Global;
 use std::sync::Wait;
 use std::thread::Threads;
-use std::{env, io};
-use typed_pieces::{Unfinished, map_pieces};
+use std::{env, fs, io};
+use typed_pieces::{Unfinished, Worked, map_pieces};
+use write_run::write_run;
 
 // How often each byte stands in this part, where a large letter counts as a small one.
 fn counts_of(part: &[u8]) -> [u64; 256] {
@@ -20,17 +21,17 @@ fn counts_of(part: &[u8]) -> [u64; 256] {
     counts
 }
 
-// The counts of each of at most 64 parts.
+// The counts of each of at most 64 parts, and the journal.
 fn count<R: Threads + Wait + Sync>(
     rt: &R,
     alloc: Global,
     text: &[u8],
     workers: u64,
-) -> Result<Vec<[u64; 256]>, Unfinished> {
+) -> Result<Worked<(), [u64; 256]>, Unfinished> {
     let mut settings = NodeAttr::new();
     settings.set(NodeAttr::WORKERS, workers)?;
     let parts = text.chunks(text.len() / 64 + 1).collect(alloc)?;
-    Ok(map_pieces(rt, alloc, settings, parts, &counts_of)?.results)
+    map_pieces(rt, alloc, settings, parts, &counts_of)
 }
 
 fn main(rt: HostRuntime) -> io::Result<()> {
@@ -40,12 +41,18 @@ fn main(rt: HostRuntime) -> io::Result<()> {
         Ok(text) => text,
         Err(error) => return println!(rt; "{error}"),
     };
-    let parts = match count(&rt, rt.alloc(), &text, workers) {
-        Ok(parts) => parts,
+    let counted = match count(&rt, rt.alloc(), &text, workers) {
+        Ok(counted) => counted,
         Err(unfinished) => return println!(rt; "{unfinished}"),
     };
+    if let Some(path) = env::args(&rt)?.nth(2) {
+        let mut file = StdSink::new(fs::create(&rt, &path)?);
+        if let Err(error) = write_run(rt.alloc(), &mut file, counted.journal.journal()) {
+            return println!(rt; "{error}");
+        }
+    }
     for letter in b'a'..=b'z' {
-        let all = parts.iter().map(|counts| counts[letter as usize]);
+        let all = counted.results.iter().map(|counts| counts[letter as usize]);
         let count = all.fold(0u64, |sum, count| sum.saturating_add(count));
         if count > 0 {
             println!(rt; "{}: {count}", letter as char)?;

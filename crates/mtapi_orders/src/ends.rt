@@ -14,6 +14,8 @@ pub enum OrdersEnd {
     Cut,
     /// So many journals that the search made were judged to be none of a run.
     Misjudged(u64),
+    /// Its two searches found different things.
+    Differ,
     Usage,
     Refused(u64, Cause),
     TooLong,
@@ -53,7 +55,7 @@ fn status_of(end: OrdersEnd) -> u8 {
         OrdersEnd::WriteFault => 5,
         OrdersEnd::Memory => 6,
         OrdersEnd::Cut => 10,
-        OrdersEnd::Misjudged(_) => 126,
+        OrdersEnd::Misjudged(_) | OrdersEnd::Differ => 126,
     }
 }
 
@@ -65,6 +67,8 @@ fn plain_text(end: OrdersEnd) -> &'static [u8] {
         OrdersEnd::TooLarge => b"mtapi: orders: a workload of more than 65,000 statements\n",
         OrdersEnd::Retires =>
             b"mtapi: orders: with these generations and limits a slot may retire, which orders doesn't follow\n",
+        OrdersEnd::Differ =>
+            b"mtapi: orders: its two searches differ: one of them is at fault, and reports may be missing\n",
         OrdersEnd::ReadFault => b"mtapi: read fault\n",
         OrdersEnd::WriteFault => b"mtapi: write fault\n",
         OrdersEnd::Memory => b"mtapi: out of memory\n",

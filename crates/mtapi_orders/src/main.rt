@@ -6,22 +6,28 @@ mod ends;
 mod journals;
 mod page;
 mod slots;
+mod told;
 mod words;
 
 use ends::{OrdersEnd, tell};
 use journals::push_journals;
 use orders_machine::{is_too_large, may_retire};
-use page::page_of;
+use page::{alternatives_of, page_of};
+use slots::slots_of;
 use std::alloc::Global;
 use std::process::ExitCode;
+use told::{Told, tell_of};
 use words::{Mode, Request, asked};
 use workload_file::{Sink, Source, StdSink, StdSource, Workload, read_workload, write_all};
-use workload_orders::{Orders, orders};
 
 /// How a search whose page is written ends.
-fn end_of(found: &Orders, mode: Mode) -> OrdersEnd {
+fn end_of(told: &Told, mode: Mode) -> OrdersEnd {
+    let found = &told.orders;
     if found.refused > 0 {
         return OrdersEnd::Misjudged(found.refused);
+    }
+    if told.differ {
+        return OrdersEnd::Differ;
     }
     if found.cut {
         return OrdersEnd::Cut;
@@ -33,25 +39,23 @@ fn end_of(found: &Orders, mode: Mode) -> OrdersEnd {
 }
 
 /// The page of what was found, and what is asked for beside it.
-fn text_of(
-    alloc: Global,
-    load: &Workload,
-    found: &Orders,
-    mode: Mode,
-) -> Result<Vec<u8>, OrdersEnd> {
-    let mut text = page_of(alloc, load, found)?;
+fn text_of(alloc: Global, load: &Workload, told: &Told, mode: Mode) -> Result<Vec<u8>, OrdersEnd> {
+    let slots = slots_of(alloc, load)?;
+    let all = alternatives_of(alloc, &slots, &told.orders.reports)?;
+    let mut text = page_of(alloc, &slots, &all, told)?;
     if mode == Mode::Journals {
-        push_journals(alloc, &mut text, found)?;
+        push_journals(alloc, &mut text, &slots, &all, told)?;
     }
     Ok(text)
 }
 
 /// Reads a workload, searches its schedules, and writes what was found.
-fn run<S: Source, W: Sink>(
+fn run<S: Source, W: Sink, E: Sink>(
     alloc: Global,
     request: Request,
     src: &mut S,
     out: &mut W,
+    err: &mut E,
 ) -> Result<OrdersEnd, OrdersEnd> {
     let load = read_workload(alloc, src)?;
     if is_too_large(&load) {
@@ -60,17 +64,18 @@ fn run<S: Source, W: Sink>(
     if may_retire(&load) {
         return Err(OrdersEnd::Retires);
     }
-    let found = orders(alloc, &load, request.most)?;
-    let text = text_of(alloc, &load, &found, request.mode)?;
+    let told = tell_of(alloc, &load, request.most, err)?;
+    let text = text_of(alloc, &load, &told, request.mode)?;
     if write_all(out, &text).is_err() {
         return Err(OrdersEnd::WriteFault);
     }
-    Ok(end_of(&found, request.mode))
+    Ok(end_of(&told, request.mode))
 }
 
 /// Runs the program over the standard input and output.
 fn run_host(rt: &HostRuntime) -> OrdersEnd {
     let mut out = StdSink::new(rt.stdout());
+    let mut err = StdSink::new(rt.stderr());
     match asked(rt) {
         Ok(Some(request)) => {
             match run(
@@ -78,6 +83,7 @@ fn run_host(rt: &HostRuntime) -> OrdersEnd {
                 request,
                 &mut StdSource::new(rt.stdin()),
                 &mut out,
+                &mut err,
             ) {
                 Ok(end) => end,
                 Err(end) => end,

@@ -1,13 +1,13 @@
 //! What is written of the reports and the deadlocks.
 
-use crate::slots::{Slot, lines_of, push_bytes, slots_of};
+use crate::slots::{Slot, lines_of, push_bytes};
+use crate::told::Told;
 use number_text::{cut_at, push_number};
 use std::alloc::{AllocError, Global};
-use workload_file::Workload;
 use workload_orders::{Deadlock, Orders, Report};
 
 /// The most reports that are written one by one.
-const MOST_WHOLE: usize = 100;
+pub const MOST_WHOLE: usize = 100;
 
 /// A number and what is counted, with an `s` unless there is one.
 fn push_count(
@@ -25,14 +25,23 @@ fn push_count(
     Ok(())
 }
 
-/// The first line: how much was found, and whether the search was cut.
-fn push_head(alloc: Global, out: &mut Vec<u8>, orders: &Orders) -> Result<(), AllocError> {
+/// The first line: how much was found, and whether the search was cut. The number of reports is exact, or the least that it can be.
+fn push_head(
+    alloc: Global,
+    out: &mut Vec<u8>,
+    orders: &Orders,
+    reports: usize,
+    exact: bool,
+) -> Result<(), AllocError> {
     if orders.cut {
         push_bytes(out, b"cut off after ")?;
         push_count(alloc, out, orders.states, b"state")?;
-        push_bytes(out, b": at least ")?;
+        push_bytes(out, b": ")?;
     }
-    push_count(alloc, out, orders.reports.len(), b"report")?;
+    if orders.cut || !exact {
+        push_bytes(out, b"at least ")?;
+    }
+    push_count(alloc, out, reports, b"report")?;
     push_bytes(out, b" found, ")?;
     push_count(alloc, out, orders.deadlocks.len(), b"deadlock")?;
     if !orders.cut {
@@ -60,8 +69,8 @@ fn shown<'a>(slot: &'a Slot, line: &'a [u8]) -> &'a [u8] {
 
 /// The texts that one slot has, each once. An empty one is none.
 #[derive(Drop)]
-struct Alternatives {
-    texts: Vec<Vec<u8>>,
+pub struct Alternatives {
+    pub texts: Vec<Vec<u8>>,
 }
 
 impl Alternatives {
@@ -87,13 +96,13 @@ impl Alternatives {
     }
 
     /// Whether there are more than one.
-    fn differ(&self) -> bool {
+    pub fn differ(&self) -> bool {
         self.texts.len() > 1
     }
 }
 
 /// What each slot has in these reports.
-fn alternatives_of(
+pub fn alternatives_of(
     alloc: Global,
     slots: &[Slot],
     reports: &[Report],
@@ -196,7 +205,7 @@ fn push_reports(
     all: &[Alternatives],
     reports: &[Report],
 ) -> Result<(), AllocError> {
-    if reports.len() < 2 || reports.len() > MOST_WHOLE {
+    if reports.len() < 2 {
         return Ok(());
     }
     let mut number = 0usize;
@@ -237,14 +246,22 @@ fn push_deadlocks(
     Ok(())
 }
 
-/// The whole page.
-pub fn page_of(alloc: Global, load: &Workload, orders: &Orders) -> Result<Vec<u8>, AllocError> {
+/// The page of reports, by line, and each by itself where these are all.
+pub fn page_of(
+    alloc: Global,
+    slots: &[Slot],
+    all: &[Alternatives],
+    told: &Told,
+) -> Result<Vec<u8>, AllocError> {
     let mut out = Vec::new(alloc);
-    push_head(alloc, &mut out, orders)?;
-    let slots = slots_of(alloc, load)?;
-    let all = alternatives_of(alloc, &slots, &orders.reports)?;
-    push_lines(&mut out, &slots, &all)?;
-    push_reports(alloc, &mut out, &slots, &all, &orders.reports)?;
+    let orders = &told.orders;
+    let least = orders.reports.len();
+    let count = told.count.unwrap_or(least);
+    push_head(alloc, &mut out, orders, count, told.count.is_some())?;
+    push_lines(&mut out, slots, all)?;
+    if told.whole {
+        push_reports(alloc, &mut out, slots, all, &orders.reports)?;
+    }
     push_deadlocks(alloc, &mut out, &orders.deadlocks)?;
     Ok(out)
 }

@@ -7,6 +7,8 @@ use workload_file::{Deed, Name, Part, Statement, Workload};
 /// A statement of which a report may have a line.
 #[derive(Drop)]
 pub struct Slot {
+    /// The line of the statement in the workload.
+    pub line: u64,
     /// Whether the line tells what a call answered, behind a sign; else it tells what became of a task.
     call: bool,
     /// How the line begins, behind the sign and a space, up to the space before what it tells.
@@ -36,7 +38,7 @@ pub fn push_bytes(out: &mut Vec<u8>, bytes: &[u8]) -> Result<(), AllocError> {
 }
 
 /// The line of a task.
-fn task_slot(alloc: Global, part: &Part, name: &Name) -> Result<Slot, AllocError> {
+fn task_slot(alloc: Global, part: &Part, name: &Name, line: u64) -> Result<Slot, AllocError> {
     let mut key = Vec::new(alloc);
     push_bytes(&mut key, part.name.as_slice())?;
     push_bytes(&mut key, b".")?;
@@ -49,6 +51,7 @@ fn task_slot(alloc: Global, part: &Part, name: &Name) -> Result<Slot, AllocError
     push_bytes(&mut absent, name.as_slice())?;
     push_bytes(&mut absent, b")")?;
     Ok(Slot {
+        line,
         call: false,
         key,
         absent,
@@ -69,6 +72,7 @@ fn call_slot(alloc: Global, part: &Part, line: u64) -> Result<Slot, AllocError> 
     push_bytes(&mut absent, part.name.as_slice())?;
     push_bytes(&mut absent, b")")?;
     Ok(Slot {
+        line,
         call: true,
         key,
         absent,
@@ -89,7 +93,7 @@ fn add_task(
 ) -> Result<(), AllocError> {
     if let Some(name) = &statement.name {
         if makes_task(&statement.deed) {
-            slots.push(task_slot(alloc, part, name)?)?;
+            slots.push(task_slot(alloc, part, name, statement.line)?)?;
         }
     }
     Ok(())

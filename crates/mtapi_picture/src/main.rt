@@ -15,19 +15,7 @@ impl RunText for Picture {
     ghost shows = { λ _ _. Unit {0} };
 
     fn text_of(alloc: Global, run: &KeptRun) -> Result<String, AllocError> {
-        let journal = &run.journal;
-        let workers = journal.settings.workers().min(16);
-        let seats = workers + journal.callers.min(9);
-        let skipped = journal.entries.skipped();
-        let entries = journal.entries.in_full(alloc)?;
-        svg_of(
-            alloc,
-            run.workload.as_ref(),
-            workers,
-            seats,
-            entries.as_slice(),
-            skipped,
-        )
+        svg_of(alloc, run)
     }
 }
 

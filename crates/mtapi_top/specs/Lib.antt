@@ -5,3 +5,4 @@ pub mod Settled
 pub mod Check
 pub mod Ended
 pub mod PartEnds
+pub mod Worked

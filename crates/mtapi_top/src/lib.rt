@@ -11,6 +11,7 @@ mod run_output;
 mod telling;
 mod whole_command;
 mod words;
+pub mod worked;
 
 pub use ends::{End, Outcome};
 pub use generated_workload::generated;

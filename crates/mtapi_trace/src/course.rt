@@ -4,16 +4,15 @@ use crate::calls::{answer_of, end_of};
 use crate::events::{
     Count, Details, FlowEnd, PROCESS, Slice, SortIndex, Tasks, Title, Track, TrackPlace, push_event,
 };
-use crate::names::{Binding, Names, name_at};
+use crate::names::{Binding, Names};
+use journal_reading::KeptRun;
 use journal_text::{NodeObject, object_made, object_named, shown_word};
 use mtapi_machine::{Entry, Op, Reply};
 use mtapi_values::ObjectKind;
-use node_journals::Journal;
-use run_picture::Withdrawals;
+use run_picture::WaitingTasks;
 use std::alloc::{AllocError, Global};
 use std::collections::HashMap;
 use std::str::from_utf8;
-use workload_file::Workload;
 
 /// The tracks of callers begin with this number, main's first, and those of workers behind all that callers may have.
 const FIRST_CALLER: u32 = 1;
@@ -41,19 +40,14 @@ struct Seat {
 struct Waiting {
     /// When it was started, and on which track.
     started: (u64, u32),
-    /// Where it is counted, and how often that was emptied before.
+    /// Where it is counted.
     place: usize,
-    emptied: u64,
 }
 
 /// How many tasks wait in a queue, or in none.
 #[derive(Clone, Copy, Drop)]
 struct Counter {
     queue: Option<NodeObject>,
-    /// Whether the queue keeps its tasks while it is disabled.
-    retains: bool,
-    enabled: bool,
-    emptied: u64,
     tasks: u64,
 }
 
@@ -68,7 +62,7 @@ struct Course<'a> {
     /// The first one counts the tasks of no queue.
     counters: Vec<Counter>,
     queues: HashMap<u64, usize>,
-    withdrawals: Withdrawals,
+    tasks: WaitingTasks,
     out: String,
 }
 
@@ -142,7 +136,7 @@ impl<'a> Course<'a> {
     }
 
     /// A new queue.
-    fn note_queue(&mut self, time: u64, queue: u64, retains: bool) -> Result<(), AllocError> {
+    fn note_queue(&mut self, time: u64, queue: u64) -> Result<(), AllocError> {
         let place = self.counters.len();
         self.queues.insert(queue, place)?;
         let counter = Counter {
@@ -150,9 +144,6 @@ impl<'a> Course<'a> {
                 kind: ObjectKind::Queue,
                 handle: queue,
             }),
-            retains,
-            enabled: true,
-            emptied: 0,
             tasks: 0,
         };
         self.count(time, place, counter)
@@ -171,7 +162,6 @@ impl<'a> Course<'a> {
         let waiting = Waiting {
             started: (time, self.track_of(who)),
             place,
-            emptied: counter.emptied,
         };
         self.waiting.insert(task, waiting)?;
         let tasks = counter.tasks.saturating_add(1);
@@ -181,10 +171,7 @@ impl<'a> Course<'a> {
     /// A task doesn't wait any more. Gives where it was counted, if it still was.
     fn stop_waiting(&mut self, task: u64) -> Option<usize> {
         let waiting = self.waiting.remove(&task)?;
-        match self.counters.get(waiting.place) {
-            Some(counter) if counter.emptied == waiting.emptied => Some(waiting.place),
-            _ => None,
-        }
+        Some(waiting.place)
     }
 
     /// So many tasks less wait in a queue, or in none.
@@ -207,9 +194,9 @@ impl<'a> Course<'a> {
         }
     }
 
-    /// The tasks that fail, since an action is deleted or disabled, don't wait any more.
-    fn note_left(&mut self, time: u64, entry: &Entry) -> Result<(), AllocError> {
-        let left = self.withdrawals.note(entry)?;
+    /// The tasks that an entry ends without naming them don't wait any more.
+    fn note_several(&mut self, time: u64, entry: &Entry) -> Result<(), AllocError> {
+        let left = self.tasks.note(entry)?;
         if left.is_empty() {
             return Ok(());
         }
@@ -227,68 +214,10 @@ impl<'a> Course<'a> {
         Ok(())
     }
 
-    /// The tasks of a queue don't wait any more.
-    fn empty(&mut self, time: u64, place: usize) -> Result<(), AllocError> {
-        match self.counters.get(place) {
-            Some(counter) => {
-                let counter = Counter {
-                    tasks: 0,
-                    emptied: counter.emptied.saturating_add(1),
-                    ..*counter
-                };
-                self.count(time, place, counter)
-            }
-            None => Ok(()),
-        }
-    }
-
-    /// A queue was enabled or disabled: where it was disabled and doesn't retain its tasks, they don't wait any more.
-    fn note_enabled(&mut self, time: u64, queue: u64, enabled: bool) -> Result<(), AllocError> {
-        let Some(place) = self.queues.get(&queue) else {
-            return Ok(());
-        };
-        let place = *place;
-        let Some(counter) = self.counters.get(place) else {
-            return Ok(());
-        };
-        let counter = *counter;
-        if place < self.counters.len() {
-            self.counters[place] = Counter { enabled, ..counter };
-        }
-        if enabled || counter.retains {
-            return Ok(());
-        }
-        self.empty(time, place)
-    }
-
-    /// A queue was deleted.
-    fn note_deleted(&mut self, time: u64, queue: u64) -> Result<(), AllocError> {
-        match self.queues.get(&queue) {
-            Some(place) => {
-                let place = *place;
-                self.empty(time, place)
-            }
-            None => Ok(()),
-        }
-    }
-
-    /// The node ends: what waits in a disabled queue doesn't any more.
-    fn note_closed(&mut self, time: u64) -> Result<(), AllocError> {
-        for place in 0..self.counters.len() {
-            match self.counters.get(place) {
-                Some(counter) if !counter.enabled && counter.tasks > 0 => self.empty(time, place)?,
-                _ => {}
-            }
-        }
-        Ok(())
-    }
-
     /// Follows the tasks that wait, at a call.
     fn note_tasks(&mut self, time: u64, entry: &Entry) -> Result<(), AllocError> {
         match (&entry.op, &entry.reply) {
-            (Op::QueueCreate { retain, .. }, Reply::Handle(queue)) => {
-                self.note_queue(time, *queue, *retain)
-            }
+            (Op::QueueCreate { .. }, Reply::Handle(queue)) => self.note_queue(time, *queue),
             (Op::TaskStart { .. }, Reply::Handle(task)) => {
                 self.note_start(time, entry.who, *task, 0)
             }
@@ -298,10 +227,6 @@ impl<'a> Course<'a> {
             (Op::TaskCancel { task }, Reply::Ok) => self.note_leave(time, task.0),
             (Op::TaskLook { task, .. }, Reply::Ended(_)) => self.note_leave(time, task.0),
             (Op::AnyLook { .. }, Reply::Given(task, _)) => self.note_leave(time, task.0),
-            (Op::QueueEnable { queue }, Reply::Ok) => self.note_enabled(time, queue.0, true),
-            (Op::QueueDisable { queue }, Reply::Ok) => self.note_enabled(time, queue.0, false),
-            (Op::QueueDelete { queue }, Reply::Ok) => self.note_deleted(time, queue.0),
-            (Op::Close, Reply::Ok) => self.note_closed(time),
             _ => Ok(()),
         }
     }
@@ -320,19 +245,7 @@ impl<'a> Course<'a> {
     fn label_of(&self, entry: &Entry, binding: Option<Binding<'a>>) -> Result<String, AllocError> {
         let word = shown_word(&entry.op);
         let object = object_made(&entry.op, &entry.reply).or(self.object_called(entry));
-        let known = match object {
-            Some(object) => self.names.binding_of(object),
-            None => None,
-        };
-        let bound = match known.or(binding) {
-            Some(binding) => name_at(self.alloc, binding)?,
-            None => None,
-        };
-        let name = match (bound, object) {
-            (Some(name), _) => name,
-            (None, Some(object)) => self.names.name_of(self.alloc, object)?,
-            (None, None) => String::new(self.alloc),
-        };
+        let name = self.names.called(self.alloc, object, binding)?;
         let name = name.as_str();
         let space = if name.is_empty() { "" } else { " " };
         match &entry.reply {
@@ -450,7 +363,7 @@ impl<'a> Course<'a> {
                 Some(looks) => *looks,
                 None => 0,
             };
-            self.note_left(time, entry)?;
+            self.note_several(time, entry)?;
             let who = entry.who as usize;
             if who < self.seats.len() {
                 let before = self.seats[who];
@@ -522,16 +435,13 @@ fn line_of(binding: Option<Binding<'_>>) -> Option<u64> {
     }
 }
 
-/// The trace of the run of a journal, with the names of its workload, if that is known. It takes one pass over the entries.
+/// The trace of a run, with the names that somebody gave to its objects, or that its workload has. It takes one pass over the entries.
 ///
 /// # Errors
 ///
 /// - `AllocError`: memory ran out.
-pub fn trace_of(
-    alloc: Global,
-    load: Option<&Workload>,
-    journal: &Journal,
-) -> Result<String, AllocError> {
+pub fn trace_of(alloc: Global, run: &KeptRun) -> Result<String, AllocError> {
+    let journal = &run.journal;
     let all = journal.entries.in_full(alloc)?;
     let entries = all.as_slice();
     let workers = journal.settings.workers().min(16);
@@ -543,20 +453,17 @@ pub fn trace_of(
     };
     let first = Counter {
         queue: None,
-        retains: true,
-        enabled: true,
-        emptied: 0,
         tasks: 0,
     };
     let mut course = Course {
         alloc,
         workers,
-        names: Names::new(alloc, load)?,
+        names: Names::new(alloc, run)?,
         seats: vec![in alloc; seat; seats as usize]?,
         waiting: HashMap::new(alloc),
         counters: vec![in alloc; first; 1]?,
         queues: HashMap::new(alloc),
-        withdrawals: Withdrawals::new(alloc, workers),
+        tasks: WaitingTasks::new(alloc, workers)?,
         out: String::from_str(alloc, BEGIN)?,
     };
     course.push_tracks(seats)?;

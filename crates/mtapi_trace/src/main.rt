@@ -20,7 +20,7 @@ impl RunText for Trace {
     ghost shows = { λ _ _. Unit {0} };
 
     fn text_of(alloc: Global, run: &KeptRun) -> Result<String, AllocError> {
-        trace_of(alloc, run.workload.as_ref(), &run.journal)
+        trace_of(alloc, run)
     }
 }
 

@@ -1,12 +1,13 @@
 //! The names that a workload gives to the objects of its run.
 
 use crate::calls::key_of;
+use journal_reading::{KeptRun, OwnNames};
 use journal_text::{NodeObject, handle_word, object_made};
 use mtapi_machine::{Entry, Op, Reply};
 use std::alloc::{AllocError, Global};
 use std::collections::HashMap;
 use std::str::from_utf8;
-use workload_file::{Deed, Part, Statement, Workload};
+use workload_file::{Deed, Part, Statement};
 use workload_runs::{Call, call_of};
 
 /// A statement, and the part in which it stands.
@@ -20,6 +21,8 @@ pub struct Binding<'a> {
 #[derive(Drop)]
 pub struct Names<'a> {
     pub parts: &'a [Part],
+    /// Names that somebody gave to objects, which count before those of the workload.
+    own: &'a OwnNames,
     /// The handles that the statements of each part bound so far, 0 where there is none.
     bound: Vec<Vec<u64>>,
     /// The statement that bound each object first.
@@ -35,8 +38,8 @@ fn is_call(call: &Call, op: &Op) -> bool {
 
 impl<'a> Names<'a> {
     /// No name yet.
-    pub fn new(alloc: Global, load: Option<&'a Workload>) -> Result<Names<'a>, AllocError> {
-        let parts: &'a [Part] = match load {
+    pub fn new(alloc: Global, run: &'a KeptRun) -> Result<Names<'a>, AllocError> {
+        let parts: &'a [Part] = match &run.workload {
             Some(load) => load.parts.as_slice(),
             None => &[],
         };
@@ -46,6 +49,7 @@ impl<'a> Names<'a> {
         }
         Ok(Names {
             parts,
+            own: &run.names,
             bound,
             bindings: HashMap::new(alloc),
         })
@@ -91,14 +95,45 @@ impl<'a> Names<'a> {
         }
     }
 
-    /// The name of an object: that of the statement that bound it first, behind that of its part, or else its handle.
+    /// The name of an object: one that somebody gave it, else that of the statement that bound it first, behind that of its part, or else its
+    /// handle.
     pub fn name_of(&self, alloc: Global, object: NodeObject) -> Result<String, AllocError> {
+        let handle = handle_word(alloc, object)?;
+        if let Some(own) = self.own.name_of(&handle) {
+            return String::from_str(alloc, own);
+        }
         if let Some(binding) = self.binding_of(object) {
             if let Some(name) = name_at(alloc, binding)? {
                 return Ok(name);
             }
         }
-        handle_word(alloc, object)
+        Ok(handle)
+    }
+
+    /// The name in a call of what it makes or names: where the call or an earlier one was refused, so that there is no such object, the name
+    /// that the call's statement binds or uses.
+    pub fn called(
+        &self,
+        alloc: Global,
+        object: Option<NodeObject>,
+        statement: Option<Binding<'_>>,
+    ) -> Result<String, AllocError> {
+        match (object, statement) {
+            (Some(object), None) => self.name_of(alloc, object),
+            (Some(object), Some(_)) if self.is_named(alloc, object)? => self.name_of(alloc, object),
+            (_, Some(statement)) => match (name_at(alloc, statement)?, object) {
+                (Some(name), _) => Ok(name),
+                (None, Some(object)) => self.name_of(alloc, object),
+                (None, None) => Ok(String::new(alloc)),
+            },
+            (None, None) => Ok(String::new(alloc)),
+        }
+    }
+
+    /// Whether somebody named an object, or a statement bound it.
+    fn is_named(&self, alloc: Global, object: NodeObject) -> Result<bool, AllocError> {
+        let handle = handle_word(alloc, object)?;
+        Ok(self.own.name_of(&handle).is_some() || self.binding_of(object).is_some())
     }
 }
 

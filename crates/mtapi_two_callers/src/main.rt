@@ -9,9 +9,11 @@ use action_fn::{ActionSet, ActionSource, Finished, StandardActions};
 use mtapi_values::{
     Args, Kind, MrapiStatus, MutexAttr, MutexHandle, NodeAttr, ShmemHandle, Timeout,
 };
-use node_with_workers::{Client, with_callers};
-use sched_workers::Caller;
+use node_with_workers::{Client, NodeFailure, with_callers, with_callers_beside};
+use sched_workers::{Caller, FewThreads};
+use std::alloc::Global;
 use std::sync::Wait;
+use std::thread::Threads;
 use std::{io, vec};
 
 /// What the callers share: a segment of one cell, and the mutex that guards it.
@@ -101,11 +103,35 @@ impl ActionSource for Numbering {
     }
 }
 
+// What came of a node of one worker and a further caller whose threads are as these say.
+fn refused<R: Threads + Wait + Sync>(
+    rt: &R,
+    alloc: Global,
+    threads: &mut FewThreads,
+) -> &'static str {
+    let Ok(others) = vec![in alloc; Adding { last: 1, id: 11 }] else {
+        return "out of memory";
+    };
+    let main = Adding { last: 2, id: 10 };
+    let settings = NodeAttr::new();
+    let done = with_callers_beside(rt, alloc, settings, &mut Numbering, threads, main, others);
+    match done {
+        Ok(_) => "both have called",
+        Err(NodeFailure::NoThread(_)) => "a thread was refused",
+        Err(NodeFailure::Failed(_)) => "the node failed",
+    }
+}
+
 fn main(rt: HostRuntime) -> io::Result<()> {
     let others = vec![in rt.alloc(); Adding { last: 1, id: 11 }]?;
     let main = Adding { last: 200, id: 10 };
     let mut settings = NodeAttr::new();
     let _ = settings.set(NodeAttr::WORKERS, 3);
+    // The thread of the worker, that of the further caller, and none.
+    for number in 1..=3 {
+        let came = refused(&rt, rt.alloc(), &mut FewThreads::new(number));
+        println!(rt; "thread {number} is refused: {came}")?;
+    }
     let mut acts = Numbering;
     match with_callers(&rt, rt.alloc(), settings, &mut acts, main, others) {
         Ok(done) => {

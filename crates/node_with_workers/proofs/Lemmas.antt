@@ -1,5 +1,5 @@
 -- What a caller's calls come to, and what a node's history says of its clients.
-use Rattle.node_with_workers.proofs.Names.{nat_tests, ◌≡◌, ℕ, zero, suc, true, ◌+◌, ◌-◌, ◌≤◌, ◌<◌, ◌^◌, List, length, take, drop, [], ◌∷◌, ◌++◌, None, Result, Ok, Err, inl, inr, refl, sym, ◌∙◌, ap, subst, append_assoc, arith, append-nil, take-append-drop, map, length-map, StartsWith, entry, entries_of, NodeSettings, MtapiStatus, Op, Initialize, Release, Close, Final, Reply, Terms, NodeEntry, Legal, Journal, JournaledTerms, KeptAs, Entrance, Seat, SameSeat, Answers, Waited, mtapi, done, GoesOn, MainOpens, CallerEnters, HasCalled, IfRefused, IsRefused, IsNotOpened, IsKeptOut, SaysOf, Opens, Enters, HasThreads, IfFailed, IfNoThread, IsUnbegun, IsUnopened, MadeNoCall, is_no_thread, AreRefused, terms_among, IsRun, IsRunOfAll, HaveCalled, HasEnded, Refuses, RefusesOne, IsNotEnded}
+use Rattle.node_with_workers.proofs.Names.{nat_tests, ◌≡◌, ℕ, zero, suc, true, ◌+◌, ◌-◌, ◌≤◌, ◌<◌, ◌^◌, List, length, take, drop, [], ◌∷◌, ◌++◌, None, Result, Ok, Err, inl, inr, refl, sym, ◌∙◌, ap, subst, append_assoc, arith, append-nil, take-append-drop, map, length-map, StartsWith, entry, entries_of, NodeSettings, MtapiStatus, Op, Initialize, Release, Close, Final, Reply, Terms, NodeEntry, Legal, Journal, JournaledTerms, KeptAs, Entrance, Seat, SameSeat, Answers, Waited, mtapi, done, GoesOn, MainOpens, CallerEnters, HasCalled, IfRefused, IsRefused, IsNotOpened, IsKeptOut, SaysOf, Opens, Enters, HasThreads, IfFailed, IfNoThread, IsUnbegun, IsUnopened, MadeNoCall, is_no_thread, AreRefused, terms_among, IsRunBy, IsRunOfAllBy, HaveCalled, HasEndedBy, Refuses, RefusesOne, IsNotEnded}
 use Rattle.history.proofs.Growth.{entries_append}
 use Rattle.turn_looks.proofs.OwnEntries.{entries-append}
 use Rattle.mtapi_machine.proofs.Lists.{Legal-prefix, Legal-rest}
@@ -262,12 +262,12 @@ module _ {D B U : Type 0} (of : B → D) (Q : D → Seat → Seat → U → Type
 
 -- What a node that ended gives, from what its callers were told
 
-module _ {C D B E T U A : Type 0} (main_of : E → C) (of : B → D) (P : C → Seat → Seat → T → Type 0) (Q : D → Seat → Seat → U → Type 0) (m : E) (bs : List B)
+module _ {C D B E T U A : Type 0} (rounds : ℕ → List NodeEntry → Type 0) (main_of : E → C) (of : B → D) (P : C → Seat → Seat → T → Type 0) (Q : D → Seat → Seat → U → Type 0) (m : E) (bs : List B)
     (settings : NodeSettings) (r : RanNode (Result T Failure) (Result U Failure) A) where
   abbrev MainAs : E → Terms → ℕ → Result T Failure → List NodeEntry → Type 0
   MainAs o t who told es = Opens P (main_of o) t who told es
 
-  module _ (t : Terms) (x : RanAs MainAs (Held_as of Q) m bs t r) where
+  module _ (t : Terms) (x : RanAs rounds MainAs (Held_as of Q) m bs t r) where
     abbrev w : ℕ
     w = t.settings.workers
 
@@ -276,7 +276,7 @@ module _ {C D B E T U A : Type 0} (main_of : E → C) (of : B → D) (P : C → 
         last_says t (x.ends.before ++ entry w Close x.close ∷ x.ends.behind) x.ends.rest w r.last
         (subst (Legal t) (parted w x.history x.own x.close r.last x.ends) x.legal)
 
-    ends_so : t.callers ≡ length bs + 1 → HasEnded t x.history x.own r.last
+    ends_so : t.callers ≡ length bs + 1 → HasEndedBy rounds t x.history x.own r.last
     ends_so count = record {
       close = x.close;
       main = x.ends;
@@ -287,12 +287,12 @@ module _ {C D B E T U A : Type 0} (main_of : E → C) (of : B → D) (P : C → 
       worked = x.worked;
     }
 
-  pub run_is : (n : ℕ) (x : RanAs MainAs (Held_as of Q) m bs (terms_among settings n) r) (ds : List D) (d : AllDone T U A) → n ≡ length ds → map of bs ≡ ds
-      → IsUnpacked r d → IsRunOfAll P Q (main_of m) ds settings d.told d.others.items d.journal
+  pub run_is : (n : ℕ) (x : RanAs rounds MainAs (Held_as of Q) m bs (terms_among settings n) r) (ds : List D) (d : AllDone T U A) → n ≡ length ds → map of bs ≡ ds
+      → IsUnpacked r d → IsRunOfAllBy rounds P Q (main_of m) ds settings d.told d.others.items d.journal
   run_is n x ds d count are u =
       let long : length bs ≡ length ds = sym (length-map bs of) ∙ ap (λ (l : List D). length l) are in
       let t = terms_among settings n in
-      let ended : HasEnded t x.history x.own reply.Ok = subst (λ (y : Reply). HasEnded t x.history x.own y) u.last (ends_so t x (omega arith)) in
+      let ended : HasEndedBy rounds t x.history x.own reply.Ok = subst (λ (y : Reply). HasEndedBy rounds t x.history x.own y) u.last (ends_so t x (omega arith)) in
       let each = each_told of Q t x.history x.ends.before _ (settings.workers + 1) bs d.others.items
       (subst (λ (rs : List (Result U Failure)). EachCalled (Held_as of Q) t x.history x.ends.before
       (entry settings.workers Close x.close ∷ (x.ends.behind ++ entry settings.workers Final r.last ∷ x.ends.rest)) (settings.workers + 1) bs rs)
@@ -305,13 +305,13 @@ module _ {C D B E T U A : Type 0} (main_of : E → C) (of : B → D) (P : C → 
             (subst (λ (j : Journal). KeptAs t j x.history) (sym u.journal) x.kept);
         mine = x.own;
         called = subst (λ (k : ℕ). HasCalled MainOpens P (main_of m) (terms_among settings k) settings.workers d.told x.own) count main;
-        ended = subst (λ (k : ℕ). HasEnded (terms_among settings k) x.history x.own reply.Ok) count ended;
+        ended = subst (λ (k : ℕ). HasEndedBy rounds (terms_among settings k) x.history x.own reply.Ok) count ended;
         others_called = subst (λ (l : List D). HaveCalled Q (terms_among settings (length ds)) x.history (settings.workers + 1) l d.others.items) are
             (subst (λ (k : ℕ). HaveCalled Q (terms_among settings k) x.history (settings.workers + 1) (map of bs) d.others.items) count each);
       }
 
   -- main was refused the end
-  unended_so : (n : ℕ) (x : RanAs MainAs (Held_as of Q) m bs (terms_among settings n) r) (told : T) (status : MtapiStatus) → r.told ≡ Ok told
+  unended_so : (n : ℕ) (x : RanAs rounds MainAs (Held_as of Q) m bs (terms_among settings n) r) (told : T) (status : MtapiStatus) → r.told ≡ Ok told
       → r.last ≡ reply.Mtapi status → IsNotEnded P (main_of m) (terms_among settings n) status
   unended_so n x told status e l =
       let t = terms_among settings n in
@@ -333,7 +333,7 @@ module _ {C D B E T U A : Type 0} (main_of : E → C) (of : B → D) (P : C → 
       )
 
   -- why it gave nothing back
-  pub causes_are : (n : ℕ) (x : RanAs MainAs (Held_as of Q) m bs (terms_among settings n) r) (f : Failure) → n ≡ length bs → IsUnpackedTo r f
+  pub causes_are : (n : ℕ) (x : RanAs rounds MainAs (Held_as of Q) m bs (terms_among settings n) r) (f : Failure) → n ≡ length bs → IsUnpackedTo r f
       → HasThreads f × IfRefused f (RefusesOne P (main_of m) n settings)
   causes_are n x f count (inl e) =
       let main = subst (λ (y : Result T Failure). Opens P (main_of m) (terms_among settings n) settings.workers y x.own) e x.main in (
@@ -356,12 +356,12 @@ module _ {C D B E T U A : Type 0} (main_of : E → C) (of : B → D) (P : C → 
       (tt, inr (unended_so n x l.value l.refusal.status l.told l.refusal.answered))
 
   -- the same of a node that was made with such terms
-  module _ (t : Terms) (k n : ℕ) (made : t ≡ terms_with Two settings k) (all : k ≡ n + 1) (x : RanAs MainAs (Held_as of Q) m bs t r) (ds : List D)
+  module _ (t : Terms) (k n : ℕ) (made : t ≡ terms_with Two settings k) (all : k ≡ n + 1) (x : RanAs rounds MainAs (Held_as of Q) m bs t r) (ds : List D)
       (count : n ≡ length ds) (are : map of bs ≡ ds) where
-    abbrev among : RanAs MainAs (Held_as of Q) m bs (terms_among settings n) r
-    among = subst (λ (u : Terms). RanAs MainAs (Held_as of Q) m bs u r) (made ∙ ap (λ (j : ℕ). terms_with Two settings j) all) x
+    abbrev among : RanAs rounds MainAs (Held_as of Q) m bs (terms_among settings n) r
+    among = subst (λ (u : Terms). RanAs rounds MainAs (Held_as of Q) m bs u r) (made ∙ ap (λ (j : ℕ). terms_with Two settings j) all) x
 
-    pub run_from : (d : AllDone T U A) → IsUnpacked r d → IsRunOfAll P Q (main_of m) ds settings d.told d.others.items d.journal
+    pub run_from : (d : AllDone T U A) → IsUnpacked r d → IsRunOfAllBy rounds P Q (main_of m) ds settings d.told d.others.items d.journal
     run_from d u = run_is n among ds d count are u
 
     pub causes_from : (f : Failure) → IsUnpackedTo r f → HasThreads f × IfRefused f (RefusesOne P (main_of m) n settings)
@@ -398,11 +398,11 @@ shown_unbegun w (node.Failed f) e s u = subst (λ (g : Failure). IfNoThread g w)
 
 -- Main alone
 
-pub run_alone : {C D T U : Type 0} (promise : C → Seat → Seat → T → Type 0) (further : D → Seat → Seat → U
+pub run_alone : {C D T U : Type 0} {rounds : ℕ → List NodeEntry → Type 0} (promise : C → Seat → Seat → T → Type 0) (further : D → Seat → Seat → U
     → Type 0) (client : C) (others : List D) (settings : NodeSettings) (told : T) (us : List U) (j : Journal)
-    → others ≡ [] → IsRunOfAll promise further client others settings told us j → IsRun promise client settings told j
-run_alone {D = D} promise further client others settings told us j e r =
-    let x = subst (λ (ds : List D). IsRunOfAll promise further client ds settings told us j) e r in
+    → others ≡ [] → IsRunOfAllBy rounds promise further client others settings told us j → IsRunBy rounds promise client settings told j
+run_alone {D = D} {rounds = rounds} promise further client others settings told us j e r =
+    let x = subst (λ (ds : List D). IsRunOfAllBy rounds promise further client ds settings told us j) e r in
     record { history = x.history; legal = x.legal; kept = x.kept; mine = x.mine; called = x.called; ended = x.ended }
 
 pub causes_alone : {C T : Type 0} (promise : C → Seat → Seat → T → Type 0) (client : C) (n : ℕ) (settings : NodeSettings) (f : Failure) → n ≡ 0

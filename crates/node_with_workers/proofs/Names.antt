@@ -12,7 +12,7 @@ pub use Rattle.node_core.specs.Logs.{journal_seats}
 pub use Rattle.node_core.specs.declared.journaled.JournaledTerms.{JournaledTerms}
 pub use Rattle.node_journals.specs.declared.entries.Journal.{Journal}
 pub use Rattle.node_with_workers.specs.Clients.{CallerEnters, Enters, GoesOn, HasCalled, IfRefused, IsKeptOut, IsNotOpened, IsRefused, IsUnbegun, IsUnopened, HasThreads, IfFailed, IfNoThread, MadeNoCall, MainOpens, Opens, SaysOf, is_no_thread}
-pub use Rattle.node_with_workers.specs.Runs.{AreRefused, HasEnded, HaveCalled, IsNotEnded, IsRun, IsRunOfAll, Refuses, RefusesOne, terms_among}
+pub use Rattle.node_with_workers.specs.Runs.{AreRefused, HasEndedBy, HaveCalled, IsNotEnded, IsRunBy, IsRunOfAllBy, Refuses, RefusesOne, terms_among}
 pub use Rattle.sched_workers.specs.Answers.{Answers, Called, Waited, with_number}
 pub use Rattle.workload_runners.specs.Replies.{done, handle, mtapi}
 pub use Rattle.workload_runners.specs.Turns.{SameSeat, Seat}

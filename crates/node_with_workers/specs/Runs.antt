@@ -26,15 +26,19 @@ abbrev pub terms_for : NodeSettings → Terms
 terms_for settings = terms_with Two settings 1
 
 -- In this history of a node with these terms main made these calls; then it began the end, later it ended the node, which was answered `last`,
--- and it made no other call. All calls of the further callers stand before main began the end. Each worker made rounds and was told to stop, all
+-- and it made no other call. All calls of the further callers stand before main began the end. The entries of each worker are such rounds, all
 -- before main ended the node.
-pub record HasEnded (t : Terms) (history mine : List NodeEntry) (last : Reply) : Type 0 where
+pub record HasEndedBy (rounds : ℕ → List NodeEntry → Type 0) (t : Terms) (history mine : List NodeEntry) (last : Reply) : Type 0 where
   pub close : Reply
   pub main : MainEnds t.settings.workers history mine close last
   pub further : (k : ℕ) → t.settings.workers < k → k < t.settings.workers + t.callers
       → StandsIn k main.before (entry t.settings.workers Close close ∷ (main.behind ++ entry t.settings.workers Final last ∷ main.rest)) (entries_of k history)
-  pub worked : (k : ℕ) → k < t.settings.workers → WorkerAs k (entries_of k history)
+  pub worked : (k : ℕ) → k < t.settings.workers → rounds k (entries_of k history)
       × StandsIn k (main.before ++ entry t.settings.workers Close close ∷ main.behind) (entry t.settings.workers Final last ∷ main.rest) (entries_of k history)
+
+-- the same, where each worker made rounds and was told to stop
+abbrev pub HasEnded : Terms → List NodeEntry → List NodeEntry → Reply → Type 0
+HasEnded t history mine last = HasEndedBy WorkerAs t history mine last
 
 -- main's entries are those of its client, one that begins the end, and one that ends the node
 abbrev pub MainEndsOnce : Type 0
@@ -43,14 +47,19 @@ MainEndsOnce = (t : Terms) (history mine : List NodeEntry) (last : Reply) (x : H
     ≡ mine ++ entry t.settings.workers Close x.close ∷ entry t.settings.workers Final last ∷ []
 
 -- There is one legal history of such a node. The journal is what is kept of it. In it main opened the node, the client's promise holds of main's
--- seat before its calls and after them, and of what it was told; and behind these calls main ended the node.
-pub record IsRun {C T : Type 0} (promise : C → Seat → Seat → T → Type 0) (client : C) (settings : NodeSettings) (told : T) (j : Journal) : Type 0 where
+-- seat before its calls and after them, and of what it was told; and behind these calls main ended the node, and the workers' entries are such
+-- rounds.
+pub record IsRunBy {C T : Type 0} (rounds : ℕ → List NodeEntry → Type 0) (promise : C → Seat → Seat → T → Type 0) (client : C) (settings : NodeSettings) (told : T) (j : Journal) : Type 0 where
   pub history : List NodeEntry
   pub legal : Legal (terms_for settings) history
   pub kept : KeptAs (terms_for settings) j history
   pub mine : List NodeEntry
   pub called : HasCalled MainOpens promise client (terms_for settings) settings.workers told mine
-  pub ended : HasEnded (terms_for settings) history mine reply.Ok
+  pub ended : HasEndedBy rounds (terms_for settings) history mine reply.Ok
+
+-- the same, where each worker made rounds and was told to stop
+abbrev pub IsRun : {C T : Type 0} → (C → Seat → Seat → T → Type 0) → C → NodeSettings → T → Journal → Type 0
+IsRun promise client settings told j = IsRunBy WorkerAs promise client settings told j
 
 -- In this history of a node with these terms the callers with the numbers from this one on were let in, and the promises of these clients hold,
 -- one for each caller, of its seat before its calls and after them, and of what it was told.
@@ -62,16 +71,22 @@ HaveCalled promise t history who _ _ = ⊥
 
 -- There is one legal history of a node with main and a further caller for each of the other clients. The journal is what is kept of it. In it main
 -- opened the node and let the others in, the promises of all clients hold, each of the seat of its caller before its calls and after them, and
--- of what it was told; and behind all these calls main ended the node. The further callers have the numbers behind main's, in their order.
-pub record IsRunOfAll {C D T U : Type 0} (promise : C → Seat → Seat → T → Type 0) (further : D → Seat → Seat → U
+-- of what it was told; and behind all these calls main ended the node, and the workers' entries are such rounds. The further callers have the
+-- numbers behind main's, in their order.
+pub record IsRunOfAllBy {C D T U : Type 0} (rounds : ℕ → List NodeEntry → Type 0) (promise : C → Seat → Seat → T → Type 0) (further : D → Seat → Seat → U
     → Type 0) (client : C) (others : List D) (settings : NodeSettings) (told : T) (others_told : List U) (j : Journal) : Type 0 where
   pub history : List NodeEntry
   pub legal : Legal (terms_among settings (length others)) history
   pub kept : KeptAs (terms_among settings (length others)) j history
   pub mine : List NodeEntry
   pub called : HasCalled MainOpens promise client (terms_among settings (length others)) settings.workers told mine
-  pub ended : HasEnded (terms_among settings (length others)) history mine reply.Ok
+  pub ended : HasEndedBy rounds (terms_among settings (length others)) history mine reply.Ok
   pub others_called : HaveCalled further (terms_among settings (length others)) history (settings.workers + 1) others others_told
+
+-- the same, where each worker made rounds and was told to stop
+abbrev pub IsRunOfAll : {C D T U : Type 0} → (C → Seat → Seat → T → Type 0) → (D → Seat → Seat → U → Type 0) → C → List D → NodeSettings → T
+    → List U → Journal → Type 0
+IsRunOfAll promise further client others settings told others_told j = IsRunOfAllBy WorkerAs promise further client others settings told others_told j
 
 -- main couldn't open the node, or one of so many further callers wasn't let in
 abbrev pub AreRefused : Terms → ℕ → MtapiStatus → Type 0

@@ -4,7 +4,7 @@ ghost use Rattle.std.specs.Prelude.{◌≡◌, ◌≤◌, ◌<◌, true, Err, ma
 ghost use Rattle.run_beside.specs.Pairs.{Counts};
 ghost use Rattle.workload_runners.specs.Runs.{Causes, GivesMain, is_refused};
 ghost use Rattle.node_with_workers.specs.Clients.{IfFailed, IfNoThread, IfRefused, IsUnbegun, is_no_thread, is_unstarted};
-ghost use Rattle.node_with_workers.specs.Runs.{IsRun, IsRunOfAll, Refuses, RefusesOne};
+ghost use Rattle.node_with_workers.specs.Runs.{IsRun, IsRunBy, IsRunOfAll, IsRunOfAllBy, Refuses, RefusesOne};
 ghost use Rattle.node_with_workers.specs.Ends.{IsFailureOf, IsShownAs};
 
 use crate::client::{Client, Entering, Opening};
@@ -18,7 +18,7 @@ use sched_workers::{Beside, Caller, Threads};
 use std::alloc::{AllocError, Global};
 use std::sync::Wait;
 use std::thread::Threads as StartsThreads;
-use workload_runners::{RunError, run_crew};
+use workload_runners::{Acting, RunError, ServeSource, run_crew};
 
 /// What comes of a node that was ended.
 #[derive(Drop)]
@@ -27,7 +27,7 @@ pub struct Done<T: Drop, A: Drop> {
     pub told: T,
     /// The journal of all calls.
     pub journal: RunJournal,
-    /// The workers' sets of actions. They come in the order of the workers' numbers, which no clause says.
+    /// What the workers were given, as their sets of actions. It comes in the order of the workers' numbers, which no clause says.
     pub sets: Vec<A>,
 }
 
@@ -40,7 +40,7 @@ pub struct AllDone<T: Drop, U: Drop, A: Drop> {
     pub others: Vec<U>,
     /// The journal of all calls.
     pub journal: RunJournal,
-    /// The workers' sets of actions. They come in the order of the workers' numbers, which no clause says.
+    /// What the workers were given, as their sets of actions. It comes in the order of the workers' numbers, which no clause says.
     pub sets: Vec<A>,
 }
 
@@ -77,6 +77,60 @@ fn shown(failure: NodeFailure, threads: Threads) -> Failure
     }
 }
 
+/// The same as `with_callers_beside`, with workers that serve as these do.
+///
+/// # Errors
+///
+/// Those of `with_callers_beside`.
+pub fn with_servers_beside<
+    R: StartsThreads + Wait + Sync,
+    S: ServeSource,
+    B: Beside,
+    C: Client,
+    D: Client + Send,
+>(
+    rt: &R,
+    alloc: Global,
+    settings: NodeAttr,
+    workers: &mut S,
+    beside: &mut B,
+    client: C,
+    others: Vec<D>,
+) -> Result<AllDone<C::Told, D::Told, S::Set>, NodeFailure>
+where
+    D::Told: Send,
+    requires few { vec_len others ≤ 8 }
+    ensures run { IfOk result (λ d. IsRunOfAllBy S.Set.rounds C.promise D.promise client others.items settings d.told d.others.items d.journal) }
+    ensures causes { IfErr result (λ e. IfFailed e (λ f. IfRefused f (RefusesOne C.promise client (vec_len others) settings))) }
+    ensures sets { IfOk result (λ d. vec_len d.sets ≡ settings.workers) }
+    ensures counts { Counts (is_unstarted result) (B.refusals beside.old) (B.refusals beside.new) }
+    ensures unbegun { IfErr result (IsUnbegun settings.workers) }
+{
+    let count = others.len();
+    let Ok(node) = Node::init(alloc, settings, count as u32 + 1) else {
+        return Err(NodeFailure::Failed(Failure::Memory));
+    };
+    let Ok(callers) = entering(alloc, others) else {
+        return Err(NodeFailure::Failed(Failure::Memory));
+    };
+    let ran = run_crew(
+        rt,
+        alloc,
+        node,
+        workers,
+        beside,
+        Opening { client },
+        callers,
+    );
+    match ran {
+        Ok(ran) => match unpacked(alloc, ran) {
+            Ok(done) => Ok(done),
+            Err(failure) => Err(NodeFailure::Failed(failure)),
+        },
+        Err(error) => Err(failure_of(error)),
+    }
+}
+
 /// The same as `with_callers`, with threads that `beside` starts or refuses.
 ///
 /// # Errors
@@ -108,20 +162,36 @@ where
     ensures counts { Counts (is_unstarted result) (B.refusals beside.old) (B.refusals beside.new) }
     ensures unbegun { IfErr result (IsUnbegun settings.workers) }
 {
-    let count = others.len();
-    let Ok(node) = Node::init(alloc, settings, count as u32 + 1) else {
-        return Err(NodeFailure::Failed(Failure::Memory));
-    };
-    let Ok(callers) = entering(alloc, others) else {
-        return Err(NodeFailure::Failed(Failure::Memory));
-    };
-    let ran = run_crew(rt, alloc, node, acts, beside, Opening { client }, callers);
-    match ran {
-        Ok(ran) => match unpacked(alloc, ran) {
-            Ok(done) => Ok(done),
-            Err(failure) => Err(NodeFailure::Failed(failure)),
-        },
-        Err(error) => Err(failure_of(error)),
+    let mut workers = Acting { acts };
+    with_servers_beside(rt, alloc, settings, &mut workers, beside, client, others)
+}
+
+/// The same as `with_callers`, with workers that serve as these do.
+///
+/// # Errors
+///
+/// Those of `with_callers`.
+pub fn with_servers<R: StartsThreads + Wait + Sync, S: ServeSource, C: Client, D: Client + Send>(
+    rt: &R,
+    alloc: Global,
+    settings: NodeAttr,
+    workers: &mut S,
+    client: C,
+    others: Vec<D>,
+) -> Result<AllDone<C::Told, D::Told, S::Set>, Failure>
+where
+    D::Told: Send,
+    requires few { vec_len others ≤ 8 }
+    ensures run { IfOk result (λ d. IsRunOfAllBy S.Set.rounds C.promise D.promise client others.items settings d.told d.others.items d.journal) }
+    ensures causes { IfErr result (λ e. IfRefused e (RefusesOne C.promise client (vec_len others) settings)) }
+    ensures sets { IfOk result (λ d. vec_len d.sets ≡ settings.workers) }
+    ensures unbegun { IfErr result (λ e. IfNoThread e settings.workers) }
+{
+    let mut beside = Threads::new();
+    let done = with_servers_beside(rt, alloc, settings, workers, &mut beside, client, others);
+    match done {
+        Ok(done) => Ok(done),
+        Err(failure) => Err(shown(failure, beside)),
     }
 }
 
@@ -154,12 +224,8 @@ where
     ensures sets { IfOk result (λ d. vec_len d.sets ≡ settings.workers) }
     ensures unbegun { IfErr result (λ e. IfNoThread e settings.workers) }
 {
-    let mut beside = Threads::new();
-    let done = with_callers_beside(rt, alloc, settings, acts, &mut beside, client, others);
-    match done {
-        Ok(done) => Ok(done),
-        Err(failure) => Err(shown(failure, beside)),
-    }
+    let mut workers = Acting { acts };
+    with_servers(rt, alloc, settings, &mut workers, client, others)
 }
 
 // The client of a further caller that there isn't.
@@ -173,6 +239,32 @@ impl Client for Nobody {
 
     #[tactic(auto, using(crate::proofs::Calls::further_calls))]
     fn call<R: Wait>(self, _rt: &R, _caller: &mut Caller) {}
+}
+
+/// The same as `with_workers`, with workers that serve as these do.
+///
+/// # Errors
+///
+/// Those of `with_workers`.
+pub fn with_servers_alone<R: StartsThreads + Wait + Sync, S: ServeSource, C: Client>(
+    rt: &R,
+    alloc: Global,
+    settings: NodeAttr,
+    workers: &mut S,
+    client: C,
+) -> Result<Done<C::Told, S::Set>, Failure>
+    ensures run { IfOk result (λ d. IsRunBy S.Set.rounds C.promise client settings d.told d.journal) }
+    ensures causes { IfErr result (λ e. IfRefused e (Refuses C.promise client settings)) }
+    ensures sets { IfOk result (λ d. vec_len d.sets ≡ settings.workers) }
+    ensures unbegun { IfErr result (λ e. IfNoThread e settings.workers) }
+{
+    let nobody = Vec::<Nobody>::new(alloc);
+    let done = with_servers(rt, alloc, settings, workers, client, nobody)?;
+    Ok(Done {
+        told: done.told,
+        journal: done.journal,
+        sets: done.sets,
+    })
 }
 
 /// Makes a node with these settings and one caller, main, and starts its workers, each in a thread of its own with a set of `acts`. Then it
@@ -196,11 +288,6 @@ pub fn with_workers<R: StartsThreads + Wait + Sync, S: ActionSource, C: Client>(
     ensures sets { IfOk result (λ d. vec_len d.sets ≡ settings.workers) }
     ensures unbegun { IfErr result (λ e. IfNoThread e settings.workers) }
 {
-    let nobody = Vec::<Nobody>::new(alloc);
-    let done = with_callers(rt, alloc, settings, acts, client, nobody)?;
-    Ok(Done {
-        told: done.told,
-        journal: done.journal,
-        sets: done.sets,
-    })
+    let mut workers = Acting { acts };
+    with_servers_alone(rt, alloc, settings, &mut workers, client)
 }

@@ -29,6 +29,15 @@ fn takes(deed: &Deed) -> bool {
     )
 }
 
+/// What is said of who holds it, by the statement that took it.
+fn held_words(deed: Option<&Deed>) -> &'static [u8] {
+    match deed {
+        Some(Deed::RwlLock { writer: true, .. }) => b" has held it as writer since line ",
+        Some(Deed::RwlLock { .. }) => b" has held it as reader since line ",
+        _ => b" has held it since line ",
+    }
+}
+
 impl Machine<'_> {
     /// What a statement takes or gives back.
     pub(crate) fn thing_of(&self, state: &State, part: usize, deed: &Deed) -> Option<Thing> {
@@ -107,7 +116,7 @@ impl Machine<'_> {
             };
             push(out, if any { b", and " } else { b"; " })?;
             self.push_part_name(out, part)?;
-            push(out, b" has held it since line ")?;
+            push(out, held_words(self.deed(site)))?;
             self.push_line(alloc, out, site)?;
             any = true;
         }

@@ -88,7 +88,7 @@ impl Machine<'_> {
     }
 
     /// The end of a task in full.
-    fn end_of(&self, state: &State, task: usize) -> TaskEnd {
+    pub(crate) fn end_of(&self, state: &State, task: usize) -> TaskEnd {
         let (Some(now), Some(plan)) = (
             at(state.tasks.as_slice(), task),
             at(self.table.tasks.as_slice(), task),

@@ -6,9 +6,11 @@
 
 mod action_steps;
 mod ends;
+mod forget;
 mod group_steps;
 mod holders;
 mod journal;
+mod line_texts;
 mod lists;
 mod lock_steps;
 mod machine;
@@ -24,6 +26,8 @@ mod task_steps;
 mod waits;
 mod workers;
 
+pub use forget::LastUses;
+pub use line_texts::{Line, LineText};
 pub use machine::Machine;
 pub use room::{is_too_large, may_retire};
 pub use state::State;

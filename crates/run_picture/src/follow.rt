@@ -5,8 +5,8 @@ use crate::lists::at;
 use crate::marks::{Chart, STYLES, Style};
 use crate::queues::note_queues;
 use crate::seats::{Seat, end_seat, note_seat};
-use crate::tasks::{end_left, end_run, note_tasks};
-use crate::withdrawals::Withdrawals;
+use crate::tasks::{end_run, end_several, note_tasks};
+use crate::waiting::WaitingTasks;
 use mtapi_machine::{Entry, Op, Reply};
 use std::alloc::{AllocError, Global};
 use std::collections::HashMap;
@@ -28,6 +28,7 @@ fn no_chart(alloc: Global, seats: u32, entries: usize) -> Result<Chart, AllocErr
         seats: vec![in alloc; no_seat(); seats as usize]?,
         lanes: Vec::new(alloc),
         slots: Vec::new(alloc),
+        tallies: HashMap::new(alloc),
         queues: Vec::new(alloc),
         queue_numbers: HashMap::new(alloc),
         tasks: HashMap::new(alloc),
@@ -65,7 +66,7 @@ fn note(
         }
         _ => {}
     }
-    note_queues(chart, place, entry)?;
+    note_queues(chart, entry)?;
     note_tasks(chart, place, entry)?;
     note_seat(chart, place, entry, looks)
 }
@@ -79,12 +80,12 @@ pub fn chart_of(
     skipped: &[u64],
 ) -> Result<Chart, AllocError> {
     let mut chart = no_chart(alloc, seats, entries.len())?;
-    let mut withdrawals = Withdrawals::new(alloc, workers);
+    let mut waiting = WaitingTasks::new(alloc, workers)?;
     for (place, entry) in entries.iter().enumerate() {
         let looks = at(skipped, place).unwrap_or(0);
         note(&mut chart, entries, place, entry, looks)?;
-        let left = withdrawals.note(entry)?;
-        end_left(alloc, &mut chart, place, entry.who, left.as_slice())?;
+        let ended = waiting.note(entry)?;
+        end_several(alloc, &mut chart, place, entry, ended.as_slice())?;
     }
     for who in 0..seats {
         end_run(

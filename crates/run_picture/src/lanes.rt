@@ -301,11 +301,26 @@ fn end_tally(chart: &mut Chart, who: u32, place: usize) -> Result<(), AllocError
     Ok(())
 }
 
+/// A tally looks for its mutex, before which so many of its looks were left out.
+fn note_tally_look(
+    chart: &mut Chart,
+    op: &Op,
+    mutex: Option<usize>,
+    looks: u64,
+) -> Result<(), AllocError> {
+    if let (Op::TallyLock { task }, Some(mutex)) = (op, mutex) {
+        chart.tallies.insert(task.0, mutex)?;
+        note_longest(chart, mutex, looks);
+    }
+    Ok(())
+}
+
 /// What a worker's tally, which it picked by this entry, does with its mutex and its segment.
 fn note_tally(
     chart: &mut Chart,
     place: usize,
     entry: &Entry,
+    looks: u64,
     picked: &Entry,
 ) -> Result<(), AllocError> {
     let Some((mutex, segment)) = tally_ids(picked) else {
@@ -313,6 +328,7 @@ fn note_tally(
     };
     let mutex = lane_named(chart.lanes.as_slice(), ObjectKind::Mutex, mutex);
     let segment = lane_named(chart.lanes.as_slice(), ObjectKind::Shmem, segment);
+    note_tally_look(chart, &entry.op, mutex, looks)?;
     match (&entry.op, &entry.reply, mutex, segment) {
         (Op::TallyLock { .. }, Reply::Asked(true), Some(mutex), Some(segment)) => {
             take(chart, mutex, entry.who, place)?;
@@ -353,7 +369,7 @@ pub fn note_lanes(
         hold(chart, place, entry, number)?;
     }
     match picked {
-        Some(picked) => note_tally(chart, place, entry, picked),
+        Some(picked) => note_tally(chart, place, entry, looks, picked),
         None => Ok(()),
     }
 }

@@ -16,8 +16,8 @@ mod seats;
 mod sheet;
 mod tasks;
 mod titles;
-mod withdrawals;
+mod waiting;
 mod words;
 
 pub use page::svg_of;
-pub use withdrawals::Withdrawals;
+pub use waiting::WaitingTasks;

@@ -104,6 +104,8 @@ pub struct Chart {
     pub lanes: Vec<Lane>,
     /// What is held of them.
     pub slots: Vec<Slot>,
+    /// The number of the row of the mutex that each tally looks for, by the task's handle.
+    pub tallies: HashMap<u64, usize>,
     /// The queues, in the order in which they were made, and the number of each by its handle.
     pub queues: Vec<TaskQueue>,
     pub queue_numbers: HashMap<u64, usize>,

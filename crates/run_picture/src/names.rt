@@ -1,6 +1,7 @@
 //! Which statement of a workload made an entry, and the names that statements bind.
 
 use crate::lists::{at, put};
+use journal_reading::OwnNames;
 use mtapi_machine::{Entry, Op, Reply};
 use std::alloc::{AllocError, Global};
 use workload_file::{Part, Statement, Workload};
@@ -20,6 +21,8 @@ struct Course {
 pub struct Names<'a> {
     /// The workload, if it is known.
     pub load: Option<&'a Workload>,
+    /// Names that somebody gave to objects, which count before those of the workload.
+    pub own: &'a OwnNames,
     /// The number of workers, whose seats come before those of the callers.
     pub workers: u32,
     /// For each entry the place, in its caller's part, of the statement that made it.
@@ -94,6 +97,7 @@ fn note_part(
 pub fn names_of<'a>(
     alloc: Global,
     load: Option<&'a Workload>,
+    own: &'a OwnNames,
     workers: u32,
     entries: &[Entry],
 ) -> Result<Names<'a>, AllocError> {
@@ -107,6 +111,7 @@ pub fn names_of<'a>(
     }
     Ok(Names {
         load,
+        own,
         workers,
         statements,
     })

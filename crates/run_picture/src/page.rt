@@ -9,10 +9,9 @@ use crate::names::{names_of, seat_name};
 use crate::seats::Seat;
 use crate::sheet::{LEFT, Place, Row, WIDTH, bottom, middle, rows_of};
 use crate::titles::{Scene, lane_name};
-use mtapi_machine::Entry;
+use journal_reading::KeptRun;
 use mtapi_values::ObjectKind;
 use std::alloc::{AllocError, Global};
-use workload_file::Workload;
 
 /// The rest of the first tag, the title, and the colours, in light and dark.
 const HEAD: &str = "font-family=\"system-ui,sans-serif\" font-size=\"12\">
@@ -353,23 +352,20 @@ fn drawn(scene: &Scene) -> Result<String, AllocError> {
     Ok(out)
 }
 
-/// The SVG of a run of a node with so many workers among its seats: its entries, with the number of looks that were left out before
-/// each. Where the workload is given, its names stand in place of handles, as far as the calls of each caller are those of its
-/// statements. It takes one pass over the entries, and one for each part of the workload.
+/// The SVG of a run. Names that somebody gave to objects stand in place of handles; where the workload is known, its names do too, as far
+/// as the calls of each caller are those of its statements. It takes one pass over the entries, and one for each part of the workload.
 ///
 /// # Errors
 ///
 /// - `AllocError`: memory ran out.
-pub fn svg_of(
-    alloc: Global,
-    load: Option<&Workload>,
-    workers: u32,
-    seats: u32,
-    entries: &[Entry],
-    skipped: &[u64],
-) -> Result<String, AllocError> {
-    let names = names_of(alloc, load, workers, entries)?;
-    let chart = chart_of(alloc, workers, seats, entries, skipped)?;
+pub fn svg_of(alloc: Global, run: &KeptRun) -> Result<String, AllocError> {
+    let journal = &run.journal;
+    let workers = journal.settings.workers().min(16);
+    let seats = workers + journal.callers.min(9);
+    let all = journal.entries.in_full(alloc)?;
+    let entries = all.as_slice();
+    let names = names_of(alloc, run.workload.as_ref(), &run.names, workers, entries)?;
+    let chart = chart_of(alloc, workers, seats, entries, journal.entries.skipped())?;
     let rows = rows_of(alloc, &chart)?;
     drawn(&Scene {
         alloc,

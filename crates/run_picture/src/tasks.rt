@@ -2,7 +2,7 @@
 
 use crate::lists::{at, put};
 use crate::marks::{Chart, Mark, Style, mark_at, push_mark};
-use crate::queues::{Queued, is_emptied, join_queue, lower, push_ended};
+use crate::queues::{join_queue, lower, push_ended};
 use action_fn::ActEnd;
 use mtapi_machine::{Entry, Op, Reply};
 use mtapi_values::TaskEnd;
@@ -15,8 +15,8 @@ pub struct Task {
     pub made: usize,
     /// Whether it hasn't begun, and no entry of its own said that it ended.
     pub waits: bool,
-    /// The queue that it was put into.
-    pub queue: Option<Queued>,
+    /// The number of the queue that it was put into.
+    pub queue: Option<usize>,
 }
 
 /// A task waits no longer. Gives it, if it did.
@@ -27,11 +27,7 @@ fn stop_waiting(chart: &mut Chart, handle: u64) -> Result<Option<Task>, AllocErr
     };
     let waits = false;
     chart.tasks.insert(handle, Task { waits, ..task })?;
-    let waited = match task.queue {
-        Some(queue) => task.waits && !is_emptied(chart.queues.as_slice(), queue),
-        None => task.waits,
-    };
-    Ok(if waited { Some(task) } else { None })
+    Ok(if task.waits { Some(task) } else { None })
 }
 
 /// A task waits no longer. Whether it did.
@@ -40,7 +36,7 @@ fn leave(chart: &mut Chart, place: usize, handle: u64) -> Result<bool, AllocErro
         return Ok(false);
     };
     if let Some(queue) = task.queue {
-        lower(chart, place, queue.queue, 1)?;
+        lower(chart, place, queue, 1)?;
     }
     Ok(true)
 }
@@ -67,12 +63,20 @@ fn end_waiting(
     Ok(())
 }
 
-/// These tasks failed by this entry, those of them that still waited.
-pub fn end_left(
+/// How the tasks end that an entry ends without naming them.
+fn style_of_several(op: &Op) -> Style {
+    match op {
+        Op::QueueDisable { .. } | Op::Close => Style::NeverCancelled,
+        _ => Style::NeverFailed,
+    }
+}
+
+/// These tasks ended by this entry, which doesn't name them.
+pub fn end_several(
     alloc: Global,
     chart: &mut Chart,
     place: usize,
-    who: u32,
+    entry: &Entry,
     tasks: &[u64],
 ) -> Result<(), AllocError> {
     if tasks.is_empty() {
@@ -84,15 +88,15 @@ pub fn end_left(
         if let Some(task) = stop_waiting(chart, *handle)? {
             count = count.saturating_add(1);
             if let Some(queue) = task.queue {
-                let more = at(fewer.as_slice(), queue.queue).unwrap_or(0);
-                put(&mut fewer, queue.queue, more.saturating_add(1));
+                let more = at(fewer.as_slice(), queue).unwrap_or(0);
+                put(&mut fewer, queue, more.saturating_add(1));
             }
         }
     }
     for (number, fewer) in fewer.iter().enumerate() {
         lower(chart, place, number, *fewer)?;
     }
-    push_ended(chart, place, who, Style::NeverFailed, count)
+    push_ended(chart, place, entry.who, style_of_several(&entry.op), count)
 }
 
 /// How a run ended.
@@ -149,7 +153,7 @@ fn add_task(
     chart: &mut Chart,
     place: usize,
     handle: u64,
-    queue: Option<Queued>,
+    queue: Option<usize>,
 ) -> Result<(), AllocError> {
     let task = Task {
         made: place,

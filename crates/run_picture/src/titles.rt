@@ -51,8 +51,12 @@ fn place_made(chart: &Chart, object: NodeObject) -> Option<usize> {
     }
 }
 
-/// The name of an object: that by which the workload made it, and else its handle.
+/// The name of an object: one that somebody gave it, else that by which the workload made it, and else its handle.
 pub fn object_name(scene: &Scene, object: NodeObject) -> Result<String, AllocError> {
+    let handle = handle_word(scene.alloc, object)?;
+    if let Some(own) = scene.names.own.name_of(&handle) {
+        return String::from_str(scene.alloc, own);
+    }
     if let Some(place) = place_made(scene.chart, object)
         && let Some(entry) = scene.entries.get(place)
     {
@@ -61,7 +65,7 @@ pub fn object_name(scene: &Scene, object: NodeObject) -> Result<String, AllocErr
             return Ok(name);
         }
     }
-    handle_word(scene.alloc, object)
+    Ok(handle)
 }
 
 /// The object of the row in which a mark stands, if that is one of an object.
@@ -82,11 +86,26 @@ pub fn lane_name(scene: &Scene, object: NodeObject) -> Result<String, AllocError
     format!(in scene.alloc; "{word} {name}")
 }
 
+/// The object for which a seat waits: of a tally the mutex.
+fn awaited(chart: &Chart, op: &Op) -> Option<NodeObject> {
+    let lane = match op {
+        Op::TallyLock { task } => found(&chart.tallies, task.0),
+        _ => None,
+    };
+    match lane {
+        Some(number) => match at(chart.lanes.as_slice(), number) {
+            Some(lane) => Some(lane.object),
+            None => None,
+        },
+        None => object_named(op),
+    }
+}
+
 /// The object that a mark is of: that of its row, that for which a seat waits, or that of which its entry speaks.
 fn object_of_mark(scene: &Scene, mark: &Mark, entry: &Entry) -> Option<NodeObject> {
     match (object_of_row(scene.chart, mark.row), mark.style) {
         (Some(object), _) => Some(object),
-        (None, Style::Wait) => object_named(&entry.op),
+        (None, Style::Wait) => awaited(scene.chart, &entry.op),
         (None, _) => object_of(entry),
     }
 }
@@ -138,12 +157,37 @@ fn ends_several(scene: &Scene, mark: &Mark) -> bool {
     }
 }
 
+/// What stands behind the seat in the title of a wait: the task, if a tally waits, and how many looks were left out.
+fn wait_note(scene: &Scene, mark: &Mark) -> Result<String, AllocError> {
+    let count = mark.count;
+    match scene.entries.get(mark.entry) {
+        Some(
+            Entry {
+                op: Op::TallyLock { task },
+                ..
+            },
+        ) => {
+            let task = NodeObject {
+                kind: ObjectKind::Task,
+                handle: task.0,
+            };
+            let name = object_name(scene, task)?;
+            if count == 0 {
+                format!(in scene.alloc; " ({name})")
+            } else {
+                format!(in scene.alloc; " ({name}, {count} looks left out)")
+            }
+        }
+        _ if count == 0 => Ok(String::new(scene.alloc)),
+        _ => format!(in scene.alloc; " ({count} looks left out)"),
+    }
+}
+
 /// What stands behind the seat in the title of a mark.
 fn note(scene: &Scene, mark: &Mark) -> Result<String, AllocError> {
     let count = mark.count;
     match mark.style {
-        Style::Wait if mark.count == 0 => Ok(String::new(scene.alloc)),
-        Style::Wait => format!(in scene.alloc; " ({count} looks left out)"),
+        Style::Wait => wait_note(scene, mark),
         Style::NeverCancelled | Style::NeverFailed if ends_several(scene, mark) => {
             let tasks = if count == 1 { "task" } else { "tasks" };
             format!(in scene.alloc; " ({count} {tasks})")

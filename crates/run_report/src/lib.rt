@@ -23,7 +23,7 @@ pub use changes::{EndEffect, LiveAction, LiveQueue, Unstarted};
 pub use laws::law_report_reads_the_run;
 pub use short_ends::ShortEnd;
 pub use sorts::Shown;
-pub use standings::{Passing, Standings};
+pub use standings::{Passing, Standings, follow_entry, no_standings};
 pub use summary::{line_of, summary_of};
 pub use totals::{Totals, no_totals, with_tasks};
 pub use whole::{report_of, report_of_entries};

@@ -6,6 +6,7 @@ ghost use Rattle.mtapi_values.specs.declared.ends.TaskEnd.TheVariants.{Cancelled
 ghost use Rattle.mtapi_values.specs.declared.statuses.MtapiStatus.TheVariants.{ErrQueueDeleted};
 ghost use Rattle.run_report.specs.Seen.{is_shut, is_of, ends_where, with_end, with_open, enqueued, cancelled, queue_disabled, queue_deleted, withdrawn, with_action, without_action, with_change, nothing_seen, seen_from};
 ghost use Rattle.run_report.specs.Standings.{seen_in, SameAs, passes};
+ghost use Rattle.run_report.specs.Changes.{change_of};
 
 use crate::actions::{has_worker, set_enabled, take_out};
 use crate::changes::{EndEffect, LiveAction, LiveQueue, Unstarted, change_of};
@@ -293,8 +294,12 @@ fn note(
     Ok(())
 }
 
-// No standings, with room for so many tasks that ended, so that the table doesn't move while it fills.
-fn no_standings(alloc: Global, tasks: usize) -> Result<Standings, AllocError>
+/// No standings, with room for so many tasks that ended, so that the table doesn't move while it fills.
+///
+/// # Errors
+///
+/// - `AllocError`: memory ran out.
+pub fn no_standings(alloc: Global, tasks: usize) -> Result<Standings, AllocError>
     ensures { IfOk result (λ t. SameAs (seen_in t) nothing_seen) }
 {
     Ok(Standings {
@@ -303,6 +308,23 @@ fn no_standings(alloc: Global, tasks: usize) -> Result<Standings, AllocError>
         actions: Vec::new(alloc),
         queues: HashMap::new(alloc),
     })
+}
+
+/// Goes on to what is known after this entry too, as [`standings_of`] does from one to the next.
+///
+/// # Errors
+///
+/// - `AllocError`: memory ran out.
+pub fn follow_entry(
+    alloc: Global,
+    table: &mut Standings,
+    workers: u32,
+    entry: &Entry,
+) -> Result<(), AllocError>
+    requires { workers ≤ 64 }
+    ensures { OnOk result (SameAs (seen_in table.new) (with_change workers (change_of entry.now.op entry.now.reply) (seen_in table.old))) }
+{
+    note(alloc, table, workers, change_of(entry))
 }
 
 /// Tells what is known after these entries of a node with so many workers. It fails for want of

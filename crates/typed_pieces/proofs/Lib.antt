@@ -1,5 +1,6 @@
 pub mod Names
 pub mod Callers
+pub mod Cancels
 pub mod Levels
 pub mod Mapping
 pub mod Places

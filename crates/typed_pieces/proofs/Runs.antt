@@ -1,5 +1,5 @@
 -- Of the run of a node, whatever its client promises, and of calls that were refused.
-use Rattle.typed_pieces.proofs.Names.{◌≡◌, ℕ, ◌+◌, suc, pos, false, Option, Some, None, List, [], ◌∷◌, ◌++◌, length, Result, Ok, Err, inl, inr, refl, sym, ap, subst, ◌∙◌, append_assoc, take, arith, length-append, nat_tests, entry, NodeSettings, TaskAttributes, TaskHandle, MtapiStatus, Reply, NodeEntry, Journal, Wanted, Answers, Called, Waited, start_of, with_number, done, handle, mtapi, SameSeat, Seat, GoesOn, IsRun, EndsRefused, HasAwaited, HasRun, HasStarted, RefusesPieces, every_worker, starts_of, IfOk, IfErr}
+use Rattle.typed_pieces.proofs.Names.{◌≡◌, ℕ, ◌+◌, suc, pos, false, Option, Some, None, List, [], ◌∷◌, ◌++◌, length, Result, Ok, Err, inl, inr, refl, sym, ap, subst, ◌∙◌, append_assoc, take, arith, length-append, nat_tests, entry, NodeSettings, TaskAttributes, TaskHandle, MtapiStatus, Reply, NodeEntry, Journal, Wanted, Answers, Called, Waited, start_of, with_number, done, handle, mtapi, SameSeat, Seat, GoesOn, IsRun, EndsRefused, HasAwaited, HasRun, HasStarted, RefusesPieces, every_worker, starts_of, IfOk, IfErr, append-nil}
 use Rattle.mtapi_values.specs.declared.handles.ActionHandle.{ActionHandle}
 use Rattle.mtapi_values.specs.declared.handles.GroupHandle.{GroupHandle}
 use Rattle.mtapi_values.specs.declared.kinds.Kind.TheVariants.{Echo}
@@ -8,10 +8,12 @@ use Rattle.mtapi_machine.specs.declared.replies.Reply.TheVariants as reply
 use Rattle.workload_runs.specs.declared.calls.Wanted.TheVariants.{AllMembers}
 use Rattle.workload_runs.specs.Wants.{op_of}
 use Rattle.workload_runners.specs.Looks.{pends}
-use Rattle.node_with_workers.specs.Told.{WentOn}
 use Rattle.node_with_workers.proofs.Calls.{begins_more, begins_same}
-use Rattle.node_with_workers.proofs.Told.{then_given, went_none}
+use Rattle.mtapi_machine.specs.declared.ops.Op.{Op}
+use Rattle.std.specs.Prelude.{Bool, replicate}
+use Rattle.typed_pieces.specs.Runs.{MadeJust}
 use Rattle.typed_pieces.proofs.Callers.{run_says}
+use Rattle.typed_pieces.proofs.Cancels.{read_done}
 
 pub has_run : {C T : Type 0} (promise : C → Seat → Seat → T → Type 0) (client : C) (settings : NodeSettings) (told : T) (j : Journal)
     → IsRun promise client settings told j → HasRun settings j
@@ -36,7 +38,7 @@ waited_refused w limit old new (Err status) (inl a) =
     )
 waited_refused w limit old new (Err status) (inr a) = inr (cc, a.0.shown)
 
--- The calls of the client of all pieces
+-- The starts of the client of all pieces
 
 starts_more : (who : ℕ) (g : GroupHandle) (place : ℕ) (tasks : List ℕ) (task : ℕ) (n : ℕ) → length tasks + place ≡ n
     → starts_of who g place tasks ++ entry who (TaskStart 1 (pos n ∷ []) 0 every_worker false (Some g)) (reply.Handle task) ∷ []
@@ -48,6 +50,39 @@ starts_more who g place (t ∷ tasks) task n is =
     ap (λ (l : List NodeEntry). entry who (TaskStart 1 (pos place ∷ []) 0 every_worker false (Some g)) (reply.Handle t)
     ∷ l) (starts_more who g (suc place) tasks task n (omega (arith, is)))
 
+-- Calls that a seat made, and no other ones
+
+just_none : (a : Seat) → MadeJust [] a a
+just_none a = record { same = record { cell = refl; number = refl; terms = refl }; mine = sym (append-nil a.mine) }
+
+just_then : (xs ys : List NodeEntry) (a b c : Seat) → MadeJust xs a b → MadeJust ys b c → MadeJust (xs ++ ys) a c
+just_then xs ys a b c x y = record {
+  same = record { cell = y.same.cell ∙ x.same.cell; number = y.same.number ∙ x.same.number; terms = y.same.terms ∙ x.same.terms };
+  mine = y.mine ∙ (ap (λ (es : List NodeEntry). es ++ ys) x.mine ∙ append_assoc a.mine xs ys);
+}
+
+-- the reply from which a handle is read
+read_handle : (r : Reply) (h : ℕ) → Answers mtapi handle r (Ok h) → r ≡ reply.Handle h
+read_handle r h e1 = grind (arith, nat_tests)
+
+just_told : (o : Op) (old new : Seat) (x : Result ℕ MtapiStatus) (h : ℕ) → Called mtapi handle o old new x → x ≡ Ok h
+    → MadeJust (entry old.number o (reply.Handle h) ∷ []) old new
+just_told o old new (Ok k) h (inl c) is =
+    let told : c.0 ≡ reply.Handle h = read_handle c.0 k c.2 ∙ cc in
+    record { same = c.1.same; mine = c.1.mine ∙ ap (λ (r : Reply). old.mine ++ entry old.number o r ∷ []) told }
+just_told o old new (Ok k) h (inr c) is = absurd (cc)
+just_told o old new (Err e) h c is = absurd (cc)
+
+-- one more call behind others, each with the number of the first seat
+then_told : {H : Type 0} (number : H → ℕ) (xs : List NodeEntry) (o : Op) (a b c : Seat) (x : Result H MtapiStatus) (h : H)
+    → MadeJust xs a b → Called mtapi handle o b c (with_number number x) → x ≡ Ok h → MadeJust (xs ++ entry a.number o (reply.Handle (number h)) ∷ []) a c
+then_told number xs o a b c x h w called is =
+    let here = just_told o b c (with_number number x) (number h) called (ap (with_number number) is) in
+    just_then xs (entry a.number o (reply.Handle (number h)) ∷ []) a b c w
+    (subst (λ (n : ℕ). MadeJust (entry n o (reply.Handle (number h)) ∷ []) b c) w.same.number here)
+
+-- The calls of the client of all pieces
+
 pub started_none : (g : GroupHandle) (a b c : Seat) (x : Result ActionHandle MtapiStatus) (h : ActionHandle) (y : Result GroupHandle MtapiStatus)
     → Called mtapi handle (ActionCreate 1 Echo every_worker) a b (with_number (λ k. k.0) x) → x ≡ Ok h
     → Called mtapi handle GroupCreate b c (with_number (λ k. k.0) y) → y ≡ Ok g → HasStarted g 0 a c
@@ -57,8 +92,8 @@ started_none g a b c x h y made is grouped was =
       action = h.0;
       tasks = [];
       many = refl;
-      asked = then_given (λ (k : GroupHandle). k.0) (entry a.number create (reply.Handle h.0)
-          ∷ []) GroupCreate a b c y g (then_given (λ (k : ActionHandle). k.0) [] create a a b x h (went_none a) made is) grouped was;
+      made = then_told (λ (k : GroupHandle). k.0) (entry a.number create (reply.Handle h.0)
+          ∷ []) GroupCreate a b c y g (then_told (λ (k : ActionHandle). k.0) [] create a a b x h (just_none a) made is) grouped was;
     }
 
 pub started_more : (g : GroupHandle) (n : ℕ) (attr : TaskAttributes) (a b c : Seat) (x : Result TaskHandle MtapiStatus) (t : TaskHandle)
@@ -73,25 +108,41 @@ started_more g n attr a b c x t usual s called is =
       action = s.action;
       tasks = s.tasks ++ t.0 ∷ [];
       many = length-append s.tasks (t.0 ∷ []) ∙ ap (λ (k : ℕ). k + 1) s.many;
-      asked =
-          subst (λ (l : List NodeEntry). WentOn (before ++ l) a c) (starts_more a.number g 0 s.tasks t.0 n (omega (arith, s.many)))
-          (then_given (λ (k : TaskHandle). k.0) (before ++ starts_of a.number g 0 s.tasks) start a b c x t s.asked so is);
+      made =
+          subst (λ (l : List NodeEntry). MadeJust (before ++ l) a c) (starts_more a.number g 0 s.tasks t.0 n (omega (arith, s.many)))
+          (then_told (λ (k : TaskHandle). k.0) (before ++ starts_of a.number g 0 s.tasks) start a b c x t s.made so is);
     }
 
 -- such a seat is the same, and its entries begin with those that it had
 pub goes_on : (g : GroupHandle) (n : ℕ) (a b : Seat) → HasStarted g n a b → SameSeat a b × GoesOn a b × HasStarted g n a b
 goes_on g n a b s =
-    let w = s.asked in
-    (w.same, subst (λ (es : List NodeEntry). take (length a.mine) es ≡ a.mine) (sym w.mine) (begins_more a.mine a.mine w.more (begins_same a.mine)), s)
+    let calls = entry a.number (ActionCreate 1 Echo every_worker) (reply.Handle s.action) ∷ entry a.number GroupCreate (reply.Handle g.0)
+    ∷ starts_of a.number g 0 s.tasks in
+    (s.made.same, subst (λ (es : List NodeEntry). take (length a.mine) es ≡ a.mine) (sym s.made.mine) (begins_more a.mine a.mine calls (begins_same a.mine)), s)
 
-all_told : (g : GroupHandle) (old new : Seat) (x : Result (Unit {0}) MtapiStatus) → Waited mtapi done (AllMembers g) None old new x
-    → IfOk x (λ _. WentOn (entry old.number (AllLook g false) reply.Ok ∷ []) old new)
-all_told g old new x e1 = grind (arith, nat_tests)
+-- a wait without a limit that was told that all tasks have ended: so many looks before it
+abbrev AllTold : GroupHandle → Seat → Seat → Type 0
+AllTold g old new = (looks : ℕ) × MadeJust (replicate looks (entry old.number (AllLook g false) reply.Pending) ++ entry old.number (AllLook g false) reply.Ok ∷ []) old new
+
+all_told : (g : GroupHandle) (old new : Seat) (u : Unit {0}) → Waited mtapi done (AllMembers g) None old new (Ok u) → AllTold g old new
+all_told g old new u (inl a) =
+    let l = a.1 in
+    let looks = pends old.number (AllMembers g) l.pending in (
+      l.pending,
+      record {
+        same = l.same;
+        mine = l.mine ∙ (ap (λ (b : Bool). old.mine ++ (looks ++ entry old.number (AllLook g b) a.0 ∷ [])) l.bound
+            ∙ ap (λ (r : Reply). old.mine ++ (looks ++ entry old.number (AllLook g false) r ∷ [])) (read_done a.0 u a.2));
+      },
+    )
+all_told g old new u (inr a) = absurd (cc)
 
 pub awaited : (g : GroupHandle) (n m : ℕ) (a b c : Seat) (x : Result (Unit {0}) MtapiStatus) → n ≡ m → HasStarted g n a b
     → Waited mtapi done (AllMembers g) None b c x → IfOk x (λ _. HasAwaited m a c)
 awaited g n m a b c (Err e) same s w = tt
-awaited g n m a b c (Ok u) same s w = record { group = g; before = b; started = subst (λ (k : ℕ). HasStarted g k a b) same s; waited = all_told g b c (Ok u) w }
+awaited g n m a b c (Ok u) same s w =
+    let told = all_told g b c u w in
+    record { group = g; before = b; started = subst (λ (k : ℕ). HasStarted g k a b) same s; looks = told.0; waited = told.1 }
 
 -- What the client of all pieces promises, of a run
 

@@ -1,3 +1,4 @@
+pub mod Cancels
 pub mod Levels
 pub mod Places
 pub mod Runs

@@ -1,5 +1,5 @@
 -- What a run of pieces says of its node.
-use Rattle.std.specs.Prelude.{◌≡◌, ◌≤◌, ◌-◌, ◌^◌, ◌⊎◌, ℕ, suc, pos, false, List, [], ◌∷◌, ◌++◌, length, Some}
+use Rattle.std.specs.Prelude.{◌≡◌, ◌≤◌, ◌-◌, ◌^◌, ◌⊎◌, ℕ, suc, pos, false, List, [], ◌∷◌, ◌++◌, length, replicate, Some}
 use Rattle.history.specs.Histories.{entry}
 use Rattle.mtapi_values.specs.Attributes.{NodeSettings}
 use Rattle.mtapi_values.specs.declared.handles.GroupHandle.{GroupHandle}
@@ -12,9 +12,8 @@ use Rattle.mtapi_machine.specs.declared.ops.Op.TheVariants.{ActionCreate, GroupC
 use Rattle.mtapi_machine.specs.declared.replies.Reply.TheVariants as reply
 use Rattle.mtapi_machine.specs.Legal.{NodeEntry}
 use Rattle.node_journals.specs.declared.entries.Journal.{Journal}
-use Rattle.workload_runners.specs.Turns.{Seat}
+use Rattle.workload_runners.specs.Turns.{Seat, SameSeat}
 use Rattle.node_with_workers.specs.Runs.{IsRun, Refuses}
-use Rattle.node_with_workers.specs.Told.{WentOn}
 use Rattle.node_with_workers.specs.declared.failure.Failure.{Failure}
 use Rattle.typed_pieces.specs.declared.unfinished.Unfinished.{Unfinished}
 use Rattle.typed_pieces.specs.declared.unfinished.Unfinished.TheVariants as unfinished
@@ -33,23 +32,31 @@ starts_of who group place [] = []
 starts_of who group place (task ∷ tasks) =
     entry who (TaskStart 1 (pos place ∷ []) 0 every_worker false (Some group)) (reply.Handle task) ∷ starts_of who group (suc place) tasks
 
--- among the further calls of the seat are, in this order: one that made an action of kind echo, one that made this group, and a start in it of the
--- piece at each of the first places, so many
+-- the seat made these calls, and no other one
+pub record MadeJust (calls : List NodeEntry) (old new : Seat) : Type 0 where
+  pub same : SameSeat old new
+  pub mine : new.mine ≡ old.mine ++ calls
+
+-- the seat made these calls alone: one that made an action of kind echo, one that made this group, and a start in it of the piece at each of the
+-- first places, so many
 pub record HasStarted (group : GroupHandle) (places : ℕ) (old new : Seat) : Type 0 where
   pub action : ℕ
   pub tasks : List ℕ
   pub many : length tasks ≡ places
-  pub asked : WentOn (entry old.number (ActionCreate 1 Echo every_worker) (reply.Handle action) ∷ entry old.number GroupCreate (reply.Handle group.0)
+  pub made : MadeJust (entry old.number (ActionCreate 1 Echo every_worker) (reply.Handle action) ∷ entry old.number GroupCreate (reply.Handle group.0)
       ∷ starts_of old.number group 0 tasks) old new
 
--- the same, and then a wait that was told that all tasks of the group have ended
+-- the same, and then looks at the group alone, of which the last was told that all its tasks have ended
 pub record HasAwaited (places : ℕ) (old new : Seat) : Type 0 where
   pub group : GroupHandle
   pub before : Seat
   pub started : HasStarted group places old before
-  pub waited : WentOn (entry before.number (AllLook group false) reply.Ok ∷ []) before new
+  pub looks : ℕ
+  pub waited : MadeJust (replicate looks (entry before.number (AllLook group false) reply.Pending)
+      ++ entry before.number (AllLook group false) reply.Ok ∷ []) before new
 
--- the same, and in that history main started a task for the piece at each of so many places, and was told that all of them had ended
+-- the same, and in that history main's calls between its opening and its end are those that start a task for the piece at each of so many places,
+-- and its looks until it was told that all of them had ended
 abbrev pub HasRunAll : NodeSettings → ℕ → Journal → Type 0
 HasRunAll settings places journal = IsRun {C = Unit {0}} {T = Unit {0}} (λ _ old new _. HasAwaited places old new) tt settings tt journal
 

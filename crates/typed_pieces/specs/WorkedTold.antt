@@ -9,6 +9,8 @@ use Rattle.mtapi_values.specs.declared.handles.TaskHandle.{TaskHandle}
 use Rattle.mtapi_values.specs.declared.statuses.MtapiStatus.TheVariants as status
 use Rattle.mtapi_machine.specs.declared.ops.Op.TheVariants.{TaskStart}
 use Rattle.mtapi_machine.specs.declared.replies.Reply.TheVariants as reply
+use Rattle.mtapi_values.specs.declared.statuses.MrapiStatus.TheVariants as resource
+use Rattle.workload_runners.specs.Replies.{mtapi, mrapi}
 use Rattle.typed_pieces.specs.Runs.{every_worker, starts_of}
 use Rattle.typed_pieces.specs.Told.{as_place, place_of, first_place, place_alone}
 
@@ -45,7 +47,15 @@ pub record WorkedStarts (group : GroupHandle) : Type 0 where
       ≡ (entry 3 (TaskStart 1 (pos 5 ∷ []) 0 (record { 0 = 18446744073709551615 }) false (Some group)) (reply.Handle 11)
       ∷ entry 3 (TaskStart 1 (pos 6 ∷ []) 0 (record { 0 = 18446744073709551615 }) false (Some group)) (reply.Handle 12) ∷ [])
 
+-- what a call answers once the turns are used up, of either standard, and which statuses say so
+pub record WorkedSpent : Type 0 where
+  pub tasks : mtapi.spent ≡ status.ErrSpent
+  pub resources : mrapi.spent ≡ resource.ErrSpent
+  pub says : map mtapi.is_spent (status.ErrSpent ∷ status.Timeout ∷ status.ErrTaskLimit ∷ []) ≡ (true ∷ false ∷ false ∷ [])
+  pub resource_says : map mrapi.is_spent (resource.ErrSpent ∷ resource.Timeout ∷ resource.ErrMutexExists ∷ []) ≡ (true ∷ false ∷ false ∷ [])
+
 pub record WorkedTold : Type 0 where
   pub places : WorkedPlaces
   pub ends : (task : TaskHandle) → WorkedEnds task
   pub starts : (group : GroupHandle) → WorkedStarts group
+  pub spent : WorkedSpent

@@ -133,6 +133,7 @@ impl<'a, L: Handed<J>, J: Piece> Pieces<'a, L, J> {
     /// # Errors
     ///
     /// Those of `task_cancel`. The piece sees nothing of it then.
+    #[tactic(auto, using(crate::proofs::Cancels::has_cancelled))]
     pub fn cancel<R: Wait>(
         &self,
         rt: &R,
@@ -143,7 +144,7 @@ impl<'a, L: Handed<J>, J: Piece> Pieces<'a, L, J> {
         ensures { Called mtapi done (TaskCancel task) caller.old caller.new result }
     {
         caller.task_cancel(rt, task)?;
-        self.shared.cancels.add(place as usize);
+        let _ = self.shared.cancels.add(rt, place as usize, caller, task);
         Ok(())
     }
 

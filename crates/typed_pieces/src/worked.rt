@@ -8,7 +8,7 @@ pub fn worked_pieces()
     ensures { WorkedPieces }
 {}
 
-/// The places that ends tell, and the starts of pieces.
+/// The places that ends tell, the starts of pieces, and the answers once the turns are used up.
 pub fn worked_told()
     ensures { WorkedTold }
 {}

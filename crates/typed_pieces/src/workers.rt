@@ -37,7 +37,7 @@ impl<'a, L: Handed<J>, J: Piece> PieceRunner<'a, L, J> {
         let Shared { table, cancels } = self.shared;
         let taken = table.lock(rt).take(place);
         if let Some(piece) = taken {
-            let done = Ready { piece }.run(rt, &TaskContext { cancels, place });
+            let done = Ready { piece }.run(rt, &TaskContext::of(cancels, place));
             table.lock(rt).results.put(place, done);
         }
     }

@@ -30,3 +30,12 @@ pub struct Orders {
     /// How many journals were judged to be no runs, or no legal histories: 0, unless the search is at fault.
     pub refused: u64,
 }
+
+/// What was found by line.
+#[derive(Drop)]
+pub struct Lines {
+    /// Runs, each with another report, that together have each text that was found for some line; and the deadlocks.
+    pub runs: Orders,
+    /// How many reports there are; none if that was too much to count, or the search was cut.
+    pub count: Option<usize>,
+}

@@ -16,9 +16,9 @@ use workload_file::Workload;
 
 // The texts and the words that are listed already.
 #[derive(Drop)]
-struct Known {
-    texts: HashSet<Vec<u8>>,
-    words: HashSet<Vec<u8>>,
+pub(crate) struct Known {
+    pub(crate) texts: HashSet<Vec<u8>>,
+    pub(crate) words: HashSet<Vec<u8>>,
 }
 
 // Notes a text. False if it was noted before.
@@ -34,7 +34,7 @@ fn note(alloc: Global, texts: &mut HashSet<Vec<u8>>, text: &[u8]) -> Result<bool
 
 // Lists the report of this journal, unless its text is listed already. False if the journal is judged to be no run.
 #[tactic(auto, using(crate::proofs::Pushed::shown_push))]
-fn add_report(
+pub(crate) fn add_report(
     alloc: Global,
     load: &Workload,
     journal: Journal,
@@ -58,7 +58,7 @@ fn add_report(
 
 // Lists the deadlock behind this journal, unless its words are listed already. False if the journal is judged to be no legal history.
 #[tactic(auto, using(crate::proofs::Pushed::histories_push))]
-fn add_deadlock(
+pub(crate) fn add_deadlock(
     alloc: Global,
     load: &Workload,
     journal: Journal,

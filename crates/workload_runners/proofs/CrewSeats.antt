@@ -13,7 +13,7 @@ use Rattle.mtapi_machine.specs.declared.replies.Reply.{Reply}
 use Rattle.mtapi_machine.specs.declared.terms.Terms.{Terms}
 use Rattle.mtapi_machine.specs.Legal.{NodeEntry}
 use Rattle.workload_runners.specs.Turns.{Seat, SameSeat, AddsOwn, Turned}
-use Rattle.workload_runners.specs.Rounds.{WorkerAs, AtRest}
+use Rattle.workload_runners.specs.Rounds.{AtRest}
 use Rattle.workload_runners.specs.Crews.{Cell, GaveUp}
 use Rattle.workload_runners.specs.Runs.{MadeNone}
 use Rattle.node_core.specs.declared.journaled.JournaledTerms.{JournaledTerms}
@@ -21,7 +21,7 @@ use Rattle.workload_runners.proofs.Starts.{new_at_rest}
 use Rattle.workload_runners.proofs.Meets.{met_zip}
 use Rattle.workload_runners.proofs.Adds.{same_then}
 use Rattle.workload_runners.specs.declared.crew.holder.Held.{Held}
-use Rattle.workload_runners.specs.declared.crew.jobs.Served.{Served}
+use Rattle.workload_runners.specs.declared.crew.serving.Served.{Served}
 use Rattle.workload_runners.specs.declared.crew.callers.UnstartedCallers.{UnstartedCallers}
 use Rattle.workload_runners.specs.declared.crew.callers.ReturnedCallers.{ReturnedCallers}
 use Rattle.workload_runners.specs.declared.crew.workers.UnstartedThreads.{UnstartedThreads}
@@ -170,11 +170,11 @@ worker_out z h workers s m e l =
       rest = subst AtRest (sym both.1) (new_at_rest (fresh_seat z.terms z.id n) (omega arith) refl);
     }
 
-pub worker_back : {C D T U A : Type 0} (P : C → Terms → ℕ → T → List NodeEntry → Type 0) (Q : D → Terms → ℕ → U → List NodeEntry → Type 0) (z : Cell)
+pub worker_back : {C D T U A : Type 0} (W : ℕ → List NodeEntry → Type 0) (P : C → Terms → ℕ → T → List NodeEntry → Type 0) (Q : D → Terms → ℕ → U → List NodeEntry → Type 0) (z : Cell)
     (h : UnstartedThreads C D U A) (workers : Vec Seat Global) (s : Seat) (c c' : Crew T U A) (o : Served A)
-    → vec_len workers + 1 ≡ vec_len h.workers → WorkerOut z (record h { workers = workers }) s → HasServed s o → IsJoined c o c'
-    → HaveCome P Q z (record h { workers = workers }) c → HaveCome P Q z h c'
-worker_back {C} {D} {T} {U} {A} P Q z h workers s c c' o len out did j b =
+    → vec_len workers + 1 ≡ vec_len h.workers → WorkerOut z (record h { workers = workers }) s → HasServed W s o → IsJoined c o c'
+    → HaveCome W P Q z (record h { workers = workers }) c → HaveCome W P Q z h c'
+worker_back {C} {D} {T} {U} {A} W P Q z h workers s c c' o len out did j b =
     let n = vec_len workers in
     let k = b.came in
     let main0 : Seat = fresh_seat z.terms z.id z.terms.node.settings.workers in
@@ -199,8 +199,8 @@ worker_back {C} {D} {T} {U} {A} P Q z h workers s c c' o len out did j b =
         callers = subst (λ (v : Vec U Global). EachHeld Q z (z.terms.node.settings.workers + 1) h.callers.others.items k.called v.items) (sym j.others) k.callers;
         workers = subst (λ (xs : List Seat). AllZip SameSeat xs (k.worked ++ o.seat ∷ [])) (sym list)
             (AllZip-push SameSeat (fresh_seats z.terms z.id 0 n) k.worked s o.seat k.workers did.same);
-        served = λ e. subst (λ (xs : List Seat). AllZip (AddsOwn WorkerAs) xs (k.worked ++ o.seat ∷ [])) (sym list)
-            (AllZip-push (AddsOwn WorkerAs) (fresh_seats z.terms z.id 0 n) k.worked s o.seat (k.served (j.crew e)) (did.did (j.back e)));
+        served = λ e. subst (λ (xs : List Seat). AllZip (AddsOwn W) xs (k.worked ++ o.seat ∷ [])) (sym list)
+            (AllZip-push (AddsOwn W) (fresh_seats z.terms z.id 0 n) k.worked s o.seat (k.served (j.crew e)) (did.did (j.back e)));
       };
       sets = (let l = j.len in let m = b.sets in omega arith);
       len = (let l = j.len in let m = b.len in omega arith);
@@ -222,10 +222,10 @@ held_met Q z who (d ∷ ds) bs (c ∷ cs) us a m =
     } in
     (c, cs, a.2, a.3, refl, a.5, held, held_met Q z (suc who) ds a.1 cs a.3 a.7 n.1)
 
-pub all_closed : {C D T U A : Type 0} (P : C → Terms → ℕ → T → List NodeEntry → Type 0) (Q : D → Terms → ℕ → U → List NodeEntry → Type 0) (z : Cell)
+pub all_closed : {C D T U A : Type 0} (W : ℕ → List NodeEntry → Type 0) (P : C → Terms → ℕ → T → List NodeEntry → Type 0) (Q : D → Terms → ℕ → U → List NodeEntry → Type 0) (z : Cell)
     (h : UnstartedThreads C D U A) (k : ReturnedCallers T U) (c : Crew T U A) → vec_len h.workers ≡ 0 → AreReady z h → HaveHeld P Q z h.callers k → IsClosedBy k h.sets c
-    → HaveCome P Q z h c
-all_closed {C} {D} {T} {U} {A} P Q z h k c none ready b e =
+    → HaveCome W P Q z h c
+all_closed {C} {D} {T} {U} {A} W P Q z h k c none ready b e =
     let w = z.terms.node.settings.workers in
     record {
       came = record {
@@ -246,7 +246,7 @@ all_closed {C} {D} {T} {U} {A} P Q z h k c none ready b e =
             subst (λ (v : Vec U Global). EachHeld Q z (w + 1) h.callers.others.items c.seats.items v.items) (sym e.others)
             (held_met Q z (w + 1) h.callers.others.items k.seats.items c.seats.items k.others.items b.others (met_zip e.meets));
         workers = subst (λ (n : ℕ). AllZip SameSeat (fresh_seats z.terms z.id 0 n) []) (sym none) tt;
-        served = λ q. subst (λ (n : ℕ). AllZip (AddsOwn WorkerAs) (fresh_seats z.terms z.id 0 n) []) (sym none) tt;
+        served = λ q. subst (λ (n : ℕ). AllZip (AddsOwn W) (fresh_seats z.terms z.id 0 n) []) (sym none) tt;
       };
       sets = (let l = ap vec_len e.sets_are in let m = ready.none in omega arith);
       len = (let l = e.room in let m = b.len in omega arith);
@@ -271,8 +271,8 @@ zip_cells z who zero (y ∷ ys) a = absurd a
 zip_cells z who (suc n) [] a = absurd a
 zip_cells z who (suc n) (y ∷ ys) a = All-cons (λ (s : Seat). s.cell ≡ z.id) y ys a.0.cell (zip_cells z (suc who) n ys a.1)
 
-pub whole_cells : {C D T U A : Type 0} (P : C → Terms → ℕ → T → List NodeEntry → Type 0) (Q : D → Terms → ℕ → U → List NodeEntry → Type 0) (z : Cell)
-    (client : C) (others : List D) (n : ℕ) (c : Crew T U A) → CameFrom P Q z client others n c → All (λ (s : Seat). s.cell ≡ z.id) c.seats.items
-whole_cells P Q z client others n c x = subst (All (λ (s : Seat). s.cell ≡ z.id)) (sym x.whole)
+pub whole_cells : {C D T U A : Type 0} (W : ℕ → List NodeEntry → Type 0) (P : C → Terms → ℕ → T → List NodeEntry → Type 0) (Q : D → Terms → ℕ → U → List NodeEntry → Type 0) (z : Cell)
+    (client : C) (others : List D) (n : ℕ) (c : Crew T U A) → CameFrom W P Q z client others n c → All (λ (s : Seat). s.cell ≡ z.id) c.seats.items
+whole_cells W P Q z client others n c x = subst (All (λ (s : Seat). s.cell ≡ z.id)) (sym x.whole)
     (all_both (λ (s : Seat). s.cell ≡ z.id) x.called x.worked (each_of_cell Q z (z.terms.node.settings.workers + 1) others x.called c.others.items x.callers)
     (zip_cells z 0 n x.worked x.workers))

@@ -7,6 +7,7 @@ use Rattle.workload_runners.specs.declared.statements.Stop.{Stop}
 use Rattle.workload_runners.proofs.OwnParts.{MainCuts}
 use Rattle.workload_runners.proofs.WholeRun.{Known, KnownSeat, run_by}
 use Rattle.workload_runners.specs.declared.crew.run.RanNode.{RanNode}
+use Rattle.workload_runners.specs.Rounds.{WorkerAs}
 use Rattle.workload_runners.specs.Ran.{EachCalled, RanAs, StandsIn}
 use Rattle.workload_runners.specs.declared.parts.MainPart.{MainPart}
 use Rattle.workload_runners.specs.declared.parts.CallerPart.{CallerPart}
@@ -66,7 +67,7 @@ map_length [] = refl
 map_length (d ∷ ds) = ap suc (map_length ds)
 
 module _ (load : Workload) (ps : List Part) {A : Type 0} (main : MainPart) (others : List CallerPart) (r : RanNode (Option Stop) (Option Stop) A)
-    (x : RanAs MainDoes CallerDoes main others (terms_for load) r) (none : r.told ≡ None) (nones : All (λ (s : Option Stop). s ≡ None) r.others.items)
+    (x : RanAs WorkerAs MainDoes CallerDoes main others (terms_for load) r) (none : r.told ≡ None) (nones : All (λ (s : Option Stop). s ≡ None) r.others.items)
     (are : map (λ (c : CallerPart). c.part.now) others ≡ ps) (parts : load.parts ≡ main.part.now ∷ ps) where
   abbrev w : ℕ
   w = load.settings.workers
@@ -153,7 +154,7 @@ module _ (load : Workload) (ps : List Part) {A : Type 0} (main : MainPart) (othe
       }
 
 pub run_from : (load : Workload) (ps : List Part) {A : Type 0} {main : MainPart} {others : List CallerPart} (r : RanNode (Option Stop) (Option Stop) A)
-    (t : Terms) → t ≡ terms_for load → RanAs MainDoes CallerDoes main others t r → r.told ≡ None → All (λ (s : Option Stop). s ≡ None) r.others.items
+    (t : Terms) → t ≡ terms_for load → RanAs WorkerAs MainDoes CallerDoes main others t r → r.told ≡ None → All (λ (s : Option Stop). s ≡ None) r.others.items
     → map (λ (c : CallerPart). c.part.now) others ≡ ps → load.parts ≡ main.part.now ∷ ps → IsRun load r.journal
 run_from load ps {main = main} {others = others} r t e x none nones are parts =
-    run_is load ps main others r (subst (λ (u : Terms). RanAs MainDoes CallerDoes main others u r) e x) none nones are parts
+    run_is load ps main others r (subst (λ (u : Terms). RanAs WorkerAs MainDoes CallerDoes main others u r) e x) none nones are parts

@@ -17,7 +17,6 @@ use Rattle.node_journals.specs.declared.entries.Journal.{Journal}
 use Rattle.node_core.specs.Keeping.{KeptAs}
 use Rattle.node_core.specs.Logs.{journal_seats}
 use Rattle.workload_runners.specs.Turns.{Seat, SameSeat, AddsOwn, Turned}
-use Rattle.workload_runners.specs.Rounds.{WorkerAs}
 use Rattle.workload_runners.specs.Crews.{Cell, Knows}
 use Rattle.workload_runners.proofs.Adds.{all_own, all_more}
 use Rattle.workload_runners.proofs.Meets.{zip_front, each_of, met_zip, known_more}
@@ -64,8 +63,8 @@ each_called {U = U} Q z m H M T who (d ∷ ds) bs us is seats knows a =
     subst (λ (l : List U). EachCalled Q z.terms.node H (m.seen ++ M) T who (d ∷ ds) l) (sym a.5)
     ((did, stands who m a.0 H M T number mine n.0 is), each_called Q z m H M T (suc who) ds a.1 a.3 is s.1 n.1 a.7)
 
-module _ {C D T U A : Type 0} (P : C → Terms → ℕ → T → List NodeEntry → Type 0) (Q : D → Terms → ℕ → U → List NodeEntry → Type 0) (z : Cell)
-    (client : C) (others : List D) (c : Crew T U A) (x : CameFrom P Q z client others z.terms.node.settings.workers c) (e : Ended)
+module _ {C D T U A : Type 0} (W : ℕ → List NodeEntry → Type 0) (P : C → Terms → ℕ → T → List NodeEntry → Type 0) (Q : D → Terms → ℕ → U → List NodeEntry → Type 0) (z : Cell)
+    (client : C) (others : List D) (c : Crew T U A) (x : CameFrom W P Q z client others z.terms.node.settings.workers c) (e : Ended)
     (y : IsEnded Final c.main c.seats.items e) where
   abbrev w : ℕ
   w = z.terms.node.settings.workers
@@ -143,8 +142,8 @@ module _ {C D T U A : Type 0} (P : C → Terms → ℕ → T → List NodeEntry 
     came_back : all_of (IsSeatOf z.terms H) (cut.0 ++ cut.1)
     came_back = subst (λ (l : List Seat). all_of (IsSeatOf z.terms H) l) cut.2 (each_front (IsSeatOf z.terms H) e.others.items (e.main ∷ []) seats)
 
-    served_now : AllZip (AddsOwn WorkerAs) (fresh_seats z.terms z.id 0 w) cut.1
-    served_now = all_more WorkerAs (fresh_seats z.terms z.id 0 w) x.worked cut.1 (x.served none) cut.4
+    served_now : AllZip (AddsOwn W) (fresh_seats z.terms z.id 0 w) cut.1
+    served_now = all_more W (fresh_seats z.terms z.id 0 w) x.worked cut.1 (x.served none) cut.4
 
     knows_workers : all_of (Knows y.met) cut.1
     knows_workers = all_after (Knows y.met) cut.0 cut.1
@@ -153,23 +152,23 @@ module _ {C D T U A : Type 0} (P : C → Terms → ℕ → T → List NodeEntry 
     knows_callers : all_of (Knows x.main.met) cut.0
     knows_callers = known_more x.main.met x.called cut.0 (each_of (Knows x.main.met) x.called x.main.knows) cut.3
 
-    one_worker : (k : ℕ) → k < w → WorkerAs k (entries_of k H)
+    one_worker : (k : ℕ) → k < w → W k (entries_of k H)
         × StandsIn k (cuts.before ++ entry w Close close.0 ∷ cuts.behind) (entry w Final last ∷ cuts.rest) (entries_of k H)
     one_worker k l =
-        let b = zip_has (AddsOwn WorkerAs) (fresh_seats z.terms z.id 0 w) cut.1 (fresh_seat z.terms z.id k) served_now
+        let b = zip_has (AddsOwn W) (fresh_seats z.terms z.id 0 w) cut.1 (fresh_seat z.terms z.id k) served_now
         (fresh_in _ _ _ z.terms z.id 0 w k (omega arith) (omega arith)) in
         let number : b.0.number ≡ k = b.2.same.number in
         let s = all_has (IsSeatOf z.terms H) all b.0 seats (among b.0 (has_back cut.0 cut.1 b.0 b.1)) in
         let own : entries_of k H ≡ b.0.mine = ap (λ (n : ℕ). entries_of n H) (sym number) ∙ s.mine in
         let knows = all_has (Knows y.met) cut.1 b.0 knows_workers b.1 in (
-          subst (λ (es : List NodeEntry). WorkerAs k es) (sym own) (all_own WorkerAs (fresh_seat z.terms z.id k) b.0 refl b.2),
+          subst (λ (es : List NodeEntry). W k es) (sym own) (all_own W (fresh_seat z.terms z.id k) b.0 refl b.2),
           subst (λ (S : List NodeEntry). StandsIn k S (entry w Final last ∷ cuts.rest) (entries_of k H))
               (before_final w x.main.met c.main y.met e.main close.0 last ending H main_is.seen main_is.mine)
               (stands k y.met b.0 H ending.final.between (entry w Final last ∷ cuts.rest) number own knows
               (whole_from w x.main.met c.main y.met e.main close.0 last ending H main_is.seen main_is.mine)),
         )
 
-    pub ran_as : (sets : Vec A Global) → RanAs P Q client others z.terms.node (record { told = c.told; others = c.others; last = last; journal = j; sets = sets })
+    pub ran_as : (sets : Vec A Global) → RanAs W P Q client others z.terms.node (record { told = c.told; others = c.others; last = last; journal = j; sets = sets })
     ran_as sets = record {
       history = H;
       legal = legal;

@@ -5,9 +5,9 @@ use Rattle.std.specs.declared.alloc.Global.{Global}
 use Rattle.workload_runners.specs.Names.{StartsWith, entries_of, Op, NodeEntry, Close, Reply, CellView, HasSeenMore, JournaledTerms, fresh_seat, fresh_seats}
 use Rattle.mtapi_machine.specs.declared.terms.Terms.{Terms}
 use Rattle.workload_runners.specs.Turns.{Seat, SameSeat, AddsOwn, Turned, Unturned}
-use Rattle.workload_runners.specs.Rounds.{AtRest, WorkerAs}
+use Rattle.workload_runners.specs.Rounds.{AtRest}
 use Rattle.workload_runners.specs.declared.crew.holder.Held.{Held}
-use Rattle.workload_runners.specs.declared.crew.jobs.Served.{Served}
+use Rattle.workload_runners.specs.declared.crew.serving.Served.{Served}
 use Rattle.workload_runners.specs.declared.crew.end.Ended.{Ended}
 use Rattle.workload_runners.specs.declared.crew.callers.UnstartedCallers.{UnstartedCallers}
 use Rattle.workload_runners.specs.declared.crew.callers.ReturnedCallers.{ReturnedCallers}
@@ -39,10 +39,10 @@ abbrev pub is_lost : {A B : Type 0} → Result A B → Bool
 is_lost (Ok x) = false
 is_lost (Err e) = true
 
--- this worker's seat came back; unless the turns were used up, it made rounds and was told to stop
-pub record HasServed {A : Type 0} (old : Seat) (o : Served A) : Type 0 where
+-- this worker's seat came back; unless the turns were used up, it has added such entries
+pub record HasServed {A : Type 0} (W : ℕ → List NodeEntry → Type 0) (old : Seat) (o : Served A) : Type 0 where
   pub same : SameSeat old o.seat
-  pub did : o.spent ≡ None → AddsOwn WorkerAs old o.seat
+  pub did : o.spent ≡ None → AddsOwn W old o.seat
 
 -- this caller's seat came back, and its holder's promise holds of the entries that it has
 pub record HasHeld {C T : Type 0} (P : C → Terms → ℕ → T → List NodeEntry → Type 0) (client : C) (old new : Seat) (told : T) : Type 0 where
@@ -133,7 +133,7 @@ pub record MainClosed {C T : Type 0} (P : C → Terms → ℕ → T → List Nod
 
 -- all seats of main, of the further callers and of so many workers came back: main's, those of the further callers, each with what its client was
 -- told, and those of the workers
-pub record CameFrom {C D T U A : Type 0} (P : C → Terms → ℕ → T → List NodeEntry → Type 0) (Q : D → Terms → ℕ → U
+pub record CameFrom {C D T U A : Type 0} (W : ℕ → List NodeEntry → Type 0) (P : C → Terms → ℕ → T → List NodeEntry → Type 0) (Q : D → Terms → ℕ → U
     → List NodeEntry → Type 0) (z : Cell) (client : C) (others : List D) (n : ℕ) (c : Crew T U A) : Type 0 where
   pub called : List Seat
   pub worked : List Seat
@@ -141,22 +141,22 @@ pub record CameFrom {C D T U A : Type 0} (P : C → Terms → ℕ → T → List
   pub main : MainClosed P client (fresh_seat z.terms z.id z.terms.node.settings.workers) c.told called c.spent c.main
   pub callers : EachHeld Q z (z.terms.node.settings.workers + 1) others called c.others.items
   pub workers : AllZip SameSeat (fresh_seats z.terms z.id 0 n) worked
-  pub served : c.spent ≡ None → AllZip (AddsOwn WorkerAs) (fresh_seats z.terms z.id 0 n) worked
+  pub served : c.spent ≡ None → AllZip (AddsOwn W) (fresh_seats z.terms z.id 0 n) worked
 
 -- the same, with a set for each worker
-pub record HaveCome {C D T U A : Type 0} (P : C → Terms → ℕ → T → List NodeEntry → Type 0) (Q : D → Terms → ℕ → U
+pub record HaveCome {C D T U A : Type 0} (W : ℕ → List NodeEntry → Type 0) (P : C → Terms → ℕ → T → List NodeEntry → Type 0) (Q : D → Terms → ℕ → U
     → List NodeEntry → Type 0) (z : Cell) (h : UnstartedThreads C D U A) (c : Crew T U A) : Type 0 where
-  pub came : CameFrom P Q z h.callers.client h.callers.others.items (vec_len h.workers) c
+  pub came : CameFrom W P Q z h.callers.client h.callers.others.items (vec_len h.workers) c
   pub sets : vec_len c.sets ≡ vec_len h.workers
   pub len : vec_len c.seats ≡ vec_len h.workers + vec_len h.callers.others
   pub room : (vec_capacity h.callers.room ≤ vec_capacity c.seats) × (vec_capacity h.sets ≤ vec_capacity c.sets)
 
 -- all seats of the node came back, with some clients
-pub record IsWhole {C D T U A : Type 0} (P : C → Terms → ℕ → T → List NodeEntry → Type 0) (Q : D → Terms → ℕ → U
+pub record IsWhole {C D T U A : Type 0} (W : ℕ → List NodeEntry → Type 0) (P : C → Terms → ℕ → T → List NodeEntry → Type 0) (Q : D → Terms → ℕ → U
     → List NodeEntry → Type 0) (z : Cell) (c : Crew T U A) : Type 0 where
   pub client : C
   pub others : List D
-  pub came : CameFrom P Q z client others z.terms.node.settings.workers c
+  pub came : CameFrom W P Q z client others z.terms.node.settings.workers c
   pub count : z.terms.node.callers ≡ length others + 1
 
 -- the seats of a new cell, dealt to its workers and to these clients

@@ -6,7 +6,6 @@ use Rattle.mtapi_machine.specs.declared.replies.Reply.{Reply}
 use Rattle.mtapi_machine.specs.declared.terms.Terms.{Terms}
 use Rattle.mtapi_machine.specs.Legal.{NodeEntry, Legal}
 use Rattle.node_core.specs.Keeping.{KeptAs}
-use Rattle.workload_runners.specs.Rounds.{WorkerAs}
 use Rattle.workload_runners.specs.declared.crew.run.RanNode.{RanNode}
 
 -- main, with this number, made these calls; then it began the end, later it ended the node, and made no other call
@@ -35,8 +34,9 @@ EachCalled Q t history front behind who _ _ = ⊥
 
 -- There is one legal history of the node. The journal is what is kept of it. In it main's promise holds of what it was told and of the calls that
 -- it made before it began the end; behind these it made only the end, and was answered `last`. The promises of the further callers hold, and all
--- their calls stand before main began the end. Each worker made rounds and was told to stop, all before main ended the node.
-pub record RanAs {C D T U A : Type 0} (P : C → Terms → ℕ → T → List NodeEntry → Type 0) (Q : D → Terms → ℕ → U
+-- their calls stand before main began the end. The entries of each worker are such as W says, all
+-- before main ended the node.
+pub record RanAs {C D T U A : Type 0} (W : ℕ → List NodeEntry → Type 0) (P : C → Terms → ℕ → T → List NodeEntry → Type 0) (Q : D → Terms → ℕ → U
     → List NodeEntry → Type 0) (client : C) (others : List D) (t : Terms) (r : RanNode T U A) : Type 0 where
   pub history : List NodeEntry
   pub legal : Legal t history
@@ -47,5 +47,5 @@ pub record RanAs {C D T U A : Type 0} (P : C → Terms → ℕ → T → List No
   pub main : P client t t.settings.workers r.told own
   pub called : EachCalled Q t history ends.before (entry t.settings.workers Close close ∷ (ends.behind ++ entry t.settings.workers Final r.last ∷ ends.rest))
       (t.settings.workers + 1) others r.others.items
-  pub worked : (k : ℕ) → k < t.settings.workers → WorkerAs k (entries_of k history)
+  pub worked : (k : ℕ) → k < t.settings.workers → W k (entries_of k history)
       × StandsIn k (ends.before ++ entry t.settings.workers Close close ∷ ends.behind) (entry t.settings.workers Final r.last ∷ ends.rest) (entries_of k history)

@@ -12,8 +12,9 @@ pub mod tallies;
 pub mod workers;
 
 pub use crew::holder::{Held, Holder};
-pub use crew::jobs::{Served, WorkerJob};
+pub use crew::jobs::WorkerJob;
 pub use crew::run::{RanNode, run_crew};
+pub use crew::serving::{Acting, Serve, ServeSource, Served};
 pub use looks::look;
 pub use parts::Back;
 pub use run::{NoRun, RunError, run_node, without_seat};

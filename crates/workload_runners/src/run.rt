@@ -10,6 +10,7 @@ ghost use Rattle.workload_runners.specs.Parts.{IsUnstopped};
 ghost use Rattle.workload_runners.specs.declared.statements.Stop.{Stop};
 
 use crate::crew::run::{RanNode, run_crew};
+use crate::crew::serving::Acting;
 use crate::parts::{CallerPart, MainPart};
 use crate::statements::Stop;
 use action_fn::ActionSource;
@@ -151,7 +152,8 @@ pub fn run_node<S: ActionSource, B: Beside, R: StartsThreads + Wait + Sync>(
         return Err(RunError::Memory);
     };
     let main = MainPart { alloc, part };
-    match run_crew(rt, alloc, node, acts, beside, main, others) {
+    let mut workers = Acting { acts };
+    match run_crew(rt, alloc, node, &mut workers, beside, main, others) {
         Ok(ran) => unstopped(ran),
         Err(error) => Err(error),
     }

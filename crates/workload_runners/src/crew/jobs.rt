@@ -1,77 +1,47 @@
-//! What the threads of a worker and of a further caller do.
+//! The threads of a worker and of a further caller.
 
 ghost use Rattle.std.specs.Prelude.{◌≡◌, ◌<◌, ◌≤◌, []};
 ghost use Rattle.workload_runners.specs.Rounds.{AtRest};
 
 use crate::crew::holder::{Held, Holder};
-use crate::workers::Worker;
-use action_fn::ActionSet;
+use crate::crew::serving::{Serve, Served};
 use node_core::Journaled;
 use run_beside::Job;
 use std::sync::Wait;
-use turn_cell::{Spent, TurnCell, TurnSeat};
-use turn_looks::ServeEnd;
+use turn_cell::{TurnCell, TurnSeat};
 
 /// A worker, in a thread of its own.
 #[derive(Drop)]
-pub struct WorkerJob<'a, A: ActionSet + Drop> {
+pub struct WorkerJob<'a, A: Drop> {
     pub cell: &'a TurnCell<Journaled>,
     pub seat: TurnSeat<Journaled>,
-    pub acts: A,
+    pub set: A,
     pub ghost of_cell: { seat.cell ≡ cell.now.id },
     pub ghost rest: { AtRest seat },
 }
 
-impl<'a, A: ActionSet + Drop> WorkerJob<'a, A> {
+impl<'a, A: Drop> WorkerJob<'a, A> {
     /// The job of a worker whose seat has made no call and seen none.
-    pub fn new(
-        cell: &'a TurnCell<Journaled>,
-        seat: TurnSeat<Journaled>,
-        acts: A,
-    ) -> WorkerJob<'a, A>
+    pub fn new(cell: &'a TurnCell<Journaled>, seat: TurnSeat<Journaled>, set: A) -> WorkerJob<'a, A>
         requires cell { seat.cell ≡ cell.now.id }
         requires worker { seat.number < seat.terms.node.settings.workers }
         requires new { seat.seen ≡ [] }
         ensures { result.seat ≡ seat }
     {
-        WorkerJob { cell, seat, acts }
+        WorkerJob { cell, seat, set }
     }
 }
 
-/// A worker's seat, and its set of actions, once its thread has ended.
-#[derive(Drop)]
-pub struct Served<A: Drop> {
-    pub seat: TurnSeat<Journaled>,
-    pub set: A,
-    /// Where the turns were used up before it stopped.
-    pub spent: Option<Spent>,
-}
-
-impl<'a, A: ActionSet + Drop + Send> Job for WorkerJob<'a, A> {
+impl<'a, A: Serve + Drop + Send> Job for WorkerJob<'a, A> {
     ghost use Rattle.workload_runners.specs.Crews.{HasServed};
 
     type Done = Served<A>;
 
-    ghost promise = { λ j d. HasServed j.seat d };
+    ghost promise = { λ j d. HasServed A.rounds j.seat d };
 
     fn go<R: Wait>(self, rt: &R) -> Served<A> {
-        let WorkerJob {
-            cell,
-            seat,
-            mut acts,
-        } = self;
-        match Worker::new(cell, seat).serve(rt, &mut acts) {
-            (seat, ServeEnd::Stopped) => Served {
-                seat,
-                set: acts,
-                spent: None,
-            },
-            (seat, ServeEnd::Spent(spent)) => Served {
-                seat,
-                set: acts,
-                spent: Some(spent),
-            },
-        }
+        let WorkerJob { cell, seat, set } = self;
+        set.serve(rt, cell, seat)
     }
 }
 

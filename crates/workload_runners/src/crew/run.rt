@@ -11,9 +11,9 @@ ghost use Rattle.workload_runners.specs.Ran.{RanAs};
 use crate::crew::callers::UnstartedCallers;
 use crate::crew::end::{Ended, end_with};
 use crate::crew::holder::Holder;
+use crate::crew::serving::{Serve, ServeSource};
 use crate::crew::workers::{Crew, UnstartedThreads, start_workers};
 use crate::run::RunError;
-use action_fn::ActionSource;
 use node_core::{Journaled, Node, Op, Reply, RunJournal, journal_of};
 use run_beside::Beside;
 use std::alloc::{AllocError, Global};
@@ -32,7 +32,7 @@ pub struct RanNode<T: Drop, U: Drop, A: Drop> {
     pub last: Reply,
     /// The journal of all calls.
     pub journal: RunJournal,
-    /// The workers' sets of actions.
+    /// What the workers were given, as their sets of actions.
     pub sets: Vec<A>,
 }
 
@@ -87,16 +87,16 @@ fn with_main(
 }
 
 // Main meets the workers and ends the node; then its cell is closed, and the journal taken out of it.
-fn end<R: Wait, C: Holder, D: Holder, A: Drop>(
+fn end<R: Wait, A: Serve, C: Holder, D: Holder>(
     rt: &R,
     cell: TurnCell<Journaled>,
     crew: Crew<C::Told, D::Told, A>,
 ) -> Result<RanNode<C::Told, D::Told, A>, RunError>
     requires keeps { cell.terms.keeps ≡ true }
-    requires came { IsWhole C.promise D.promise cell crew }
+    requires came { IsWhole A.rounds C.promise D.promise cell crew }
     requires room { vec_len crew.seats < vec_capacity crew.seats }
-    ensures ran { (client : C) (others : List D) → CameFrom C.promise D.promise cell client others cell.terms.node.settings.workers crew
-        → IfOk result (RanAs C.promise D.promise client others cell.terms.node) }
+    ensures ran { (client : C) (others : List D) → CameFrom A.rounds C.promise D.promise cell client others cell.terms.node.settings.workers crew
+        → IfOk result (RanAs A.rounds C.promise D.promise client others cell.terms.node) }
     ensures sets { IfOk result (λ r. r.sets ≡ crew.sets) }
     ensures started { is_refused result ≡ false }
 {
@@ -142,7 +142,7 @@ fn end<R: Wait, C: Holder, D: Holder, A: Drop>(
 /// - `Spent`: the turns of the cell are used up.
 /// - `Memory`: there was no memory for the cell, for the lists of its seats, or for the journal.
 pub fn run_crew<
-    S: ActionSource,
+    S: ServeSource,
     B: Beside,
     C: Holder,
     D: Holder + Send,
@@ -160,7 +160,7 @@ where
     D::Told: Send,
     requires new { Stands node [] }
     requires callers { (terms_of node).callers ≡ vec_len others + 1 }
-    ensures ran { IfOk result (RanAs C.promise D.promise client others.items (terms_of node)) }
+    ensures ran { IfOk result (RanAs S.Set.rounds C.promise D.promise client others.items (terms_of node)) }
     ensures sets { IfOk result (λ r. vec_len r.sets ≡ (terms_of node).settings.workers) }
     ensures causes { IfErr result (Causes (B.refusals beside.old) (B.refusals beside.new)) }
     ensures counts { Counts (is_refused result) (B.refusals beside.old) (B.refusals beside.new) }
@@ -174,7 +174,7 @@ where
         return Err(RunError::Memory);
     };
     match start_workers(rt, &cell, acts, beside, threads) {
-        Ok(crew) => end::<R, C, D, S::Set>(rt, cell, crew),
+        Ok(crew) => end::<R, S::Set, C, D>(rt, cell, crew),
         Err(main) => Err(RunError::Refused(main)),
     }
 }

@@ -9,15 +9,15 @@ ghost use Rattle.workload_runners.specs.Crews.{AreReady, GaveUp, HaveCome, HaveH
 use crate::crew::callers::{ReturnedCallers, UnstartedCallers, closed, start_callers};
 use crate::crew::end::{Ended, end_with};
 use crate::crew::holder::Holder;
-use crate::crew::jobs::{Served, WorkerJob};
-use action_fn::ActionSource;
+use crate::crew::jobs::WorkerJob;
+use crate::crew::serving::{ServeSource, Served};
 use node_core::{Journaled, Op};
 use run_beside::{Beside, pair};
 use std::sync::Wait;
 use std::thread::Threads as StartsThreads;
 use turn_cell::{Spent, TurnCell, TurnSeat};
 
-/// The seats of the workers that aren't started yet, the callers, and room for the workers' sets.
+/// The seats of the workers that aren't started yet, the callers, and room for what the workers were given.
 #[derive(Drop)]
 pub struct UnstartedThreads<C: Drop, D: Drop, U: Drop, A: Drop> {
     pub workers: Vec<TurnSeat<Journaled>>,
@@ -100,7 +100,7 @@ fn joined<T: Drop, U: Drop, A: Drop>(crew: Crew<T, U, A>, served: Served<A>) -> 
 
 /// Starts a thread for each worker, one inside the other, then the callers, and begins the end of the node once all of them are back.
 pub(crate) fn start_workers<
-    S: ActionSource,
+    S: ServeSource,
     B: Beside,
     C: Holder,
     D: Holder + Send,
@@ -115,7 +115,7 @@ pub(crate) fn start_workers<
 where
     D::Told: Send,
     requires { AreReady cell.now threads }
-    ensures back { IfOk result (HaveCome C.promise D.promise cell.now threads) }
+    ensures back { IfOk result (HaveCome S.Set.rounds C.promise D.promise cell.now threads) }
     ensures lost { IfErr result (GaveUp threads.callers.main) }
     ensures counts { Counts (is_lost result) (B.refusals beside.old) (B.refusals beside.new) }
 {
@@ -135,7 +135,7 @@ where
     let job = WorkerJob {
         cell,
         seat,
-        acts: acts.for_worker(number),
+        set: acts.server_for(number),
     };
     let outcome = pair(
         beside,
@@ -147,7 +147,7 @@ where
             TurnSeat<Journaled>,
         >
             requires { AreReady cell.now threads × IsSync R.row }
-            ensures back { IfOk result (HaveCome C.promise D.promise cell.entry.now threads) }
+            ensures back { IfOk result (HaveCome S.Set.rounds C.promise D.promise cell.entry.now threads) }
             ensures lost { IfErr result (GaveUp threads.callers.main) }
             ensures counts { Counts (is_lost result) (B.refusals beside.old) (B.refusals beside.new) }
         { start_workers(rt, cell, acts, beside, threads) },

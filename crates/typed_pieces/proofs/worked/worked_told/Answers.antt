@@ -6,4 +6,5 @@ returns c = record {
   places = record { low = refl; high = refl };
   ends = λ task. record { places = refl; first = refl; alone = refl };
   starts = λ group. record { cores = refl; mask = refl; none = refl; two = refl };
+  spent = record { tasks = refl; resources = refl; says = refl; resource_says = refl };
 }

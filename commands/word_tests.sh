@@ -1,0 +1,254 @@
+# Tests of the words of `mtapi`, a part of `mtapi test`: plain use, wrong use and a closed output of each. Sourced by `mtapi`.
+#
+# What is tested is the script: which input it gives to which program, what it makes of the answer, and the status. So a
+# stand-in for the toolchain gives each program's answer from a stored file, in a tree that has no proved program; that the
+# programs answer so is for their own tests, and `bench/first_answer.py` calls the words with the toolchain itself.
+# shellcheck shell=bash disable=SC2154 # what isn't set here is of the script that sources this
+
+stand='' words_passed=0 words_failed=0
+
+# In the folder of a crate the stand-in is called as `rt try --steps 1 --seconds N -- WORDS`. It keeps what it was given.
+make_stand_in() {
+    stand=$scratch/words
+    mkdir -p "$stand/bin" "$stand/stored" "$stand/.ci" "$stand/crates"
+    cp -R "$top/mtapi" "$top/commands" "$top/CHANGELOG.md" "$top/crates.txt" "$stand/"
+    cp "$top/.ci/programs.sh" "$stand/.ci/"
+    for each in "${programs[@]}"; do mkdir "$stand/crates/$each"; done
+    cat >"$stand/bin/rt" <<'END'
+#!/usr/bin/env bash
+case $1 in
+version) echo 'a stand-in' ;;
+try)
+    shift 6
+    name=$STORED/$(basename "$PWD")
+    for each in "$@"; do name+=.$each; done
+    cat >"$name.in"
+    cat "$name.out"
+    if [ -e "$name.err" ]; then cat "$name.err" >&2; fi
+    echo "run=ended status=$(cat "$name.status" 2>/dev/null || echo 0) runners=1 proved=no" >&2
+    ;;
+*) exit 1 ;;
+esac
+END
+    chmod +x "$stand/bin/rt"
+}
+
+# From now on this program answers so: its words behind dots, the output, and the status if it isn't 0.
+store() {
+    printf '%s' "$2" >"$stand/stored/$1.out"
+    echo "${3-0}" >"$stand/stored/$1.status"
+}
+
+count_words() {
+    if [ "$1" = right ]; then
+        words_passed=$((words_passed + 1))
+    else
+        words_failed=$((words_failed + 1))
+        printf '%s\n' "$2" | head -n 20
+    fi
+}
+
+# Calls the script by this line: its status, how the output begins, which is empty if nothing is wanted, and what the error
+# output has.
+try_words() {
+    local status=$1 out=$2 err=$3 line=$4 got output errors
+    (cd "$stand" && PATH=$stand/bin:$PATH STORED=$stand/stored exec bash -c "$line") </dev/null >"$stand/out" 2>"$stand/err"
+    got=$?
+    output=$(cat "$stand/out") errors=$(cat "$stand/err")
+    if [ "$got" -eq "$status" ] && [[ $output = "$out"* ]] && [[ -n $out || -z $output ]] && [[ $errors = *"$err"* ]]; then
+        count_words right
+    else
+        count_words wrong "$line: status $got in place of $status, or another text: $output $errors"
+    fi
+}
+
+# What a program was given is this file.
+was_given() {
+    if cmp -s "$stand/stored/$1.in" "$stand/$2"; then
+        count_words right
+    else
+        count_words wrong "$1 was given something else than $2 has: $(head -c 400 "$stand/stored/$1.in")"
+    fi
+}
+
+make_inputs() {
+    printf 'mutex m id=1\nlock m timeout=inf\nbegin\ncaller c\nmutex_get m id=1\n# timeout=inf\nlock m timeout=inf\n' >"$stand/work"
+    sed '/^#/!s/timeout=inf/timeout=500/' "$stand/work" >"$stand/work500"
+    printf '= main 2 1\n! c 7 MRAPI_TIMEOUT\n' >"$stand/report"
+    cat >"$stand/journal" <<'END'
+mtapi-journal 2 workers=1 callers=2 tasks=1024 actions=64 groups=128 queues=16 objects=16 priorities=4 generations=4294967295
+c0 initialize -> ok
+c0 mutex_create 1 0 -> handle m1.0
+c0 mutex_look m1.0 0 -> number 1
+c0 release -> ok
+c1 enter -> ok
+c1 mutex_get 1 -> handle m1.0
+c1 mutex_look m1.0 1 -> status MRAPI_TIMEOUT after 499
+c0 close -> ok
+w0 pick -> stop
+c0 final -> ok
+END
+    cat "$stand/report" "$stand/journal" >"$stand/kept"
+    cat "$stand/work" "$stand/journal" >"$stand/whole"
+    cat "$stand/work500" "$stand/journal" >"$stand/whole500"
+    printf '# mine\n\nm1.0 the guard\n' >"$stand/names"
+    printf '# m1.0 the guard\n' | cat - "$stand/whole" >"$stand/named"
+}
+
+# Words that are none, and what is told.
+try_wrong_words() {
+    local usage_line="usage: mtapi run [--journal]" each
+    try_words 2 '' "$usage_line" './mtapi'
+    try_words 2 '' "no word 'rnu': perhaps run" './mtapi rnu'
+    try_words 2 '' "no word 'it'" './mtapi it'
+    try_words 2 '' "no option '--jurnal': perhaps --journal" './mtapi run --jurnal'
+    try_words 2 '' 'usage: mtapi run [FILE]' './mtapi run a b'
+    try_words 2 '' 'usage: mtapi check [FILE [KEPT]]' './mtapi check a b c'
+    for each in 0 20000 05 +5; do try_words 2 '' "no number of tasks: $each: 1 to 19,000" "./mtapi gen $each"; done
+    for each in 0 17; do try_words 2 '' "no number of workers: $each: 1 to 16" "./mtapi gen 5 $each"; done
+    try_words 2 '' 'usage: mtapi gen N [W]' './mtapi gen'
+    for each in picture trace; do
+        try_words 2 '' "usage: mtapi $each [--names NAMES] [FILE [KEPT]]" "./mtapi $each a b c"
+        try_words 2 '' "no option '--name': perhaps --names" "./mtapi $each --name a b"
+        try_words 2 '' 'no number of looks: x: 0 to 1,000,000' "./mtapi $each --bounded a x"
+    done
+    try_words 2 '' 'usage: mtapi explain [FILE]' './mtapi explain a b'
+    try_words 2 '' 'usage: mtapi verify [-v] FILE' './mtapi verify'
+    try_words 2 '' 'usage: mtapi expect [-v] FILE REPORT' './mtapi expect a'
+    try_words 2 '' 'usage: mtapi bounded [-v] FILE [LOOKS]' './mtapi bounded'
+    try_words 2 '' 'no number of looks: 1000001: 0 to 1,000,000' './mtapi bounded a 1000001'
+    try_words 2 '' 'usage: mtapi orders FILE [N]' './mtapi orders'
+    try_words 2 '' 'no number of states: 0: 1 to 100,000,000' './mtapi orders a 0'
+    try_words 2 '' 'usage: mtapi test' './mtapi test it'
+    try_words 2 '' "no option 'it'" './mtapi prove it'
+    try_words 2 '' "no option '--comand': perhaps --command" './mtapi prove --comand'
+    try_words 2 '' "no option '-v'" './mtapi run -v'
+    try_words 2 '' 'usage: mtapi new FOLDER [NAME]' './mtapi new'
+    try_words 2 '' 'usage: mtapi install [PREFIX]' './mtapi install a b'
+    try_words 2 '' 'usage: mtapi uninstall [PREFIX]' './mtapi uninstall a b'
+}
+
+# Words that need no program's answer.
+try_other_words() {
+    local each
+    try_words 0 "$usage" '' './mtapi --help'
+    try_words 0 "$usage" '' './mtapi -h'
+    for each in $(all_words); do try_words 0 "./mtapi $each" '' "./mtapi $each --help"; done
+    try_words 0 'mtapi ' '' './mtapi --version'
+    for each in run check picture trace explain verify bounded orders; do
+        try_words 4 '' 'mtapi: read fault: nothing: no such file' "./mtapi $each nothing"
+    done
+    try_words 4 '' 'mtapi: read fault: work: ' 'chmod a-r work; [ -r work ] && rm work && mkdir work; ./mtapi expect work report'
+    make_inputs_again
+    try_words 3 '' 'work: no journal here: use run --journal' './mtapi check work'
+    try_words 3 '' 'standard input: no journal here: use run --journal' './mtapi picture <work'
+    try_words 3 '' 'kept: a report and a journal, but no workload here' './mtapi check kept'
+    try_words 1 '' "nothing was installed: mtapi_cli isn't proved" './mtapi install place'
+    try_words 1 '' 'no mtapi is installed below ' './mtapi uninstall place'
+    try_words 1 '' 'lies in the repository of mtapi' './mtapi new crates/mine'
+}
+
+make_inputs_again() {
+    rm -rf "$stand/work"
+    make_inputs
+}
+
+try_command_words() {
+    store mtapi_cli.run 'the report'
+    try_words 0 'the report' 'this run is of the unproved program' './mtapi run work'
+    was_given mtapi_cli.run work
+    try_words 0 'the report' '' './mtapi run <work'
+    try_words 5 '' 'write fault' './mtapi run work >&-'
+    store mtapi_cli.run '' 3
+    try_words 3 '' "'./mtapi explain work' tells every mistake" './mtapi run work'
+    store mtapi_cli.run.--journal "$(cat "$stand/kept")"$'\n'
+    try_words 0 '= main 2 1' '' './mtapi run --journal work'
+    store mtapi_cli.gen.5.2 'tasks 5'
+    try_words 0 'tasks 5' '' './mtapi gen 5 2'
+    try_words 5 '' 'write fault' './mtapi gen 5 2 >&-'
+    store mtapi_cli.check yes
+    try_words 0 yes '' './mtapi check work kept'
+    was_given mtapi_cli.check whole
+    try_words 0 yes '' './mtapi check work - <kept'
+    try_words 0 yes '' './mtapi check whole'
+    was_given mtapi_cli.check whole
+    try_words 5 '' 'write fault' './mtapi check whole >&-'
+    store mtapi_cli.check 'no: not a run' 9
+    try_words 9 'no: not a run' '' './mtapi check <whole'
+    try_words 9 '= main 2 1' '' './mtapi verify work'
+    store mtapi_cli.check yes
+    try_words 0 "$(cat "$stand/report")"$'\n'yes '' './mtapi verify work'
+    was_given mtapi_cli.check whole
+    try_words 5 '' 'write fault' './mtapi verify work >&-'
+    store mtapi_cli.run "$(cat "$stand/report")"$'\n'
+    try_words 0 '' 'mtapi: as expected' './mtapi expect work report'
+    try_words 1 '--- journal' '' './mtapi expect work journal'
+    try_words 5 '' 'write fault' './mtapi expect work journal >&-'
+}
+
+try_show_words() {
+    local each
+    for each in picture trace; do
+        store "mtapi_$each" "a $each"
+        try_words 0 "a $each" '' "./mtapi $each work kept"
+        was_given "mtapi_$each" whole
+        try_words 0 "a $each" '' "./mtapi $each work"
+        was_given "mtapi_$each" whole
+        try_words 0 "a $each" '' "./mtapi $each <kept"
+        was_given "mtapi_$each" journal
+        try_words 0 "a $each" '' "./mtapi $each --names names work kept"
+        was_given "mtapi_$each" named
+        try_words 3 '' 'work: no handle and name of 1 to 15 letters: mutex m id=1' "./mtapi $each --names work work kept"
+        try_words 0 "a $each" '' "./mtapi $each --bounded work 500"
+        was_given "mtapi_$each" whole500
+        try_words 5 '' 'write fault' "./mtapi $each work kept >&-"
+    done
+}
+
+try_further_words() {
+    store mtapi_explain $'line 2, column 6: no name\n' 3
+    try_words 3 'work:2:6: no name' '' './mtapi explain work'
+    was_given mtapi_explain work
+    try_words 3 'line 2, column 6: no name' '' './mtapi explain <work'
+    try_words 5 '' 'write fault' './mtapi explain work >&-'
+    try_words 1 '= main 2 1' 'line 7: lock of c ran out of its 500 looks; it waits for the mutex m of line 5 (mutex_get m id=1); main has held it since line 2 (lock m timeout=inf)' \
+        './mtapi bounded work 500'
+    was_given mtapi_cli.run.--journal work500
+    try_words 5 '' 'write fault' './mtapi bounded work 500 >&-'
+    try_deadlock
+    store mtapi_orders.5 'one report'
+    try_words 0 'one report' '' './mtapi orders work 5'
+    was_given mtapi_orders.5 work
+    try_words 5 '' 'write fault' './mtapi orders work 5 >&-'
+    store mtapi_orders.--one 'two reports' 1
+    try_words 1 'two reports' '' './mtapi orders --one work'
+    store mtapi_orders.--journals $'a page\njournal of report 1\nmtapi-journal 2\n'
+    try_words 0 'a page' '' "./mtapi orders --journals work && tail -n 1 work.orders/report-1 | grep -qx 'mtapi-journal 2'"
+}
+
+# Two callers that take two mutexes in turns: the second wait that runs out closes the circle.
+try_deadlock() {
+    cp "$stand/kept" "$stand/before"
+    printf '%s\n' 'mutex a id=1' 'mutex b id=2' begin 'caller one' 'mutex_get a id=1' 'mutex_get b id=2' 'lock a timeout=inf' \
+        'lock b timeout=inf' 'caller two' 'mutex_get a id=1' 'mutex_get b id=2' 'lock b timeout=inf' 'lock a timeout=inf' >"$stand/cross"
+    store mtapi_cli.run.--journal "$(printf '%s\n' 'mtapi-journal 2' 'c0 mutex_create 1 0 -> handle m1.0' \
+        'c0 mutex_create 2 0 -> handle m1.1' 'c1 mutex_get 1 -> handle m1.0' 'c1 mutex_get 2 -> handle m1.1' \
+        'c2 mutex_get 1 -> handle m1.0' 'c2 mutex_get 2 -> handle m1.1' 'c1 mutex_look m1.0 0 -> number 1' \
+        'c2 mutex_look m1.1 0 -> number 1' 'c1 mutex_look m1.1 0 -> pending' 'c2 mutex_look m1.0 1 -> status MRAPI_TIMEOUT after 9' \
+        'c1 mutex_look m1.1 1 -> status MRAPI_TIMEOUT after 9')"$'\n'
+    try_words 1 '' 'one waits for the mutex b of line 6 (mutex_get b id=2); two has held it since line 12 (lock b timeout=inf): deadlock' \
+        './mtapi bounded cross 10'
+    store mtapi_cli.run.--journal "$(cat "$stand/before")"$'\n'
+}
+
+test_words() {
+    local each
+    make_stand_in
+    make_inputs
+    try_wrong_words
+    try_other_words
+    try_command_words
+    try_show_words
+    try_further_words
+    echo "words: $words_passed passed, $words_failed failed"
+}

@@ -1,0 +1,86 @@
+-- What is written of an input that has a journal in it, and how the program ends.
+use Rattle.std.specs.Prelude.{◌≡◌, ◌⊎◌, ℕ, zero, suc, ◌+◌, ◌≤◌, ◌<◌, Bool, true, false, List, [], ◌∷◌, ◌++◌, length, codes, Option, Some, None, is_none, Ok}
+use Rattle.std.specs.Fmt.{decimal}
+use Rattle.std.specs.Io.KnownBytes.{Appends}
+use Rattle.byte_io.specs.Causes.{AppendsFront, WritesText}
+use Rattle.node_journals.specs.declared.entries.Journal.{Journal}
+use Rattle.number_text.specs.Lists.{between}
+use Rattle.journal_text.specs.Journals.{journal_of}
+use Rattle.journal_text.specs.Splits.{IsSplit, OfParts}
+use Rattle.journal_reading.specs.Ends as shown
+use Rattle.journal_reading.specs.Ends.{IsTold, RestFails, has_line}
+use Rattle.journal_reading.specs.declared.ends.RunView.TheVariants.{Picture}
+use Rattle.journal_reading.specs.declared.ends.ShowEnd.{ShowEnd}
+use Rattle.journal_reading.specs.declared.ends.ShowEnd.TheVariants as end
+use Rattle.journal_reasons.specs.Judged.{IsJudged, place_of}
+use Rattle.journal_reasons.specs.declared.judging.Judgement.{Judgement}
+use Rattle.journal_reasons.specs.declared.reading.JudgeEnd.{JudgeEnd}
+use Rattle.journal_reasons.specs.declared.reading.JudgeEnd.TheVariants.{Legal, Illegal, Usage, Refused}
+
+-- the line of this number, from 0; empty if there are fewer
+unfoldable pub nth_line : List (List ℕ) → ℕ → List ℕ
+nth_line [] n = []
+nth_line (line ∷ lines) zero = line
+nth_line (line ∷ lines) (suc n) = nth_line lines n
+
+-- The line that is written of an input of these two parts: that the journal is legal, or the line of the first entry that
+-- isn't allowed, by its number in the input, from 1, and its text.
+unfoldable pub first_line : List ℕ → List ℕ → Option ℕ → List ℕ
+first_line front rest None = codes "legal\n"
+first_line front rest (Some n) =
+    codes "illegal line " ++ (decimal (length (between 10 front) + n) ++ (codes ": " ++ (nth_line (between 10 rest) n ++ 10 ∷ [])))
+
+-- an input has a journal behind what may stand before it, which was judged, and this is written of it
+pub record IsPage (bytes : List ℕ) (yes : Bool) (page : List ℕ) : Type 0 where
+  pub front : List ℕ
+  pub rest : List ℕ
+  pub split : IsSplit bytes front rest
+  pub journal : Journal
+  pub read : journal_of rest ≡ Ok journal
+  pub judgement : Judgement
+  pub judged : IsJudged journal judgement
+  pub legal : yes ≡ is_none (place_of judgement)
+  pub text : page ≡ first_line front rest (place_of judgement)
+
+-- no journal stands in it, for this cause
+abbrev pub HasNone : List ℕ → ShowEnd → Type 0
+HasNone bytes e = OfParts bytes (λ front rest. RestFails rest e)
+
+-- an input that isn't too long has a journal, and what the output held has grown by a page on it, or by a front of one
+abbrev pub Writes : Bool → List ℕ → (List ℕ → Type 0) → Type 0
+Writes legal bytes P = (length bytes ≤ 67108864) × (page : List ℕ) × IsPage bytes legal page × P page
+
+-- what an end says of the bytes of the input and of the output before and after; want of memory and a failed read say nothing
+abbrev pub Judges : List ℕ → Option (List ℕ) → Option (List ℕ) → JudgeEnd → Type 0
+Judges bytes old new Legal = Writes true bytes (λ page. Appends old new page)
+Judges bytes old new Illegal = Writes false bytes (λ page. Appends old new page)
+Judges bytes old new (Refused end.WriteFault) = (legal : Bool) × Writes legal bytes (λ page. AppendsFront old new page)
+Judges bytes old new (Refused end.TooLong) = 67108864 < length bytes
+Judges bytes old new (Refused end.ReadFault) = Unit {0}
+Judges bytes old new (Refused end.Memory) = Unit {0}
+Judges bytes old new (Refused e) = (length bytes ≤ 67108864) × HasNone bytes e
+Judges bytes old new Usage = ⊥
+
+-- something may be written
+abbrev pub writes : JudgeEnd → Bool
+writes Legal = true
+writes Illegal = true
+writes (Refused e) = shown.writes e
+writes Usage = false
+
+-- a status, and what is said on the error output
+pub record IsSaid (code : ℕ) (text : List ℕ) (before now : ℕ) (old new : Option (List ℕ)) (status : ℕ) : Type 0 where
+  pub answered : status ≡ code
+  pub said : WritesText before now old new text
+
+-- what is said of the words that the program takes
+unfoldable pub usage : List ℕ
+usage = codes "usage: mtapi judge\n"
+
+-- how each end is told: 0 for a legal journal, and 1 for another one; the others as by the programs that show a run
+abbrev pub Tells : JudgeEnd → ℕ → ℕ → Option (List ℕ) → Option (List ℕ) → ℕ → Type 0
+Tells Legal before now old new status = IsSaid 0 [] before now old new status
+Tells Illegal before now old new status = IsSaid 1 [] before now old new status
+Tells Usage before now old new status = IsSaid 2 usage before now old new status
+Tells (Refused e) before now old new status =
+    IsTold Picture e before now old new status ⊎ ((has_line e ≡ true) × IsTold Picture end.Memory before now old new status)
