@@ -1,3 +1,4 @@
+mod Allowed
 mod Inputs
 mod Judgements
 mod Lines

@@ -1,8 +1,11 @@
-//! Judges a kept journal by itself, without a workload, and tells the first entry that the machine doesn't allow.
+//! Judges a kept journal by itself, without a workload, and tells the first entry that the machine doesn't allow, what it would have
+//! allowed there, and why.
 #![tactic(auto)]
 
+mod instead;
 mod judging;
 mod page;
+mod proposing;
 mod reading;
 
 pub use judging::{Judgement, judge};
