@@ -2,3 +2,4 @@ mod Allowed
 mod Inputs
 mod Judgements
 mod Lines
+mod Replays

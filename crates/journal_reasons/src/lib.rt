@@ -7,6 +7,7 @@ mod judging;
 mod page;
 mod proposing;
 mod reading;
+mod replay;
 
 pub use judging::{Judgement, judge};
 pub use page::page_of;
