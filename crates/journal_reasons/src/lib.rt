@@ -2,12 +2,19 @@
 //! allowed there, and why.
 #![tactic(auto)]
 
+mod case;
+mod conditions;
+mod free_slots;
+mod handles;
 mod instead;
 mod judging;
 mod page;
+mod picks;
 mod proposing;
 mod reading;
+mod reasons;
 mod replay;
+mod traces;
 
 pub use judging::{Judgement, judge};
 pub use page::page_of;

@@ -1,6 +1,12 @@
-//! What is likely to be allowed in place of an entry, and why that isn't. Nothing here is promised.
+//! What is likely to be allowed in place of an entry, and why that isn't. Nothing here is promised: the judge tries each reply.
+use crate::case::{Case, entries_before};
+use crate::free_slots::free_handles;
+use crate::picks::add_other_picks;
+use crate::reasons::reason;
 use crate::replay::Replay;
-use mtapi_machine::Reply;
+use mtapi_layouts::answered_kind;
+use mtapi_machine::{Op, Reply};
+use mtapi_values::ObjectKind;
 use node_journals::Journal;
 use std::alloc::{AllocError, Global};
 
@@ -18,30 +24,73 @@ pub(crate) fn proposal_of(
     number: u64,
     lines: u64,
 ) -> Result<Proposal, AllocError> {
-    let mut replies = Vec::new(alloc);
-    let _line = lines.saturating_add(number);
-    if let Some(reply) = answer_at(alloc, journal, number)? {
-        replies.push(reply)?;
+    let before = entries_before(journal, number);
+    match journal.entries.shorts().get(before.len()) {
+        Some(short) => proposal_on(&Case {
+            alloc,
+            journal,
+            number,
+            lines,
+            given: &short.full(),
+        }),
+        None => Ok(Proposal {
+            replies: Vec::new(alloc),
+            why: Vec::new(alloc),
+        }),
     }
+}
+
+fn proposal_on(case: &Case) -> Result<Proposal, AllocError> {
+    let replies = likely_replies(case)?;
+    let why = reason(case, &replies)?;
     Ok(Proposal {
         replies,
-        why: Vec::new(alloc),
+        why: Vec::from_slice(case.alloc, why.as_bytes())?,
     })
 }
 
-// What the node answers to the call of the entry of this number.
-fn answer_at(alloc: Global, journal: &Journal, number: u64) -> Result<Option<Reply>, AllocError> {
-    let Some(mut replay) = Replay::new(alloc, journal)? else {
-        return Ok(None);
-    };
-    let mut place = 1u64;
-    for short in journal.entries.shorts() {
-        let entry = short.full();
-        if place >= number {
-            return Ok(replay.answer(&entry));
+// What a node answers, and what else it may.
+fn likely_replies(case: &Case) -> Result<Vec<Reply>, AllocError> {
+    match Replay::new(case.alloc, case.journal)? {
+        Some(mut replay) => {
+            replay.follow_all(entries_before(case.journal, case.number))?;
+            replies_by(case, &mut replay)
         }
-        replay.follow(&entry)?;
-        place = place.saturating_add(1);
+        None => Ok(Vec::new(case.alloc)),
     }
-    Ok(None)
+}
+
+fn replies_by(case: &Case, replay: &mut Replay) -> Result<Vec<Reply>, AllocError> {
+    match replay.answer(case.given) {
+        Some(Reply::Handle(handle)) => match made_kind(&case.given.op) {
+            Some(kind) => free_handles(case, replay, kind),
+            None => one(case, Reply::Handle(handle)),
+        },
+        Some(reply) => with_others(case, reply),
+        None => Ok(Vec::new(case.alloc)),
+    }
+}
+
+fn one(case: &Case, reply: Reply) -> Result<Vec<Reply>, AllocError> {
+    let mut replies = Vec::new(case.alloc);
+    replies.push(reply)?;
+    Ok(replies)
+}
+
+// A worker may have a choice of tasks.
+fn with_others(case: &Case, reply: Reply) -> Result<Vec<Reply>, AllocError> {
+    let chooses = matches!(reply, Reply::Picked { .. });
+    let mut replies = one(case, reply)?;
+    if chooses {
+        add_other_picks(case, &mut replies)?;
+    }
+    Ok(replies)
+}
+
+// The kind of the object that an op makes.
+fn made_kind(op: &Op) -> Option<ObjectKind> {
+    if let Op::QueueGet { .. } | Op::MutexGet { .. } | Op::SemGet { .. } | Op::RwlGet { .. } | Op::ShmemGet { .. } = op {
+        return None;
+    }
+    answered_kind(op)
 }

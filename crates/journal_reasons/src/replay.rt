@@ -10,7 +10,7 @@ use mtapi_layouts::answered_kind;
 use mtapi_machine::{Entry, Op, Reply};
 use mtapi_renaming::{OtherHandles, Rename, renamed_answer, renamed_op};
 use mtapi_values::{NodeAttr, ObjectKind};
-use node_journals::Journal;
+use node_journals::{Journal, ShortEntry};
 use node_steps::PoolNode;
 use std::alloc::{AllocError, Global};
 use std::marker::Model;
@@ -101,6 +101,14 @@ impl Replay {
             Some(Reply::Handle(own)) => self.note(object.kind, object.handle, own),
             _ => Ok(()),
         }
+    }
+
+    /// Does what these entries say.
+    pub(crate) fn follow_all(&mut self, shorts: &[ShortEntry]) -> Result<(), AllocError> {
+        for short in shorts {
+            self.follow(&short.full())?;
+        }
+        Ok(())
     }
 
     /// What is answered to the call of an entry, by the handles of the journal; of a new object the handle is the node's own. None
