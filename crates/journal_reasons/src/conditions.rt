@@ -79,7 +79,10 @@ fn phase(case: &Case) -> Result<String, AllocError> {
 
 fn not_ended(case: &Case) -> Result<String, AllocError> {
     match &case.given.op {
-        Op::Final => text(case, "not each worker has stopped, or the node isn't closed"),
+        Op::Final => match phases_before(case).closed {
+            Some(_) => text(case, "not each worker has stopped"),
+            None => phase(case),
+        },
         _ => phase(case),
     }
 }
@@ -127,7 +130,9 @@ fn queue_invalid(case: &Case) -> Result<String, AllocError> {
 
 fn job_invalid(case: &Case) -> Result<String, AllocError> {
     match &case.given.op {
-        Op::ActionCreate { job, .. } => format!(in case.alloc; "the job {job} is none of 1 to 65,535"),
+        Op::ActionCreate { job, .. } => format!(in case.alloc;
+            "the job {job} is none of 1 to 65,535"
+        ),
         Op::TaskStart { job, .. } | Op::QueueCreate { job, .. } | Op::JobGet { job } => {
             format!(in case.alloc; "no live action has the job {job}")
         }
@@ -142,7 +147,9 @@ fn task_invalid(case: &Case) -> Result<String, AllocError> {
             Some(object) => {
                 let words = progress(case, object.handle)?;
                 let seat = seat_text(case, case.given.who)?;
-                format!(in case.alloc; "{seat} runs no such task of this kind with these arguments: {words}")
+                format!(in case.alloc;
+                    "{seat} runs no such task of this kind with these arguments: {words}"
+                )
             }
             None => text(case, "there is no such task"),
         },
@@ -199,7 +206,9 @@ fn parameter(case: &Case) -> Result<String, AllocError> {
         Op::TaskStart { priority, .. } => start_parameter(case, *priority),
         Op::TaskEnqueue { .. } => text(case, "a task is detached and in a group"),
         Op::QueueCreate {
-            priority, limit, ..
+            priority,
+            limit,
+            ..
         } => queue_parameter(case, *priority, *limit),
         Op::TaskLook { .. } => with_named(case, "is detached, or in a group"),
         _ => text(case, "an argument is outside its range"),
@@ -234,9 +243,15 @@ pub(crate) fn mtapi_condition(case: &Case, status: MtapiStatus) -> Result<String
         MtapiStatus::ErrNodeNotinit => phase(case),
         MtapiStatus::ErrActionInvalid => liveness_of_named(case),
         MtapiStatus::ErrActionLimit => full(case, ObjectKind::Action),
-        MtapiStatus::ErrActionDisabled => start_only(case, "each live action of the job is disabled"),
+        MtapiStatus::ErrActionDisabled => start_only(
+            case,
+            "each live action of the job is disabled",
+        ),
         MtapiStatus::ErrJobInvalid => job_invalid(case),
-        MtapiStatus::ErrNoCore => start_only(case, "no worker has an enabled action of the job for these cores"),
+        MtapiStatus::ErrNoCore => start_only(
+            case,
+            "no worker has an enabled action of the job for these cores",
+        ),
         MtapiStatus::ErrTaskInvalid => task_invalid(case),
         MtapiStatus::ErrTaskLimit => full(case, ObjectKind::Task),
         MtapiStatus::ErrGroupInvalid => group_invalid(case),
@@ -253,7 +268,10 @@ pub(crate) fn mtapi_condition(case: &Case, status: MtapiStatus) -> Result<String
 // What a start is refused for; of a wait for a group, how a member ended.
 fn start_only(case: &Case, words: &str) -> Result<String, AllocError> {
     match &case.given.op {
-        Op::AllLook { .. } => with_named(case, "has members that ended so, and this one ended first of these"),
+        Op::AllLook { .. } => with_named(
+            case,
+            "has members that ended so, and this one ended first of these",
+        ),
         _ => text(case, words),
     }
 }
@@ -280,7 +298,10 @@ fn resource_parameter(case: &Case) -> Result<String, AllocError> {
             let name = named(case)?;
             format!(in case.alloc; "{name} has no cell {cell}")
         }
-        _ => text(case, "the limit, or the number of cells, is outside its range"),
+        _ => text(
+            case,
+            "the limit, or the number of cells, is outside its range",
+        ),
     }
 }
 

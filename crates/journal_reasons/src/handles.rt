@@ -35,7 +35,9 @@ pub(crate) fn liveness(case: &Case, object: NodeObject) -> Result<String, AllocE
     let kind = kind_text(object.kind);
     let trace = trace_of(case, object)?;
     match (trace.made, trace.gone) {
-        (None, _) => format!(in case.alloc; "{name} is no live {kind}: none was made with this handle"),
+        (None, _) => format!(in case.alloc;
+            "{name} is no live {kind}: none was made with this handle"
+        ),
         (Some(_), Some(gone)) => {
             let how = left_words(case, object.kind, gone);
             let line = line_of(case, gone);

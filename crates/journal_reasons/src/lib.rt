@@ -14,8 +14,11 @@ mod proposing;
 mod reading;
 mod reasons;
 mod replay;
+mod run_reading;
+mod runs;
 mod traces;
 
 pub use judging::{Judgement, judge};
 pub use page::page_of;
 pub use reading::{JudgeEnd, judge_input, tell};
+pub use run_reading::tell_run;

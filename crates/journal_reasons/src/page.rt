@@ -27,8 +27,8 @@ pub(crate) fn count_lines(text: &[u8]) -> u64
     }
 }
 
-// The line of this number, from 0; empty if there are fewer.
-fn nth_line(text: &[u8], number: u64) -> &[u8]
+/// The line of this number, from 0; empty if there are fewer.
+pub(crate) fn nth_line(text: &[u8], number: u64) -> &[u8]
     ensures { result.now ≡ nth_line (between 10 text.now) number }
 {
     let mut left = text;

@@ -31,6 +31,43 @@ fn started(entry: &Entry) -> Option<(u64, &Args)> {
     }
 }
 
+// The priority of the queue of this handle.
+fn queue_priority(case: &Case, queue: u64) -> Option<u32> {
+    for short in entries_before(case.journal, case.number) {
+        let entry = short.full();
+        if let Op::QueueCreate { priority, .. } = &entry.op
+            && let Reply::Handle(handle) = &entry.reply
+            && *handle == queue
+        {
+            return Some(*priority);
+        }
+    }
+    None
+}
+
+// The priority of the task that an entry made, if it is the one of this handle.
+fn priority_in(case: &Case, entry: &Entry, task: u64) -> Option<u32> {
+    let (handle, _) = started(entry)?;
+    if handle != task {
+        return None;
+    }
+    match &entry.op {
+        Op::TaskStart { priority, .. } => Some(*priority),
+        Op::TaskEnqueue { queue, .. } => queue_priority(case, queue.0),
+        _ => None,
+    }
+}
+
+/// The priority of the task of this handle.
+pub(crate) fn priority_of(case: &Case, task: u64) -> Option<u32> {
+    for short in entries_before(case.journal, case.number) {
+        if let Some(priority) = priority_in(case, &short.full(), task) {
+            return Some(priority);
+        }
+    }
+    None
+}
+
 fn pick_by(task: u64, action: &LiveAction, args: &Args) -> Reply {
     Reply::Picked {
         task: TaskHandle(task),
@@ -63,21 +100,46 @@ fn add_picks(
     Ok(())
 }
 
-fn add_task(table: &Standings, entry: &Entry, replies: &mut Vec<Reply>) -> Result<(), AllocError> {
+// Whether a start asks for another priority than this one.
+fn has_other_priority(op: &Op, least: Option<u32>) -> bool {
+    match (op, least) {
+        (Op::TaskStart { priority, .. }, Some(least)) => *priority != least,
+        _ => false,
+    }
+}
+
+fn add_task(
+    table: &Standings,
+    entry: &Entry,
+    least: Option<u32>,
+    replies: &mut Vec<Reply>,
+) -> Result<(), AllocError> {
     let Some((task, args)) = started(entry) else {
         return Ok(());
     };
+    if has_other_priority(&entry.op, least) {
+        return Ok(());
+    }
     match table.unstarted.get(&task) {
         Some(unstarted) => add_picks(table, unstarted.job, task, args, replies),
         None => Ok(()),
     }
 }
 
+// The priority of the task that the first of these replies picks.
+fn least_priority(case: &Case, replies: &[Reply]) -> Option<u32> {
+    match replies.first() {
+        Some(Reply::Picked { task, .. }) => priority_of(case, task.0),
+        _ => None,
+    }
+}
+
 /// Adds picks of tasks that haven't begun, by any action of their jobs.
 pub(crate) fn add_other_picks(case: &Case, replies: &mut Vec<Reply>) -> Result<(), AllocError> {
     let table = standings_before(case)?;
+    let least = least_priority(case, replies);
     for short in entries_before(case.journal, case.number) {
-        add_task(&table, &short.full(), replies)?;
+        add_task(&table, &short.full(), least, replies)?;
     }
     Ok(())
 }

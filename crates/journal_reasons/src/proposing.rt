@@ -89,7 +89,12 @@ fn with_others(case: &Case, reply: Reply) -> Result<Vec<Reply>, AllocError> {
 
 // The kind of the object that an op makes.
 fn made_kind(op: &Op) -> Option<ObjectKind> {
-    if let Op::QueueGet { .. } | Op::MutexGet { .. } | Op::SemGet { .. } | Op::RwlGet { .. } | Op::ShmemGet { .. } = op {
+    if let Op::QueueGet { .. }
+    | Op::MutexGet { .. }
+    | Op::SemGet { .. }
+    | Op::RwlGet { .. }
+    | Op::ShmemGet { .. } = op
+    {
         return None;
     }
     answered_kind(op)

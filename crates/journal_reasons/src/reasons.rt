@@ -1,9 +1,9 @@
 //! Why an entry isn't allowed, in words, by what the machine answers. Nothing here is promised.
 use crate::case::{Case, entries_before, kind_text, line_of, most_of, object_text, seat_text};
 use crate::conditions::{mrapi_condition, mtapi_condition, pending};
-use crate::free_slots::slot_of;
+use crate::free_slots::{last_handles, slot_of};
 use crate::handles::{liveness, progress};
-use crate::picks::standings_before;
+use crate::picks::{priority_of, standings_before};
 use crate::traces::{live_before, phases_before};
 use journal_text::{NodeObject, object_named};
 use mtapi_layouts::answered_kind;
@@ -51,6 +51,9 @@ fn not_so(case: &Case, status: &str) -> Result<String, AllocError> {
     {
         return liveness(case, object);
     }
+    if status.ends_with("_TIMEOUT") {
+        return text(case, "what the call waits for is there");
+    }
     format!(in case.alloc; "the condition of {status} doesn't hold, nor that of another refusal")
 }
 
@@ -70,10 +73,24 @@ fn otherwise(case: &Case, answer: &Reply, given: &Reply) -> Result<String, Alloc
         Reply::Pending => pending(case),
         Reply::Picked { task, .. } => other_pick(case, task.0, given),
         Reply::Idle => nothing_to_take(case, given),
-        Reply::Stop => text(case, "the node is closed, and no task is scheduled or running"),
-        Reply::Asked(true) => text(case, "it was asked to stop, or may go on"),
-        Reply::Asked(false) => text(case, "it wasn't asked to stop, or has failed"),
+        Reply::Stop => text(
+            case,
+            "the node is closed, and no task is scheduled or running",
+        ),
+        Reply::Asked(yes) => asked(case, *yes),
         _ => done(case),
+    }
+}
+
+fn asked(case: &Case, yes: bool) -> Result<String, AllocError> {
+    match (&case.given.op, yes) {
+        (Op::TallyLock { .. }, true) => text(case, "its mutex is free"),
+        (Op::TallyLock { .. }, false) => text(
+            case,
+            "it names no live mutex, or no cell of a live segment",
+        ),
+        (_, true) => text(case, "the task was asked to stop"),
+        (_, false) => text(case, "the task wasn't asked to stop"),
     }
 }
 
@@ -91,7 +108,12 @@ fn other_handle(case: &Case, handle: u64, given: &Reply) -> Result<String, Alloc
     let Some(kind) = answered_kind(&case.given.op) else {
         return text(case, "it is another handle");
     };
-    if let Op::QueueGet { .. } | Op::MutexGet { .. } | Op::SemGet { .. } | Op::RwlGet { .. } | Op::ShmemGet { .. } = &case.given.op {
+    if let Op::QueueGet { .. }
+    | Op::MutexGet { .. }
+    | Op::SemGet { .. }
+    | Op::RwlGet { .. }
+    | Op::ShmemGet { .. } = &case.given.op
+    {
         let name = object_text(case, NodeObject { kind, handle })?;
         return format!(in case.alloc; "{name} has this id");
     }
@@ -110,32 +132,30 @@ fn names_kind(layout: Layout, kind: ObjectKind, handle: u64) -> bool {
 
 fn wrong_handle(case: &Case, kind: ObjectKind, wrong: u64) -> Result<String, AllocError> {
     let word = kind_text(kind);
-    if !names_kind(case.journal.layout, kind, wrong) {
-        return format!(in case.alloc; "it is no handle of a {word}; any of the next generation of a free slot is");
-    }
-    let slot = slot_of(case.journal.layout, wrong);
-    let object = NodeObject {
-        kind,
-        handle: wrong,
-    };
-    let state = slot_state(case, object, slot)?;
-    format!(in case.alloc; "{state}; any handle of the next generation of a free slot is allowed")
+    let state = slot_state(case, kind, wrong)?;
+    format!(in case.alloc;
+        "a new {word} gets any handle of the next generation of a free slot: {state}"
+    )
 }
 
-// What the slot of a handle had.
-fn slot_state(case: &Case, object: NodeObject, slot: u64) -> Result<String, AllocError> {
-    let name = object_text(case, object)?;
-    let handles = crate::free_slots::last_handles(case, object.kind)?;
-    match handles.get(&slot) {
-        None => format!(in case.alloc; "{name} isn't of the first generation of its slot, which is free"),
-        Some(last) => {
-            let before = NodeObject {
-                kind: object.kind,
+// Why a handle isn't of the next generation of a free slot.
+fn slot_state(case: &Case, kind: ObjectKind, wrong: u64) -> Result<String, AllocError> {
+    if !names_kind(case.journal.layout, kind, wrong) {
+        return text(case, "this one names another kind of object");
+    }
+    let handles = last_handles(case, kind)?;
+    match handles.get(&slot_of(case.journal.layout, wrong)) {
+        None => text(
+            case,
+            "the slot of this one is free, and its next generation is 1",
+        ),
+        Some(last) => liveness(
+            case,
+            NodeObject {
+                kind,
                 handle: *last,
-            };
-            let words = liveness(case, before)?;
-            format!(in case.alloc; "{name} isn't of the next generation of a free slot, and of this slot {words}")
-        }
+            },
+        ),
     }
 }
 
@@ -221,11 +241,22 @@ fn wrong_pick(case: &Case, task: u64, wrong: u64) -> Result<String, AllocError> 
         return progress(case, wrong);
     }
     let name = task_text(case, task)?;
-    if task == wrong {
-        return format!(in case.alloc; "{name} is taken by an enabled action of its job, with the arguments of its start");
-    }
     let other = task_text(case, wrong)?;
-    format!(in case.alloc; "{name} comes before {other}: {other} isn't ready for this worker, or has another action, other arguments or a greater priority number")
+    match (priority_of(case, task), priority_of(case, wrong)) {
+        (Some(first), Some(second)) if first < second => {
+            format!(in case.alloc;
+                "{name} goes first: its priority is {first}, and that of {other} {second}"
+            )
+        }
+        _ => not_so_taken(case, &other),
+    }
+}
+
+fn not_so_taken(case: &Case, other: &String) -> Result<String, AllocError> {
+    let seat = seat_text(case, case.given.who)?;
+    format!(in case.alloc;
+        "{other} may not be taken by {seat}, or not by this action or with these arguments"
+    )
 }
 
 fn nothing_to_take(case: &Case, given: &Reply) -> Result<String, AllocError> {
@@ -241,7 +272,13 @@ fn nothing_to_take(case: &Case, given: &Reply) -> Result<String, AllocError> {
 
 fn not_stopped(case: &Case) -> Result<String, AllocError> {
     match phases_before(case).closed {
-        Some(_) => text(case, "a task hasn't ended, and none is ready for this worker"),
-        None => text(case, "the node isn't closed, and no task is ready for this worker"),
+        Some(_) => text(
+            case,
+            "a task hasn't ended, and none is ready for this worker",
+        ),
+        None => text(
+            case,
+            "the node isn't closed, and no task is ready for this worker",
+        ),
     }
 }

@@ -74,11 +74,7 @@ impl Replay {
         if entry.who >= self.node.seats() || self.count >= 1 << 61 {
             return None;
         }
-        let wanted = renamed_answer(
-            &self.names,
-            answered_kind(&entry.op),
-            entry.reply.again(),
-        );
+        let wanted = renamed_answer(&self.names, answered_kind(&entry.op), entry.reply.again());
         let op = renamed_op(&self.names, entry.op.again());
         let reply = step(&mut self.node, self.count, entry.who, op, &wanted);
         self.count += 1;
@@ -115,11 +111,7 @@ impl Replay {
     /// where there is no such seat.
     pub(crate) fn answer(&mut self, entry: &Entry) -> Option<Reply> {
         let reply = self.call(entry)?;
-        Some(renamed_answer(
-            &self.back,
-            answered_kind(&entry.op),
-            reply,
-        ))
+        Some(renamed_answer(&self.back, answered_kind(&entry.op), reply))
     }
 
     /// Whether an object of the journal is live.
