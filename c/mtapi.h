@@ -4,7 +4,7 @@
  * - a pointer that isn't MTAPI_NULL leads to what its type says, and to as many bytes as its size says; `status`,
  *   attributes and results may be MTAPI_NULL;
  * - arguments, results and node-local data live until the task has ended and was waited for, or the node is finalized;
- * - an action returns, and neither ends its thread nor leaves by longjmp or an exception;
+ * - an action returns, and neither ends its thread nor leaves by longjmp or an exception; no thread is cancelled in a call;
  * - no call is made by a signal handler, or by a child of fork in which the parent's node stands.
  * Any thread may call. A handle that was forged or freed, or that is of another kind, is refused with its status.
  *

@@ -14,14 +14,20 @@ static pthread_key_t at_the_end;
 static pthread_once_t once = PTHREAD_ONCE_INIT;
 static bool has_key;
 
-/* A thread that holds a lock or is attached to a segment keeps its seat: the next one would have what it holds. */
+/* A thread that holds a lock or is attached to a segment keeps its seat: the next one would have what it holds. Another destructor
+ * of the thread may still call: it finds the seat gone, and gets another; or it gives back what is held, so this one runs again. */
 static void leave_seat(void *unused)
 {
     (void)unused;
     glue_lock();
     if (glue.state != NO_NODE && mine.epoch == glue.epoch && !mine.is_worker) {
         struct caller *caller = &glue.caller[mine.seat - glue.workers];
-        if (caller->held == 0) caller->taken = false;
+        if (caller->held == 0) {
+            caller->taken = false;
+            mine.epoch = 0; /* of no node */
+        } else {
+            pthread_setspecific(at_the_end, &mine);
+        }
     }
     glue_unlock();
 }
