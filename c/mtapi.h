@@ -292,7 +292,9 @@ mtapi_uint_t mtapi_context_instnum_get(const mtapi_task_context_t *task_context,
 mtapi_uint_t mtapi_context_numinst_get(const mtapi_task_context_t *task_context, mtapi_status_t *status);
 mtapi_uint_t mtapi_context_corenum_get(const mtapi_task_context_t *task_context, mtapi_status_t *status);
 
-/* ---- tasks */
+/* ---- tasks. A wait in an action holds its worker, so actions that start a task and wait for it go no deeper than there are
+ * workers; where each of them waits so, the wait answers MTAPI_EXT_ERR_DEADLOCK. Put such tasks into one group, for which a
+ * thread waits that is no worker. */
 void mtapi_taskattr_init(mtapi_task_attributes_t *attributes, mtapi_status_t *status);
 void mtapi_taskattr_set(mtapi_task_attributes_t *attributes, mtapi_uint_t attribute_num, const void *attribute,
     mtapi_size_t attribute_size, mtapi_status_t *status);
