@@ -1,0 +1,3 @@
+pub mod Begun
+pub mod Asks
+pub mod Complete
