@@ -5,6 +5,7 @@ use Rattle.std.proofs.lemmas.Bool.Decides.{nat_tests}
 use Rattle.std.proofs.lemmas.List.{append-nil, length-append}
 use Rattle.history.specs.Histories.{entry}
 use Rattle.mtapi_values.specs.declared.timeouts.Timeout.{Timeout}
+use Rattle.mtapi_values.specs.Timeouts.{looks_of}
 use Rattle.workload_file.specs.declared.workload.Statement.{Statement}
 use Rattle.workload_file.specs.declared.workload.Part.{Part}
 use Rattle.workload_file.specs.declared.workload.Workload.{Workload}
@@ -16,12 +17,13 @@ use Rattle.mtapi_machine.specs.Legal.{NodeEntry}
 use Rattle.mtapi_machine.specs.Row.{handle_of}
 use Rattle.mtapi_machine.specs.Kept.{is_pending}
 use Rattle.workload_runs.specs.Calls.{Call, Once, Looking, call_of}
-use Rattle.workload_runs.specs.Lines.{Line, line, lines_of, before_it, Made, head_of, tail_of_main, Entered, in_lines}
+use Rattle.workload_runs.specs.Lines.{Line, line, lines_of, before_it, Made, head_of, tail_of_main, Entered, KeepsTimeout, in_lines}
 use Rattle.workload_runs.specs.Parts.{Carried, MainRan, CallerRan, CallersRan, PartsRan, has_begin}
 use Rattle.workload_runs.specs.RunOf.{is_work, all_work, WorkerRan, RunOf}
 use Rattle.run_report.specs.Replies.{decided}
 use Rattle.begun_runs.specs.Begun.{Begun}
-use Rattle.begun_runs.specs.Asks.{AskedBy, AsksOp, AsksNext, AsksPart, main_head, MainAsks, CallerAsks, MayMake, worker, main, caller, NextIsAsked}
+use Rattle.begun_runs.proofs.Fronts.{fronts_of_begun}
+use Rattle.begun_runs.specs.Asks.{AskedBy, AsksOp, AsksNext, AsksPart, main_head, MainAsks, CallerAsks, MayMake, worker, main, caller, EachIsAsked}
 
 -- the replies of these lines that decide
 decided_in : List Line → List Reply
@@ -78,9 +80,16 @@ front_of : (c : Call) (front : List Line) (r : Reply) → Made c front r → Fro
 front_of (Once o) front r m = one o 0 m.0 refl m.1
 front_of (Looking waits o timeout) front r m = by m.first m.is
   where
+    never_last : (bound : Option ℕ) (last : Bool) (looks : ℕ) → KeepsTimeout bound last looks → bound ≡ None → last ≡ false
+    never_last None last looks k e = k
+    never_last (Some most) last looks k e = absurd (cc)
+
+    decides_by : looks_of timeout ≡ None → m.last ≡ false
+    decides_by e = never_last (looks_of timeout) m.last _ m.within e
+
     by : (first : Option ℕ) → front ≡ before_it (o false) first ++ line (o m.last) r m.beside ∷ [] → FrontOf (Looking waits o timeout) front r
-    by None e = one (o m.last) m.beside e (m.last, refl) m.decides
-    by (Some n) e = two (o false) (o m.last) n m.beside e (false, refl) (m.last, refl) m.decides
+    by None e = one (o m.last) m.beside e (m.last, refl, decides_by) m.decides
+    by (Some n) e = two (o false) (o m.last) n m.beside e (false, refl, λ _. refl) (m.last, refl, decides_by) m.decides
 
 -- the first call's lines, and what is told of those behind them
 module _ (bound : List ℕ) (s : Statement) (ss : List Statement) (tail : List Op) (r : Reply) (rest T B : List Line) (l : Line)
@@ -297,10 +306,38 @@ module _ (load : Workload) (es : List NodeEntry) (e : NodeEntry) (ns : List ℕ)
       (subst (λ (z : List Reply). CallerAsks x.part.statements z e.op) (decided_are e.who)
       (caller_asks x.part.statements (made e.who) (lines_of e.who es ns) (lines_of e.who b.rest b.beside) (line e.op e.reply n) x.replies x.ran (split e.who refl)))
 
-pub next_is_asked : NextIsAsked
+next_is_asked : (load : Workload) (es : List NodeEntry) (e : NodeEntry) (ns : List ℕ) (n : ℕ) → e.who < load.settings.workers + length load.parts
+    → Begun load (es ++ e ∷ []) (ns ++ n ∷ []) → MayMake load es e
 next_is_asked load es e ns n seat b = by (nat_lt e.who load.settings.workers) (e.who == load.settings.workers) refl refl
   where
     by : (below here : Bool) → nat_lt e.who load.settings.workers ≡ below → (e.who == load.settings.workers) ≡ here → MayMake load es e
     by true here p q = by_worker load es e ns n b (grind (arith, nat_tests))
     by false true p q = by_main load es e ns n b load.parts b.run.replies refl b.run.parts (grind (arith, nat_tests))
     by false false p q = by_caller load es e ns n b load.parts b.run.replies refl b.run.parts (grind (arith, nat_tests)) seat
+
+-- numbers beside a list, cut behind one of its elements
+record Cut (es : List NodeEntry) (ns : List ℕ) : Type 0 where
+  pub front : List ℕ
+  pub one : ℕ
+  pub back : List ℕ
+  pub is : ns ≡ (front ++ one ∷ []) ++ back
+  pub even : length es ≡ length front
+
+cut : (es : List NodeEntry) (e : NodeEntry) (more : List NodeEntry) (ns : List ℕ) → length (es ++ e ∷ more) ≡ length ns → Cut es ns
+cut [] e more [] even = absurd (omega (arith, even))
+cut [] e more (n ∷ ns) even = record { front = []; one = n; back = ns; is = refl; even = refl }
+cut (x ∷ es) e more [] even = absurd (omega (arith, even))
+cut (x ∷ es) e more (n ∷ ns) even =
+    let c = cut es e more ns (omega (arith, even)) in
+    let same = c.even in
+    record { front = n ∷ c.front; one = c.one; back = c.back; is = ap (λ (l : List ℕ). n ∷ l) c.is; even = omega (arith, same) }
+
+pub each_is_asked : EachIsAsked
+each_is_asked load es more e ns seat b =
+    let c = cut es e more ns b.even in
+    let same = c.even in
+    let whole : Begun load ((es ++ e ∷ []) ++ more) ((c.front ++ c.one ∷ []) ++ c.back) =
+        subst (λ (l : List NodeEntry). Begun load l ((c.front ++ c.one ∷ []) ++ c.back)) (sym (append_assoc es (e ∷ []) more))
+        (subst (λ (l : List ℕ). Begun load (es ++ e ∷ more) l) c.is b) in
+    next_is_asked load es e c.front c.one seat
+    (fronts_of_begun load (es ++ e ∷ []) more (c.front ++ c.one ∷ []) c.back (grind (arith, length-append)) whole)

@@ -1,6 +1,7 @@
 -- What a seat asks next, told by the replies to which its calls came so far.
-use Rattle.std.specs.Prelude.{◌≡◌, ℕ, ◌+◌, ◌<◌, Bool, List, [], ◌∷◌, ◌++◌, length, if◌then◌else◌, ◌⊎◌, true}
+use Rattle.std.specs.Prelude.{◌≡◌, ℕ, ◌+◌, ◌<◌, Bool, List, [], ◌∷◌, ◌++◌, length, if◌then◌else◌, ◌⊎◌, true, false, Option, None}
 use Rattle.history.specs.Histories.{entry}
+use Rattle.mtapi_values.specs.Timeouts.{looks_of}
 use Rattle.workload_file.specs.declared.workload.Statement.{Statement}
 use Rattle.workload_file.specs.declared.workload.Part.{Part}
 use Rattle.workload_file.specs.declared.workload.Workload.{Workload}
@@ -16,10 +17,10 @@ use Rattle.workload_runs.specs.RunOf.{is_work}
 use Rattle.run_report.specs.Replies.{decided}
 use Rattle.begun_runs.specs.Begun.{Begun}
 
--- a call asks this op: its own one, or a look, the last one or not
+-- a call asks this op: its own one, or a look, the last one or not; where it has no bound, no look is the last
 abbrev pub AskedBy : Call → Op → Type 0
 AskedBy (Once o) p = p ≡ o
-AskedBy (Looking waits o timeout) p = (last : Bool) × (p ≡ o last)
+AskedBy (Looking waits o timeout) p = (last : Bool) × (p ≡ o last) × (looks_of timeout ≡ None → last ≡ false)
 
 -- of these ops, one for each call, the one behind these replies
 unfoldable pub AsksOp : List Op → List Reply → Op → Type 0
@@ -61,7 +62,7 @@ pub data MayMake (load : Workload) (es : List NodeEntry) : NodeEntry → Type 0 
   caller : (e : NodeEntry) (q : Part) (qs ps : List Part) (p : Part) → load.parts ≡ q ∷ (qs ++ p ∷ ps) → e.who ≡ load.settings.workers + (1 + length qs)
       → CallerAsks p.statements (decided e.who es) e.op → MayMake load es e
 
--- where a journal has begun, its last entry is one that its seat may make behind the others
-abbrev pub NextIsAsked : Type 0
-NextIsAsked = (load : Workload) (es : List NodeEntry) (e : NodeEntry) (ns : List ℕ) (n : ℕ) → e.who < load.settings.workers + length load.parts
-    → Begun load (es ++ e ∷ []) (ns ++ n ∷ []) → MayMake load es e
+-- each entry of a journal of a run that has begun is one that its seat may make behind the earlier ones
+abbrev pub EachIsAsked : Type 0
+EachIsAsked = (load : Workload) (es more : List NodeEntry) (e : NodeEntry) (ns : List ℕ) → e.who < load.settings.workers + length load.parts
+    → Begun load (es ++ e ∷ more) ns → MayMake load es e

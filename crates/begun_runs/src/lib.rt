@@ -5,4 +5,4 @@
 
 mod laws;
 
-pub use laws::{law_deadlock, law_fronts, law_next};
+pub use laws::{law_deadlock, law_fronts, law_next, worked_complete};
