@@ -1,18 +1,16 @@
 -- Fronts of runs, and that no run goes on from a deadlock.
-use Rattle.std.proofs.Common.{◌≡◌, ℕ, suc, ◌+◌, Bool, true, false, cond, List, [], ◌∷◌, ◌++◌, length, refl, sym, ◌∙◌, ap, subst, arith, append_assoc}
+use Rattle.std.proofs.Common.{◌≡◌, ℕ, Bool, true, false, cond, List, [], ◌∷◌, ◌++◌, sym, ◌∙◌, subst, arith, append_assoc}
 use Rattle.std.proofs.lemmas.List.{append-nil, length-append, nil_from_length}
 use Rattle.history.specs.Histories.{entry}
-use Rattle.workload_file.specs.declared.workload.Workload.{Workload}
-use Rattle.mtapi_values.specs.declared.handles.Layout.{Layout}
 use Rattle.mtapi_machine.specs.declared.ops.Op.{Op}
 use Rattle.mtapi_machine.specs.declared.ops.Op.TheVariants as op
 use Rattle.mtapi_machine.specs.declared.replies.Reply.TheVariants as reply
 use Rattle.mtapi_machine.specs.State.{State}
-use Rattle.mtapi_machine.specs.Legal.{NodeEntry, Legal, next, after}
+use Rattle.mtapi_machine.specs.Legal.{NodeEntry, next, after}
 use Rattle.mtapi_machine.specs.Kept.{is_dropped, kept}
 use Rattle.workload_runs.specs.RunOf.{RunOf}
 use Rattle.run_report.specs.Report.{run_terms}
-use Rattle.begun_runs.specs.Begun.{Begun, Stuck, FrontsOfRuns, FrontsOfBegun, NoRunGoesOn}
+use Rattle.begun_runs.specs.Begun.{Begun, FrontsOfRuns, FrontsOfBegun, NoRunGoesOn}
 
 pub fronts_of_runs : FrontsOfRuns
 fronts_of_runs load es more ns beside even run = record { rest = more; beside = beside; even = even; run = run }
@@ -61,11 +59,12 @@ no_run_goes_on load layout es more ns beside stuck even legal run =
     let close = entry load.settings.workers op.Close reply.Ok in
     let final = entry load.settings.workers op.Final reply.Ok in
     let last = last_behind es more (ends.before ++ close ∷ ends.behind) final (ends.closes ∙ sym (append_assoc ends.before (close ∷ ends.behind) (final ∷ [])))
-        (λ none. stuck.unended (whole none)) in
+    (λ none. stuck.unended (whole none)) in
     stays_last (after (run_terms layout load) es) last.0 load.settings.workers op.Final (subst (λ (l : List NodeEntry). kept (after (run_terms layout load) es) l ≡ []) last.1 still)
   where
     no_more : more ≡ [] → beside ≡ []
     no_more none = nil_from_length beside (let l = stuck.begun.even in grind (arith, length-append, none))
+
     whole : more ≡ [] → RunOf load es ns
     whole none =
         subst (λ (l : List ℕ). RunOf load es l) (append-nil ns)

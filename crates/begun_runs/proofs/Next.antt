@@ -4,7 +4,6 @@ use Rattle.std.proofs.Common.{◌≡◌, ℕ, suc, ◌+◌, ◌<◌, ◌≤◌, 
 use Rattle.std.proofs.lemmas.Bool.Decides.{nat_tests}
 use Rattle.std.proofs.lemmas.List.{append-nil, length-append}
 use Rattle.history.specs.Histories.{entry}
-use Rattle.mtapi_values.specs.declared.timeouts.Timeout.{Timeout}
 use Rattle.mtapi_values.specs.Timeouts.{looks_of}
 use Rattle.workload_file.specs.declared.workload.Statement.{Statement}
 use Rattle.workload_file.specs.declared.workload.Part.{Part}
@@ -17,9 +16,9 @@ use Rattle.mtapi_machine.specs.Legal.{NodeEntry}
 use Rattle.mtapi_machine.specs.Row.{handle_of}
 use Rattle.mtapi_machine.specs.Kept.{is_pending}
 use Rattle.workload_runs.specs.Calls.{Call, Once, Looking, call_of}
-use Rattle.workload_runs.specs.Lines.{Line, line, lines_of, before_it, Made, head_of, tail_of_main, Entered, KeepsTimeout, in_lines}
+use Rattle.workload_runs.specs.Lines.{Line, line, lines_of, before_it, Made, head_of, tail_of_main, KeepsTimeout, in_lines}
 use Rattle.workload_runs.specs.Parts.{Carried, MainRan, CallerRan, CallersRan, PartsRan, has_begin}
-use Rattle.workload_runs.specs.RunOf.{is_work, all_work, WorkerRan, RunOf}
+use Rattle.workload_runs.specs.RunOf.{is_work, all_work}
 use Rattle.run_report.specs.Replies.{decided}
 use Rattle.begun_runs.specs.Begun.{Begun}
 use Rattle.begun_runs.proofs.Fronts.{fronts_of_begun}
@@ -337,7 +336,7 @@ each_is_asked load es more e ns seat b =
     let c = cut es e more ns b.even in
     let same = c.even in
     let whole : Begun load ((es ++ e ∷ []) ++ more) ((c.front ++ c.one ∷ []) ++ c.back) =
-        subst (λ (l : List NodeEntry). Begun load l ((c.front ++ c.one ∷ []) ++ c.back)) (sym (append_assoc es (e ∷ []) more))
-        (subst (λ (l : List ℕ). Begun load (es ++ e ∷ more) l) c.is b) in
+    subst (λ (l : List NodeEntry). Begun load l ((c.front ++ c.one ∷ []) ++ c.back)) (sym (append_assoc es (e ∷ []) more))
+    (subst (λ (l : List ℕ). Begun load (es ++ e ∷ more) l) c.is b) in
     next_is_asked load es e c.front c.one seat
     (fronts_of_begun load (es ++ e ∷ []) more (c.front ++ c.one ∷ []) c.back (grind (arith, length-append)) whole)

@@ -1,7 +1,7 @@
 -- The worked lists, by computing.
-use Rattle.std.specs.Prelude.{◌==◌, ◌⊎◌, slice_index_or, nat_lt}
+use Rattle.std.specs.Prelude.{◌⊎◌, codes}
 use Rattle.std.proofs.lemmas.Bool.Decides.{nat_tests}
-use Rattle.std.proofs.Common.{rules, ◌≡◌, ℕ, zero, suc, ◌+◌, ◌<◌, ◌≤◌, Bool, true, false, List, [], ◌∷◌, ◌++◌, length, refl, sym, ◌∙◌, ap, subst, arith, inl, inr}
+use Rattle.std.proofs.Common.{rules, ◌≡◌, ℕ, zero, suc, ◌<◌, Bool, true, false, List, [], ◌∷◌, ◌++◌, length, refl, sym, ◌∙◌, ap, subst, arith, inl, inr}
 use Rattle.mtapi_machine.specs.Legal.{Fits, Legal}
 use Rattle.mtapi_machine.specs.Replay.{replay}
 use Rattle.action_fn.specs.Answers.{fits, answer_of}
@@ -23,9 +23,8 @@ use Rattle.mtapi_machine.specs.Legal.{NodeEntry}
 use Rattle.mtapi_machine.specs.Worked.{main, closed}
 use Rattle.workload_file.specs.Deeds.{is_begin}
 use Rattle.workload_file.specs.declared.workload.Workload.{Workload}
-use Rattle.workload_runs.specs.Calls.{Once, Looking}
-use Rattle.workload_runs.specs.Lines.{Line, line, lines_of, Made, in_lines}
-use Rattle.workload_runs.specs.Parts.{Carried, CallersRan, PartsRan, has_begin}
+use Rattle.workload_runs.specs.Lines.{Line, line, lines_of, Made}
+use Rattle.workload_runs.specs.Parts.{Carried, CallersRan, has_begin}
 use Rattle.workload_runs.specs.RunOf.{all_work, WorkerRan, RunOf, ClosesAtEnd}
 use Rattle.run_report.specs.Calls.{shown_of, task_lines_of, task_name, call_lines_of}
 use Rattle.run_report.specs.Replies.{decided, further_told}
@@ -45,8 +44,16 @@ use Rattle.mtapi_machine.specs.Legal.{IsNext, LegalFrom, after, next}
 use Rattle.mtapi_machine.specs.declared.terms.Terms.{Terms}
 use Rattle.mtapi_machine.specs.Kept.{kept}
 use Rattle.begun_runs.specs.Begun.{Begun, Stuck}
-use Rattle.begun_runs.specs.Complete.{HasAllReports, HasAllDeadlocks}
-use Rattle.begun_runs.specs.Worked.{none_skipped, completed_run, cancelled_text, completed_text, stuck_load, stuck_history, RunsWith, WorkedComplete}
+use Rattle.std.specs.List.{Any}
+use Rattle.std.proofs.Common.{append_assoc, cond}
+use Rattle.workload_file.specs.declared.workload.Part.{Part}
+use Rattle.mtapi_machine.specs.Kept.{is_dropped}
+use Rattle.run_report.specs.Replies.{decides}
+use Rattle.begun_runs.specs.Asks.{AskedBy, AsksPart, AsksNext, MainAsks, MayMake, worker, caller}
+use Rattle.begun_runs.specs.Asks as may
+use Rattle.begun_runs.proofs.Next.{each_is_asked}
+use Rattle.begun_runs.specs.Complete.{HasAllReports, HasAllDeadlocks, SamePlaces}
+use Rattle.begun_runs.specs.Worked.{none_skipped, completed_run, cancelled_text, completed_text, stuck_statements, stuck_load, stuck_history, RunsWith, WorkedComplete}
 
 -- Runs
 
@@ -151,11 +158,14 @@ carried_ran : RunOf stuck_load (stuck_history ++ carried_on) (none_skipped (stuc
 unfolding Carried CallersRan lines_of all_work has_begin is_begin
 carried_ran = record {
   replies = (reply.Handle 4294967296 ∷ reply.Ok ∷ reply.Ok ∷ []) ∷ [];
-  parts = (record {
-    body = _;
-    is = refl;
-    carried = (_ ∷ [], _, refl, (refl, refl), (_ ∷ [], _, refl, at_once, (_ ∷ [], [], refl, at_once, refl)));
-  }, tt);
+  parts = (
+    record {
+      body = _;
+      is = refl;
+      carried = (_ ∷ [], _, refl, (refl, refl), (_ ∷ [], _, refl, at_once, (_ ∷ [], [], refl, at_once, refl)));
+    },
+    tt,
+  );
   workers = only_worker (stuck_history ++ carried_on) (none_skipped (stuck_history ++ carried_on)) (record { work = []; beside = 0; is = refl; works = refl });
   ends = the_end (stuck_history ++ main (op.SemLook (record { 0 = 4294967296 }) false) reply.Ok ∷ []);
 }
@@ -198,13 +208,113 @@ main_pends : (r : Reply) → Allows (row held 1 (op.SemLook (record { 0 = 429496
 unfolding held after_from live_of issue change listed issued_at retired is_full may_issue has_worker is_ready can_take has_better
 main_pends r x = x
 
+-- what each of the two may make then
+abbrev Goes : NodeEntry → Type 0
+Goes x = (x ≡ idle) ⊎ (x ≡ look)
+
+goes_by : (D : List NodeEntry) (x : NodeEntry) → decided 1 (stuck_history ++ D) ≡ decided 1 stuck_history → IsNext held x → MayMake stuck_load (stuck_history ++ D) x
+    → Goes x
+unfolding decided AsksPart AsksNext has_begin is_begin
+goes_by D x same is_next (worker e small (inl works)) =
+    let zero_seat : e.who ≡ 0 = omega (arith, small) in
+    inl (ap (λ (w : ℕ). entry w e.op e.reply) zero_seat ∙ worker_idles e.op e.reply works (subst (λ (w : ℕ). Allows (row held w e.op e.reply) e.reply) zero_seat is_next.allowed))
+goes_by D x same is_next (worker e small (inr stops)) =
+    let zero_seat : e.who ≡ 0 = omega (arith, small) in
+    let is : e ≡ entry 0 op.Pick reply.Stop = stops ∙ ap (λ (w : ℕ). entry w op.Pick reply.Stop) zero_seat in
+    absurd (no_stop_yet (subst (λ (y : NodeEntry). Allows (row held y.who y.op y.reply) y.reply) is is_next.allowed))
+goes_by D x same is_next (may.main e p ps are is asks) = by_main p ps are (subst (λ (rs : List Reply). MainAsks p.statements rs e.op) (ap (λ (w : ℕ). decided w (stuck_history ++ D)) is ∙ same) asks)
+  where
+    by_main : (p : Part) (ps : List Part) → stuck_load.parts ≡ p ∷ ps → MainAsks p.statements (decided 1 stuck_history) e.op → Goes e
+    by_main p ps are asks =
+        let here : record { line = 0; name = codes "main"; statements = stuck_statements } ≡ p = cc in
+        let looks : AskedBy (call_of (4294967296 ∷ 0 ∷ []) (deed.SemLock 0 timeout.Infinite)) e.op = subst (λ (q : Part). MainAsks q.statements (decided 1 stuck_history) e.op) (sym here) asks in
+        let asked : e.op ≡ op.SemLook (record { 0 = 4294967296 }) false = looks.1 ∙ ap (λ (b : Bool). op.SemLook (record { 0 = 4294967296 }) b) (looks.2 refl) in
+        let shape : e ≡ entry 1 (op.SemLook (record { 0 = 4294967296 }) false) e.reply = (λ i. entry (is i) (asked i) e.reply) in
+        let pends : e.reply ≡ reply.Pending =
+        main_pends e.reply (subst (λ (y : NodeEntry). Allows (row held y.who y.op y.reply) y.reply) shape is_next.allowed) in
+        inr (shape ∙ ap (λ (r : Reply). entry 1 (op.SemLook (record { 0 = 4294967296 }) false) r) pends)
+goes_by D x same is_next (caller e q qs ps p are is asks) = absurd (no_third qs ps p are)
+  where
+    no_third : (qs ps : List Part) (p : Part) → stuck_load.parts ≡ q ∷ (qs ++ p ∷ ps) → ⊥
+    no_third [] ps p are = cc
+    no_third (z ∷ qs) ps p are = cc
+
+decided_behind : (L M : List NodeEntry) → decided 1 M ≡ [] → decided 1 (L ++ M) ≡ decided 1 L
+unfolding decided
+decided_behind [] M e = e
+decided_behind (x ∷ L) M e = (λ i. cond (decides 1 x) (x.reply ∷ decided_behind L M e i) (decided_behind L M e i))
+
+none_decided : (x : NodeEntry) → Goes x → decided 1 (x ∷ []) ≡ []
+unfolding decided
+none_decided x (inl is) = ap (λ (y : NodeEntry). decided 1 (y ∷ [])) is
+none_decided x (inr is) = ap (λ (y : NodeEntry). decided 1 (y ∷ [])) is
+
+-- it leaves the state, and no journal keeps it
+leaves_all : (x : NodeEntry) → Goes x → next held x ≡ held
+unfolding held after_from live_of issue change listed issued_at retired is_full may_issue has_worker is_ready can_take has_better
+leaves_all x (inl is) = ap (λ (y : NodeEntry). next held y) is
+leaves_all x (inr is) = ap (λ (y : NodeEntry). next held y) is
+
+not_kept : (x : NodeEntry) (more : List NodeEntry) → Goes x → kept held more ≡ [] → kept held (x ∷ more) ≡ []
+unfolding kept
+not_kept x more goes none = ap (λ (b : Bool). cond b (kept (next held x) more) (x ∷ kept (next held x) more)) (dropped goes)
+    ∙ (ap (λ (s : State). kept s more) (leaves_all x goes) ∙ none)
+  where
+    dropped : Goes x → is_dropped held x ≡ true
+    dropped (inl is) = ap (λ (y : NodeEntry). is_dropped held y) is
+    dropped (inr is) = ap (λ (y : NodeEntry). is_dropped held y) is
+
+two_seats : (x : NodeEntry) → IsNext held x → x.who < 2
+unfolding held after_from live_of is_full retired may_issue listed issued_at issue
+two_seats x n = n.seat
+
+nothing_kept : (D more : List NodeEntry) (ns : List ℕ) → decided 1 (stuck_history ++ D) ≡ decided 1 stuck_history → LegalFrom held more
+    → Begun stuck_load ((stuck_history ++ D) ++ more) ns → kept held more ≡ []
+unfolding kept LegalFrom
+nothing_kept D [] ns same legal b = refl
+nothing_kept D (x ∷ more) ns same legal b =
+    let goes = goes_by D x same legal.0 (each_is_asked stuck_load (stuck_history ++ D) more x ns (two_seats x legal.0) b) in
+    let again : decided 1 (stuck_history ++ (D ++ x ∷ [])) ≡ decided 1 stuck_history = decided_behind (stuck_history ++ D) (x ∷ []) (none_decided x goes) ∙ same in
+    let rest : Begun stuck_load ((stuck_history ++ (D ++ x ∷ [])) ++ more) ns =
+    subst (λ (l : List NodeEntry). Begun stuck_load l ns) (sym (append_assoc (stuck_history ++ D) (x ∷ []) more)) b in
+    not_kept x more goes (nothing_kept (D ++ x ∷ []) more ns again (subst (λ (s : State). LegalFrom s more) (leaves_all x goes) legal.1) rest)
+
+from_held : (more : List NodeEntry) → Legal terms (stuck_history ++ more) → LegalFrom held more
+unfolding held after_from LegalFrom
+from_held more legal = legal.from.1.1.1.1
+
+still : (more : List NodeEntry) (beside : List ℕ) → Legal terms (stuck_history ++ more) → Begun stuck_load (stuck_history ++ more) (none_skipped stuck_history ++ beside)
+    → kept (after terms stuck_history) more ≡ []
+unfolding held
+still more beside legal b = nothing_kept [] more (none_skipped stuck_history ++ beside) refl (from_held more legal) b
+
+stuck : Stuck stuck_load One stuck_history (none_skipped stuck_history)
+stuck = record { legal = stuck_legal; begun = stuck_begun; unended = stuck_unended; still = still }
+
+no_history : HasAllDeadlocks stuck_load [] → ⊥
+no_history all = let x = all One stuck_history (none_skipped stuck_history) stuck in omega (arith, x.2)
+
+-- a history in which main has made one call has not come as far
+abbrev opened : List NodeEntry
+opened = main op.Initialize reply.Ok ∷ []
+
+no_short_one : HasAllDeadlocks stuck_load (opened ∷ []) → ⊥
+unfolding decided
+no_short_one all = by (all One stuck_history (none_skipped stuck_history) stuck)
+  where
+    by : Any (SamePlaces stuck_load stuck_history) (opened ∷ []) → ⊥
+    by (zero, x, small, is, same) =
+        let places : 1 ≡ 4 = subst (λ (l : List NodeEntry). length (decided 1 l) ≡ 4) (sym is) (same 1 (omega arith)) in
+        omega (arith, places)
+    by (suc k, x, small, is, same) = omega (arith, small)
+
 pub worked_complete : WorkedComplete
 worked_complete = record {
   cancelled = cancelled_runs;
   completed = completed_runs;
   lacks_completed = lacks cancelled_load completed_run completed_text cancelled_text completed_runs refl (λ e. cc);
   lacks_cancelled = lacks cancelled_load cancelled_run cancelled_text completed_text cancelled_runs refl (λ e. cc);
-  deadlock = record { legal = stuck_legal; begun = stuck_begun; unended = stuck_unended; still = ? };
-  lacks_deadlock = ?;
-  too_early = ?;
+  deadlock = stuck;
+  lacks_deadlock = no_history;
+  too_early = no_short_one;
 }

@@ -1,5 +1,5 @@
 -- What a seat asks next, told by the replies to which its calls came so far.
-use Rattle.std.specs.Prelude.{◌≡◌, ℕ, ◌+◌, ◌<◌, Bool, List, [], ◌∷◌, ◌++◌, length, if◌then◌else◌, ◌⊎◌, true, false, Option, None}
+use Rattle.std.specs.Prelude.{◌≡◌, ℕ, ◌+◌, ◌<◌, Bool, List, [], ◌∷◌, ◌++◌, length, if◌then◌else◌, ◌⊎◌, true, false, None}
 use Rattle.history.specs.Histories.{entry}
 use Rattle.mtapi_values.specs.Timeouts.{looks_of}
 use Rattle.workload_file.specs.declared.workload.Statement.{Statement}

@@ -1,5 +1,5 @@
 -- What a run of a workload is before its end, and when it can't go on.
-use Rattle.std.specs.Prelude.{◌≡◌, ℕ, List, [], ◌∷◌, ◌++◌, length}
+use Rattle.std.specs.Prelude.{◌≡◌, ℕ, List, [], ◌++◌, length}
 use Rattle.workload_file.specs.declared.workload.Workload.{Workload}
 use Rattle.mtapi_values.specs.declared.handles.Layout.{Layout}
 use Rattle.mtapi_machine.specs.Legal.{NodeEntry, Legal, after}

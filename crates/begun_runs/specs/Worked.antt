@@ -1,9 +1,9 @@
 -- Worked lists: a workload with two reports, and one with a deadlock, of which lists that lack one are refused.
-use Rattle.std.specs.Prelude.{◌≡◌, ℕ, false, List, [], ◌∷◌, ◌++◌, codes, replicate, length, pos, None, Some}
-use Rattle.std.specs.List.{flat_map}
+use Rattle.std.specs.Prelude.{◌≡◌, ℕ, false, List, [], ◌∷◌, codes, replicate, length}
 use Rattle.mtapi_values.specs.declared.handles.Layout.TheVariants.{One}
 use Rattle.mtapi_values.specs.declared.timeouts.Timeout.TheVariants as timeout
 use Rattle.workload_file.specs.declared.workload.Deed.TheVariants as deed
+use Rattle.workload_file.specs.declared.workload.Statement.{Statement}
 use Rattle.workload_file.specs.declared.workload.Workload.{Workload}
 use Rattle.mtapi_machine.specs.declared.ops.Op.TheVariants as op
 use Rattle.mtapi_machine.specs.declared.replies.Reply.TheVariants as reply
@@ -14,7 +14,7 @@ use Rattle.run_report.specs.Report.{report, run_terms}
 use Rattle.run_report.specs.Worked.{lines, statement, using, workload, cancelled_load, cancelled_run}
 use Rattle.workload_runs.specs.RunOf.{RunOf}
 use Rattle.begun_runs.specs.Begun.{Stuck}
-use Rattle.begun_runs.specs.Complete.{HasAllReports, HasAllDeadlocks, Complete}
+use Rattle.begun_runs.specs.Complete.{HasAllReports, HasAllDeadlocks}
 
 -- no skipped entries beside the others
 abbrev pub none_skipped : List NodeEntry → List ℕ
@@ -39,8 +39,11 @@ abbrev pub completed_text : List ℕ
 completed_text = lines (codes "main.t completed 5" ∷ [])
 
 -- main takes a semaphore of one unit twice
+abbrev pub stuck_statements : List Statement
+stuck_statements = statement 1 (codes "s") (deed.Sem 1 1) ∷ using 2 (deed.SemLock 0 timeout.Infinite) ∷ using 3 (deed.SemLock 0 timeout.Infinite) ∷ []
+
 abbrev pub stuck_load : Workload
-stuck_load = workload 1024 (statement 1 (codes "s") (deed.Sem 1 1) ∷ using 2 (deed.SemLock 0 timeout.Infinite) ∷ using 3 (deed.SemLock 0 timeout.Infinite) ∷ [])
+stuck_load = workload 1024 stuck_statements
 
 abbrev pub stuck_history : List NodeEntry
 stuck_history =
