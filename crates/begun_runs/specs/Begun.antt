@@ -4,6 +4,7 @@ use Rattle.workload_file.specs.declared.workload.Workload.{Workload}
 use Rattle.mtapi_values.specs.declared.handles.Layout.{Layout}
 use Rattle.mtapi_machine.specs.Legal.{NodeEntry, Legal, after}
 use Rattle.mtapi_machine.specs.Kept.{kept}
+use Rattle.node_journals.specs.Journals.{KeptEntries}
 use Rattle.workload_runs.specs.RunOf.{RunOf}
 use Rattle.run_report.specs.Report.{run_terms}
 
@@ -14,6 +15,10 @@ pub record Begun (load : Workload) (es : List NodeEntry) (ns : List ℕ) : Type 
   pub beside : List ℕ
   pub even : length es ≡ length ns
   pub run : RunOf load (es ++ rest) (ns ++ beside)
+
+-- the later list is the earlier one with more behind it
+abbrev pub GoesOn : KeptEntries → KeptEntries → Type 0
+GoesOn a b = (rest : List NodeEntry) × (beside : List ℕ) × (b.entries ≡ a.entries ++ rest) × (b.skipped ≡ a.skipped ++ beside)
 
 -- A deadlock: such a journal, legal and not yet a run, which nothing carries on but entries that a journal leaves out.
 pub record Stuck (load : Workload) (layout : Layout) (es : List NodeEntry) (ns : List ℕ) : Type 0 where
