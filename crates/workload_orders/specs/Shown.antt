@@ -1,6 +1,7 @@
 -- What is known of the reports and the deadlocks that are listed.
-use Rattle.std.specs.Prelude.{◌≡◌, List, [], ◌∷◌}
+use Rattle.std.specs.Prelude.{◌≡◌, List, [], ◌∷◌, length}
 use Rattle.workload_file.specs.declared.workload.Workload.{Workload}
+use Rattle.begun_runs.specs.Begun.{Begun}
 use Rattle.workload_orders.specs.Names.{IsLegal, IsRun, report}
 use Rattle.workload_orders.specs.declared.listed.Report.{Report}
 use Rattle.workload_orders.specs.declared.listed.Deadlock.{Deadlock}
@@ -17,16 +18,19 @@ abbrev pub AllShow : Workload → List Report → Type 0
 AllShow load [] = Unit {0}
 AllShow load (r ∷ rs) = Shows load r × AllShow load rs
 
--- the history behind a deadlock is legal
-abbrev pub HasHistory : Deadlock → Type 0
-HasHistory d = IsLegal d.journal
+-- the journal behind a deadlock is a legal history, with the workload's settings and callers, and the front of a run of it
+pub record HasHistory (load : Workload) (d : Deadlock) : Type 0 where
+  pub settings : d.journal.settings ≡ load.settings
+  pub callers : d.journal.callers ≡ length load.parts
+  pub legal : IsLegal d.journal
+  pub begun : Begun load d.journal.entries.entries d.journal.entries.skipped
 
--- each deadlock has such a history
-abbrev pub AllHaveHistories : List Deadlock → Type 0
-AllHaveHistories [] = Unit {0}
-AllHaveHistories (d ∷ ds) = HasHistory d × AllHaveHistories ds
+-- each deadlock has such a journal
+abbrev pub AllHaveHistories : Workload → List Deadlock → Type 0
+AllHaveHistories load [] = Unit {0}
+AllHaveHistories load (d ∷ ds) = HasHistory load d × AllHaveHistories load ds
 
 -- both
 pub record IsShown (load : Workload) (o : Orders) : Type 0 where
   pub reports : AllShow load o.reports.items
-  pub deadlocks : AllHaveHistories o.deadlocks.items
+  pub deadlocks : AllHaveHistories load o.deadlocks.items

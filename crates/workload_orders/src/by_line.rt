@@ -240,10 +240,10 @@ fn list_stop(
     let labels = path_to(alloc, graph, &searched.found, place)?;
     let (_, state) = machine.follow(alloc, &labels)?;
     let waits = machine.waits(alloc, &state)?;
-    let journal = journal_of(load, machine.entries(alloc, &labels)?);
+    let entries = machine.entries(alloc, &labels)?;
     let deadlocks = &mut listing.orders.deadlocks;
     let words = &mut listing.known.words;
-    if !add_deadlock(alloc, load, journal, waits, deadlocks, words)? {
+    if !add_deadlock(alloc, load, entries, waits, deadlocks, words)? {
         listing.orders.refused = listing.orders.refused.saturating_add(1);
     }
     Ok(())
@@ -314,7 +314,7 @@ fn nothing_listed(
 pub fn find_lines(alloc: Global, load: &Workload, most: usize) -> Result<Lines, AllocError>
     requires formed { WellFormed load.now }
     ensures shown { IfOk result (λ o. AllShow load.now o.runs.reports.items) }
-    ensures histories { IfOk result (λ o. AllHaveHistories o.runs.deadlocks.items) }
+    ensures histories { IfOk result (λ o. AllHaveHistories load.now o.runs.deadlocks.items) }
 {
     let machine = Machine::new(alloc, load)?;
     let uses = machine.last_uses(alloc)?;
