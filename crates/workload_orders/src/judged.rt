@@ -2,7 +2,7 @@
 ghost use Rattle.std.specs.Prelude.{◌≡◌, true, IfOk, IfSome};
 ghost use Rattle.workload_file.specs.Formed.{WellFormed};
 ghost use Rattle.begun_runs.specs.Begun.{Begun};
-ghost use Rattle.workload_orders.specs.Names.{IsLegal};
+ghost use Rattle.workload_orders.specs.Names.{IsLegal, IsRun};
 ghost use Rattle.workload_orders.specs.Shown.{Shows, HasHistory};
 
 use crate::listed::{Deadlock, Report};
@@ -42,21 +42,21 @@ pub(crate) fn judged_report(
     match check_run(alloc, load, &journal)? {
         Verdict::Yes => {
             let text = report_of(alloc, load, &journal)?;
+            let _ = journal.entries.skipped();
             Ok(Some(Report { text, journal }))
         }
         _ => Ok(None),
     }
 }
 
-/// Whether this journal is a legal history.
-fn is_legal(alloc: Global, load: &Workload, journal: &Journal) -> Result<bool, AllocError>
+/// Whether this journal is a legal history, and no run of the workload.
+fn is_unended(alloc: Global, load: &Workload, journal: &Journal) -> Result<bool, AllocError>
     requires formed { WellFormed load.now }
-    ensures { IfOk result (λ b. b ≡ true → IsLegal journal.now) }
+    ensures { IfOk result (λ b. b ≡ true → IsLegal journal.now × (IsRun load.now journal.now → ⊥)) }
 {
     match check_run(alloc, load, journal)? {
-        Verdict::Yes => Ok(true),
         Verdict::NotRun => Ok(true),
-        Verdict::Illegal { .. } => Ok(false),
+        _ => Ok(false),
     }
 }
 
@@ -69,7 +69,7 @@ fn has_begun(alloc: Global, load: &Workload, journal: &Journal) -> Result<bool, 
     is_begun(alloc, load, &journal.entries)
 }
 
-/// The deadlock behind these entries; none if they are no legal history, or not the front of a run of the workload.
+/// The deadlock behind these entries; none if they are no legal history, a whole run of the workload, or not the front of one.
 pub(crate) fn judged_deadlock(
     alloc: Global,
     load: &Workload,
@@ -83,7 +83,7 @@ pub(crate) fn judged_deadlock(
     if journal.callers as usize != load.parts.as_slice().len() {
         return Ok(None);
     }
-    if !is_legal(alloc, load, &journal)? || !has_begun(alloc, load, &journal)? {
+    if !is_unended(alloc, load, &journal)? || !has_begun(alloc, load, &journal)? {
         return Ok(None);
     }
     Ok(Some(Deadlock { waits, journal }))

@@ -1,12 +1,14 @@
 //! The search, and what is told of it.
-ghost use Rattle.std.specs.Prelude.{IfOk, OnOk, ◌<◌, length, ⊤};
+ghost use Rattle.std.specs.Prelude.{◌≡◌, true, IfOk, OnOk, ◌<◌, length, ⊤};
 ghost use Rattle.graph_search.specs.Visits.{Reached};
 ghost use Rattle.workload_file.specs.Formed.{WellFormed};
-ghost use Rattle.workload_orders.specs.Shown.{AllShow, AllHaveHistories, IsShown};
+ghost use Rattle.begun_runs.specs.Complete.{HasAllReports};
+ghost use Rattle.workload_orders.specs.Shown.{AllShow, AllHaveHistories, IsShown, texts};
 
 use crate::graph::Steps;
 use crate::judged::{journal_of, judged_deadlock, judged_report};
 use crate::listed::{Deadlock, Orders, Report};
+use crate::whole::are_all;
 use graph_search::{Found, explore, path_to};
 use node_journals::{Journal, ShortList};
 use orders_machine::{Label, Machine, State};
@@ -182,6 +184,7 @@ pub fn orders(alloc: Global, load: &Workload, most: usize) -> Result<Orders, All
     requires formed { WellFormed load.now }
     ensures shown { IfOk result (λ o. AllShow load.now o.reports.items) }
     ensures histories { IfOk result (λ o. AllHaveHistories load.now o.deadlocks.items) }
+    ensures all { IfOk result (λ o. o.all ≡ true → HasAllReports load.now (texts o.reports.items)) }
 {
     let steps = Steps {
         machine: Machine::new(alloc, load)?,
@@ -190,10 +193,12 @@ pub fn orders(alloc: Global, load: &Workload, most: usize) -> Result<Orders, All
     let mut orders = Orders {
         states: found.states.len(),
         cut: found.cut,
+        all: false,
         reports: Vec::new(alloc),
         deadlocks: Vec::new(alloc),
         refused: 0,
     };
     tell_all(alloc, load, &steps, &found, &mut orders)?;
+    orders.all = are_all(alloc, load, &orders.reports)?;
     Ok(orders)
 }
