@@ -1,10 +1,11 @@
 //! A job runs beside the calling thread.
 ghost use Rattle.std.specs.Prelude.{◌≡◌, ℕ, ◌+◌, ◌≤◌, Bool, true, not, IfOk, IfErr, IsErr};
 ghost use Rattle.std.specs.Bool.{OnTrue, OnFalse};
-ghost use Rattle.run_beside.specs.Pairs.{Rose, MayRun, Ran};
+ghost use Rattle.run_beside.specs.Pairs.{Rose, IsOutcome, MayRun, Ran};
 
 use std::snapshot::Snapshot;
 use std::sync::Wait;
+use std::sync::atomic::{AtomicBool, Ordering};
 use std::thread;
 use std::thread::{Promise, Threads as StartsThreads};
 
@@ -48,17 +49,29 @@ pub trait Beside {
         ensures rose { Rose (refusals self.old) (refusals self.new) };
 }
 
-/// What a job promises of its result, kept beside its thread.
+/// What the closure of a job's thread promises: the result of the job, or the job itself, unrun.
 #[derive(Drop)]
 struct Kept<A: Job>(Snapshot<A>);
 
-impl<A: Job> Promise<A::Done> for Kept<A> {
-    ghost kept_by = { λ p r. A.promise p.0.value r };
+impl<A: Job> Promise<Result<A::Done, A>> for Kept<A> {
+    ghost use Rattle.run_beside.specs.Pairs.{IsOutcome};
+
+    ghost kept_by = { λ p r. IsOutcome A.promise p.0.value r };
+}
+
+// The result of a job that its thread was to run. If that gave it back unrun, it is run here.
+fn result_of<R: Wait, A: Job>(rt: &R, outcome: Result<A::Done, A>) -> A::Done
+    ensures { (a : A) → IsOutcome A.promise a outcome → A.promise a result }
+{
+    match outcome {
+        Ok(done) => done,
+        Err(a) => a.go(rt),
+    }
 }
 
 /// Runs `a` in a thread of its own and `b` with `carry` in this one, and gives both results.
 ///
-/// Where no thread is had, neither is run: it gives `carry` and `b` back, and `beside` has counted
+/// Where no thread is had, neither is run: it gives `a`, `carry` and `b` back, and `beside` has counted
 /// a refusal. Where both are run, it has counted none but those of `b`.
 pub fn pair<
     B: Beside,
@@ -67,36 +80,58 @@ pub fn pair<
     C: Drop,
     T,
     F: FnOnce(&mut B, C) -> T,
->(beside: &mut B, rt: &R, a: A, carry: C, b: F) -> Result<(A::Done, T), (C, F)>
+>(beside: &mut B, rt: &R, a: A, carry: C, b: F) -> Result<(A::Done, T), (A, C, F)>
     requires { MayRun F.FnOnce b carry }
     ensures done { IfOk result (λ r. A.promise a r.0) }
     ensures planned { B.refuses beside.old 0 ≡ true → IsErr result }
     ensures ran { IfOk result (λ r. Ran F.FnOnce B.refusals b carry (B.refusals beside.old) r.1 (B.refusals beside.new)) }
-    ensures refused { IfErr result (λ e. Rose (B.refusals beside.old) (B.refusals beside.new) × (e.0 ≡ carry) × (e.1 ≡ b)) }
+    ensures unrun { IfErr result (λ e. e.0 ≡ a) }
+    ensures refused { IfErr result (λ e. Rose (B.refusals beside.old) (B.refusals beside.new) × (e.1 ≡ carry) × (e.2 ≡ b)) }
 {
     if !beside.admits() {
-        return Err((carry, b));
+        return Err((a, carry, b));
     }
+    // Whether the closure of the thread is to run the job: where no thread was had, it gives it back.
+    let runs = AtomicBool::new(true);
+    let runs = &runs;
     let (back, outcome) = thread::scope(
         thread::scope_env(),
         rt,
-        move |scope| -> (&mut B, Result<(A::Done, T), (C, F)>)
+        move |scope| -> (&mut B, Result<(A::Done, T), (A, C, F)>)
             requires { MayRun F.FnOnce b carry }
             ensures same { result.0.ghost_name ≡ beside.entry.ghost_name }
             ensures done { IfOk result.1 (λ r. A.promise a r.0) }
             ensures ran { IfOk result.1 (λ r. Ran F.FnOnce B.refusals b carry (B.refusals beside.entry.now) r.1 (B.refusals result.0.now)) }
-            ensures refused { IfErr result.1 (λ e. Rose (B.refusals beside.entry.now) (B.refusals result.0.now) × (e.0 ≡ carry) × (e.1 ≡ b)) }
+            ensures unrun { IfErr result.1 (λ e. e.0 ≡ a) }
+            ensures refused { IfErr result.1 (λ e. Rose (B.refusals beside.entry.now) (B.refusals result.0.now) × (e.1 ≡ carry) × (e.2 ≡ b)) }
         {
             let promise = Kept(Snapshot::of(&a));
-            match scope.spawn_with(promise, move || a.go(rt)) {
+            let job = move || -> Result<A::Done, A>
+                ensures { IsOutcome A.promise a result }
+            {
+                if runs.load(Ordering::SeqCst) {
+                    Ok(a.go(rt))
+                } else {
+                    Err(a)
+                }
+            };
+            match scope.spawn_with(promise, job) {
                 Ok(child) => {
                     let t = b(&mut *beside, carry);
-                    (beside, Ok((child.join(rt), t)))
+                    (beside, Ok((result_of(rt, child.join(rt)), t)))
                 }
                 Err(refused) => {
-                    drop(refused);
-                    beside.count_refusal(ThreadRefused { only_by_pair: () });
-                    (beside, Err((carry, b)))
+                    runs.store(false, Ordering::SeqCst);
+                    match (refused.value)() {
+                        Err(a) => {
+                            beside.count_refusal(ThreadRefused { only_by_pair: () });
+                            (beside, Err((a, carry, b)))
+                        }
+                        Ok(done) => {
+                            let t = b(&mut *beside, carry);
+                            (beside, Ok((done, t)))
+                        }
+                    }
                 }
             }
         },

@@ -137,6 +137,6 @@ where
             Ok(returned) => Ok(joined(returned, held)),
             Err(main) => Err(main),
         },
-        Err((callers, _)) => Err(closed(rt, cell, callers.main)),
+        Err((_, callers, _)) => Err(closed(rt, cell, callers.main)),
     }
 }

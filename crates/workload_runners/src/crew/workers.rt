@@ -157,7 +157,7 @@ where
             Ok(crew) => Ok(joined(crew, served)),
             Err(main) => Err(main),
         },
-        Err((threads, _)) => {
+        Err((_, threads, _)) => {
             let callers = threads.callers;
             Err(closed(rt, cell, callers.main))
         }
