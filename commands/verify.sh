@@ -41,7 +41,7 @@ verify() {
     text_before_journal ran >"$scratch/report"
     paint_verdict <"$scratch/verdict" >"$scratch/painted"
     show "$scratch/report" "$scratch/painted"
-    tell_why_not_legal ran
+    tell_why_not ran kept
     leave "$ended_with"
 }
 

@@ -1,9 +1,9 @@
 -- Of clients that call beside a table of pieces, and of the clients that these were made of.
-use Rattle.typed_pieces.proofs.Names.{◌≡◌, ◌+◌, ℕ, suc, List, [], ◌∷◌, length, map, subst, sym, ◌∙◌, ap, inl, inr, Result, Err, IfErr, length-map, entries_of, NodeSettings, MtapiStatus, NodeEntry, Legal, Journal, Seat, MainOpens, CallerEnters, HasCalled, IfRefused, HaveCalled, IsRun, IsRunOfAll, RefusesOne, terms_among, terms_for, refused_weaker}
+use Rattle.typed_pieces.proofs.Names.{◌≡◌, ◌+◌, ℕ, suc, List, [], ◌∷◌, length, map, subst, sym, ◌∙◌, ap, inl, inr, Result, Err, IfErr, length-map, entries_of, NodeSettings, MtapiStatus, NodeEntry, Legal, Journal, Seat, MainOpens, CallerEnters, HasCalled, IfRefused, HaveCalled, IsRunOfAll, RefusesOne, terms_among, terms_for, refused_weaker}
 use Rattle.mtapi_machine.specs.declared.terms.Terms.{Terms}
 use Rattle.mtapi_machine.specs.declared.replies.Reply.TheVariants as reply
 use Rattle.node_core.specs.Keeping.{KeptAs}
-use Rattle.node_with_workers.specs.Runs.{HasEnded}
+use Rattle.node_with_workers.specs.Runs.{HasEnded, IsRunBy, Refuses}
 use Rattle.node_with_workers.specs.declared.failure.Failure.{Failure}
 
 -- what the promise of a client that was made of another says is what that one promises
@@ -27,9 +27,10 @@ has_called inner outer opens c b v u t who es says h =
       all = h.all;
     }
 
--- and of a run with main alone
-pub run_says : {C B T U : Type 0} (inner : C → Seat → Seat → T → Type 0) (outer : B → Seat → Seat → U → Type 0) (c : C) (b : B) (v : T) (u : U)
-    (settings : NodeSettings) (j : Journal) → ((a z : Seat) → outer b a z u → inner c a z v) → IsRun outer b settings u j → IsRun inner c settings v j
+-- and of a run with main alone, whatever its workers did
+pub run_says : {C B T U : Type 0} {rounds : ℕ → List NodeEntry → Type 0} (inner : C → Seat → Seat → T → Type 0) (outer : B → Seat → Seat → U
+    → Type 0) (c : C) (b : B) (v : T) (u : U) (settings : NodeSettings) (j : Journal) → ((a z : Seat) → outer b a z u → inner c a z v)
+    → IsRunBy rounds outer b settings u j → IsRunBy rounds inner c settings v j
 run_says inner outer c b v u settings j says r =
     record {
       history = r.history;
@@ -84,6 +85,19 @@ refused_of_all inner outer of says b n m settings f same =
     refused_one status (inl a) = inl a
     refused_one status (inr r) =
         inr (r.0, r.1, has_called inner outer MainOpens (of b) b r.0 r.0 (terms_among settings n) settings.workers r.1 (λ x y. says b x y r.0) r.2, r.3, r.4)
+
+-- main's refusal, whatever its client promises
+pub refused_whatever : {C T : Type 0} (promise : C → Seat → Seat → T → Type 0) (client : C) (settings : NodeSettings) (status : MtapiStatus)
+    → Refuses promise client settings status → Refuses {C = Unit {0}} {T = Unit {0}} (λ _ _ _ _. Unit {0}) tt settings status
+refused_whatever promise client settings status (inl a) = inl a
+refused_whatever promise client settings status (inr r) =
+    inr (
+      tt,
+      r.1,
+      has_called (λ _ _ _ _. Unit {0}) promise MainOpens tt client tt r.0 (terms_for settings) settings.workers r.1 (λ a z p. tt) r.2,
+      r.3,
+      r.4,
+    )
 
 -- a failure that is passed on has its cause
 pub passed_on : {T : Type 0} (r : Result T Failure) (f : Failure) (P : Failure → Type 0) → r ≡ Err f → P f → IfErr r P

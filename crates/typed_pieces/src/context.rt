@@ -64,6 +64,11 @@ impl<'a> TaskContext<'a> {
         }
     }
 
+    /// That of a piece whose task no client cancels.
+    pub fn uncancelled() -> TaskContext<'a> {
+        TaskContext { cancelled: None }
+    }
+
     // What shows that its lock is set, if it is.
     fn cancel(&self) -> Option<OnceToken<'a, ()>>
         ensures { IfSome result (λ token. IfSome self.now.cancelled (λ lock. token.of ≡ lock.now.id)) }
