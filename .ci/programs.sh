@@ -4,7 +4,7 @@
 
 command_crate=mtapi_cli
 # Further programs, each as WORD:CRATE: the first word that asks for it, and the crate that makes it.
-further=(judge:mtapi_judge picture:mtapi_picture trace:mtapi_trace explain:mtapi_explain orders:mtapi_orders)
+further=(judge:mtapi_judge picture:mtapi_picture trace:mtapi_trace bounded:mtapi_waits explain:mtapi_explain orders:mtapi_orders)
 programs=("$command_crate" "${further[@]#*:}")
 libraries=(typed_pieces plain_work write_run) # on which a program of one's own stands
 c_crate=mtapi_c                         # the library for C, an archive

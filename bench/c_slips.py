@@ -17,7 +17,7 @@ import tempfile
 
 from c_tasks import ARCHIVE
 from common import TOP
-from slips import changed_files, slip_in
+from slips import C_SLIPS, changed_files, slips_in
 
 HANG = 40  # seconds after which a test counts as one that hangs
 BETWEEN = {"memory": ("malloc", "calloc", "realloc", "free"), "refused_threads": ("pthread_create",)}
@@ -62,7 +62,7 @@ def tried(slip):
 
 
 def main():
-    slips = [slip_in(path) for path in sorted(glob.glob(os.path.join(TOP, "bench", "c_slips", "*.slip")))]
+    slips = slips_in(C_SLIPS)
     if not os.path.exists(ARCHIVE):
         sys.exit("build the library for C first: ./mtapi prove")
     faults = 0

@@ -67,6 +67,7 @@ LOCKED = ANY | {"PARAMETER", "TIMEOUT"}
 MRAPI = {
     "initialize": {"SUCCESS", "NODE_INITIALIZED", "NODE_INITFAILED", "MEMORY"},
     "finalize": STAND | {"DEADLOCK"}, "domain_id_get": ANY, "node_id_get": ANY,
+    "shmem_attach": ANY | {"PARAMETER", "SHM_INVALID", "SHM_ATTACHED", "MEMORY"},
     "ext_shmem_attach": ANY | {"PARAMETER", "SHM_INVALID", "SHM_ATTACHED"},
     "shmem_detach": ANY | {"PARAMETER", "SHM_INVALID", "SHM_NOTATTACHED"},
     "ext_shmem_read": ANY | {"PARAMETER", "SHM_INVALID", "SHM_NOTATTACHED"},
@@ -87,7 +88,7 @@ for name, kind in (("mutex", "MUTEX"), ("sem", "SEM"), ("rwl", "RWL"), ("shmem",
         MRAPI[name + "_unlock"] = ANY | {"PARAMETER", kind + "_INVALID", kind + "_NOTLOCKED"}
 MRAPI["mutex_unlock"] |= {"MUTEX_KEY", "MUTEX_LOCKORDER"}
 # What the profile leaves out of MRAPI.
-IS_LEFT_OUT = re.compile(r"rmem_|resource|dynamic_|node_\w+_attribute|(test|wait|wait_any|cancel|shmem_attach)$")
+IS_LEFT_OUT = re.compile(r"rmem_|resource|dynamic_|node_\w+_attribute|(test|wait|wait_any|cancel)$")
 
 
 def declared():

@@ -25,8 +25,8 @@ complaint; `PROVES`, if nothing fails; or `BAD SLIP`, if the text doesn't stand 
 own. Fails if a slip isn't refused. A slip takes 10 to 60 seconds; several calls may run beside one another, each on slips of its
 own.
 
-`bench/slips.py --match` tries none: in a second it tells of each slip whose text doesn't stand once in today's text, or that names
-no crate, and fails if there is one. The gate calls it.
+`bench/slips.py --match` tries none: in a second it tells of each slip, those of the glue in `bench/c_slips` too, whose text doesn't
+stand once in today's text, or that names no crate or test, and fails if there is one. The gate calls it.
 """
 
 import collections
@@ -41,6 +41,7 @@ import tempfile
 from common import TOP
 
 SLIPS = os.path.join(TOP, "bench", "slips")
+C_SLIPS = os.path.join(TOP, "bench", "c_slips")
 SECONDS = 900  # that one check or one run may take
 SHOWN = 200  # letters of a complaint
 COMPLAINT = re.compile(r"^(\S+?):\d+:\d+: error: (.*)$", re.M)
@@ -74,9 +75,14 @@ def slip_in(path):
     return Slip(name, say, changes, refused_by)
 
 
+def slips_in(folder):
+    """All slips of a folder, by their names."""
+    return [slip_in(path) for path in sorted(glob.glob(os.path.join(folder, "*.slip")))]
+
+
 def named(words):
     """The slips of these names, or whose names begin so; all if there are no words."""
-    slips = [slip_in(path) for path in sorted(glob.glob(os.path.join(SLIPS, "*.slip")))]
+    slips = slips_in(SLIPS)
     for word in words:
         if not any(slip.name.startswith(word) for slip in slips):
             sys.exit(f"no slip's name begins with {word}")
@@ -134,6 +140,14 @@ def mismatch(slip):
     crate, _, case = slip.refused_by.partition(" ")
     if not wrong and crate != "case" and not os.path.isdir(os.path.join(TOP, "crates", crate)):
         return f"no crate {crate}"
+    return wrong
+
+
+def mismatch_in_c(slip):
+    """Why the slip of the glue can't be tried on today's text, or nothing."""
+    wrong = changed_files(TOP, slip)[1]
+    if not wrong and slip.refused_by != "journals" and not os.path.exists(os.path.join(TOP, "c", "tests", slip.refused_by + ".c")):
+        return f"no test {slip.refused_by}"
     return wrong
 
 
@@ -250,11 +264,12 @@ def tried(folder, slip):
 
 def matched():
     """Tells of each slip that can't be tried on today's text. The status."""
-    slips = named([])
+    slips, in_c = named([]), slips_in(C_SLIPS)
     wrong = [(slip.name, why) for slip in slips if (why := mismatch(slip))]
+    wrong += [(slip.name, why) for slip in in_c if (why := mismatch_in_c(slip))]
     for name, why in wrong:
         print(f"BAD SLIP {name}: {why}")
-    print(f"{len(slips) - len(wrong)} slips stand in today's text, {len(wrong)} don't")
+    print(f"{len(slips) + len(in_c) - len(wrong)} slips stand in today's text, {len(wrong)} don't")
     return 1 if wrong else 0
 
 

@@ -180,9 +180,10 @@ void mrapi_rwl_lock(mrapi_rwl_hndl_t rwl, mrapi_rwl_mode_t mode, mrapi_timeout_t
 mrapi_boolean_t mrapi_rwl_trylock(mrapi_rwl_hndl_t rwl, mrapi_rwl_mode_t mode, mrapi_status_t *status);
 void mrapi_rwl_unlock(mrapi_rwl_hndl_t rwl, mrapi_rwl_mode_t mode, mrapi_status_t *status);
 
-/* ---- segments of 1 to 4,096 cells of eight bytes each, at first 0; `size` counts bytes. A caller attaches itself by
- * mrapi_ext_shmem_attach and reads and writes cells by calls; mrapi_shmem_detach ends that. There is no address, so
- * mrapi_shmem_attach gives MRAPI_NULL with MRAPI_ERR_NOT_SUPPORTED. `nodes` and `attributes` aren't read. */
+/* ---- segments of 1 to 32,768 bytes. A caller attaches itself by mrapi_shmem_attach, which gives the address of the segment's
+ * memory, at first 0; mrapi_shmem_detach ends that. The address is good until the segment is deleted or the node finalized.
+ * Beside its memory a segment has cells of eight bytes each, 1 to 4,096 as its size asks for, at first 0, which the node holds
+ * and calls read and write: mrapi_ext_shmem_attach is for those alone. `nodes` and `attributes` aren't read. */
 void mrapi_shmem_init_attributes(mrapi_shmem_attributes_t *attributes, mrapi_status_t *status);
 void mrapi_shmem_set_attribute(mrapi_shmem_attributes_t *attributes, mrapi_uint_t attribute_num, const void *attribute,
     size_t attribute_size, mrapi_status_t *status);

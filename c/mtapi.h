@@ -4,7 +4,7 @@
  * - a pointer that isn't MTAPI_NULL leads to what its type says, and to as many bytes as its size says; `status`,
  *   attributes and results may be MTAPI_NULL;
  * - arguments, results and node-local data live until the task has ended and was waited for, or the node is finalized;
- * - an action returns, and neither ends its thread nor leaves by longjmp or an exception;
+ * - an action returns, and neither ends its thread nor leaves by longjmp or an exception; no thread is cancelled in a call;
  * - no call is made by a signal handler, or by a child of fork in which the parent's node stands.
  * Any thread may call. A handle that was forged or freed, or that is of another kind, is refused with its status.
  *
@@ -292,7 +292,9 @@ mtapi_uint_t mtapi_context_instnum_get(const mtapi_task_context_t *task_context,
 mtapi_uint_t mtapi_context_numinst_get(const mtapi_task_context_t *task_context, mtapi_status_t *status);
 mtapi_uint_t mtapi_context_corenum_get(const mtapi_task_context_t *task_context, mtapi_status_t *status);
 
-/* ---- tasks */
+/* ---- tasks. A wait in an action holds its worker, so actions that start a task and wait for it go no deeper than there are
+ * workers; where each of them waits so, the wait answers MTAPI_EXT_ERR_DEADLOCK. Put such tasks into one group, for which a
+ * thread waits that is no worker. */
 void mtapi_taskattr_init(mtapi_task_attributes_t *attributes, mtapi_status_t *status);
 void mtapi_taskattr_set(mtapi_task_attributes_t *attributes, mtapi_uint_t attribute_num, const void *attribute,
     mtapi_size_t attribute_size, mtapi_status_t *status);

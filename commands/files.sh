@@ -152,7 +152,7 @@ check_input() {
     take_file - whole 'read fault'
     program_on "$command_crate" whole verdict check
     show "$scratch/verdict"
-    tell_why_not_legal whole
+    tell_why_not whole whole
     if [ "$ended_with" -eq "$refused" ] && has_journal whole && begins_with_report whole; then
         tell "a report stands in front of the journal: use check FILE -"
     fi
@@ -176,7 +176,7 @@ check() {
     fi
     program_on "$command_crate" whole verdict check
     show "$scratch/verdict"
-    if [ $# -eq 2 ]; then tell_why_not_legal kept; else tell_why_not_legal whole; fi
+    if [ $# -eq 2 ]; then tell_why_not kept whole; else tell_why_not whole whole; fi
     leave "$ended_with"
 }
 

@@ -15,7 +15,7 @@ command|run [FILE]|runs the workload in FILE and writes its report
 command|run --journal [FILE]|writes behind it each call of the run and its answer
 command|check [FILE [KEPT]]|judges a workload with a journal behind it; or FILE by what 'run --journal' wrote into KEPT
 command|gen N [W]|runs a workload of N tasks (1 to $most_tasks) with W workers (1 to $most_workers, or 4)
-beside|judge [KEPT]|tells whether a journal, of 'run --journal' or of any program, is a legal history by itself; if not, the first line that isn't allowed
+beside|judge [KEPT]|tells whether a journal, of 'run --journal' or of any program, is a legal history by itself; if not, the first line that isn't allowed, why, and what would be
 beside|explain [FILE]|tells every mistake for which FILE is no workload
 beside|verify [-v] FILE|runs the workload in FILE and checks its journal; writes report and verdict
 beside|expect [-v] FILE REPORT|runs the workload in FILE; status 1 and the difference if it doesn't write REPORT

@@ -65,7 +65,8 @@ enum object_kind { MUTEX, SEM, RWL, SHMEM, KINDS };
 
 struct object_record {
     uint64_t handle;
-    bool recursive;
+    uint32_t setting; /* of a mutex whether it is recursive, of a segment how many cells it has */
+    void *memory;     /* of a segment, once somebody asked for its address */
 };
 
 struct mtapi_task_context_struct {

@@ -124,14 +124,6 @@ void mrapi_rmem_sync(mrapi_rmem_hndl_t rmem, mrapi_status_t *status)
     glue_say(status, MRAPI_ERR_NOT_SUPPORTED);
 }
 
-/* The node gives cells and no address. */
-void *mrapi_shmem_attach(mrapi_shmem_hndl_t shmem, mrapi_status_t *status)
-{
-    (void)shmem;
-    glue_say(status, MRAPI_ERR_NOT_SUPPORTED);
-    return MRAPI_NULL;
-}
-
 mrapi_boolean_t mrapi_test(const mrapi_request_t *request, size_t *size, mrapi_status_t *status)
 {
     (void)request, (void)size;

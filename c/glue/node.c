@@ -40,6 +40,10 @@ static void discard_node(void)
     mtapi_c_discard(&glue.node);
     free(glue.tasks);
     glue.tasks = NULL;
+    for (uint32_t i = 0; i < MOST_OBJECTS; i++) {
+        free(glue.objects[SHMEM][i].memory);
+        glue.objects[SHMEM][i].memory = NULL;
+    }
     glue.state = NO_NODE;
 }
 

@@ -1,5 +1,6 @@
 /* What the calls of MRAPI share. */
 #include "resources.h"
+#include <stdlib.h>
 
 /* The numbers of the glue are the same in both interfaces. */
 static uint32_t mrapi_code(uint32_t code)
@@ -32,7 +33,9 @@ void glue_delete_object(object_call *delete_it, enum object_kind kind, uint64_t 
     uint32_t who, code = glue_begin(&who);
     if (code == 0) code = delete_it(&glue.node, who, object);
     if (code == 0) {
-        glue.objects[kind][SLOT(object)].handle = 0;
+        struct object_record *record = &glue.objects[kind][SLOT(object)];
+        free(record->memory);
+        *record = (struct object_record){0};
         glue_wake(FOR_OBJECT, object);
     }
     glue_end_mrapi(code, status);
@@ -58,7 +61,7 @@ uint64_t glue_make_object(make_call *make, enum object_kind kind, uint32_t id, u
         do code = make(who, any ? glue.next_id-- : id, setting, &object);
         while (any && is_taken(code));
     }
-    if (code == 0) glue.objects[kind][SLOT(object)] = (struct object_record){object, kind == MUTEX && setting};
+    if (code == 0) glue.objects[kind][SLOT(object)] = (struct object_record){object, setting, NULL};
     glue_end_mrapi(code, status);
     return object;
 }
@@ -98,7 +101,7 @@ static const uint32_t invalid[KINDS] = {MRAPI_ERR_MUTEX_INVALID, MRAPI_ERR_SEM_I
 static uint32_t get_setting(enum object_kind kind, uint64_t object, mrapi_uint_t number, void *attribute, size_t size)
 {
     const struct object_record *record = &glue.objects[kind][SLOT(object) % MOST_OBJECTS];
-    uint32_t value = number == MRAPI_ERROR_EXT || (number == MRAPI_MUTEX_RECURSIVE && record->recursive);
+    uint32_t value = number == MRAPI_ERROR_EXT || (number == MRAPI_MUTEX_RECURSIVE && record->setting);
     if (object == 0 || record->handle != object) return MTAPI_C_MRAPI + invalid[kind];
     if (!is_fixed(number) && !(kind == MUTEX && number == MRAPI_MUTEX_RECURSIVE)) return MRAPI_ERR_ATTR_NUM;
     uint32_t code = glue_write_value(attribute, size, value);

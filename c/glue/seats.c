@@ -6,6 +6,7 @@ static _Thread_local struct {
     uint64_t epoch; /* of the node in which it is */
     uint32_t seat;
     bool is_worker;
+    bool asked_again; /* to leave it, since it held something */
 } mine;
 
 _Thread_local mtapi_task_context_t *glue_context;
@@ -14,14 +15,22 @@ static pthread_key_t at_the_end;
 static pthread_once_t once = PTHREAD_ONCE_INIT;
 static bool has_key;
 
-/* A thread that holds a lock or is attached to a segment keeps its seat: the next one would have what it holds. */
+/* A thread that holds a lock or is attached to a segment keeps its seat: the next one would have what it holds. Another destructor
+ * of the thread may still call: it finds the seat gone, and gets another; or it gives back what is held, so this one runs once
+ * more. */
 static void leave_seat(void *unused)
 {
     (void)unused;
     glue_lock();
     if (glue.state != NO_NODE && mine.epoch == glue.epoch && !mine.is_worker) {
         struct caller *caller = &glue.caller[mine.seat - glue.workers];
-        if (caller->held == 0) caller->taken = false;
+        if (caller->held == 0) {
+            caller->taken = false;
+            mine.epoch = 0; /* of no node */
+        } else if (!mine.asked_again) {
+            mine.asked_again = true;
+            pthread_setspecific(at_the_end, &mine);
+        }
     }
     glue_unlock();
 }
@@ -44,6 +53,7 @@ static uint32_t take_seat(uint32_t place)
     mine.epoch = glue.epoch;
     mine.seat = glue.workers + place;
     mine.is_worker = false;
+    mine.asked_again = false;
     return 0;
 }
 

@@ -1,5 +1,6 @@
-/* Shared segments, whose cells the node holds. */
+/* Shared segments. The node holds who is attached, and the cells; the memory that an address leads to is the glue's. */
 #include "resources.h"
+#include <stdlib.h>
 
 enum { CELL = 8 }; /* bytes */
 
@@ -48,19 +49,55 @@ void mrapi_shmem_delete(mrapi_shmem_hndl_t shmem, mrapi_status_t *status)
     glue_delete_object(mtapi_c_shmem_delete, SHMEM, shmem.handle, status);
 }
 
+static uint32_t attach(uint32_t who, uint64_t shmem)
+{
+    uint32_t code = mtapi_c_shmem_attach(&glue.node, who, shmem);
+    if (code == 0) glue_hold(who);
+    return code;
+}
+
+static uint32_t detach(uint32_t who, uint64_t shmem)
+{
+    uint32_t code = mtapi_c_shmem_detach(&glue.node, who, shmem);
+    if (code == 0) glue_let_go(who, shmem);
+    return code;
+}
+
+/* The memory of a live segment, made when it is asked for first, or none. */
+static void *memory_of(uint64_t shmem)
+{
+    struct object_record *record = &glue.objects[SHMEM][SLOT(shmem)];
+    if (!record->memory) record->memory = calloc(record->setting, CELL);
+    return record->memory;
+}
+
+void *mrapi_shmem_attach(mrapi_shmem_hndl_t shmem, mrapi_status_t *status)
+{
+    void *memory = NULL;
+    uint32_t who, code = glue_begin(&who);
+    if (code == 0) code = attach(who, shmem.handle);
+    if (code == 0) {
+        memory = memory_of(shmem.handle);
+        if (!memory) {
+            detach(who, shmem.handle);
+            code = MTAPI_EXT_ERR_MEMORY;
+        }
+    }
+    glue_end_mrapi(code, status);
+    return memory;
+}
+
 void mrapi_ext_shmem_attach(mrapi_shmem_hndl_t shmem, mrapi_status_t *status)
 {
     uint32_t who, code = glue_begin(&who);
-    if (code == 0) code = mtapi_c_shmem_attach(&glue.node, who, shmem.handle);
-    if (code == 0) glue_hold(who);
+    if (code == 0) code = attach(who, shmem.handle);
     glue_end_mrapi(code, status);
 }
 
 void mrapi_shmem_detach(mrapi_shmem_hndl_t shmem, mrapi_status_t *status)
 {
     uint32_t who, code = glue_begin(&who);
-    if (code == 0) code = mtapi_c_shmem_detach(&glue.node, who, shmem.handle);
-    if (code == 0) glue_let_go(who, shmem.handle);
+    if (code == 0) code = detach(who, shmem.handle);
     glue_end_mrapi(code, status);
 }
 

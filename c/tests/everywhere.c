@@ -118,6 +118,8 @@ static void call_mrapi(mrapi_status_t wanted)
     WANT(wanted);
     CHECK(mrapi_shmem_get(1, &status).handle == 0);
     WANT(wanted);
+    CHECK(!mrapi_shmem_attach(shmem, &status));
+    WANT(wanted);
     mrapi_ext_shmem_attach(shmem, &status);
     WANT(wanted);
     CHECK(mrapi_ext_shmem_read(shmem, 0, &status) == 0);

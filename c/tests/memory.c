@@ -1,5 +1,5 @@
 /* Want of memory: whichever call of malloc, calloc or realloc is the first to fail in mtapi_initialize, it answers a status,
- * leaves nothing behind, and may be called again. */
+ * leaves nothing behind, and may be called again. The same where a segment's memory is asked for. */
 #include "check.h"
 #include <stdatomic.h>
 
@@ -81,6 +81,26 @@ static bool has_ended_well(void)
     return true;
 }
 
+/* Of a segment whose memory is refused nothing is attached. Without a journal, which would want memory too. */
+static void memory_of_a_segment(void)
+{
+    mrapi_status_t status;
+    mrapi_initialize(1, 1, MRAPI_NULL, MRAPI_NULL, &status);
+    OK;
+    mrapi_shmem_hndl_t shmem = mrapi_shmem_create(1, 8, MRAPI_NULL, 0, MRAPI_NULL, 0, &status);
+    OK;
+    atomic_store(&left, 0);
+    CHECK(!mrapi_shmem_attach(shmem, &status));
+    atomic_store(&left, -1);
+    WANT(MRAPI_EXT_ERR_MEMORY);
+    mrapi_shmem_detach(shmem, &status);
+    WANT(MRAPI_ERR_SHM_NOTATTACHED);
+    CHECK(mrapi_shmem_attach(shmem, &status));
+    OK;
+    mrapi_finalize(&status);
+    OK;
+}
+
 int main(void)
 {
     mtapi_status_t status;
@@ -107,6 +127,8 @@ int main(void)
     mrapi_initialize(1, 1, MRAPI_NULL, MRAPI_NULL, &status);
     atomic_store(&left, -1);
     WANT(MRAPI_EXT_ERR_MEMORY);
+    CHECK(atomic_load(&given) == atomic_load(&back));
+    memory_of_a_segment();
     CHECK(atomic_load(&given) == atomic_load(&back));
     return 0;
 }

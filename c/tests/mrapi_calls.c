@@ -56,6 +56,8 @@ static void without_a_node(void)
     WANT(MRAPI_ERR_NODE_NOTINIT);
     mrapi_rwl_lock(rwl, MRAPI_RWL_READER, MRAPI_TIMEOUT_INFINITE, &status);
     WANT(MRAPI_ERR_NODE_NOTINIT);
+    CHECK(!mrapi_shmem_attach(shmem, &status));
+    WANT(MRAPI_ERR_NODE_NOTINIT);
     mrapi_ext_shmem_attach(shmem, &status);
     WANT(MRAPI_ERR_NODE_NOTINIT);
     mrapi_ext_shmem_read(shmem, 0, &status);
@@ -490,8 +492,6 @@ static void segments(void)
     OK;
     mrapi_shmem_get(2, &status);
     WANT(MRAPI_ERR_SHM_ID_INVALID);
-    CHECK(mrapi_shmem_attach(shmem, &status) == NULL); /* no address is there to be had, and nothing is attached */
-    WANT(MRAPI_ERR_NOT_SUPPORTED);
     mrapi_shmem_detach(shmem, &status);
     WANT(MRAPI_ERR_SHM_NOTATTACHED);
     mrapi_ext_shmem_attach(shmem, &status);
@@ -515,6 +515,8 @@ static void segments(void)
     OK;
     mrapi_shmem_hndl_t wrong[3] = {gone, FOREIGN(mrapi_shmem_hndl_t), {0}};
     for (int i = 0; i < 3; i++) {
+        CHECK(!mrapi_shmem_attach(wrong[i], &status));
+        WANT(MRAPI_ERR_SHM_INVALID);
         mrapi_ext_shmem_attach(wrong[i], &status);
         WANT(MRAPI_ERR_SHM_INVALID);
         mrapi_shmem_detach(wrong[i], &status);
@@ -527,6 +529,59 @@ static void segments(void)
         WANT(MRAPI_ERR_SHM_INVALID);
     }
     end("segments");
+}
+
+/* The memory of a segment is one for all that attach, is at first 0, and isn't the cells, nor that of the segment before it. */
+static void *adds_to_memory(void *place)
+{
+    mrapi_status_t status;
+    mrapi_shmem_hndl_t shmem = *(mrapi_shmem_hndl_t *)place;
+    unsigned char *memory = mrapi_shmem_attach(shmem, &status);
+    OK;
+    for (int i = 0; i < 24; i++) CHECK(memory[i] == i);
+    memory[23] = 99;
+    CHECK(mrapi_ext_shmem_read(shmem, 2, &status) == 0);
+    OK;
+    mrapi_shmem_detach(shmem, &status);
+    OK;
+    return NULL;
+}
+
+static void memory_of_segments(void)
+{
+    mrapi_status_t status;
+    begin_small();
+    for (int round = 0; round < 2; round++) {
+        mrapi_shmem_hndl_t shmem = mrapi_shmem_create(1, 17, NULL, 0, NULL, 0, &status);
+        OK;
+        unsigned char *memory = mrapi_shmem_attach(shmem, &status);
+        OK;
+        CHECK(memory);
+        CHECK(!mrapi_shmem_attach(shmem, &status));
+        WANT(MRAPI_ERR_SHM_ATTACHED);
+        for (int i = 0; i < 24; i++) {
+            CHECK(memory[i] == 0);
+            memory[i] = (unsigned char)i;
+        }
+        as_another(adds_to_memory, &shmem);
+        CHECK(memory[23] == 99);
+        mrapi_shmem_delete(shmem, &status);
+        WANT(MRAPI_ERR_SHM_ATTACHED);
+        mrapi_shmem_detach(shmem, &status);
+        OK;
+        CHECK(mrapi_shmem_attach(shmem, &status) == memory); /* what was written stays */
+        OK;
+        CHECK(memory[23] == 99);
+        mrapi_shmem_detach(shmem, &status);
+        OK;
+        mrapi_shmem_delete(shmem, &status);
+        OK;
+    }
+    mrapi_shmem_hndl_t left = mrapi_shmem_create(1, 8, NULL, 0, NULL, 0, &status); /* goes with the node */
+    OK;
+    mrapi_shmem_attach(left, &status);
+    OK;
+    end("memory_of_segments");
 }
 
 /* Four threads add to one number of theirs, under a mutex, a semaphore and a lock for one writer. Each now and then holds what it
@@ -658,6 +713,7 @@ int main(void)
     semaphores();
     rwlocks();
     segments();
+    memory_of_segments();
     contention();
     without_a_node();
     return 0;

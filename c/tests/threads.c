@@ -98,6 +98,99 @@ static void lock_of_the_ended(void)
     end("lock_of_the_ended");
 }
 
+/* A destructor of a thread's own data calls when the library's has given the thread's seat back, and another thread may have that
+ * seat and hold a lock: it isn't this thread's. The seat that the destructor then gets is given back too. */
+static pthread_key_t own;
+static mrapi_mutex_hndl_t others;
+
+static void unlocks_late(void *unused)
+{
+    (void)unused;
+    mrapi_status_t status;
+    mrapi_key_t key = 1;
+    pthread_barrier_wait(&barrier);
+    pthread_barrier_wait(&barrier);
+    mrapi_mutex_unlock(others, &key, &status);
+    WANT(MRAPI_ERR_MUTEX_NOTLOCKED);
+    pthread_barrier_wait(&barrier);
+}
+
+static void *leaves(void *unused)
+{
+    mtapi_status_t status;
+    CHECK(pthread_setspecific(own, &own) == 0);
+    mtapi_node_id_get(&status);
+    OK;
+    return unused;
+}
+
+static void *holds(void *unused)
+{
+    mrapi_status_t status;
+    mrapi_key_t key;
+    mrapi_mutex_lock(others, &key, MRAPI_TIMEOUT_INFINITE, &status);
+    OK;
+    pthread_barrier_wait(&barrier);
+    pthread_barrier_wait(&barrier);
+    mrapi_mutex_unlock(others, &key, &status);
+    OK;
+    return unused;
+}
+
+static void calls_of_destructors(void)
+{
+    pthread_t threads[2];
+    mrapi_status_t status;
+    begin(1);
+    CHECK(pthread_key_create(&own, unlocks_late) == 0);
+    pthread_barrier_init(&barrier, NULL, 2);
+    others = mrapi_mutex_create(1, MRAPI_NULL, &status);
+    OK;
+    for (int round = 0; round < FURTHER + 1; round++) {
+        CHECK(pthread_create(&threads[0], NULL, leaves, NULL) == 0);
+        pthread_barrier_wait(&barrier);
+        CHECK(pthread_create(&threads[1], NULL, holds, NULL) == 0);
+        for (int i = 0; i < 2; i++) CHECK(pthread_join(threads[i], NULL) == 0);
+    }
+    pthread_barrier_destroy(&barrier);
+    CHECK(pthread_key_delete(own) == 0);
+    end("calls_of_destructors");
+}
+
+/* A thread whose destructor gives a lock back has given its seat back. */
+static void unlocks_at_last(void *key)
+{
+    mrapi_status_t status;
+    mrapi_mutex_unlock(others, key, &status);
+    OK;
+}
+
+static void *leaves_locked(void *key)
+{
+    mrapi_status_t status;
+    CHECK(pthread_setspecific(own, key) == 0);
+    mrapi_mutex_lock(others, key, MRAPI_TIMEOUT_INFINITE, &status);
+    OK;
+    return NULL;
+}
+
+static void locks_of_destructors(void)
+{
+    pthread_t thread;
+    mrapi_status_t status;
+    mrapi_key_t key;
+    begin(1);
+    CHECK(pthread_key_create(&own, unlocks_at_last) == 0);
+    others = mrapi_mutex_create(1, MRAPI_NULL, &status);
+    OK;
+    for (int round = 0; round < FURTHER + 1; round++) {
+        CHECK(pthread_create(&thread, NULL, leaves_locked, &key) == 0);
+        CHECK(pthread_join(thread, NULL) == 0);
+    }
+    CHECK(pthread_key_delete(own) == 0);
+    end("locks_of_destructors");
+}
+
 /* Several threads initialize at once: one of them does. */
 static void *initializes(void *place)
 {
@@ -133,6 +226,7 @@ static void ends_at_once(void)
     pthread_barrier_init(&barrier, NULL, 4);
     for (int round = 0; round < 20; round++) {
         at_once(initializes, MTAPI_ERR_NODE_INITIALIZED);
+        CHECK(ask_tenth() == MTAPI_SUCCESS); /* with the seat of the thread that did, which has ended */
         at_once(finalizes, MTAPI_ERR_NODE_NOTINIT);
     }
     pthread_barrier_destroy(&barrier);
@@ -260,6 +354,8 @@ int main(void)
 {
     callers();
     lock_of_the_ended();
+    calls_of_destructors();
+    locks_of_destructors();
     ends_at_once();
     deadlines();
     ends_under_a_task();

@@ -11,6 +11,6 @@ pub mod worked;
 
 pub use ends::{RunView, ShowEnd, tell};
 pub use own_names::OwnNames;
-pub use reading::KeptRun;
+pub use reading::{KeptRun, run_in};
 pub use showing::{RunText, show};
 pub use streams::program;

@@ -12,7 +12,7 @@ use Rattle.journal_reading.specs.Ends.{RestFails}
 use Rattle.journal_reading.specs.declared.ends.ShowEnd.{ShowEnd}
 use Rattle.journal_reading.specs.declared.ends.ShowEnd.TheVariants as end
 use Rattle.journal_reasons.specs.Judged.{IsJudged, place_of}
-use Rattle.journal_reasons.specs.Pages.{IsPage, HasNone, Writes, Judges, first_line}
+use Rattle.journal_reasons.specs.Pages.{IsPage, HasNone, Writes, Judges, page_text}
 use Rattle.journal_reasons.specs.declared.judging.Judgement.{Judgement}
 use Rattle.journal_reasons.specs.declared.reading.JudgeEnd.TheVariants.{Legal, Illegal, Refused}
 
@@ -23,7 +23,7 @@ short_front bytes front rest split few =
 
 pub page_on : (bytes front rest : List ℕ) (j : Journal) (v : Judgement) (legal : Bool) (page : List ℕ) → IsSplit bytes front rest
     → journal_of rest ≡ Ok j → IsJudged j v → legal ≡ is_none (place_of v)
-    → page ≡ first_line front rest (place_of v) → IsPage bytes legal page
+    → page ≡ page_text front rest j v → IsPage bytes legal page
 page_on bytes front rest j v legal page split read judged same text = record {
   front = front;
   rest = rest;

@@ -9,7 +9,8 @@ use Rattle.journal_check.specs.Judged.{IsLegalOr}
 use Rattle.journal_check.specs.Verdicts.{IsLegal, IsFirstIllegal, IsVerdict, terms_of}
 use Rattle.journal_check.specs.declared.verdicts.Verdict.{Verdict}
 use Rattle.journal_check.specs.declared.verdicts.Verdict.TheVariants as verdict
-use Rattle.journal_reasons.specs.Judged.{IsJudged}
+use Rattle.std.specs.Global.{Vec}
+use Rattle.journal_reasons.specs.Judged.{IsJudged, AreInstead}
 use Rattle.journal_reasons.specs.declared.judging.Judgement.TheVariants.{Legal, Illegal}
 
 -- a legal list has no first entry that isn't
@@ -27,15 +28,18 @@ pub judged_legal : PrefixIsLegal → (j : Journal) → IsLegal j → IsJudged j 
 judged_legal prefix j h = record {
   legal = (λ e. h, λ i. refl);
   refused = λ n. (λ e. absurd (cc), λ f. absurd (none_first prefix (terms_of j) j.entries.entries n h f));
+  instead = tt;
 }
 
-pub judged_illegal : PrefixIsLegal → (j : Journal) (n : ℕ) → IsFirstIllegal (terms_of j) j.entries.entries n → IsJudged j (Illegal n)
-judged_illegal prefix j n f = record {
+pub judged_illegal : PrefixIsLegal → (j : Journal) (n : ℕ) (instead : Vec NodeEntry) (why : Vec ℕ) → IsFirstIllegal (terms_of j) j.entries.entries n
+    → AreInstead (terms_of j) j.entries.entries n instead.items → IsJudged j (Illegal n instead why)
+judged_illegal prefix j n instead why f all = record {
   legal = (λ e. absurd (cc), λ h. absurd (none_first prefix (terms_of j) j.entries.entries n h f));
   refused = λ m. (
     λ e. let i : n ≡ m = cc in subst (IsFirstIllegal (terms_of j) j.entries.entries) i f,
     λ g. ap Some (same_first (terms_of j) j.entries.entries n m f g),
   );
+  instead = all;
 }
 
 -- what a verdict beside some workload says of the journal alone

@@ -1,3 +1,5 @@
+mod Allowed
 mod Inputs
 mod Judgements
 mod Lines
+mod Replays

@@ -1,19 +1,21 @@
 -- What is written of an input that has a journal in it, and how the program ends.
-use Rattle.std.specs.Prelude.{◌≡◌, ◌⊎◌, ℕ, zero, suc, ◌+◌, ◌≤◌, ◌<◌, Bool, true, false, List, [], ◌∷◌, ◌++◌, length, codes, Option, Some, None, is_none, Ok}
+use Rattle.std.specs.Prelude.{◌≡◌, ◌⊎◌, ℕ, zero, suc, ◌+◌, ◌≤◌, ◌<◌, Bool, true, false, List, [], ◌∷◌, ◌++◌, length, flat_map, codes, Option, Some, None, is_none, Ok}
 use Rattle.std.specs.Fmt.{decimal}
 use Rattle.std.specs.Io.KnownBytes.{Appends}
 use Rattle.byte_io.specs.Causes.{AppendsFront, WritesText}
+use Rattle.mtapi_machine.specs.Legal.{NodeEntry}
 use Rattle.node_journals.specs.declared.entries.Journal.{Journal}
 use Rattle.number_text.specs.Lists.{between}
-use Rattle.journal_text.specs.Journals.{journal_of}
+use Rattle.journal_text.specs.Journals.{journal_of, journal_text}
 use Rattle.journal_text.specs.Splits.{IsSplit, OfParts}
 use Rattle.journal_reading.specs.Ends as shown
 use Rattle.journal_reading.specs.Ends.{IsTold, RestFails, has_line}
 use Rattle.journal_reading.specs.declared.ends.RunView.TheVariants.{Picture}
 use Rattle.journal_reading.specs.declared.ends.ShowEnd.{ShowEnd}
 use Rattle.journal_reading.specs.declared.ends.ShowEnd.TheVariants as end
-use Rattle.journal_reasons.specs.Judged.{IsJudged, place_of}
+use Rattle.journal_reasons.specs.Judged.{IsJudged, place_of, instead_of}
 use Rattle.journal_reasons.specs.declared.judging.Judgement.{Judgement}
+use Rattle.journal_reasons.specs.declared.judging.Judgement.TheVariants as found
 use Rattle.journal_reasons.specs.declared.reading.JudgeEnd.{JudgeEnd}
 use Rattle.journal_reasons.specs.declared.reading.JudgeEnd.TheVariants.{Legal, Illegal, Usage, Refused}
 
@@ -30,6 +32,23 @@ first_line front rest None = codes "legal\n"
 first_line front rest (Some n) =
     codes "illegal line " ++ (decimal (length (between 10 front) + n) ++ (codes ": " ++ (nth_line (between 10 rest) n ++ 10 ∷ [])))
 
+-- the line of an entry, as it stands in the text of the journal that has it alone
+abbrev pub line_of : Journal → NodeEntry → List ℕ
+line_of j e = nth_line (between 10 (journal_text (record j { entries = record { entries = e ∷ []; skipped = 0 ∷ [] } }))) 1
+
+-- a line for each entry that is named as allowed
+abbrev pub instead_lines : Journal → List NodeEntry → List ℕ
+instead_lines j es = flat_map (λ e. codes "instead: " ++ (line_of j e ++ 10 ∷ [])) es
+
+-- the line of the words that say why
+abbrev pub why_line : Judgement → List ℕ
+why_line found.Legal = []
+why_line (found.Illegal n instead why) = codes "why: " ++ (why.items ++ 10 ∷ [])
+
+-- what is written of a journal that was judged
+abbrev pub page_text : List ℕ → List ℕ → Journal → Judgement → List ℕ
+page_text front rest j v = first_line front rest (place_of v) ++ (why_line v ++ instead_lines j (instead_of v))
+
 -- an input has a journal behind what may stand before it, which was judged, and this is written of it
 pub record IsPage (bytes : List ℕ) (yes : Bool) (page : List ℕ) : Type 0 where
   pub front : List ℕ
@@ -40,7 +59,7 @@ pub record IsPage (bytes : List ℕ) (yes : Bool) (page : List ℕ) : Type 0 whe
   pub judgement : Judgement
   pub judged : IsJudged journal judgement
   pub legal : yes ≡ is_none (place_of judgement)
-  pub text : page ≡ first_line front rest (place_of judgement)
+  pub text : page ≡ page_text front rest journal judgement
 
 -- no journal stands in it, for this cause
 abbrev pub HasNone : List ℕ → ShowEnd → Type 0

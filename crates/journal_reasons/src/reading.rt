@@ -8,7 +8,7 @@ ghost use Rattle.journal_reasons.specs.Pages.{IsPage, HasNone, Judges, Tells, us
 ghost use Rattle.journal_reasons.specs.declared.reading.JudgeEnd.TheVariants.{Refused};
 
 use crate::judging::{Judgement, judge};
-use crate::page::page_of;
+use crate::page::{count_lines, page_of};
 use byte_io::{ReadAllError, Sink, Source, read_all, say, write_all};
 use journal_reading::{RunView, ShowEnd};
 use journal_text::{InputPart, JournalError, parts_of, read_journal};
@@ -45,8 +45,8 @@ fn journal_in(alloc: Global, rest: &[u8]) -> Result<Journal, ShowEnd>
     }
 }
 
-fn is_legal(judgement: Judgement) -> bool
-    ensures { result ≡ is_none (place_of judgement) }
+fn is_legal(judgement: &Judgement) -> bool
+    ensures { result ≡ is_none (place_of judgement.now) }
 {
     match judgement {
         Judgement::Legal => true,
@@ -63,11 +63,11 @@ fn page_in(alloc: Global, bytes: &[u8]) -> Result<(bool, Vec<u8>), ShowEnd>
 {
     let (front, rest) = parts_of(bytes);
     let journal = journal_in(alloc, rest)?;
-    let Ok(judgement) = judge(alloc, &journal) else {
+    let Ok(judgement) = judge(alloc, &journal, count_lines(front)) else {
         return Err(ShowEnd::Memory);
     };
-    match page_of(alloc, front, rest, judgement) {
-        Ok(page) => Ok((is_legal(judgement), page)),
+    match page_of(alloc, front, rest, &journal, &judgement) {
+        Ok(page) => Ok((is_legal(&judgement), page)),
         Err(_) => Err(ShowEnd::Memory),
     }
 }

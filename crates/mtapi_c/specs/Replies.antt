@@ -7,7 +7,7 @@ use Rattle.mtapi_values.specs.Statuses.{mtapi_number, mrapi_number}
 use Rattle.mtapi_machine.specs.declared.replies.Reply.{Reply}
 use Rattle.mtapi_machine.specs.declared.replies.Reply.TheVariants as said
 use Rattle.mtapi_c.specs.declared.picked.PickedTask.{PickedTask}
-use Rattle.mtapi_c.specs.Kinds.{kind_number}
+use Rattle.mtapi_c.specs.Kinds.{number_of_kind}
 
 -- the status of an end
 abbrev pub end_status : TaskEnd → ℕ
@@ -37,9 +37,9 @@ number_in (said.Number number) = number
 number_in _ = pos 0
 
 -- the yes or no in a reply, no where there is none
-abbrev pub flag_in : Reply → Bool
-flag_in (said.Asked flag) = flag
-flag_in _ = false
+abbrev pub asked_in : Reply → Bool
+asked_in (said.Asked flag) = flag
+asked_in _ = false
 
 -- the member of a group in a reply, 0 where there is none
 abbrev pub member_in : Reply → ℕ
@@ -60,5 +60,5 @@ numbers_in _ = []
 
 -- the task that a worker took, all 0 where it took none
 abbrev pub picked_in : Reply → PickedTask
-picked_in (said.Picked task action kind numbers) = record { task = task.0; action = action.0; count = length numbers; kind = kind_number kind }
+picked_in (said.Picked task action kind numbers) = record { task = task.0; action = action.0; count = length numbers; kind = number_of_kind kind }
 picked_in _ = record { task = 0; action = 0; count = 0; kind = 0 }

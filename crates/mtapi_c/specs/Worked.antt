@@ -12,9 +12,9 @@ use Rattle.mtapi_machine.specs.declared.replies.Reply.TheVariants as said
 use Rattle.node_handle.specs.declared.journals.JournalEnd.TheVariants as ended
 use Rattle.node_handle.specs.Texts.{piece}
 use Rattle.mtapi_c.specs.declared.settings.Settings.{Settings}
-use Rattle.mtapi_c.specs.Kinds.{kind_numbered}
-use Rattle.mtapi_c.specs.Replies.{status_of, handle_in, number_in, flag_in, member_in, numbers_in, picked_in}
-use Rattle.mtapi_c.specs.Asks.{group_of, with_numbers, action_op, finish_op}
+use Rattle.mtapi_c.specs.Kinds.{kind_with_number}
+use Rattle.mtapi_c.specs.Replies.{status_of, handle_in, number_in, asked_in, member_in, numbers_in, picked_in}
+use Rattle.mtapi_c.specs.Asks.{group_by_handle, op_with_numbers, action_op, finish_op}
 use Rattle.mtapi_c.specs.Settings.{wrong_of}
 use Rattle.mtapi_c.specs.Answers.{written, end_number, length_in}
 
@@ -22,8 +22,8 @@ use Rattle.mtapi_c.specs.Answers.{written, end_number, length_in}
 abbrev pub results : List ℤ
 results = pos 71 ∷ negsuc 4 ∷ []
 
-abbrev pub replies : List Reply
-replies =
+abbrev pub worked_replies : List Reply
+worked_replies =
     said.Ok ∷ said.Handle 41 ∷ said.Number (pos 42) ∷ said.Ended (Completed results) ∷ said.Ended Cancelled
     ∷ said.Ended (Failed t.ErrQueueDeleted) ∷ said.Given (record { 0 = 43 }) (Completed results)
     ∷ said.Given (record { 0 = 44 }) (Failed t.ErrActionFailed) ∷ said.Pending
@@ -34,29 +34,29 @@ replies =
 abbrev pub fits : Settings
 fits = record { workers = 16; tasks = 65536; actions = 1024; groups = 1023; queues = 256; objects = 255; priorities = 8; generations = 1 }
 
-pub record WorkedCalls : Type 0 where
-  pub statuses : map status_of replies ≡ 0 ∷ 0 ∷ 0 ∷ 0 ∷ 17 ∷ 22 ∷ 0 ∷ 8 ∷ 100 ∷ 0 ∷ 101 ∷ 102 ∷ 0 ∷ 13 ∷ 230 ∷ []
-  pub handles : map handle_in replies ≡ 0 ∷ 41 ∷ 0 ∷ 0 ∷ 0 ∷ 0 ∷ 0 ∷ 0 ∷ 0 ∷ 0 ∷ 0 ∷ 0 ∷ 0 ∷ 0 ∷ 0 ∷ []
-  pub members : map member_in replies ≡ 0 ∷ 0 ∷ 0 ∷ 0 ∷ 0 ∷ 0 ∷ 43 ∷ 44 ∷ 0 ∷ 0 ∷ 0 ∷ 0 ∷ 0 ∷ 0 ∷ 0 ∷ []
-  pub numbers : map numbers_in replies
+pub record WorkedExports : Type 0 where
+  pub statuses : map status_of worked_replies ≡ 0 ∷ 0 ∷ 0 ∷ 0 ∷ 17 ∷ 22 ∷ 0 ∷ 8 ∷ 100 ∷ 0 ∷ 101 ∷ 102 ∷ 0 ∷ 13 ∷ 230 ∷ []
+  pub handles : map handle_in worked_replies ≡ 0 ∷ 41 ∷ 0 ∷ 0 ∷ 0 ∷ 0 ∷ 0 ∷ 0 ∷ 0 ∷ 0 ∷ 0 ∷ 0 ∷ 0 ∷ 0 ∷ 0 ∷ []
+  pub members : map member_in worked_replies ≡ 0 ∷ 0 ∷ 0 ∷ 0 ∷ 0 ∷ 0 ∷ 43 ∷ 44 ∷ 0 ∷ 0 ∷ 0 ∷ 0 ∷ 0 ∷ 0 ∷ 0 ∷ []
+  pub numbers : map numbers_in worked_replies
       ≡ [] ∷ [] ∷ [] ∷ results ∷ [] ∷ [] ∷ results ∷ [] ∷ [] ∷ (pos 47 ∷ pos 48 ∷ []) ∷ [] ∷ [] ∷ [] ∷ [] ∷ [] ∷ []
   pub number : number_in (said.Number (negsuc 6)) ≡ negsuc 6
-  pub flags : map flag_in (said.Ok ∷ said.Asked true ∷ said.Asked false ∷ []) ≡ false ∷ true ∷ false ∷ []
+  pub flags : map asked_in (said.Ok ∷ said.Asked true ∷ said.Asked false ∷ []) ≡ false ∷ true ∷ false ∷ []
   pub picked : picked_in (said.Picked (record { 0 = 45 }) (record { 0 = 46 }) k.Gcd results) ≡ record { task = 45; action = 46; count = 2; kind = 5 }
   pub not_picked : picked_in said.Idle ≡ record { task = 0; action = 0; count = 0; kind = 0 }
-  pub kinds : map kind_numbered (0 ∷ 1 ∷ 5 ∷ 6 ∷ 10 ∷ 11 ∷ []) ≡ None ∷ Some k.Add ∷ Some k.Gcd ∷ Some k.Echo ∷ Some k.Tally ∷ None ∷ []
-  pub groups : map group_of (0 ∷ 49 ∷ []) ≡ None ∷ Some (record { 0 = 49 }) ∷ []
-  pub action : action_op 51 (kind_numbered 4) 52 ≡ Some (op.ActionCreate 51 k.Div (record { 0 = 52 }))
-  pub no_kind : action_op 51 (kind_numbered 0) 52 ≡ None
-  pub finish : finish_op 53 (kind_numbered 6) results ≡ Some (op.Finish (record { 0 = 53 }) (record { kind = k.Echo; args = results; end = Done results }))
-  pub no_finish : finish_op 53 (kind_numbered 9) results ≡ None
+  pub kinds : map kind_with_number (0 ∷ 1 ∷ 5 ∷ 6 ∷ 10 ∷ 11 ∷ []) ≡ None ∷ Some k.Add ∷ Some k.Gcd ∷ Some k.Echo ∷ Some k.Tally ∷ None ∷ []
+  pub groups : map group_by_handle (0 ∷ 49 ∷ []) ≡ None ∷ Some (record { 0 = 49 }) ∷ []
+  pub action : action_op 51 (kind_with_number 4) 52 ≡ Some (op.ActionCreate 51 k.Div (record { 0 = 52 }))
+  pub no_kind : action_op 51 (kind_with_number 0) 52 ≡ None
+  pub finish : finish_op 53 (kind_with_number 6) results ≡ Some (op.Finish (record { 0 = 53 }) (record { kind = k.Echo; args = results; end = Done results }))
+  pub no_finish : finish_op 53 (kind_with_number 9) results ≡ None
   pub all_fit : map (wrong_of fits) (0 ∷ 1 ∷ 9 ∷ 10 ∷ []) ≡ 9 ∷ 0 ∷ 0 ∷ 9 ∷ []
   pub wrong : map (λ s. wrong_of s 10) (
       record fits { workers = 17; tasks = 0 } ∷ record fits { tasks = 65537; actions = 0 } ∷ record fits { actions = 1025; groups = 0 }
       ∷ record fits { groups = 1025; queues = 0 } ∷ record fits { queues = 257; objects = 0 } ∷ record fits { objects = 257; priorities = 0 }
       ∷ record fits { priorities = 9; generations = 0 } ∷ record fits { generations = 0 } ∷ []) ≡ 1 ∷ 2 ∷ 3 ∷ 4 ∷ 5 ∷ 6 ∷ 7 ∷ 8 ∷ []
-  pub sixteen : with_numbers (replicate 16 (pos 1)) (λ args. op.JobGet 54) ≡ Some (op.JobGet 54)
-  pub seventeen : with_numbers (replicate 17 (pos 1)) (λ args. op.JobGet 54) ≡ None
+  pub sixteen : op_with_numbers (replicate 16 (pos 1)) (λ args. op.JobGet 54) ≡ Some (op.JobGet 54)
+  pub seventeen : op_with_numbers (replicate 17 (pos 1)) (λ args. op.JobGet 54) ≡ None
   pub ends : map end_number (ended.Text 55 ∷ ended.NoJournal ∷ ended.Memory ∷ []) ≡ 0 ∷ 103 ∷ 99 ∷ []
   pub lengths : map length_in (ended.Text 55 ∷ ended.NoJournal ∷ ended.Memory ∷ []) ≡ 55 ∷ 0 ∷ 0 ∷ []
   pub middle : piece (61 ∷ 62 ∷ 63 ∷ 64 ∷ 65 ∷ []) 1 3 ≡ 62 ∷ 63 ∷ 64 ∷ []

@@ -3,7 +3,7 @@
 ghost use Rattle.mtapi_machine.specs.declared.ops.Op.TheVariants as op;
 ghost use Rattle.node_handle.specs.Handles.{IsLive};
 ghost use Rattle.mtapi_c.specs.Asks.{action_op};
-ghost use Rattle.mtapi_c.specs.Kinds.{kind_numbered};
+ghost use Rattle.mtapi_c.specs.Kinds.{kind_with_number};
 ghost use Rattle.mtapi_c.specs.Answers.{GivesStatus, GivesNumber, TriesForHandle};
 
 use crate::asking::{ask, ask_number, try_handle};
@@ -42,7 +42,7 @@ pub extern "C" fn mtapi_c_action_create(
 ) -> u32
     requires live { IsLive node.old }
     ensures live { IsLive node.new }
-    ensures called { TriesForHandle node.old who (action_op job (kind_numbered kind) cores) result action.new node.new }
+    ensures called { TriesForHandle node.old who (action_op job (kind_with_number kind) cores) result action.new node.new }
 {
     try_handle(alloc, node, who, action_op(job, kind, cores), action)
 }

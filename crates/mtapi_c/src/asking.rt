@@ -6,7 +6,7 @@ ghost use Rattle.mtapi_c.specs.Answers.{GivesStatus, GivesHandle, GivesNumber, G
 
 use crate::picked::PickedTask;
 use crate::replies::{
-    flag_in, handle_in, member_in, number_in, picked_in, status_of, write_numbers,
+    asked_in, handle_in, member_in, number_in, picked_in, status_of, write_numbers,
 };
 use mtapi_values::MtapiStatus;
 use node_core::{Op, Reply};
@@ -51,7 +51,7 @@ pub fn ask_flag(alloc: Global, node: &mut NodeHandle, who: u32, op: Op, flag: &m
     ensures called { GivesFlag node.old who op result flag.new node.new }
 {
     let reply = call(node, alloc, who, op);
-    *flag = flag_in(&reply);
+    *flag = asked_in(&reply);
     status_of(&reply)
 }
 

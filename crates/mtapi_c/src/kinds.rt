@@ -1,14 +1,14 @@
 //! The kinds of action by number.
 
 ghost use Rattle.std.specs.Prelude.{◌≡◌, Some};
-ghost use Rattle.mtapi_c.specs.Kinds.{kind_number, kind_numbered};
+ghost use Rattle.mtapi_c.specs.Kinds.{number_of_kind, kind_with_number};
 
 use mtapi_values::Kind;
 
 /// The number of a kind, 1 to 10.
-pub fn kind_number(kind: Kind) -> u32
-    ensures value { result ≡ kind_number kind }
-    ensures back { kind_numbered result ≡ Some kind }
+pub fn number_of_kind(kind: Kind) -> u32
+    ensures value { result ≡ number_of_kind kind }
+    ensures back { kind_with_number result ≡ Some kind }
 {
     match kind {
         Kind::Add => 1,
@@ -29,8 +29,8 @@ pub fn kind_number(kind: Kind) -> u32
 /// # Errors
 ///
 /// - `None`: no kind has the number.
-pub fn kind_numbered(number: u32) -> Option<Kind>
-    ensures { result ≡ kind_numbered number }
+pub fn kind_with_number(number: u32) -> Option<Kind>
+    ensures { result ≡ kind_with_number number }
 {
     match number {
         1 => Some(Kind::Add),

@@ -3,10 +3,10 @@
 ghost use Rattle.std.specs.Prelude.{◌≡◌, ◌≤◌, ◌<◌, ◌++◌, ◌∷◌, [], true, length, nat_le, Some, None, if◌then◌else◌};
 ghost use Rattle.action_fn.specs.Answers.{is_pure, answer_of};
 ghost use Rattle.mtapi_machine.specs.declared.ops.Op.TheVariants as op;
-ghost use Rattle.mtapi_c.specs.Kinds.{kind_numbered};
-ghost use Rattle.mtapi_c.specs.Asks.{group_of, with_numbers, action_op, finish_op};
+ghost use Rattle.mtapi_c.specs.Kinds.{kind_with_number};
+ghost use Rattle.mtapi_c.specs.Asks.{group_by_handle, op_with_numbers, action_op, finish_op};
 
-use crate::kinds::kind_numbered;
+use crate::kinds::kind_with_number;
 use action_fn::{Finished, answer_of};
 use mtapi_values::{Args, GroupHandle, Kind, Mask, QueueHandle, TaskHandle};
 use node_core::Op;
@@ -15,8 +15,8 @@ use node_core::Op;
 const MOST: usize = 16;
 
 // A group by its handle, 0 for none.
-fn group_of(group: u64) -> Option<GroupHandle>
-    ensures { result ≡ group_of group }
+fn group_by_handle(group: u64) -> Option<GroupHandle>
+    ensures { result ≡ group_by_handle group }
 {
     match group {
         0 => None,
@@ -56,9 +56,9 @@ fn few(numbers: &[i64]) -> Option<Args>
 
 /// An action of the kind with this number.
 pub fn action_op(job: u32, kind: u32, cores: u64) -> Option<Op>
-    ensures { result ≡ action_op job (kind_numbered kind) cores }
+    ensures { result ≡ action_op job (kind_with_number kind) cores }
 {
-    match kind_numbered(kind) {
+    match kind_with_number(kind) {
         Some(kind) => Some(Op::ActionCreate {
             job,
             kind,
@@ -77,7 +77,7 @@ pub fn start_op(
     detached: bool,
     group: u64,
 ) -> Option<Op>
-    ensures { result ≡ with_numbers numbers.now (λ args. op.TaskStart job args priority (record { 0 = cores }) detached (group_of group)) }
+    ensures { result ≡ op_with_numbers numbers.now (λ args. op.TaskStart job args priority (record { 0 = cores }) detached (group_by_handle group)) }
 {
     match few(numbers) {
         Some(args) => Some(Op::TaskStart {
@@ -86,7 +86,7 @@ pub fn start_op(
             priority,
             cores: Mask(cores),
             detached,
-            group: group_of(group),
+            group: group_by_handle(group),
         }),
         None => None,
     }
@@ -94,7 +94,7 @@ pub fn start_op(
 
 /// The start of a task of a queue with these numbers.
 pub fn enqueue_op(queue: u64, numbers: &[i64], cores: u64, detached: bool, group: u64) -> Option<Op>
-    ensures { result ≡ with_numbers numbers.now (λ args. op.TaskEnqueue (record { 0 = queue }) args (record { 0 = cores }) detached (group_of group)) }
+    ensures { result ≡ op_with_numbers numbers.now (λ args. op.TaskEnqueue (record { 0 = queue }) args (record { 0 = cores }) detached (group_by_handle group)) }
 {
     match few(numbers) {
         Some(args) => Some(Op::TaskEnqueue {
@@ -102,7 +102,7 @@ pub fn enqueue_op(queue: u64, numbers: &[i64], cores: u64, detached: bool, group
             args,
             cores: Mask(cores),
             detached,
-            group: group_of(group),
+            group: group_by_handle(group),
         }),
         None => None,
     }
@@ -117,7 +117,7 @@ fn is_pure(kind: Kind) -> bool
 // The end of a task by what this pure kind answers.
 fn finish_of(task: u64, kind: Kind, numbers: &[i64]) -> Option<Op>
     requires { is_pure kind ≡ true }
-    ensures { result ≡ with_numbers numbers.now (λ args. op.Finish (record { 0 = task }) (record { kind = kind; args = args; end = answer_of kind args })) }
+    ensures { result ≡ op_with_numbers numbers.now (λ args. op.Finish (record { 0 = task }) (record { kind = kind; args = args; end = answer_of kind args })) }
 {
     match few(numbers) {
         Some(args) => {
@@ -133,9 +133,9 @@ fn finish_of(task: u64, kind: Kind, numbers: &[i64]) -> Option<Op>
 
 /// The end of a task by what the kind with this number answers, where it is pure.
 pub fn finish_op(task: u64, kind: u32, numbers: &[i64]) -> Option<Op>
-    ensures { result ≡ finish_op task (kind_numbered kind) numbers.now }
+    ensures { result ≡ finish_op task (kind_with_number kind) numbers.now }
 {
-    match kind_numbered(kind) {
+    match kind_with_number(kind) {
         Some(kind) => {
             if is_pure(kind) {
                 finish_of(task, kind, numbers)

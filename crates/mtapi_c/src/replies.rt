@@ -1,10 +1,10 @@
 //! What C is told of a reply.
 
 ghost use Rattle.std.specs.Prelude.{◌≡◌, length};
-ghost use Rattle.mtapi_c.specs.Replies.{status_of, end_status, handle_in, number_in, flag_in, member_in, end_numbers, numbers_in, picked_in};
+ghost use Rattle.mtapi_c.specs.Replies.{status_of, end_status, handle_in, number_in, asked_in, member_in, end_numbers, numbers_in, picked_in};
 ghost use Rattle.mtapi_c.specs.Answers.{written};
 
-use crate::kinds::kind_number;
+use crate::kinds::number_of_kind;
 use crate::picked::PickedTask;
 use mtapi_values::{MtapiStatus, TaskEnd};
 use node_core::Reply;
@@ -65,8 +65,8 @@ pub fn number_in(reply: &Reply) -> i64
 }
 
 /// The yes or no in a reply, no where there is none.
-pub fn flag_in(reply: &Reply) -> bool
-    ensures { result ≡ flag_in reply.now }
+pub fn asked_in(reply: &Reply) -> bool
+    ensures { result ≡ asked_in reply.now }
 {
     match reply {
         Reply::Asked(flag) => *flag,
@@ -98,7 +98,7 @@ pub fn picked_in(reply: &Reply) -> PickedTask
             task: task.0,
             action: action.0,
             count: args.as_slice().len(),
-            kind: kind_number(*kind),
+            kind: number_of_kind(*kind),
         },
         _ => PickedTask {
             task: 0,

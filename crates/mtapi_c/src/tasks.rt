@@ -2,7 +2,7 @@
 
 ghost use Rattle.mtapi_machine.specs.declared.ops.Op.TheVariants as op;
 ghost use Rattle.node_handle.specs.Handles.{IsLive};
-ghost use Rattle.mtapi_c.specs.Asks.{with_numbers, group_of};
+ghost use Rattle.mtapi_c.specs.Asks.{op_with_numbers, group_by_handle};
 ghost use Rattle.mtapi_c.specs.Answers.{GivesStatus, GivesNumbers, TriesForHandle};
 
 use crate::asking::{ask, ask_numbers, try_handle};
@@ -29,7 +29,7 @@ pub extern "C" fn mtapi_c_task_start(
     requires live { IsLive node.old }
     ensures live { IsLive node.new }
     ensures called { TriesForHandle node.old who
-        (with_numbers numbers.now (λ args. op.TaskStart job args priority (record { 0 = cores }) detached (group_of group)))
+        (op_with_numbers numbers.now (λ args. op.TaskStart job args priority (record { 0 = cores }) detached (group_by_handle group)))
         result task.new node.new }
 {
     try_handle(
@@ -57,7 +57,7 @@ pub extern "C" fn mtapi_c_task_enqueue(
     requires live { IsLive node.old }
     ensures live { IsLive node.new }
     ensures called { TriesForHandle node.old who
-        (with_numbers numbers.now (λ args. op.TaskEnqueue (record { 0 = queue }) args (record { 0 = cores }) detached (group_of group)))
+        (op_with_numbers numbers.now (λ args. op.TaskEnqueue (record { 0 = queue }) args (record { 0 = cores }) detached (group_by_handle group)))
         result task.new node.new }
 {
     try_handle(

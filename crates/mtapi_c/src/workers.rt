@@ -3,7 +3,7 @@
 ghost use Rattle.mtapi_machine.specs.declared.ops.Op.TheVariants as op;
 ghost use Rattle.node_handle.specs.Handles.{IsLive};
 ghost use Rattle.mtapi_c.specs.Asks.{finish_op};
-ghost use Rattle.mtapi_c.specs.Kinds.{kind_numbered};
+ghost use Rattle.mtapi_c.specs.Kinds.{kind_with_number};
 ghost use Rattle.mtapi_c.specs.Answers.{GivesStatus, GivesNumber, GivesFlag, GivesNumbers, TriesForStatus, GivesTask};
 
 use crate::asking::{ask, ask_flag, ask_number, ask_numbers, ask_task, try_status};
@@ -42,7 +42,7 @@ pub extern "C" fn mtapi_c_finish(
 ) -> u32
     requires live { IsLive node.old }
     ensures live { IsLive node.new }
-    ensures called { TriesForStatus node.old who (finish_op task (kind_numbered kind) numbers.now) result node.new }
+    ensures called { TriesForStatus node.old who (finish_op task (kind_with_number kind) numbers.now) result node.new }
 {
     try_status(alloc, node, who, finish_op(task, kind, numbers))
 }

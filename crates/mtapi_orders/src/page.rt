@@ -25,7 +25,8 @@ fn push_count(
     Ok(())
 }
 
-/// The first line: how much was found, and whether the search was cut. The number of reports is exact, or the least that it can be.
+/// The first line: how much was found, whether the search was cut, and whether the report is known to be the only one. The number of reports
+/// is exact, or the least that it can be.
 fn push_head(
     alloc: Global,
     out: &mut Vec<u8>,
@@ -47,6 +48,9 @@ fn push_head(
     if !orders.cut {
         push_bytes(out, b", ")?;
         push_count(alloc, out, orders.states, b"state")?;
+    }
+    if orders.all {
+        push_bytes(out, b"; settled: every run has this report")?;
     }
     push_bytes(out, b"\n")
 }

@@ -36,7 +36,7 @@ pub record HoldsText (h : NodeHandle) (bytes : List ℕ) : Type 0 where
   pub same : text.items ≡ bytes
 
 -- the calls of a node have ended so, and the handle holds the text
-pub record EndsAs (n : CountedNode) (end : JournalEnd) (new : NodeHandle) : Type 0 where
+pub record HasEndedAs (n : CountedNode) (end : JournalEnd) (new : NodeHandle) : Type 0 where
   pub text : Vec ℕ
   pub holds : new.held ≡ Some (Text text)
   pub ends : EndsWith n text end

@@ -14,7 +14,7 @@ use Rattle.node_core.specs.Logs.{StandsKept, journal_terms, journal_seats, is_lo
 use Rattle.node_handle.specs.declared.counted.CountedNode.{CountedNode}
 
 -- the node stands for this list, and has counted it
-pub record Counts (n : CountedNode) (L : List NodeEntry) : Type 0 where
+pub record StandsCounted (n : CountedNode) (L : List NodeEntry) : Type 0 where
   pub stands : StandsKept n.node L
   pub turns : n.turns ≡ length L
 
@@ -29,22 +29,22 @@ seats_of n = journal_seats (terms_of n)
 -- the call of this seat was made: each history gets its entry, at the end
 pub record Made (old : CountedNode) (who : ℕ) (op : Op) (r : Reply) (new : CountedNode) : Type 0 where
   pub terms : terms_of new ≡ terms_of old
-  pub counts : (L : List NodeEntry) → Counts old L → Counts new (L ++ entry who op r ∷ [])
+  pub counts : (L : List NodeEntry) → StandsCounted old L → StandsCounted new (L ++ entry who op r ∷ [])
 
 -- no call was made: there is no such seat, or the turns are used up
 abbrev pub Refused : CountedNode → ℕ → Reply → CountedNode → Type 0
 Refused old who r new = (new ≡ old) × (((seats_of old ≤ who) × (r ≡ Mtapi ErrParameter)) ⊎ ((2 ^ 62 ≤ old.turns) × (r ≡ Mtapi ErrSpent)))
 
 -- the call was made, or refused
-abbrev pub Asked : CountedNode → ℕ → Op → Reply → CountedNode → Type 0
-Asked old who op r new = Made old who op r new ⊎ Refused old who r new
+abbrev pub MadeOrRefused : CountedNode → ℕ → Op → Reply → CountedNode → Type 0
+MadeOrRefused old who op r new = Made old who op r new ⊎ Refused old who r new
 
 -- the journal is that of each list that the node stands for
 abbrev pub IsJournalOf : CountedNode → Journal → Type 0
-IsJournalOf n j = (L : List NodeEntry) → Counts n L → KeptAs (terms_of n).node j L
+IsJournalOf n j = (L : List NodeEntry) → StandsCounted n L → KeptAs (terms_of n).node j L
 
 -- the journal is given, where one is kept and none of it is lost
 pub record JournalGiven (n : CountedNode) (r : Result (Option Journal) AllocError) : Type 0 where
   pub none : (r ≡ Ok None) ↔ ((terms_of n).keeps ≡ false)
   pub lost : IsErr r ↔ (is_lost n.node ≡ true)
-  pub kept : (L : List NodeEntry) → Counts n L → IfOk r (λ o. IfSome o (λ j. KeptAs (terms_of n).node j L))
+  pub kept : (L : List NodeEntry) → StandsCounted n L → IfOk r (λ o. IfSome o (λ j. KeptAs (terms_of n).node j L))

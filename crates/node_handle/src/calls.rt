@@ -4,7 +4,7 @@ ghost use Rattle.std.specs.Prelude.{◌≡◌, ◌≤◌, Some, None};
 ghost use Rattle.std.specs.Bool.{OnTrue, OnFalse};
 ghost use Rattle.mtapi_values.specs.declared.handles.Layout.TheVariants.{Two};
 ghost use Rattle.node_handle.specs.declared.held.Held.{Held};
-ghost use Rattle.node_handle.specs.Handles.{IsNew, IsLive, IsLiveNode, Called, NodeCalled};
+ghost use Rattle.node_handle.specs.Handles.{IsNewNode, IsLive, IsLiveNode, HandleCalled, NodeCalled};
 
 use crate::counted::CountedNode;
 use crate::handle::NodeHandle;
@@ -23,7 +23,7 @@ pub fn create(
 ) -> bool
     requires some_caller { 1 ≤ callers }
     requires few_callers { callers ≤ 9 }
-    ensures made { OnTrue result (IsNew node.new (record { node = record { layout = Two; settings = attr; callers = callers }; keeps = keeps })) }
+    ensures made { OnTrue result (IsNewNode node.new (record { node = record { layout = Two; settings = attr; callers = callers }; keeps = keeps })) }
     ensures short { OnFalse result (node.new ≡ node.old) }
 {
     match CountedNode::new(alloc, attr, callers, keeps) {
@@ -54,7 +54,7 @@ fn call_held(held: &mut Held, who: u32, op: Op) -> Reply
 pub fn call(node: &mut NodeHandle, alloc: Global, who: u32, op: Op) -> Reply
     requires live { IsLive node.old }
     ensures live { IsLive node.new }
-    ensures called { Called node.old who op result node.new }
+    ensures called { HandleCalled node.old who op result node.new }
 {
     let mut boxed = node.take(alloc);
     let reply = call_held(&mut *boxed, who, op);

@@ -5,7 +5,7 @@ ghost use Rattle.mtapi_values.specs.declared.handles.Layout.TheVariants.{Two};
 ghost use Rattle.mtapi_machine.specs.Legal.{NodeEntry};
 ghost use Rattle.node_core.specs.Stands.{Stands, terms_of as node_terms};
 ghost use Rattle.node_core.specs.Logs.{StandsKept, journal_terms};
-ghost use Rattle.node_handle.specs.Turns.{Counts, Made, Asked, JournalGiven, seats_of, terms_of};
+ghost use Rattle.node_handle.specs.Turns.{StandsCounted, Made, MadeOrRefused, JournalGiven, seats_of, terms_of};
 
 use history::Object;
 use mtapi_values::{MtapiStatus, NodeAttr};
@@ -45,7 +45,7 @@ impl CountedNode {
         requires some_caller { 1 ≤ callers }
         requires few_callers { callers ≤ 9 }
         ensures terms { IfOk result (λ n. terms_of n ≡ record { node = record { layout = Two; settings = attr; callers = callers }; keeps = keeps }) }
-        ensures counts { IfOk result (λ n. Counts n []) }
+        ensures counts { IfOk result (λ n. StandsCounted n []) }
     {
         let node = Node::init(alloc, attr, callers)?;
         Ok(CountedNode {
@@ -58,7 +58,7 @@ impl CountedNode {
     fn turn(&mut self, who: u32, op: Op) -> Reply
         requires seat { who < seats_of self.old }
         requires room { self.old.turns < 2 ^ 62 }
-        requires counts { (L : List NodeEntry) × Counts self.old L }
+        requires counts { (L : List NodeEntry) × StandsCounted self.old L }
         ensures { Made self.old who op result self.new }
     {
         self.turns += 1;
@@ -67,8 +67,8 @@ impl CountedNode {
 
     /// One call by a seat. It is refused where there is no such seat, and where the turns are used up.
     pub fn call(&mut self, who: u32, op: Op) -> Reply
-        requires counts { (L : List NodeEntry) × Counts self.old L }
-        ensures { Asked self.old who op result self.new }
+        requires counts { (L : List NodeEntry) × StandsCounted self.old L }
+        ensures { MadeOrRefused self.old who op result self.new }
     {
         if who >= self.node.seats() {
             return Reply::Mtapi(MtapiStatus::ErrParameter);

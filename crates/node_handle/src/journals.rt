@@ -4,7 +4,7 @@ ghost use Rattle.std.specs.Prelude.{◌≡◌, Some, List, ℕ, length};
 ghost use Rattle.node_handle.specs.declared.counted.CountedNode.{CountedNode};
 ghost use Rattle.node_handle.specs.declared.held.Held.TheVariants as held;
 ghost use Rattle.node_handle.specs.Handles.{IsLive, IsLiveNode};
-ghost use Rattle.node_handle.specs.Texts.{TextGiven, HoldsText, EndsWith, EndsAs, piece, written_over};
+ghost use Rattle.node_handle.specs.Texts.{TextGiven, HoldsText, EndsWith, HasEndedAs, piece, written_over};
 
 use crate::counted::CountedNode;
 use crate::handle::NodeHandle;
@@ -72,7 +72,7 @@ fn put(place: &mut Held, held: Held)
 /// Ends the calls of a node, and makes the text of its journal.
 pub fn end_in_text(node: &mut NodeHandle, alloc: Global) -> JournalEnd
     requires live { IsLive node.old }
-    ensures { (n : CountedNode) → node.old.held ≡ Some (held.Node n) → EndsAs n result node.new }
+    ensures { (n : CountedNode) → node.old.held ≡ Some (held.Node n) → HasEndedAs n result node.new }
 {
     let mut boxed = node.take(alloc);
     let (text, end) = ended(alloc, take_node(&mut *boxed, alloc));

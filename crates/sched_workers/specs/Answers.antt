@@ -37,6 +37,10 @@ module _ {S A : Type 0} (standard : Standard S) (read : Reply → Option A) wher
   abbrev pub Waited : Wanted → Option ℕ → Seat → Seat → Result A S → Type 0
   Waited w limit old new x = ((r : Reply) × Looked w limit old new r × Answers r x) ⊎ (StillLooking w limit old new × (x ≡ Err standard.spent))
 
+  -- the same with a limit that time decides: some number of looks, of which the last alone was asked as the last
+  abbrev pub WaitedUntil : Wanted → Seat → Seat → Result A S → Type 0
+  WaitedUntil w old new x = (looks : ℕ) × Waited w (Some looks) old new x
+
 -- the answer with the number of the handle that it has
 abbrev pub with_number : {H S : Type 0} → (H → ℕ) → Result H S → Result ℕ S
 with_number f (Ok h) = Ok (f h)

@@ -10,6 +10,7 @@ mod rwlocks;
 mod segments;
 mod semaphores;
 mod tasks;
+mod until;
 
 ghost use Rattle.std.specs.Prelude.{◌≡◌, Bool, true, ◌≤◌, None, IfOk, OnErr};
 ghost use Rattle.mtapi_machine.specs.declared.ops.Op.TheVariants as op;

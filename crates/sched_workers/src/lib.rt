@@ -3,9 +3,11 @@
 #![tactic(auto)]
 
 pub mod callers;
+pub mod deadlines;
 pub mod laws;
 
 pub use callers::Caller;
+pub use deadlines::Deadline;
 pub use run_beside::{Beside, FewThreads, Job, Threads, pair};
 pub use turn_looks::ServeEnd;
 pub use workload_runners::{Back, RunError, Stop, Worker, WorkerJob, run_node};

@@ -21,7 +21,7 @@ pub use Rattle.std.specs.List.{All, AllZip}
 pub use Rattle.std.specs.declared.alloc.Global.{Global}
 pub use Rattle.typed_pieces.specs.Levels.{AreOpen, Gives, Waits, parts_of, pending_of}
 pub use Rattle.typed_pieces.specs.Places.{AreFrom, AreKept, IsKeptAt}
-pub use Rattle.typed_pieces.specs.Runs.{EndsRefused, FailsBy, HasAwaited, HasRun, HasRunAll, HasStarted, RefusesPieces, every_worker, starts_of}
+pub use Rattle.typed_pieces.specs.Runs.{EndsRefused, FailsBy, HasAwaited, HasRun, HasRunAll, HasStarted, RefusesPieces, StopsAt, at_action, at_group, at_start, at_look, spent, every_worker, starts_of}
 pub use Rattle.typed_pieces.specs.Split.{AllKept, IsKeptBy, JoinsTo}
 pub use Rattle.typed_pieces.specs.SplitRuns.{AreCounted, HaveRun, IsOver, SplitFails, pieces_of}
 pub use Rattle.typed_pieces.specs.declared.level.Pending.{Pending}

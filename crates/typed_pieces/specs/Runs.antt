@@ -1,5 +1,5 @@
 -- What a run of pieces says of its node.
-use Rattle.std.specs.Prelude.{◌≡◌, ◌≤◌, ◌-◌, ◌^◌, ◌⊎◌, ℕ, suc, pos, false, List, [], ◌∷◌, ◌++◌, length, replicate, Some}
+use Rattle.std.specs.Prelude.{◌≡◌, ◌<◌, ◌≤◌, ◌-◌, ◌^◌, ◌⊎◌, ℕ, suc, pos, false, List, [], ◌∷◌, ◌++◌, length, replicate, Some}
 use Rattle.history.specs.Histories.{entry}
 use Rattle.mtapi_values.specs.Attributes.{NodeSettings}
 use Rattle.mtapi_values.specs.declared.handles.GroupHandle.{GroupHandle}
@@ -54,6 +54,24 @@ pub record HasAwaited (places : ℕ) (old new : Seat) : Type 0 where
   pub looks : ℕ
   pub waited : MadeJust (replicate looks (entry before.number (AllLook group false) reply.Pending)
       ++ entry before.number (AllLook group false) reply.Ok ∷ []) before new
+
+-- the seat made these calls alone, and then this one, which was refused with this status
+abbrev pub IsRefusedBehind : List NodeEntry → Op → MtapiStatus → Seat → Seat → Type 0
+IsRefusedBehind calls o status old new = MadeJust (calls ++ entry old.number o (reply.Mtapi status) ∷ []) old new
+
+-- The last call of a seat that was to start so many pieces and wait for them was refused with this status, and which one that was: the one for the
+-- action, for the group behind it, the start of the piece behind so many that were started, or a look at the group behind all of them. Or a further
+-- one wasn't made, since the turns were used up.
+pub data StopsAt (places : ℕ) (status : MtapiStatus) (old new : Seat) : Type 0 where
+  at_action : IsRefusedBehind [] (ActionCreate 1 Echo every_worker) status old new → StopsAt places status old new
+  at_group : (action : ℕ) → IsRefusedBehind (entry old.number (ActionCreate 1 Echo every_worker) (reply.Handle action) ∷ []) GroupCreate status old new
+      → StopsAt places status old new
+  at_start : (group : GroupHandle) (place : ℕ) (before : Seat) → place < places → HasStarted group place old before
+      → IsRefusedBehind [] (TaskStart 1 (pos place ∷ []) 0 every_worker false (Some group)) status before new → StopsAt places status old new
+  at_look : (group : GroupHandle) (before : Seat) (looks : ℕ) → HasStarted group places old before
+      → IsRefusedBehind (replicate looks (entry before.number (AllLook group false) reply.Pending)) (AllLook group false) status before new
+      → StopsAt places status old new
+  spent : status ≡ ErrSpent → 2 ^ 62 ≤ new.shown → StopsAt places status old new
 
 -- the same, and in that history main's calls between its opening and its end are those that start a task for the piece at each of so many places,
 -- and its looks until it was told that all of them had ended

@@ -33,11 +33,11 @@ const JOB: u32 = 1;
 impl<J: Piece> PieceClient<J> for AllPieces {
     ghost use Rattle.std.specs.Prelude.{IfOk, IfErr};
     ghost use Rattle.workload_runners.specs.Turns.{SameSeat};
-    ghost use Rattle.typed_pieces.specs.Runs.{EndsRefused, HasAwaited};
+    ghost use Rattle.typed_pieces.specs.Runs.{HasAwaited, StopsAt};
 
     type Told = Result<(), MtapiStatus>;
 
-    ghost promise = { λ all _ old new told. IfOk told (λ _. HasAwaited all.count old new) × IfErr told (λ status. EndsRefused status new) };
+    ghost promise = { λ all _ old new told. IfOk told (λ _. HasAwaited all.count old new) × IfErr told (λ status. StopsAt all.count status old new) };
 
     fn call<R: Wait, L: Handed<J>>(
         self,

@@ -9,6 +9,7 @@ pub shown_push : (load : Workload) (rs : List Report) (r : Report) → AllShow l
 shown_push load [] r h s = (s, tt)
 shown_push load (x ∷ rs) r h s = (h.0, shown_push load rs r h.1 s)
 
-pub histories_push : (ds : List Deadlock) (d : Deadlock) → AllHaveHistories ds → HasHistory d → AllHaveHistories (ds ++ d ∷ [])
-histories_push [] d h s = (s, tt)
-histories_push (x ∷ ds) d h s = (h.0, histories_push ds d h.1 s)
+pub histories_push : (load : Workload) (ds : List Deadlock) (d : Deadlock) → AllHaveHistories load ds → HasHistory load d
+    → AllHaveHistories load (ds ++ d ∷ [])
+histories_push load [] d h s = (s, tt)
+histories_push load (x ∷ ds) d h s = (h.0, histories_push load ds d h.1 s)

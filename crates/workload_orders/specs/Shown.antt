@@ -1,15 +1,17 @@
 -- What is known of the reports and the deadlocks that are listed.
-use Rattle.std.specs.Prelude.{◌≡◌, List, [], ◌∷◌}
+use Rattle.std.specs.Prelude.{◌≡◌, ℕ, List, [], ◌∷◌, length, map}
 use Rattle.workload_file.specs.declared.workload.Workload.{Workload}
+use Rattle.begun_runs.specs.Begun.{Begun}
 use Rattle.workload_orders.specs.Names.{IsLegal, IsRun, report}
 use Rattle.workload_orders.specs.declared.listed.Report.{Report}
 use Rattle.workload_orders.specs.declared.listed.Deadlock.{Deadlock}
 use Rattle.workload_orders.specs.declared.listed.Orders.{Orders}
 
--- the journal is a legal history, a run of the workload, and the text is its report
+-- the journal is a legal history, a run of the workload, and the text is its report; there is a number beside each entry
 pub record Shows (load : Workload) (r : Report) : Type 0 where
   pub legal : IsLegal r.journal
   pub run : IsRun load r.journal
+  pub even : length r.journal.entries.entries ≡ length r.journal.entries.skipped
   pub is : r.text.items ≡ report r.journal.layout load r.journal.entries.entries
 
 -- each report has such a journal
@@ -17,16 +19,24 @@ abbrev pub AllShow : Workload → List Report → Type 0
 AllShow load [] = Unit {0}
 AllShow load (r ∷ rs) = Shows load r × AllShow load rs
 
--- the history behind a deadlock is legal
-abbrev pub HasHistory : Deadlock → Type 0
-HasHistory d = IsLegal d.journal
+-- the journal behind a deadlock is a legal history, with the workload's settings and callers, the front of a run of it, and no run
+pub record HasHistory (load : Workload) (d : Deadlock) : Type 0 where
+  pub settings : d.journal.settings ≡ load.settings
+  pub callers : d.journal.callers ≡ length load.parts
+  pub legal : IsLegal d.journal
+  pub begun : Begun load d.journal.entries.entries d.journal.entries.skipped
+  pub unended : IsRun load d.journal → ⊥
 
--- each deadlock has such a history
-abbrev pub AllHaveHistories : List Deadlock → Type 0
-AllHaveHistories [] = Unit {0}
-AllHaveHistories (d ∷ ds) = HasHistory d × AllHaveHistories ds
+-- each deadlock has such a journal
+abbrev pub AllHaveHistories : Workload → List Deadlock → Type 0
+AllHaveHistories load [] = Unit {0}
+AllHaveHistories load (d ∷ ds) = HasHistory load d × AllHaveHistories load ds
+
+-- the texts of these reports
+abbrev pub texts : List Report → List (List ℕ)
+texts reports = map (λ r. r.text.items) reports
 
 -- both
 pub record IsShown (load : Workload) (o : Orders) : Type 0 where
   pub reports : AllShow load o.reports.items
-  pub deadlocks : AllHaveHistories o.deadlocks.items
+  pub deadlocks : AllHaveHistories load o.deadlocks.items

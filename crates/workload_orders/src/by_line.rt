@@ -1,8 +1,9 @@
 //! By line: what may stand at each line of the report, each with a run in which it stands there.
-ghost use Rattle.std.specs.Prelude.{IfOk, OnOk, ◌<◌, length, ⊤};
+ghost use Rattle.std.specs.Prelude.{◌≡◌, true, IfOk, OnOk, ◌<◌, length, ⊤};
 ghost use Rattle.graph_search.specs.Visits.{Reached};
 ghost use Rattle.workload_file.specs.Formed.{WellFormed};
-ghost use Rattle.workload_orders.specs.Shown.{AllShow, AllHaveHistories, IsShown};
+ghost use Rattle.begun_runs.specs.Complete.{HasAllReports};
+ghost use Rattle.workload_orders.specs.Shown.{AllShow, AllHaveHistories, IsShown, texts};
 
 use crate::counted::count_of;
 use crate::edges::{Edge, Edges};
@@ -11,6 +12,7 @@ use crate::listed::{Lines, Orders};
 use crate::needed::Needed;
 use crate::told::{Known, add_deadlock, add_report};
 use crate::ways::{Way, push_way, ways_of};
+use crate::whole::are_all;
 use graph_search::{Found, explore, path_to};
 use orders_machine::{Label, Line, Machine, State};
 use std::alloc::{AllocError, Global};
@@ -240,10 +242,10 @@ fn list_stop(
     let labels = path_to(alloc, graph, &searched.found, place)?;
     let (_, state) = machine.follow(alloc, &labels)?;
     let waits = machine.waits(alloc, &state)?;
-    let journal = journal_of(load, machine.entries(alloc, &labels)?);
+    let entries = machine.entries(alloc, &labels)?;
     let deadlocks = &mut listing.orders.deadlocks;
     let words = &mut listing.known.words;
-    if !add_deadlock(alloc, load, journal, waits, deadlocks, words)? {
+    if !add_deadlock(alloc, load, entries, waits, deadlocks, words)? {
         listing.orders.refused = listing.orders.refused.saturating_add(1);
     }
     Ok(())
@@ -293,6 +295,7 @@ fn nothing_listed(
         orders: Orders {
             states: searched.found.states.len(),
             cut: searched.found.cut,
+            all: false,
             reports: Vec::new(alloc),
             deadlocks: Vec::new(alloc),
             refused: 0,
@@ -314,7 +317,8 @@ fn nothing_listed(
 pub fn find_lines(alloc: Global, load: &Workload, most: usize) -> Result<Lines, AllocError>
     requires formed { WellFormed load.now }
     ensures shown { IfOk result (λ o. AllShow load.now o.runs.reports.items) }
-    ensures histories { IfOk result (λ o. AllHaveHistories o.runs.deadlocks.items) }
+    ensures histories { IfOk result (λ o. AllHaveHistories load.now o.runs.deadlocks.items) }
+    ensures all { IfOk result (λ o. o.runs.all ≡ true → HasAllReports load.now (texts o.runs.reports.items)) }
 {
     let machine = Machine::new(alloc, load)?;
     let uses = machine.last_uses(alloc)?;
@@ -328,8 +332,7 @@ pub fn find_lines(alloc: Global, load: &Workload, most: usize) -> Result<Lines, 
     let mut listing = nothing_listed(alloc, load, &searched)?;
     list_runs(alloc, load, &graph, &searched, &mut listing)?;
     list_stops(alloc, load, &graph, &searched, &mut listing)?;
-    Ok(Lines {
-        runs: listing.orders,
-        count,
-    })
+    let mut runs = listing.orders;
+    runs.all = are_all(alloc, load, &runs.reports)?;
+    Ok(Lines { runs, count })
 }

@@ -10,6 +10,7 @@ mod listed;
 mod needed;
 mod told;
 mod ways;
+mod whole;
 
 pub use by_line::find_lines;
 pub use listed::{Deadlock, Lines, Orders, Report};

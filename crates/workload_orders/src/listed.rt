@@ -23,6 +23,8 @@ pub struct Orders {
     pub states: usize,
     /// Whether there were more states than may be kept: then there may be more reports and deadlocks.
     pub cut: bool,
+    /// Whether these reports are known to be all: the workload is settled, so that no order matters to its report.
+    pub all: bool,
     /// Each report once, in the order in which they were found.
     pub reports: Vec<Report>,
     /// Each deadlock once, by its words.

@@ -1,14 +1,16 @@
 //! The search, and what is told of it.
-ghost use Rattle.std.specs.Prelude.{IfOk, OnOk, ◌<◌, length, ⊤};
+ghost use Rattle.std.specs.Prelude.{◌≡◌, true, IfOk, OnOk, ◌<◌, length, ⊤};
 ghost use Rattle.graph_search.specs.Visits.{Reached};
 ghost use Rattle.workload_file.specs.Formed.{WellFormed};
-ghost use Rattle.workload_orders.specs.Shown.{AllShow, AllHaveHistories, IsShown};
+ghost use Rattle.begun_runs.specs.Complete.{HasAllReports};
+ghost use Rattle.workload_orders.specs.Shown.{AllShow, AllHaveHistories, IsShown, texts};
 
 use crate::graph::Steps;
 use crate::judged::{journal_of, judged_deadlock, judged_report};
 use crate::listed::{Deadlock, Orders, Report};
+use crate::whole::are_all;
 use graph_search::{Found, explore, path_to};
-use node_journals::Journal;
+use node_journals::{Journal, ShortList};
 use orders_machine::{Label, Machine, State};
 use std::alloc::{AllocError, Global};
 use std::collections::HashSet;
@@ -56,21 +58,22 @@ pub(crate) fn add_report(
     }
 }
 
-// Lists the deadlock behind this journal, unless its words are listed already. False if the journal is judged to be no legal history.
+// Lists the deadlock behind these entries, unless its words are listed already. False if they are judged to be no legal history, or not the
+// front of a run.
 #[tactic(auto, using(crate::proofs::Pushed::histories_push))]
 pub(crate) fn add_deadlock(
     alloc: Global,
     load: &Workload,
-    journal: Journal,
+    entries: ShortList,
     waits: Vec<u8>,
     deadlocks: &mut Vec<Deadlock>,
     words: &mut HashSet<Vec<u8>>,
 ) -> Result<bool, AllocError>
     requires formed { WellFormed load.now }
-    requires shown { AllHaveHistories deadlocks.old.items }
-    ensures { OnOk result (AllHaveHistories deadlocks.new.items) }
+    requires shown { AllHaveHistories load.now deadlocks.old.items }
+    ensures { OnOk result (AllHaveHistories load.now deadlocks.new.items) }
 {
-    match judged_deadlock(alloc, load, journal, waits)? {
+    match judged_deadlock(alloc, load, entries, waits)? {
         Some(deadlock) => {
             if note(alloc, words, &deadlock.waits)? {
                 deadlocks.push(deadlock)?;
@@ -81,29 +84,27 @@ pub(crate) fn add_deadlock(
     }
 }
 
-// The journal of the way to a state.
-fn journal_at(
+// The entries of the way to a state.
+fn entries_at(
     alloc: Global,
-    load: &Workload,
     steps: &Steps,
     found: &Found<State, Label>,
     place: usize,
-) -> Result<Journal, AllocError>
+) -> Result<ShortList, AllocError>
     requires within { place < length found.now.states.keys }
     requires reached { Reached {L = Label} (λ s xs. ⊤) (λ s. ⊤) found.now.states.keys found.now.origins.items }
 {
     let labels = path_to(alloc, steps, found, place)?;
-    let entries = steps.machine.entries(alloc, &labels)?;
-    Ok(journal_of(load, entries))
+    steps.machine.entries(alloc, &labels)
 }
 
-// Lists what is found at a state from which no step leads on, and to which this journal leads. False if the journal is judged to be wrong.
+// Lists what is found at a state from which no step leads on, and to which these entries lead. False if they are judged to be wrong.
 fn tell_state(
     alloc: Global,
     load: &Workload,
     steps: &Steps,
     state: &State,
-    journal: Journal,
+    entries: ShortList,
     orders: &mut Orders,
     known: &mut Known,
 ) -> Result<bool, AllocError>
@@ -112,13 +113,14 @@ fn tell_state(
     ensures { OnOk result (IsShown load.now orders.new) }
 {
     if steps.machine.is_end(state) {
+        let journal = journal_of(load, entries);
         add_report(alloc, load, journal, &mut orders.reports, &mut known.texts)
     } else {
         let waits = steps.machine.waits(alloc, state)?;
         add_deadlock(
             alloc,
             load,
-            journal,
+            entries,
             waits,
             &mut orders.deadlocks,
             &mut known.words,
@@ -142,9 +144,9 @@ fn tell(
     requires shown { IsShown load.now orders.old }
     ensures { OnOk result (IsShown load.now orders.new) }
 {
-    let journal = journal_at(alloc, load, steps, found, place)?;
+    let entries = entries_at(alloc, steps, found, place)?;
     let state = &found.states.as_slice()[place];
-    if !tell_state(alloc, load, steps, state, journal, orders, known)? {
+    if !tell_state(alloc, load, steps, state, entries, orders, known)? {
         orders.refused = orders.refused.saturating_add(1);
     }
     Ok(())
@@ -181,7 +183,8 @@ fn tell_all(
 pub fn orders(alloc: Global, load: &Workload, most: usize) -> Result<Orders, AllocError>
     requires formed { WellFormed load.now }
     ensures shown { IfOk result (λ o. AllShow load.now o.reports.items) }
-    ensures histories { IfOk result (λ o. AllHaveHistories o.deadlocks.items) }
+    ensures histories { IfOk result (λ o. AllHaveHistories load.now o.deadlocks.items) }
+    ensures all { IfOk result (λ o. o.all ≡ true → HasAllReports load.now (texts o.reports.items)) }
 {
     let steps = Steps {
         machine: Machine::new(alloc, load)?,
@@ -190,10 +193,12 @@ pub fn orders(alloc: Global, load: &Workload, most: usize) -> Result<Orders, All
     let mut orders = Orders {
         states: found.states.len(),
         cut: found.cut,
+        all: false,
         reports: Vec::new(alloc),
         deadlocks: Vec::new(alloc),
         refused: 0,
     };
     tell_all(alloc, load, &steps, &found, &mut orders)?;
+    orders.all = are_all(alloc, load, &orders.reports)?;
     Ok(orders)
 }

@@ -1,5 +1,5 @@
-use Rattle.typed_pieces.proofs.Names.{arith}
-use Rattle.typed_pieces.proofs.Runs.{awaited, goes_on, started_more, started_none, waited_refused}
+use Rattle.typed_pieces.proofs.Names.{arith, rules}
+use Rattle.typed_pieces.proofs.Runs.{awaited, goes_on, refused_told, started_more, started_none, stops_at_group, stops_at_look, stops_at_start}
 use Rattle.typed_pieces.proofs.run.AllPiecesPieceClient.call.Goals as goal
 
 pub loop-place-init : goal.loop-place-init
@@ -12,4 +12,15 @@ pub returns-clause-kept : goal.returns-clause-kept
 returns-clause-kept g c =
     let end = c.loop-place.auto.place-end in
     let over = c.loop-place-test.false in
-    (awaited _ _ _ _ _ _ _ (omega (arith, end, over)) c.loop-place.invariant.2 c.group_wait_all.ensures, waited_refused _ _ _ _ _ c.group_wait_all.ensures)
+    (awaited _ _ _ _ _ _ _ (omega (arith, end, over)) c.loop-place.invariant.2 c.group_wait_all.ensures, stops_at_look _ _ _ _ _ _ _ (omega (arith, end, over)) c.loop-place.invariant.2 c.group_wait_all.ensures)
+
+pub returns-in_err-group-clause-kept : goal.returns-in_err-group-clause-kept
+returns-in_err-group-clause-kept g c =
+    let stopped = stops_at_group c.args.self.count _ _ _ _ _ _ _ c.action.ensures c.in_ok-action.was c.group_create.ensures c.in_err-group.was in
+    refused_told _ _ _ _ _ (search rules) stopped
+
+pub returns-in_err-start-clause-kept : goal.returns-in_err-start-clause-kept
+returns-in_err-start-clause-kept g c =
+    let few = c.loop-place-test.true in
+    let stopped = stops_at_start _ _ c.args.self.count _ _ _ _ _ _ c.new.ensures (search rules) c.loop-place.invariant.2 c.start.ensures c.in_err-start.was in
+    refused_told _ _ _ _ _ (search rules) stopped

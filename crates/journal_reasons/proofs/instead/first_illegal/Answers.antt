@@ -1,5 +1,5 @@
 use Rattle.journal_reasons.proofs.Judgements.{first_by_place}
-use Rattle.journal_reasons.proofs.judging.first_illegal.Goals as goal
+use Rattle.journal_reasons.proofs.instead.first_illegal.Goals as goal
 
 pub returns-in-Illegal : goal.returns-in-Illegal
 returns-in-Illegal c =

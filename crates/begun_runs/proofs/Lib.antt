@@ -1,0 +1,4 @@
+mod Fronts
+mod Next
+mod Worked
+mod GoesOn

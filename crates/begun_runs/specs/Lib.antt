@@ -1,0 +1,4 @@
+pub mod Begun
+pub mod Asks
+pub mod Complete
+pub mod Worked

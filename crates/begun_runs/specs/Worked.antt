@@ -1,0 +1,71 @@
+-- Worked lists: a workload with two reports, and one with a deadlock, of which lists that lack one are refused.
+use Rattle.std.specs.Prelude.{◌≡◌, ℕ, false, List, [], ◌∷◌, codes, replicate, length}
+use Rattle.mtapi_values.specs.declared.handles.Layout.TheVariants.{One}
+use Rattle.mtapi_values.specs.declared.timeouts.Timeout.TheVariants as timeout
+use Rattle.workload_file.specs.declared.workload.Deed.TheVariants as deed
+use Rattle.workload_file.specs.declared.workload.Statement.{Statement}
+use Rattle.workload_file.specs.declared.workload.Workload.{Workload}
+use Rattle.mtapi_machine.specs.declared.ops.Op.TheVariants as op
+use Rattle.mtapi_machine.specs.declared.replies.Reply.TheVariants as reply
+use Rattle.mtapi_machine.specs.Legal.{NodeEntry, Legal}
+use Rattle.mtapi_machine.specs.Worked.{main, task, first_handle, every_core, add_task, picks_first, finishes_first, closed}
+use Rattle.mtapi_values.specs.declared.kinds.Kind.TheVariants as kind
+use Rattle.run_report.specs.Report.{report, run_terms}
+use Rattle.run_report.specs.Worked.{lines, statement, using, workload, cancelled_load, cancelled_run}
+use Rattle.workload_runs.specs.RunOf.{RunOf}
+use Rattle.begun_runs.specs.Begun.{Stuck}
+use Rattle.begun_runs.specs.Complete.{HasAllReports, HasAllDeadlocks}
+
+-- no skipped entries beside the others
+abbrev pub none_skipped : List NodeEntry → List ℕ
+none_skipped es = replicate (length es) 0
+
+-- a task of the workload `cancelled_load` may also complete before it is cancelled
+abbrev pub completed_run : List NodeEntry
+completed_run =
+    main op.Initialize reply.Ok
+    ∷ main op.Release reply.Ok
+    ∷ main (op.ActionCreate 1 kind.Add every_core) (reply.Handle first_handle)
+    ∷ main (add_task 0) (reply.Handle first_handle)
+    ∷ picks_first
+    ∷ finishes_first
+    ∷ main (op.TaskCancel (task first_handle)) reply.Ok
+    ∷ closed
+
+abbrev pub cancelled_text : List ℕ
+cancelled_text = lines (codes "main.t cancelled" ∷ [])
+
+abbrev pub completed_text : List ℕ
+completed_text = lines (codes "main.t completed 5" ∷ [])
+
+-- main takes a semaphore of one unit twice
+abbrev pub stuck_statements : List Statement
+stuck_statements = statement 1 (codes "s") (deed.Sem 1 1) ∷ using 2 (deed.SemLock 0 timeout.Infinite) ∷ using 3 (deed.SemLock 0 timeout.Infinite) ∷ []
+
+abbrev pub stuck_load : Workload
+stuck_load = workload 1024 stuck_statements
+
+abbrev pub stuck_history : List NodeEntry
+stuck_history =
+    main op.Initialize reply.Ok
+    ∷ main op.Release reply.Ok
+    ∷ main (op.SemCreate 1 1) (reply.Handle first_handle)
+    ∷ main (op.SemLook (record { 0 = first_handle }) false) reply.Ok
+    ∷ []
+
+-- a legal journal of a run, with this report
+pub record RunsWith (load : Workload) (es : List NodeEntry) (text : List ℕ) : Type 0 where
+  pub legal : Legal (run_terms One load) es
+  pub run : RunOf load es (none_skipped es)
+  pub reads : report One load es ≡ text
+
+-- a list without one of the two reports isn't complete, whatever else it has; nor is one of deadlocks without the only one, nor one that has
+-- a shorter history in its place
+pub record WorkedComplete : Type 0 where
+  pub cancelled : RunsWith cancelled_load cancelled_run cancelled_text
+  pub completed : RunsWith cancelled_load completed_run completed_text
+  pub lacks_completed : HasAllReports cancelled_load (cancelled_text ∷ []) → ⊥
+  pub lacks_cancelled : HasAllReports cancelled_load (completed_text ∷ []) → ⊥
+  pub deadlock : Stuck stuck_load One stuck_history (none_skipped stuck_history)
+  pub lacks_deadlock : HasAllDeadlocks stuck_load [] → ⊥
+  pub too_early : HasAllDeadlocks stuck_load ((main op.Initialize reply.Ok ∷ []) ∷ []) → ⊥

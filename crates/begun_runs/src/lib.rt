@@ -1,0 +1,11 @@
+//! What a run of a workload is before its end: which entries may come next, and when nothing may, which is a deadlock.
+//!
+//! The definitions stand in `specs/`. The functions of `laws` have no body: each contract is a law that follows from the definitions.
+#![tactic(auto)]
+
+mod begun;
+mod completing;
+mod laws;
+
+pub use begun::is_begun;
+pub use laws::{law_deadlock, law_fronts, law_next, worked_complete};

@@ -1,0 +1,3 @@
+mod Failures
+mod NoRoom
+pub mod TaskLimit

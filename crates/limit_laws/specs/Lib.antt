@@ -1,0 +1,2 @@
+pub mod TaskLimit
+pub mod Worked

@@ -1,0 +1,17 @@
+//! A law on the number of tasks of a node. The function does nothing: its contract is the law.
+#![tactic(auto)]
+
+ghost use Rattle.limit_laws.specs.TaskLimit.{LimitIsReached};
+ghost use Rattle.limit_laws.specs.Worked.{WorkedLimit};
+
+/// In every legal history ErrTaskLimit answers a start or an enqueue of a task alone, and only where as many tasks were accepted before it as
+/// the node may have.
+#[tactic(auto, using(crate::proofs::TaskLimit::limit_is_reached))]
+pub fn law_task_limit()
+    ensures { LimitIsReached }
+{}
+
+/// Worked histories of a node of two tasks: the third start is answered so, and as many tasks were accepted before it as are told.
+pub fn worked_limit()
+    ensures { WorkedLimit }
+{}
