@@ -148,14 +148,17 @@ fn slot_state(case: &Case, kind: ObjectKind, wrong: u64) -> Result<String, Alloc
             case,
             "the slot of this one is free, and its next generation is 1",
         ),
-        Some(last) => liveness(
-            case,
-            NodeObject {
-                kind,
-                handle: *last,
-            },
-        ),
+        Some(last) => last_state(case, kind, *last),
     }
+}
+
+// What became of the last object of a slot.
+fn last_state(case: &Case, kind: ObjectKind, last: u64) -> Result<String, AllocError> {
+    let words = liveness(case, NodeObject { kind, handle: last })?;
+    if last >> 32 < u64::from(case.journal.settings.generations()) {
+        return Ok(words);
+    }
+    format!(in case.alloc; "{words}, and its slot has no further generation")
 }
 
 // ---- numbers
