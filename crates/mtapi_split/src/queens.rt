@@ -3,10 +3,11 @@
 ghost use Rattle.std.specs.Prelude.{◌≡◌, IfSome};
 
 use crate::settings;
+use nested_pieces::{NestFailure, run_nested};
 use std::alloc::Global;
 use std::sync::Wait;
 use std::thread::Threads;
-use typed_pieces::{Outcome, Split, SplitFailure, TaskContext, run_split};
+use typed_pieces::{Outcome, Split, TaskContext};
 
 // Boards with more free rows than this split.
 const GRAIN: u32 = 6;
@@ -79,8 +80,8 @@ impl Split for Placings {
 }
 
 /// How many ways there are to place eight queens so that none attacks another.
-pub fn eight_queens<R: Threads + Wait + Sync>(rt: &R, alloc: Global) -> Result<u64, SplitFailure> {
+pub fn eight_queens<R: Threads + Wait + Sync>(rt: &R, alloc: Global) -> Result<u64, NestFailure> {
     let (rows, attacked) = (8, [0; 3]);
     let root = Placings(Board { rows, attacked }, alloc);
-    Ok(run_split(rt, alloc, settings()?, root)?.result)
+    Ok(run_nested(rt, alloc, settings()?, root)?.result)
 }

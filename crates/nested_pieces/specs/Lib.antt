@@ -1,0 +1,3 @@
+pub mod Joins
+pub mod Works
+pub mod Runs
