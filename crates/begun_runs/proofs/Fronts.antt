@@ -60,7 +60,8 @@ no_run_goes_on load layout es more ns beside stuck even legal run =
     let final = entry load.settings.workers op.Final reply.Ok in
     let last = last_behind es more (ends.before ++ close ∷ ends.behind) final (ends.closes ∙ sym (append_assoc ends.before (close ∷ ends.behind) (final ∷ [])))
     (λ none. stuck.unended (whole none)) in
-    stays_last (after (run_terms layout load) es) last.0 load.settings.workers op.Final (subst (λ (l : List NodeEntry). kept (after (run_terms layout load) es) l ≡ []) last.1 still)
+    stays_last (after (run_terms layout load) es) last.0 load.settings.workers op.Final
+    (subst (λ (l : List NodeEntry). kept (after (run_terms layout load) es) l ≡ []) last.1 still)
   where
     no_more : more ≡ [] → beside ≡ []
     no_more none = nil_from_length beside (let l = stuck.begun.even in grind (arith, length-append, none))
@@ -69,4 +70,5 @@ no_run_goes_on load layout es more ns beside stuck even legal run =
     whole none =
         subst (λ (l : List ℕ). RunOf load es l) (append-nil ns)
         (subst (λ (l : List ℕ). RunOf load es (ns ++ l)) (no_more none)
-        (subst (λ (l : List NodeEntry). RunOf load l (ns ++ beside)) (append-nil es) (subst (λ (l : List NodeEntry). RunOf load (es ++ l) (ns ++ beside)) none run)))
+        (subst (λ (l : List NodeEntry). RunOf load l (ns ++ beside)) (append-nil es)
+        (subst (λ (l : List NodeEntry). RunOf load (es ++ l) (ns ++ beside)) none run)))

@@ -2,3 +2,4 @@ mod Fronts
 mod Next
 mod Worked
 mod GoesOn
+mod WorkedAsks

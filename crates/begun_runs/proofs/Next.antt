@@ -175,7 +175,8 @@ caller_asks : (ss : List Statement) (lines A B : List Line) (l : Line) (rs : Lis
     → CallerAsks ss (decided_in A) l.op
 caller_asks ss lines A B l rs m e =
     asks_part (op.Enter ∷ []) (line op.Enter reply.Ok m.entered.0 ∷ []) ss [] [] m.body rs A B l (entered_is m.entered.0) m.carried none_are
-    (ap (λ (x : List Line). line op.Enter reply.Ok m.entered.0 ∷ x) (append-nil m.body) ∙ (ap (λ (f : List Line). f ++ m.body) (sym m.entered.1) ∙ (sym m.is ∙ e)))
+    (ap (λ (x : List Line). line op.Enter reply.Ok m.entered.0 ∷ x) (append-nil m.body)
+    ∙ (ap (λ (f : List Line). f ++ m.body) (sym m.entered.1) ∙ (sym m.is ∙ e)))
 
 -- a worker's line is work, or the last one
 worker_makes : (work A B : List Line) (l stop : Line) → all_work work ≡ true → work ++ stop ∷ [] ≡ A ++ l ∷ B
@@ -249,7 +250,8 @@ first_or_later made who p ps rs w c low more = by (w == who) refl
           ran = x.ran;
         }
 
-part_at : (made : ℕ → List Line) (who : ℕ) (ps : List Part) (rss : List (List Reply)) (w : ℕ) → CallersRan in_lines made who ps rss → who ≤ w → w < who + length ps
+part_at : (made : ℕ → List Line) (who : ℕ) (ps : List Part) (rss : List (List Reply)) (w : ℕ) → CallersRan in_lines made who ps rss → who ≤ w
+    → w < who + length ps
     → PartAt made who ps w
 unfolding CallersRan
 part_at made who [] rss w c low high = absurd (omega (arith, low, high))
@@ -277,7 +279,8 @@ module _ (load : Workload) (es : List NodeEntry) (e : NodeEntry) (ns : List ℕ)
   by_worker : e.who < load.settings.workers → MayMake load es e
   by_worker small =
       let w = b.run.workers e.who small in
-      worker e small (made_so (worker_makes w.work (lines_of e.who es ns) (lines_of e.who b.rest b.beside) (line e.op e.reply n) (line op.Pick reply.Stop w.beside)
+      worker e small (made_so (worker_makes w.work (lines_of e.who es ns) (lines_of e.who b.rest b.beside) (line e.op e.reply n)
+      (line op.Pick reply.Stop w.beside)
       w.works (sym w.is ∙ split e.who refl)))
     where
       made_so : {m : ℕ} → (is_work e.op e.reply ≡ true) ⊎ (line e.op e.reply n ≡ line op.Pick reply.Stop m)
@@ -303,7 +306,8 @@ module _ (load : Workload) (es : List NodeEntry) (e : NodeEntry) (ns : List ℕ)
       let y = x.at in
       caller e p x.before x.behind x.part (are ∙ ap (λ (l : List Part). p ∷ l) x.is) (omega (arith, y))
       (subst (λ (z : List Reply). CallerAsks x.part.statements z e.op) (decided_are e.who)
-      (caller_asks x.part.statements (made e.who) (lines_of e.who es ns) (lines_of e.who b.rest b.beside) (line e.op e.reply n) x.replies x.ran (split e.who refl)))
+      (caller_asks x.part.statements (made e.who) (lines_of e.who es ns) (lines_of e.who b.rest b.beside) (line e.op e.reply n) x.replies x.ran
+      (split e.who refl)))
 
 next_is_asked : (load : Workload) (es : List NodeEntry) (e : NodeEntry) (ns : List ℕ) (n : ℕ) → e.who < load.settings.workers + length load.parts
     → Begun load (es ++ e ∷ []) (ns ++ n ∷ []) → MayMake load es e

@@ -23,7 +23,7 @@ use Rattle.mtapi_machine.specs.Legal.{NodeEntry}
 use Rattle.mtapi_machine.specs.Worked.{main, closed}
 use Rattle.workload_file.specs.Deeds.{is_begin}
 use Rattle.workload_file.specs.declared.workload.Workload.{Workload}
-use Rattle.workload_runs.specs.Lines.{Line, line, lines_of, Made}
+use Rattle.workload_runs.specs.Lines.{line, lines_of, Made}
 use Rattle.workload_runs.specs.Parts.{Carried, CallersRan, has_begin}
 use Rattle.workload_runs.specs.RunOf.{all_work, WorkerRan, RunOf, ClosesAtEnd}
 use Rattle.run_report.specs.Calls.{shown_of, task_lines_of, task_name, call_lines_of}
@@ -86,9 +86,6 @@ no_caller : (who : ℕ) (o : Op) (r : Reply) → 1 < who → entries_of who (ent
 no_caller zero o r l = absurd (omega (arith, l))
 no_caller (suc who) o r l = grind (arith, nat_tests)
 
-main_body : List NodeEntry → List Line
-main_body es = lines_of 1 es (none_skipped es)
-
 the_end : (es : List NodeEntry) → ClosesAtEnd 1 (es ++ closed)
 the_end es = record {
   before = es;
@@ -101,7 +98,15 @@ cancelled_ran : RunOf cancelled_load cancelled_run (none_skipped cancelled_run)
 unfolding Carried CallersRan lines_of all_work has_begin is_begin
 cancelled_ran = record {
   replies = (reply.Handle 4294967296 ∷ reply.Handle 4294967296 ∷ reply.Ok ∷ []) ∷ [];
-  parts = (record { body = _; is = refl; carried = (_ ∷ [], _, refl, (refl, refl), (_ ∷ [], _, refl, (refl, refl), (_ ∷ [], [], refl, (refl, refl), refl))) }, tt);
+  parts = (
+    record {
+      body = _;
+      is = refl;
+      carried =
+          (_ ∷ [], _, refl, (refl, refl), (_ ∷ [], _, refl, (refl, refl), (_ ∷ [], [], refl, (refl, refl), refl)));
+    },
+    tt,
+  );
   workers = only_worker cancelled_run (none_skipped cancelled_run) (record { work = []; beside = 0; is = refl; works = refl });
   ends = the_end (main op.Initialize reply.Ok ∷ main op.Release reply.Ok ∷ _ ∷ _ ∷ _ ∷ []);
 }
@@ -110,7 +115,15 @@ completed_ran : RunOf cancelled_load completed_run (none_skipped completed_run)
 unfolding Carried CallersRan lines_of all_work has_begin is_begin
 completed_ran = record {
   replies = (reply.Handle 4294967296 ∷ reply.Handle 4294967296 ∷ reply.Ok ∷ []) ∷ [];
-  parts = (record { body = _; is = refl; carried = (_ ∷ [], _, refl, (refl, refl), (_ ∷ [], _, refl, (refl, refl), (_ ∷ [], [], refl, (refl, refl), refl))) }, tt);
+  parts = (
+    record {
+      body = _;
+      is = refl;
+      carried =
+          (_ ∷ [], _, refl, (refl, refl), (_ ∷ [], _, refl, (refl, refl), (_ ∷ [], [], refl, (refl, refl), refl)));
+    },
+    tt,
+  );
   workers = only_worker completed_run (none_skipped completed_run) (record { work = _ ∷ _ ∷ []; beside = 0; is = refl; works = refl });
   ends = the_end (main op.Initialize reply.Ok ∷ main op.Release reply.Ok ∷ _ ∷ _ ∷ _ ∷ _ ∷ _ ∷ []);
 }
@@ -212,23 +225,28 @@ main_pends r x = x
 abbrev Goes : NodeEntry → Type 0
 Goes x = (x ≡ idle) ⊎ (x ≡ look)
 
-goes_by : (D : List NodeEntry) (x : NodeEntry) → decided 1 (stuck_history ++ D) ≡ decided 1 stuck_history → IsNext held x → MayMake stuck_load (stuck_history ++ D) x
+goes_by : (D : List NodeEntry) (x : NodeEntry) → decided 1 (stuck_history ++ D) ≡ decided 1 stuck_history → IsNext held x
+    → MayMake stuck_load (stuck_history ++ D) x
     → Goes x
 unfolding decided AsksPart AsksNext has_begin is_begin
 goes_by D x same is_next (worker e small (inl works)) =
     let zero_seat : e.who ≡ 0 = omega (arith, small) in
-    inl (ap (λ (w : ℕ). entry w e.op e.reply) zero_seat ∙ worker_idles e.op e.reply works (subst (λ (w : ℕ). Allows (row held w e.op e.reply) e.reply) zero_seat is_next.allowed))
+    inl (ap (λ (w : ℕ). entry w e.op e.reply) zero_seat
+    ∙ worker_idles e.op e.reply works (subst (λ (w : ℕ). Allows (row held w e.op e.reply) e.reply) zero_seat is_next.allowed))
 goes_by D x same is_next (worker e small (inr stops)) =
     let zero_seat : e.who ≡ 0 = omega (arith, small) in
     let is : e ≡ entry 0 op.Pick reply.Stop = stops ∙ ap (λ (w : ℕ). entry w op.Pick reply.Stop) zero_seat in
     absurd (no_stop_yet (subst (λ (y : NodeEntry). Allows (row held y.who y.op y.reply) y.reply) is is_next.allowed))
-goes_by D x same is_next (may.main e p ps are is asks) = by_main p ps are (subst (λ (rs : List Reply). MainAsks p.statements rs e.op) (ap (λ (w : ℕ). decided w (stuck_history ++ D)) is ∙ same) asks)
+goes_by D x same is_next (may.main e p ps are is asks) =
+    by_main p ps are (subst (λ (rs : List Reply). MainAsks p.statements rs e.op) (ap (λ (w : ℕ). decided w (stuck_history ++ D)) is ∙ same) asks)
   where
     by_main : (p : Part) (ps : List Part) → stuck_load.parts ≡ p ∷ ps → MainAsks p.statements (decided 1 stuck_history) e.op → Goes e
     by_main p ps are asks =
         let here : record { line = 0; name = codes "main"; statements = stuck_statements } ≡ p = cc in
-        let looks : AskedBy (call_of (4294967296 ∷ 0 ∷ []) (deed.SemLock 0 timeout.Infinite)) e.op = subst (λ (q : Part). MainAsks q.statements (decided 1 stuck_history) e.op) (sym here) asks in
-        let asked : e.op ≡ op.SemLook (record { 0 = 4294967296 }) false = looks.1 ∙ ap (λ (b : Bool). op.SemLook (record { 0 = 4294967296 }) b) (looks.2 refl) in
+        let looks : AskedBy (call_of (4294967296 ∷ 0 ∷ []) (deed.SemLock 0 timeout.Infinite)) e.op =
+        subst (λ (q : Part). MainAsks q.statements (decided 1 stuck_history) e.op) (sym here) asks in
+        let asked : e.op ≡ op.SemLook (record { 0 = 4294967296 }) false =
+        looks.1 ∙ ap (λ (b : Bool). op.SemLook (record { 0 = 4294967296 }) b) (looks.2 refl) in
         let shape : e ≡ entry 1 (op.SemLook (record { 0 = 4294967296 }) false) e.reply = (λ i. entry (is i) (asked i) e.reply) in
         let pends : e.reply ≡ reply.Pending =
         main_pends e.reply (subst (λ (y : NodeEntry). Allows (row held y.who y.op y.reply) y.reply) shape is_next.allowed) in
@@ -274,7 +292,8 @@ unfolding kept LegalFrom
 nothing_kept D [] ns same legal b = refl
 nothing_kept D (x ∷ more) ns same legal b =
     let goes = goes_by D x same legal.0 (each_is_asked stuck_load (stuck_history ++ D) more x ns (two_seats x legal.0) b) in
-    let again : decided 1 (stuck_history ++ (D ++ x ∷ [])) ≡ decided 1 stuck_history = decided_behind (stuck_history ++ D) (x ∷ []) (none_decided x goes) ∙ same in
+    let again : decided 1 (stuck_history ++ (D ++ x ∷ [])) ≡ decided 1 stuck_history =
+    decided_behind (stuck_history ++ D) (x ∷ []) (none_decided x goes) ∙ same in
     let rest : Begun stuck_load ((stuck_history ++ (D ++ x ∷ [])) ++ more) ns =
     subst (λ (l : List NodeEntry). Begun stuck_load l ns) (sym (append_assoc (stuck_history ++ D) (x ∷ []) more)) b in
     not_kept x more goes (nothing_kept (D ++ x ∷ []) more ns again (subst (λ (s : State). LegalFrom s more) (leaves_all x goes) legal.1) rest)
@@ -283,7 +302,8 @@ from_held : (more : List NodeEntry) → Legal terms (stuck_history ++ more) → 
 unfolding held after_from LegalFrom
 from_held more legal = legal.from.1.1.1.1
 
-still : (more : List NodeEntry) (beside : List ℕ) → Legal terms (stuck_history ++ more) → Begun stuck_load (stuck_history ++ more) (none_skipped stuck_history ++ beside)
+still : (more : List NodeEntry) (beside : List ℕ) → Legal terms (stuck_history ++ more)
+    → Begun stuck_load (stuck_history ++ more) (none_skipped stuck_history ++ beside)
     → kept (after terms stuck_history) more ≡ []
 unfolding held
 still more beside legal b = nothing_kept [] more (none_skipped stuck_history ++ beside) refl (from_held more legal) b

@@ -57,7 +57,8 @@ pub data MayMake (load : Workload) (es : List NodeEntry) : NodeEntry → Type 0 
   -- a worker works, or is told to stop
   worker : (e : NodeEntry) → e.who < load.settings.workers → (is_work e.op e.reply ≡ true) ⊎ (e ≡ entry e.who op.Pick reply.Stop) → MayMake load es e
   -- main asks by its part
-  main : (e : NodeEntry) (p : Part) (ps : List Part) → load.parts ≡ p ∷ ps → e.who ≡ load.settings.workers → MainAsks p.statements (decided e.who es) e.op → MayMake load es e
+  main : (e : NodeEntry) (p : Part) (ps : List Part) → load.parts ≡ p ∷ ps → e.who ≡ load.settings.workers → MainAsks p.statements (decided e.who es) e.op
+      → MayMake load es e
   -- a further caller by its own
   caller : (e : NodeEntry) (q : Part) (qs ps : List Part) (p : Part) → load.parts ≡ q ∷ (qs ++ p ∷ ps) → e.who ≡ load.settings.workers + (1 + length qs)
       → CallerAsks p.statements (decided e.who es) e.op → MayMake load es e

@@ -21,8 +21,8 @@ fn add_all(list: &mut EntryList, rest: Vec<Added>) -> Result<(), AllocError>
     Ok(())
 }
 
-/// Whether these entries are the front of a run of the workload, whatever the machine would reply further on. It fails for want of memory
-/// alone.
+/// Whether these entries are the front of a run of the workload, whatever the machine would reply further on: true only where they are. It
+/// fails for want of memory alone.
 #[tactic(auto, using(crate::proofs::GoesOn::begun_by))]
 pub fn is_begun(alloc: Global, load: &Workload, entries: &ShortList) -> Result<bool, AllocError>
     requires seats { HasSeats load.now }

@@ -3,6 +3,7 @@
 ghost use Rattle.begun_runs.specs.Asks.{EachIsAsked};
 ghost use Rattle.begun_runs.specs.Begun.{FrontsOfRuns, FrontsOfBegun, NoRunGoesOn};
 ghost use Rattle.begun_runs.specs.Worked.{WorkedComplete};
+ghost use Rattle.begun_runs.specs.WorkedAsks.{WorkedAsks};
 
 /// Each front of the journal of a run is that of a run that has begun, and so is each front of such a one.
 #[tactic(auto, using(crate::proofs::Fronts::fronts_of_runs, crate::proofs::Fronts::fronts_of_begun))]
@@ -26,4 +27,10 @@ pub fn law_deadlock()
 #[tactic(auto, using(crate::proofs::Worked::worked_complete))]
 pub fn worked_complete()
     ensures { WorkedComplete }
+{}
+
+/// What seats ask next, worked.
+#[tactic(auto, using(crate::proofs::WorkedAsks::worked_asks))]
+pub fn worked_asks()
+    ensures { WorkedAsks }
 {}
