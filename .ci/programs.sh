@@ -6,7 +6,7 @@ command_crate=mtapi_cli
 # Further programs, each as WORD:CRATE: the first word that asks for it, and the crate that makes it.
 further=(judge:mtapi_judge picture:mtapi_picture trace:mtapi_trace bounded:mtapi_waits explain:mtapi_explain orders:mtapi_orders)
 programs=("$command_crate" "${further[@]#*:}")
-libraries=(typed_pieces plain_work write_run) # on which a program of one's own stands
+libraries=(typed_pieces chunked_pieces plain_work write_run) # on which a program of one's own stands
 c_crate=mtapi_c                         # the library for C, an archive
 default_processor=x86-64-v2 new_processor=x86-64-v3
 new_words=(avx2 bmi1 bmi2 fma f16c movbe abm) # of /proc/cpuinfo, without which x86-64-v3 doesn't run

@@ -6,7 +6,8 @@ The journals are histories that the reference machine walks by itself, in one te
 changed, as in `judging.py`. Compared are whether a journal is legal, the first line that isn't, and what is named in its
 place: each line has to be the same call with a reply that the reference allows there, and where the reference allows
 one reply alone, that one has to be named; of picks all, if they are at most twelve. Where the reason says that an object
-is live, was never made, or stopped being live in a line, the reference has to say the same. A table of journals that are no run of a workload has what is written of each. Prints each difference in full, and how many reasons of each kind there were, and ends with 1 if something differs. With `few` it is 300 of the
+is live, was never made, or stopped being live in a line, how far a task has come, or who has a lock, the reference has
+to say the same. A table of journals that are no run of a workload has what is written of each. Prints each difference in full, and how many reasons of each kind there were, and ends with 1 if something differs. With `few` it is 300 of the
 journals. The program has to be built: run `./mtapi prove` before.
 """
 
@@ -36,7 +37,7 @@ RUN += ["w0 pick -> picked t1.0 a1.0 add 1,2,3", "w0 finish t1.0 add 1,2,3 compl
 RUN += ["c0 final -> ok"]
 # Workloads beside the journal above, and what is written of it, which is no run of them.
 NO_RUNS = [
-    (["node workers=1 tasks=7"] + WORKLOAD, HEAD, RUN, f"the workload has tasks=7, and the journal tasks=1024\njournal line 1: {HEAD}\n"),
+    (["node max_tasks=7"] + WORKLOAD, HEAD, RUN, f"the workload has tasks=7, and the journal tasks=1024\njournal line 1: {HEAD}\n"),
     (WORKLOAD + ["caller c"], HEAD, RUN, f"the workload has callers=2, and the journal callers=1\njournal line 1: {HEAD}\n"),
     (
         [WORKLOAD[0], "start t job=1 args=1,2,4", WORKLOAD[2]], HEAD, RUN,
@@ -111,8 +112,58 @@ def word_of(text, kind, handle):
     return f"{'atgqmsrh'[OBJECTS.index(kind)]}{handle >> 32}.{handle & 0xFFFFFF}"
 
 
+STAYS = re.compile(r"([atgqmsrh]?\d[\d.]*) (hasn't begun|runs on (\S+), which took it in line (\d+)|ended before it began: (\S+)|ended in line (\d+))")
+HELD = re.compile(r"(\S+) is held: (\S+) took it in line (\d+)")
+HOLDERS = {"mutex": lambda one: [one.owner], "sem": lambda one: one.holders, "rwl": lambda one: [*one.readers, one.writer]}
+
+
+def task_of(machine, journal, word):
+    return next((one for handle, one in machine.lists["task"].items() if word_of(journal.text, "task", handle) == word), None)
+
+
+def wrong_progress(journal, place, why):
+    """What is wrong in what a reason says of a task, or None."""
+    found = STAYS.search(why)
+    if not found:
+        return None
+    task = task_of(machine_before(journal, place), journal, found[1])
+    if task is None:
+        return "there is no such task"
+    if found[2] == "hasn't begun":
+        return None if task.state == "scheduled" else "it has begun"
+    if found[3]:
+        taken = journal.entries[int(found[4]) - 2]
+        same = taken.op == "pick" and taken.reply[1] == task.handle and found[3] == f"w{task.worker}" and taken.who == task.worker
+        return None if same and task.state == "running" else "it runs elsewhere"
+    if found[5]:
+        ended = task.end[1] if task.end and task.end[0] == "error" else task.end and task.end[0]
+        return None if task.state == "ended" and task.kind is None and ended == found[5] else "it ended otherwise"
+    before = task_of(machine_before(journal, int(found[6]) - 2), journal, found[1])
+    after = task_of(machine_before(journal, int(found[6]) - 1), journal, found[1])
+    return None if before.state == "running" and after.state == "ended" else "it ended elsewhere"
+
+
+def wrong_holder(journal, place, why):
+    """What is wrong in what a reason says of a lock, or None."""
+    found = HELD.search(why)
+    if not found:
+        return None
+    machine, taken = machine_before(journal, place), journal.entries[int(found[3]) - 2]
+    seat = int(found[2][1:]) + (machine.workers if found[2][0] == "c" else 0)
+    for kind, holders in HOLDERS.items():
+        for handle, one in machine.lists[kind].items():
+            if word_of(journal.text, kind, handle) == found[1] and taken.op in (f"{kind}_look", "tally_lock") and seat in holders(one):
+                return None if taken.who == seat else "another seat took it"
+    return "it isn't held by this seat"
+
+
 def wrong_reason(journal, place, why):
     """What is wrong in what a reason says of an object, or None."""
+    return wrong_liveness(journal, place, why) or wrong_progress(journal, place, why) or wrong_holder(journal, place, why)
+
+
+def wrong_liveness(journal, place, why):
+    """What is wrong in what a reason says of whether an object is live, or None."""
     found = LIVENESS.search(why)
     if not found:
         return None

@@ -2,6 +2,7 @@
 use Rattle.std.proofs.Common.{◌≡◌, ℕ, zero, suc, ◌+◌, ◌-◌, ◌*◌, ◌<◌, ◌≤◌, List, [], ◌∷◌, ◌++◌, Result, Ok, Err, map, length, refl, sym, ap, subst, ◌∙◌, arith, All, if◌then◌else◌}
 use Rattle.std.proofs.lemmas.Bool.Decides.{nat_tests}
 use Rattle.std.proofs.lemmas.List.Elements.{All-nil, All-cons, All-head, All-tail}
+use Rattle.std.proofs.lemmas.List.{length-map}
 use Rattle.std.proofs.lemmas.Nat.{mul-le}
 use Rattle.std.specs.Global.{Vec}
 use Rattle.std.specs.Prelude.{IfOk, nat_lt, ◌^◌}
@@ -68,3 +69,18 @@ cut n items lt = grind (arith, nat_tests)
 pub item_of : (place count size items : ℕ) → place < count → count * size < items + size
     → (if nat_lt (place * size) (2 ^ 32) then place * size else 2 ^ 32 - 1) < items
 item_of place count size items within few = cut (place * size) items (item_before place count size items within few)
+
+-- where each chunk's results are of its items, all results are of all items
+pub all_kept : {T D : Type 0} (E : Type 0) (R : T → D → Type 0) (items : List T) (chunks : List (Vec T)) (results : List (Result (Vec D) E)) (all : List D)
+    → items_of chunks ≡ items → AreJoined results all → AllZip (λ c d. IfOk d (λ v. AllZip R c.items v.items)) chunks results → AllZip R items all
+all_kept {T} {D} E R items chunks results all whole j a =
+    subst (λ (l : List T). AllZip R l all) whole
+    (subst (AllZip R (items_of chunks)) (sym j.2)
+    (joined_kept E R chunks j.0 (subst (λ (l : List (Result (Vec D) E)). AllZip (λ c d. IfOk d (λ v. AllZip R c.items v.items)) chunks l) j.1 a)))
+
+-- there are as many pieces as chunks
+pub few_pieces : {A B : Type 0} (made : A → B) (chunks : List A) (pieces : List B) (size items most : ℕ) → pieces ≡ map made chunks
+    → length chunks * size < items + size → items ≤ size * most → length pieces ≤ most
+few_pieces made chunks pieces size items most are few enough =
+    let same : length pieces ≡ length chunks = ap length are ∙ length-map chunks made in
+    omega (arith, same, few_chunks (length chunks) size items most few enough)

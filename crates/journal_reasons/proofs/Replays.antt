@@ -1,5 +1,5 @@
 -- A replay goes on by one entry.
-use Rattle.std.proofs.Common.{◌≡◌, ℕ, ◌+◌, ◌<◌, ◌^◌, List, [], ◌∷◌, ◌++◌, length, arith, length-append}
+use Rattle.std.proofs.Common.{ℕ, ◌+◌, ◌<◌, ◌^◌, List, [], ◌∷◌, ◌++◌, length, arith, length-append}
 use Rattle.mtapi_machine.specs.Legal.{NodeEntry}
 use Rattle.node_steps.specs.declared.node.PoolNode.{PoolNode}
 use Rattle.node_steps.specs.Stands.{Stands}

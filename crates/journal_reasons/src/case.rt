@@ -27,11 +27,19 @@ pub(crate) fn line_of(case: &Case, number: u64) -> u64 {
     case.lines.saturating_add(number)
 }
 
-/// An object, as the journal writes its handle.
+/// Whether a handle of the journal names this kind of object; in layout one it names none, and may be of any.
+pub(crate) fn names_kind(case: &Case, object: NodeObject) -> bool {
+    match case.journal.layout {
+        Layout::One => true,
+        Layout::Two => object.handle >> 24 & 255 == u64::from(object.kind.number()),
+    }
+}
+
+/// An object, as the journal writes its handle; one that is of another kind by its number.
 pub(crate) fn object_text(case: &Case, object: NodeObject) -> Result<String, AllocError> {
     match case.journal.layout {
-        Layout::Two => handle_word(case.alloc, object),
-        Layout::One => {
+        Layout::Two if names_kind(case, object) => handle_word(case.alloc, object),
+        _ => {
             let handle = object.handle;
             format!(in case.alloc; "{handle}")
         }

@@ -1,9 +1,9 @@
 //! Handles that a new object may get. Nothing here is promised.
-use crate::case::{Case, entries_before};
-use crate::replay::Replay;
+use crate::case::{Case, entries_before, most_of};
+use crate::replay::{Replay, made_kind};
 use journal_text::object_made;
 use mtapi_machine::{Entry, Reply};
-use mtapi_values::{Layout, ObjectKind};
+use mtapi_values::{Layout, MrapiStatus, MtapiStatus, ObjectKind};
 use std::alloc::AllocError;
 use std::collections::HashMap;
 
@@ -39,10 +39,8 @@ fn note_handle(
     handles: &mut HashMap<u64, u64>,
     entry: &Entry,
 ) -> Result<(), AllocError> {
-    if let Some(object) = object_made(&entry.op, &entry.reply)
-        && object.kind == kind
-    {
-        handles.insert(slot_of(case.journal.layout, object.handle), object.handle)?;
+    if let Some(handle) = made_of(kind, entry) {
+        handles.insert(slot_of(case.journal.layout, handle), handle)?;
     }
     Ok(())
 }
@@ -96,7 +94,45 @@ fn free_handle(
     lowest_free(case, replay, kind, handles)
 }
 
-/// A handle that a new object of a kind may get, as a reply.
+// The reply of a node that has no room for a further object of a kind.
+fn limit_of(kind: ObjectKind) -> Reply {
+    match kind {
+        ObjectKind::Action => Reply::Mtapi(MtapiStatus::ErrActionLimit),
+        ObjectKind::Task => Reply::Mtapi(MtapiStatus::ErrTaskLimit),
+        ObjectKind::Group => Reply::Mtapi(MtapiStatus::ErrGroupLimit),
+        ObjectKind::Queue => Reply::Mtapi(MtapiStatus::ErrQueueLimit),
+        ObjectKind::Mutex => Reply::Mrapi(MrapiStatus::ErrMutexLimit),
+        ObjectKind::Sem => Reply::Mrapi(MrapiStatus::ErrSemLimit),
+        ObjectKind::Rwl => Reply::Mrapi(MrapiStatus::ErrRwlLimit),
+        ObjectKind::Shmem => Reply::Mrapi(MrapiStatus::ErrShmLimit),
+    }
+}
+
+// The handle of the object of a kind that an entry made.
+fn made_of(kind: ObjectKind, entry: &Entry) -> Option<u64> {
+    let object = object_made(&entry.op, &entry.reply)?;
+    if object.kind == kind && made_kind(&entry.op).is_some() {
+        Some(object.handle)
+    } else {
+        None
+    }
+}
+
+// How many objects of a kind are live, or had the last generation of their slots.
+fn used_of(case: &Case, replay: &Replay, kind: ObjectKind) -> u64 {
+    let last = u64::from(case.journal.settings.generations());
+    let mut used = 0u64;
+    for short in entries_before(case.journal, case.number) {
+        if let Some(handle) = made_of(kind, &short.full())
+            && (handle >> 32 == last || replay.is_live(kind, handle))
+        {
+            used = used.saturating_add(1);
+        }
+    }
+    used
+}
+
+/// A handle that a new object of a kind may get, as a reply; where there is no room for it, that.
 pub(crate) fn free_handles(
     case: &Case,
     replay: &Replay,
@@ -104,7 +140,9 @@ pub(crate) fn free_handles(
 ) -> Result<Vec<Reply>, AllocError> {
     let handles = last_handles(case, kind)?;
     let mut replies = Vec::new(case.alloc);
-    if let Some(handle) = free_handle(case, replay, kind, &handles) {
+    if used_of(case, replay, kind) >= u64::from(most_of(case, kind)) {
+        replies.push(limit_of(kind))?;
+    } else if let Some(handle) = free_handle(case, replay, kind, &handles) {
         replies.push(Reply::Handle(handle))?;
     }
     Ok(replies)

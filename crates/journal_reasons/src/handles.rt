@@ -1,7 +1,8 @@
 //! What became of an object. Nothing here is promised.
-use crate::case::{Case, kind_text, line_of, object_text, seat_text};
+use crate::case::{Case, kind_text, line_of, names_kind, object_text, seat_text};
+use crate::picks::standings_before;
 use crate::traces::{Trace, trace_of};
-use journal_text::NodeObject;
+use journal_text::{NodeObject, end_word};
 use mtapi_machine::Op;
 use mtapi_values::ObjectKind;
 use std::alloc::AllocError;
@@ -33,6 +34,11 @@ fn left_words(case: &Case, kind: ObjectKind, number: u64) -> &'static str {
 pub(crate) fn liveness(case: &Case, object: NodeObject) -> Result<String, AllocError> {
     let name = object_text(case, object)?;
     let kind = kind_text(object.kind);
+    if !names_kind(case, object) {
+        return format!(in case.alloc;
+            "the handle is of no {kind}: it names another kind of object, or none"
+        );
+    }
     let trace = trace_of(case, object)?;
     match (trace.made, trace.gone) {
         (None, _) => format!(in case.alloc;
@@ -50,7 +56,7 @@ pub(crate) fn liveness(case: &Case, object: NodeObject) -> Result<String, AllocE
     }
 }
 
-fn run_words(case: &Case, name: &String, trace: &Trace) -> Result<String, AllocError> {
+fn run_words(case: &Case, name: &String, task: u64, trace: &Trace) -> Result<String, AllocError> {
     if let Some(ended) = trace.ended {
         let line = line_of(case, ended);
         return format!(in case.alloc; "{name} ended in line {line}");
@@ -60,6 +66,17 @@ fn run_words(case: &Case, name: &String, trace: &Trace) -> Result<String, AllocE
             let line = line_of(case, begun.number);
             let seat = seat_text(case, begun.who)?;
             format!(in case.alloc; "{name} runs on {seat}, which took it in line {line}")
+        }
+        None => unbegun_words(case, name, task),
+    }
+}
+
+// A task that no worker took: it may have ended all the same.
+fn unbegun_words(case: &Case, name: &String, task: u64) -> Result<String, AllocError> {
+    match standings_before(case)?.ended.get(&task) {
+        Some(end) => {
+            let how = end_word(&end.full());
+            format!(in case.alloc; "{name} ended before it began: {how}")
         }
         None => format!(in case.alloc; "{name} hasn't begun"),
     }
@@ -75,7 +92,7 @@ pub(crate) fn progress(case: &Case, task: u64) -> Result<String, AllocError> {
     if trace.made.is_none() || trace.gone.is_some() {
         return liveness(case, object);
     }
-    run_words(case, &object_text(case, object)?, &trace)
+    run_words(case, &object_text(case, object)?, task, &trace)
 }
 
 /// Who took a lock at last.

@@ -3,10 +3,8 @@ use crate::case::{Case, entries_before};
 use crate::free_slots::free_handles;
 use crate::picks::add_other_picks;
 use crate::reasons::reason;
-use crate::replay::Replay;
-use mtapi_layouts::answered_kind;
-use mtapi_machine::{Op, Reply};
-use mtapi_values::ObjectKind;
+use crate::replay::{Replay, made_kind};
+use mtapi_machine::Reply;
 use node_journals::Journal;
 use std::alloc::{AllocError, Global};
 
@@ -85,17 +83,4 @@ fn with_others(case: &Case, reply: Reply) -> Result<Vec<Reply>, AllocError> {
         add_other_picks(case, &mut replies)?;
     }
     Ok(replies)
-}
-
-// The kind of the object that an op makes.
-fn made_kind(op: &Op) -> Option<ObjectKind> {
-    if let Op::QueueGet { .. }
-    | Op::MutexGet { .. }
-    | Op::SemGet { .. }
-    | Op::RwlGet { .. }
-    | Op::ShmemGet { .. } = op
-    {
-        return None;
-    }
-    answered_kind(op)
 }

@@ -1,5 +1,7 @@
 //! Why an entry isn't allowed, in words, by what the machine answers. Nothing here is promised.
-use crate::case::{Case, entries_before, kind_text, line_of, most_of, object_text, seat_text};
+use crate::case::{
+    Case, entries_before, kind_text, line_of, most_of, names_kind, object_text, seat_text,
+};
 use crate::conditions::{mrapi_condition, mtapi_condition, pending};
 use crate::free_slots::{last_handles, slot_of};
 use crate::handles::{liveness, progress};
@@ -8,7 +10,7 @@ use crate::traces::{live_before, phases_before};
 use journal_text::{NodeObject, object_named};
 use mtapi_layouts::answered_kind;
 use mtapi_machine::{Op, Reply};
-use mtapi_values::{Layout, ObjectKind};
+use mtapi_values::ObjectKind;
 use std::alloc::AllocError;
 
 fn text(case: &Case, words: &str) -> Result<String, AllocError> {
@@ -123,13 +125,6 @@ fn other_handle(case: &Case, handle: u64, given: &Reply) -> Result<String, Alloc
     }
 }
 
-fn names_kind(layout: Layout, kind: ObjectKind, handle: u64) -> bool {
-    match layout {
-        Layout::One => true,
-        Layout::Two => handle >> 24 & 255 == u64::from(kind.number()),
-    }
-}
-
 fn wrong_handle(case: &Case, kind: ObjectKind, wrong: u64) -> Result<String, AllocError> {
     let word = kind_text(kind);
     let state = slot_state(case, kind, wrong)?;
@@ -140,7 +135,11 @@ fn wrong_handle(case: &Case, kind: ObjectKind, wrong: u64) -> Result<String, All
 
 // Why a handle isn't of the next generation of a free slot.
 fn slot_state(case: &Case, kind: ObjectKind, wrong: u64) -> Result<String, AllocError> {
-    if !names_kind(case.journal.layout, kind, wrong) {
+    let object = NodeObject {
+        kind,
+        handle: wrong,
+    };
+    if !names_kind(case, object) {
         return text(case, "this one names another kind of object");
     }
     let handles = last_handles(case, kind)?;

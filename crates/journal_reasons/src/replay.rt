@@ -15,6 +15,15 @@ use node_steps::PoolNode;
 use std::alloc::{AllocError, Global};
 use std::marker::Model;
 
+/// The kind of the object that an op makes.
+pub(crate) fn made_kind(op: &Op) -> Option<ObjectKind> {
+    match op {
+        Op::QueueGet { .. } | Op::MutexGet { .. } | Op::SemGet { .. } => None,
+        Op::RwlGet { .. } | Op::ShmemGet { .. } => None,
+        _ => answered_kind(op),
+    }
+}
+
 /// A node that did what the entries so far say.
 #[derive(Drop)]
 pub(crate) struct Replay {
@@ -89,6 +98,10 @@ impl Replay {
 
     /// Does what an entry says.
     pub(crate) fn follow(&mut self, entry: &Entry) -> Result<(), AllocError> {
+        // What was refused changes nothing; the node itself may have room where the journal's has none.
+        if made_kind(&entry.op).is_some() && object_made(&entry.op, &entry.reply).is_none() {
+            return Ok(());
+        }
         let reply = self.call(entry);
         let Some(object) = object_made(&entry.op, &entry.reply) else {
             return Ok(());

@@ -11,7 +11,7 @@ pub fn law_task_limit()
     ensures { LimitIsReached }
 {}
 
-/// Worked histories of a node of two tasks: the third start is answered so, and as many tasks were accepted before it as are told.
+/// Worked lists: how many tasks each accepted, by starts and enqueues that gave a handle.
 pub fn worked_limit()
     ensures { WorkedLimit }
 {}

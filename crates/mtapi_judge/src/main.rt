@@ -6,6 +6,7 @@
 use byte_io::{StdSink, StdSource};
 use journal_reading::ShowEnd;
 use journal_reasons::{JudgeEnd, judge_input, tell, tell_run};
+use std::alloc::AllocError;
 use std::env;
 use std::io::ErrorKind;
 use std::process::ExitCode;
@@ -21,33 +22,51 @@ enum Asked {
     Other,
 }
 
-/// What the words behind the program's name ask for.
-fn wanted(host: &HostRuntime) -> Result<Asked, ShowEnd> {
-    let words = match env::args(host) {
-        Ok(words) => words,
+/// The words behind the program's name. Where one isn't UTF-8 there is a word that asks for nothing.
+fn words_of(host: &HostRuntime) -> Result<Vec<String>, AllocError> {
+    let mut words = Vec::new(host.alloc());
+    match env::args(host) {
+        Ok(all) => {
+            for word in all.skip(1) {
+                words.push(word)?;
+            }
+        }
         Err(error) => {
             if error.kind() == ErrorKind::OutOfMemory {
-                return Err(ShowEnd::Memory);
+                return Err(AllocError);
             }
-            return Ok(Asked::Other);
+            words.push(String::new(host.alloc()))?;
         }
+    }
+    Ok(words)
+}
+
+/// What these words ask for.
+fn asked_by(words: &[String]) -> Asked {
+    let Some(word) = words.first() else {
+        return Asked::Judge;
     };
-    let mut behind = words.skip(1);
-    match (behind.next(), behind.next()) {
-        (None, _) => Ok(Asked::Judge),
-        (Some(word), None) if word.as_bytes() == b"run".as_slice() => Ok(Asked::Run),
-        _ => Ok(Asked::Other),
+    if words.len() == 1 && word.as_str() == "run" {
+        return Asked::Run;
+    }
+    Asked::Other
+}
+
+/// Does what is asked for.
+fn end_of(rt: &HostRuntime) -> JudgeEnd {
+    let alloc = rt.alloc();
+    let mut out = StdSink::new(rt.stdout());
+    let Ok(words) = words_of(rt) else {
+        return JudgeEnd::Refused(ShowEnd::Memory);
+    };
+    match asked_by(&words) {
+        Asked::Judge => judge_input(alloc, &mut StdSource::new(rt.stdin()), &mut out),
+        Asked::Run => tell_run(alloc, &mut StdSource::new(rt.stdin()), &mut out),
+        Asked::Other => JudgeEnd::Usage,
     }
 }
 
 fn main(rt: HostRuntime) -> ExitCode {
-    let alloc = rt.alloc();
-    let mut out = StdSink::new(rt.stdout());
-    let end = match wanted(&rt) {
-        Ok(Asked::Judge) => judge_input(alloc, &mut StdSource::new(rt.stdin()), &mut out),
-        Ok(Asked::Run) => tell_run(alloc, &mut StdSource::new(rt.stdin()), &mut out),
-        Ok(Asked::Other) => JudgeEnd::Usage,
-        Err(end) => JudgeEnd::Refused(end),
-    };
-    ExitCode::from(tell(alloc, end, &mut StdSink::new(rt.stderr())))
+    let end = end_of(&rt);
+    ExitCode::from(tell(rt.alloc(), end, &mut StdSink::new(rt.stderr())))
 }

@@ -7,6 +7,7 @@ mod product;
 mod squares;
 
 use callers::squares_below;
+use mtapi_values::NodeAttr;
 use product::{matrix, product_of, row_of};
 use squares::squares_of;
 use std::alloc::Global;
@@ -32,11 +33,24 @@ fn compare<R: Threads + Wait + Sync>(rt: &R, alloc: Global) -> Result<(usize, us
     Ok((rows, same))
 }
 
+// The squares of five numbers, each of which takes a task, by a node that may have so many tasks.
+fn squares_on<R: Threads + Wait + Sync>(
+    rt: &R,
+    alloc: Global,
+    tasks: u64,
+) -> Result<Vec<u64>, Unfinished> {
+    let numbers = vec![in alloc; 1, 2, 3, 65_536, 4_294_967_295]?;
+    let mut settings = NodeAttr::new();
+    settings.set(NodeAttr::TASKS, tasks)?;
+    squares_of(rt, alloc, settings, numbers)
+}
+
 fn main(rt: HostRuntime) -> io::Result<()> {
-    let numbers = vec![in rt.alloc(); 1, 2, 3, 65_536, 4_294_967_295]?;
-    match squares_of(&rt, rt.alloc(), numbers) {
-        Ok(squares) => println!(rt; "squares: {squares:?}")?,
-        Err(unfinished) => println!(rt; "{unfinished}")?,
+    for tasks in [6, 5, 4] {
+        match squares_on(&rt, rt.alloc(), tasks) {
+            Ok(squares) => println!(rt; "squares on {tasks} tasks: {squares:?}")?,
+            Err(unfinished) => println!(rt; "squares on {tasks} tasks: {unfinished}")?,
+        }
     }
     match compare(&rt, rt.alloc()) {
         Ok((rows, same)) => println!(rt; "{rows} rows, {same} as by one thread")?,

@@ -9,10 +9,11 @@ use std::sync::Wait;
 use std::thread::Threads;
 use typed_pieces::{Unfinished, map_pieces};
 
-/// The square of each number, at its place.
+/// The square of each number, at its place, by a node with these settings.
 pub fn squares_of<R: Threads + Wait + Sync>(
     rt: &R,
     alloc: Global,
+    settings: NodeAttr,
     numbers: Vec<u32>,
 ) -> Result<Vec<u64>, Unfinished>
     ensures { IfOk result (λ squares. AllZip (λ number square. square ≡ number * number) numbers.items squares.items) }
@@ -20,5 +21,5 @@ pub fn squares_of<R: Threads + Wait + Sync>(
     let square = |number: u32| -> u64
         ensures { result ≡ number * number }
     { u64::from(number) * u64::from(number) };
-    Ok(map_pieces(rt, alloc, NodeAttr::new(), numbers, &square)?.results)
+    Ok(map_pieces(rt, alloc, settings, numbers, &square)?.results)
 }

@@ -6,7 +6,7 @@ use std::alloc::{AllocError, Global};
 use std::test::Fail;
 
 /// The journal of the empty workload, in both texts.
-const EMPTY: [&str; 2] = [
+pub(crate) const EMPTY: [&str; 2] = [
     "mtapi-journal 1 workers=1 callers=1 tasks=1024 actions=64 groups=128 queues=16 objects=16 priorities=4 generations=4294967295\nc0 initialize -> ok\nc0 release -> ok\nc0 close -> ok\nw0 pick -> stop\nc0 final -> ok\n",
     "mtapi-journal 2 workers=1 callers=1 tasks=1024 actions=64 groups=128 queues=16 objects=16 priorities=4 generations=4294967295\nc0 initialize -> ok\nc0 release -> ok\nc0 close -> ok\nw0 pick -> stop\nc0 final -> ok\n",
 ];

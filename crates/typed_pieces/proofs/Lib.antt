@@ -5,6 +5,7 @@ pub mod Levels
 pub mod Mapping
 pub mod Places
 pub mod Runs
+pub mod TaskLimits
 pub mod SplitRuns
 pub mod Told
 pub mod WorkedRows

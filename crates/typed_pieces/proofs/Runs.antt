@@ -1,12 +1,11 @@
 -- Of the run of a node, whatever its client promises, and of calls that were refused.
-use Rattle.typed_pieces.proofs.Names.{◌≡◌, ℕ, ◌+◌, suc, pos, false, Option, Some, None, List, [], ◌∷◌, ◌++◌, length, Result, Ok, Err, inl, inr, refl, sym, ap, subst, ◌∙◌, append_assoc, take, arith, length-append, nat_tests, entry, NodeSettings, TaskAttributes, TaskHandle, MtapiStatus, Reply, NodeEntry, Journal, Wanted, Answers, Called, Waited, start_of, with_number, done, handle, mtapi, SameSeat, Seat, GoesOn, IsRun, EndsRefused, HasAwaited, HasRun, HasStarted, RefusesPieces, StopsAt, at_action, at_group, at_start, at_look, spent, every_worker, starts_of, IfOk, IfErr, append-nil}
+use Rattle.typed_pieces.proofs.Names.{◌≡◌, ℕ, ◌+◌, suc, pos, false, Some, None, List, [], ◌∷◌, ◌++◌, length, Result, Ok, Err, inl, inr, refl, sym, ap, subst, ◌∙◌, append_assoc, take, arith, length-append, nat_tests, entry, NodeSettings, TaskAttributes, TaskHandle, MtapiStatus, Reply, NodeEntry, Journal, Answers, Called, Waited, start_of, with_number, done, handle, mtapi, SameSeat, Seat, GoesOn, IsRun, EndsRefused, HasAwaited, HasRun, HasStarted, RefusesPieces, StopsAt, at_action, at_group, at_start, at_look, spent, every_worker, starts_of, IfOk, IfErr, append-nil}
 use Rattle.mtapi_values.specs.declared.handles.ActionHandle.{ActionHandle}
 use Rattle.mtapi_values.specs.declared.handles.GroupHandle.{GroupHandle}
 use Rattle.mtapi_values.specs.declared.kinds.Kind.TheVariants.{Echo}
 use Rattle.mtapi_machine.specs.declared.ops.Op.TheVariants.{ActionCreate, GroupCreate, TaskStart, AllLook}
 use Rattle.mtapi_machine.specs.declared.replies.Reply.TheVariants as reply
 use Rattle.workload_runs.specs.declared.calls.Wanted.TheVariants.{AllMembers}
-use Rattle.workload_runs.specs.Wants.{op_of}
 use Rattle.workload_runners.specs.Looks.{pends}
 use Rattle.node_with_workers.proofs.Calls.{begins_more, begins_same}
 use Rattle.mtapi_machine.specs.declared.ops.Op.{Op}

@@ -6,7 +6,7 @@ use Rattle.mtapi_values.specs.declared.handles.GroupHandle.{GroupHandle}
 use Rattle.mtapi_values.specs.declared.kinds.Kind.TheVariants.{Echo}
 use Rattle.mtapi_values.specs.declared.masks.Mask.{Mask}
 use Rattle.mtapi_values.specs.declared.statuses.MtapiStatus.{MtapiStatus}
-use Rattle.mtapi_values.specs.declared.statuses.MtapiStatus.TheVariants.{ErrSpent}
+use Rattle.mtapi_values.specs.declared.statuses.MtapiStatus.TheVariants.{ErrSpent, ErrTaskLimit}
 use Rattle.mtapi_machine.specs.declared.ops.Op.{Op}
 use Rattle.mtapi_machine.specs.declared.ops.Op.TheVariants.{ActionCreate, GroupCreate, TaskStart, AllLook}
 use Rattle.mtapi_machine.specs.declared.replies.Reply.TheVariants as reply
@@ -89,6 +89,10 @@ abbrev pub RefusesPieces : NodeSettings → MtapiStatus → Type 0
 RefusesPieces settings status =
     Refuses {C = Unit {0}} {T = Unit {0}} (λ _ _ _ _. Unit {0}) tt settings status
     ⊎ ((j : Journal) × IsRun {C = Unit {0}} {T = MtapiStatus} (λ _ _ s refused. EndsRefused refused s) tt settings status j)
+
+-- the status says that the node may have no further task only where there are more pieces than tasks
+abbrev pub MeansTooMany : NodeSettings → ℕ → MtapiStatus → Type 0
+MeansTooMany settings places status = status ≡ ErrTaskLimit → settings.tasks < places
 
 -- the node failed so that this holds of its failure, or a piece has no result
 abbrev pub FailsBy : Unfinished → (Failure → Type 0) → Type 0

@@ -1,5 +1,5 @@
 -- Worked rows of the places that ends tell, and of the starts of pieces, with values that all differ. Each is decided by computing.
-use Rattle.std.specs.Prelude.{◌≡◌, ℕ, ℤ, pos, negsuc, Bool, true, false, List, [], ◌∷◌, map, Option, Some, None, Result, Ok, Err}
+use Rattle.std.specs.Prelude.{◌≡◌, ℕ, pos, negsuc, true, false, List, [], ◌∷◌, map, Some, None, Ok, Err}
 use Rattle.history.specs.Histories.{entry}
 use Rattle.mtapi_values.specs.Masks.{in_mask}
 use Rattle.mtapi_values.specs.declared.ends.TaskEnd.{TaskEnd}

@@ -3,7 +3,7 @@
 ghost use Rattle.std.specs.Prelude.{◌≡◌, ◌<◌, ◌^◌, IfOk, IfErr, map, vec_len};
 ghost use Rattle.std.specs.List.{All, AllZip};
 ghost use Rattle.node_with_workers.specs.Clients.{IfRefused};
-ghost use Rattle.typed_pieces.specs.Runs.{FailsBy, HasRun, HasRunAll, IfNoResult, RefusesPieces};
+ghost use Rattle.typed_pieces.specs.Runs.{FailsBy, HasRun, HasRunAll, IfNoResult, MeansTooMany, RefusesPieces};
 
 use crate::context::TaskContext;
 use crate::node::Worked;
@@ -66,6 +66,7 @@ pub fn map_pieces<T: Send + Drop, D: Send + Drop, F: Fn(T) -> D + Sync, R: Threa
     ensures run { IfOk result (λ w. HasRun settings w.journal) }
     ensures awaited { vec_len items < 2 ^ 32 → IfOk result (λ w. HasRunAll settings (vec_len items) w.journal) }
     ensures causes { IfErr result (λ u. FailsBy u (λ e. IfRefused e (RefusesPieces settings))) }
+    ensures limit { IfErr result (λ u. FailsBy u (λ e. IfRefused e (MeansTooMany settings (vec_len items)))) }
     ensures missing { IfErr result (λ u. IfNoResult u (λ place. place < vec_len items)) }
     ensures kept { IfOk result (λ w. AllZip (F.post f.now) items.items w.results.items) }
     ensures places { IfOk result (λ w. vec_len w.results ≡ vec_len items) }

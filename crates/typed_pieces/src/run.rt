@@ -5,7 +5,7 @@ ghost use Rattle.std.specs.List.{All};
 ghost use Rattle.node_with_workers.specs.Clients.{IfRefused};
 ghost use Rattle.node_with_workers.specs.declared.failure.Failure.TheVariants.{Memory};
 ghost use Rattle.typed_pieces.specs.Places.{AreKept, IsFirstWithout};
-ghost use Rattle.typed_pieces.specs.Runs.{FailsBy, HasRun, HasRunAll, IfNoResult, RefusesPieces};
+ghost use Rattle.typed_pieces.specs.Runs.{FailsBy, HasRun, HasRunAll, IfNoResult, MeansTooMany, RefusesPieces};
 
 use crate::client::PieceClient;
 use crate::node::{Worked, with_pieces};
@@ -86,7 +86,7 @@ pub fn all_there<D: Drop>(alloc: Global, results: Vec<Option<D>>) -> Result<Vec<
 ///
 /// # Errors
 ///
-/// - `Node`: as with `with_pieces`. `Refused` is with `ErrTaskLimit` if there are too many pieces.
+/// - `Node`: as with `with_pieces`. `Refused` is with `ErrTaskLimit` only if there are more pieces than the node may have tasks.
 /// - `NoResult`: a task completed without a result of the piece of this place, which is the first such one. It doesn't occur, but no clause
 ///   says so.
 pub fn run_pieces<J: Piece + Send, R: Threads + Wait + Sync>(
@@ -101,6 +101,7 @@ where
     ensures run { IfOk result (λ w. HasRun settings w.journal) }
     ensures awaited { vec_len pieces < 2 ^ 32 → IfOk result (λ w. HasRunAll settings (vec_len pieces) w.journal) }
     ensures causes { IfErr result (λ u. FailsBy u (λ e. IfRefused e (RefusesPieces settings))) }
+    ensures limit { IfErr result (λ u. FailsBy u (λ e. IfRefused e (MeansTooMany settings (vec_len pieces)))) }
     ensures missing { IfErr result (λ u. IfNoResult u (λ place. place < vec_len pieces)) }
     ensures kept { IfOk result (λ w. AreKept J.promise pieces.items (map Some w.results.items)) }
     ensures places { IfOk result (λ w. vec_len w.results ≡ vec_len pieces) }

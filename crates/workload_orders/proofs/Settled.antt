@@ -1,16 +1,12 @@
 -- Of a settled workload one report is all.
 use Rattle.std.specs.Prelude.{IfOk}
 use Rattle.std.specs.declared.alloc.AllocError.{AllocError}
-use Rattle.std.proofs.Common.{Bool, Result, Ok, Err, ◌≡◌, ℕ, true, ◌+◌, ◌<◌, ◌≤◌, List, [], ◌∷◌, length, refl, sym, ◌∙◌, arith, subst}
-use Rattle.mtapi_values.specs.declared.handles.Layout.{Layout}
-use Rattle.mtapi_machine.specs.Legal.{NodeEntry, Legal}
+use Rattle.std.proofs.Common.{Bool, Result, Ok, Err, ◌≡◌, true, ◌≤◌, List, [], ◌∷◌, length, sym, ◌∙◌, arith, subst}
+use Rattle.mtapi_machine.specs.Legal.{Legal}
 use Rattle.mtapi_machine.specs.State.{terms_with}
 use Rattle.mtapi_machine.specs.declared.terms.Terms.{Terms}
 use Rattle.workload_file.specs.Formed.{WellFormed}
 use Rattle.workload_file.specs.declared.workload.Workload.{Workload}
-use Rattle.workload_runs.specs.RunOf.{RunOf}
-use Rattle.run_report.specs.Report.{report, run_terms}
-use Rattle.settled_runs.specs.Plain.{plain_report}
 use Rattle.settled_runs.specs.RunGranted.{SettledRun}
 use Rattle.settled_runs.specs.Settled.{is_settled}
 use Rattle.settled_runs.proofs.RunReport.{settled_reports_are_plain}
