@@ -1,3 +1,4 @@
 pub mod Kept
 pub mod Works
 pub mod Runs
+pub mod WorkedRows

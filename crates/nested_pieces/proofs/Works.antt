@@ -133,4 +133,5 @@ module _ {P D J : Type 0} (promise : P → D → Type 0) (joined : J → List D 
 pub ok_keeps : {P D J N E : Type 0} (promise : P → D → Type 0) (joined : J → List D → D → Type 0) (root : P) (count : N → ℕ) (result : N → D) (r : Result N E)
     → IfOk r (λ n. IsWorkOf promise joined root (count n) (result n)) → IfOk r (λ n. promise root (result n))
 ok_keeps promise joined root count result r w =
-    IfOk-weaker r (λ n. IsWorkOf promise joined root (count n) (result n)) (λ n. promise root (result n)) (λ n x. work_keeps promise joined root (count n) (result n) x) w
+    IfOk-weaker r (λ n. IsWorkOf promise joined root (count n) (result n)) (λ n. promise root (result n))
+    (λ n x. work_keeps promise joined root (count n) (result n) x) w

@@ -1,3 +1,4 @@
 pub mod Joins
 pub mod Works
 pub mod Runs
+pub mod Worked

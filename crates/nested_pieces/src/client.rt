@@ -44,11 +44,11 @@ pub struct Root<'a> {
 
 impl<'a> Client for Root<'a> {
     ghost use Rattle.std.specs.Prelude.{IfOk, IfErr};
-    ghost use Rattle.typed_pieces.specs.Runs.{EndsRefused, HasAwaited};
+    ghost use Rattle.typed_pieces.specs.Runs.{HasAwaited, StopsAt};
 
     type Told = Result<(), MtapiStatus>;
 
-    ghost promise = { λ _ old new told. IfOk told (λ _. HasAwaited 1 old new) × IfErr told (λ status. EndsRefused status new) };
+    ghost promise = { λ _ old new told. IfOk told (λ _. HasAwaited 1 old new) × IfErr told (λ status. StopsAt 1 status old new) };
 
     #[tactic(auto, using(node_with_workers::proofs::Calls::further_calls))]
     fn call<R: Wait>(self, rt: &R, caller: &mut Caller) -> Result<(), MtapiStatus> {

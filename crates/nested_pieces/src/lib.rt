@@ -12,6 +12,7 @@ pub mod parts;
 pub mod run;
 pub mod runner;
 pub mod shared;
+pub mod worked;
 
 pub use failure::NestFailure;
 pub use run::{Nested, run_nested, run_nested_within};
