@@ -1,9 +1,11 @@
 -- What a wait for any member of a group says of places.
-use Rattle.typed_pieces.proofs.Names.{◌≡◌, ◌<◌, ◌^◌, ℕ, ℤ, pos, negsuc, Option, Result, Ok, Err, inl, inr, refl, subst, sym, arith, OkIff, unsigned_abs, nat_tests, TaskHandle, MtapiStatus, Reply, Wanted, given, mtapi, Seat, Answers, Waited}
+use Rattle.typed_pieces.proofs.Names.{◌≡◌, ◌<◌, ◌^◌, ℕ, ℤ, pos, negsuc, Option, Result, Ok, Err, inl, inr, refl, subst, sym, arith, OkIff, unsigned_abs, nat_tests, TaskHandle, MtapiStatus, Reply, Wanted, given, handle, mtapi, Seat, Answers, Called, Waited, with_number}
 use Rattle.std.specs.Int.{FitsUnsignedBits}
 use Rattle.std.specs.Result.{result_ok}
 use Rattle.mtapi_values.specs.declared.ends.TaskEnd.{TaskEnd}
-use Rattle.typed_pieces.specs.Told.{as_place, first_place, place_alone, place_of}
+use Rattle.mtapi_machine.specs.declared.ops.Op.{Op}
+use Rattle.typed_pieces.specs.declared.refusal.PieceRefusal.{PieceRefusal}
+use Rattle.typed_pieces.specs.Told.{as_place, by_status, first_place, place_alone, place_of}
 
 -- what a conversion to 32 bits gives is the place
 pub place_is : {E : Type 0} (z : ℤ) (r : Result ℕ E) → OkIff r (FitsUnsignedBits 32 z) (unsigned_abs z) → result_ok r ≡ as_place z
@@ -30,3 +32,13 @@ pub waited : (w : Wanted) (limit : Option ℕ) (old new : Seat) (x : Result (Tas
     → Waited mtapi given w limit old new x → y ≡ place_alone x → Waited mtapi first_place w limit old new y
 waited w limit old new x y a is = subst (λ (z : Result (Option ℕ) MtapiStatus). Waited mtapi first_place w limit old new z) (sym is)
     (place_waited w limit old new x a)
+
+-- An answer with the call's name has the same status
+
+pub called_named : {H : Type 0} (number : H → ℕ) (o : Op) (old new : Seat) (x : Result H MtapiStatus) (y : Result H PieceRefusal)
+    → Called mtapi handle o old new (with_number number x) → by_status y ≡ x → Called mtapi handle o old new (with_number number (by_status y))
+called_named number o old new x y called same = subst (λ a. Called mtapi handle o old new (with_number number a)) (sym same) called
+
+pub waited_named : {A : Type 0} (read : Reply → Option A) (w : Wanted) (limit : Option ℕ) (old new : Seat) (x : Result A MtapiStatus) (y : Result A PieceRefusal)
+    → Waited mtapi read w limit old new x → by_status y ≡ x → Waited mtapi read w limit old new (by_status y)
+waited_named read w limit old new x y waited same = subst (λ a. Waited mtapi read w limit old new a) (sym same) waited

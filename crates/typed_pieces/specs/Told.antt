@@ -5,6 +5,7 @@ use Rattle.mtapi_values.specs.declared.ends.TaskEnd.TheVariants as end
 use Rattle.mtapi_values.specs.declared.handles.TaskHandle.{TaskHandle}
 use Rattle.mtapi_values.specs.declared.statuses.MtapiStatus.{MtapiStatus}
 use Rattle.mtapi_machine.specs.declared.replies.Reply.{Reply}
+use Rattle.typed_pieces.specs.declared.refusal.PieceRefusal.{PieceRefusal}
 use Rattle.mtapi_machine.specs.declared.replies.Reply.TheVariants as reply
 
 -- this number, if it can be a place
@@ -26,3 +27,8 @@ first_place _ = None
 abbrev pub place_alone : Result (TaskHandle × TaskEnd) MtapiStatus → Result (Option ℕ) MtapiStatus
 place_alone (Ok member) = Ok (place_of member.1)
 place_alone (Err status) = Err status
+
+-- the same answer with the status alone
+abbrev pub by_status : {A : Type 0} → Result A PieceRefusal → Result A MtapiStatus
+by_status (Ok a) = Ok a
+by_status (Err refused) = Err refused.status

@@ -28,7 +28,7 @@ pub use map::map_pieces;
 pub use node::{AllWorked, Worked, with_pieces, with_pieces_callers};
 pub use piece::Piece;
 pub use pieces::{Pieces, args_of};
-pub use refusal::Refusal;
+pub use refusal::{PieceCall, PieceRefusal, Refusal};
 pub use run::run_pieces;
 pub use split::{Outcome, Split};
 pub use split_failure::SplitFailure;

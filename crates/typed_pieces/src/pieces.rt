@@ -1,6 +1,6 @@
 //! The pieces of a node, as its client sees them.
 
-ghost use Rattle.std.specs.Prelude.{◌≡◌, [], ◌∷◌, pos, IfSome};
+ghost use Rattle.std.specs.Prelude.{◌≡◌, [], ◌∷◌, pos, Some, None, IfSome, IfErr};
 ghost use Rattle.typed_pieces.specs.Places.{IsKeptAt};
 ghost use Rattle.sched_workers.specs.Answers.{Called, Waited, with_number, enqueue_of, start_of};
 ghost use Rattle.workload_runners.specs.Replies.{done, handle, mtapi};
@@ -10,8 +10,10 @@ ghost use Rattle.mtapi_values.specs.declared.kinds.Kind.TheVariants.{Echo};
 ghost use Rattle.mtapi_machine.specs.declared.ops.Op.TheVariants.{ActionCreate, TaskCancel};
 ghost use Rattle.typed_pieces.specs.Runs.{every_worker};
 ghost use Rattle.typed_pieces.specs.Told as told;
+ghost use Rattle.typed_pieces.specs.declared.refusal.PieceCall.TheVariants as call;
 
 use crate::piece::Piece;
+use crate::refusal::{PieceCall, PieceRefusal};
 use crate::shared::Shared;
 use crate::table::Handed;
 use mtapi_values::{
@@ -64,6 +66,64 @@ fn place_alone(
     }
 }
 
+// The same answer, whose refusal has its call and its place.
+fn named<A>(
+    answer: Result<A, MtapiStatus>,
+    call: PieceCall,
+    place: Option<u32>,
+) -> Result<A, PieceRefusal>
+    ensures same { told.by_status result ≡ answer }
+    ensures named { IfErr result (λ r. (r.call ≡ call) × (r.place ≡ place)) }
+{
+    match answer {
+        Ok(given) => Ok(given),
+        Err(status) => Err(PieceRefusal {
+            call,
+            place,
+            status,
+        }),
+    }
+}
+
+/// Makes an action of this job whose tasks run pieces, as `Pieces::action` does.
+pub(crate) fn make_action<R: Wait>(
+    rt: &R,
+    caller: &mut Caller,
+    job: u32,
+) -> Result<ActionHandle, MtapiStatus>
+    ensures { Called mtapi handle (ActionCreate job Echo every_worker) caller.old caller.new (with_number (λ h. h.0) result) }
+{
+    caller.action_create(rt, job, Kind::Echo, ActionAttr::new())
+}
+
+/// Starts the piece of this place, as `Pieces::start` does.
+pub(crate) fn start_place<R: Wait>(
+    rt: &R,
+    caller: &mut Caller,
+    place: u32,
+    job: u32,
+    attr: TaskAttr,
+    group: Option<GroupHandle>,
+) -> Result<TaskHandle, MtapiStatus>
+    ensures { Called mtapi handle (start_of job (pos place ∷ []) attr group) caller.old caller.new (with_number (λ h. h.0) result) }
+{
+    caller.task_start(rt, job, &args_of(place), attr, group)
+}
+
+// Enqueues the piece of this place, as `Pieces::enqueue` does.
+fn enqueue_place<R: Wait>(
+    rt: &R,
+    caller: &mut Caller,
+    place: u32,
+    queue: QueueHandle,
+    attr: TaskAttr,
+    group: Option<GroupHandle>,
+) -> Result<TaskHandle, MtapiStatus>
+    ensures { Called mtapi handle (enqueue_of queue (pos place ∷ []) attr group) caller.old caller.new (with_number (λ h. h.0) result) }
+{
+    caller.task_enqueue(rt, queue, &args_of(place), attr, group)
+}
+
 /// The pieces of a node.
 #[derive(Drop)]
 pub struct Pieces<'a, L: Handed<J>, J: Piece> {
@@ -81,10 +141,11 @@ impl<'a, L: Handed<J>, J: Piece> Pieces<'a, L, J> {
         rt: &R,
         caller: &mut Caller,
         job: u32,
-    ) -> Result<ActionHandle, MtapiStatus>
-        ensures { Called mtapi handle (ActionCreate job Echo every_worker) caller.old caller.new (with_number (λ h. h.0) result) }
+    ) -> Result<ActionHandle, PieceRefusal>
+        ensures called { Called mtapi handle (ActionCreate job Echo every_worker) caller.old caller.new (with_number (λ h. h.0) (told.by_status result)) }
+        ensures named { IfErr result (λ r. (r.call ≡ call.Action) × (r.place ≡ None)) }
     {
-        caller.action_create(rt, job, Kind::Echo, ActionAttr::new())
+        named(make_action(rt, caller, job), PieceCall::Action, None)
     }
 
     /// Starts a task of this job that runs the piece of this place. The job's action has to be one of `action`: a task of another kind runs no
@@ -101,10 +162,12 @@ impl<'a, L: Handed<J>, J: Piece> Pieces<'a, L, J> {
         job: u32,
         attr: TaskAttr,
         group: Option<GroupHandle>,
-    ) -> Result<TaskHandle, MtapiStatus>
-        ensures { Called mtapi handle (start_of job (pos place ∷ []) attr group) caller.old caller.new (with_number (λ h. h.0) result) }
+    ) -> Result<TaskHandle, PieceRefusal>
+        ensures called { Called mtapi handle (start_of job (pos place ∷ []) attr group) caller.old caller.new (with_number (λ h. h.0) (told.by_status result)) }
+        ensures named { IfErr result (λ r. (r.call ≡ call.Start) × (r.place ≡ Some place)) }
     {
-        caller.task_start(rt, job, &args_of(place), attr, group)
+        let started = start_place(rt, caller, place, job, attr, group);
+        named(started, PieceCall::Start, Some(place))
     }
 
     /// Puts a task into a queue that runs the piece of this place. The action of the queue's job has to be one of `action`: a task of another
@@ -121,10 +184,12 @@ impl<'a, L: Handed<J>, J: Piece> Pieces<'a, L, J> {
         queue: QueueHandle,
         attr: TaskAttr,
         group: Option<GroupHandle>,
-    ) -> Result<TaskHandle, MtapiStatus>
-        ensures { Called mtapi handle (enqueue_of queue (pos place ∷ []) attr group) caller.old caller.new (with_number (λ h. h.0) result) }
+    ) -> Result<TaskHandle, PieceRefusal>
+        ensures called { Called mtapi handle (enqueue_of queue (pos place ∷ []) attr group) caller.old caller.new (with_number (λ h. h.0) (told.by_status result)) }
+        ensures named { IfErr result (λ r. (r.call ≡ call.Enqueue) × (r.place ≡ Some place)) }
     {
-        caller.task_enqueue(rt, queue, &args_of(place), attr, group)
+        let enqueued = enqueue_place(rt, caller, place, queue, attr, group);
+        named(enqueued, PieceCall::Enqueue, Some(place))
     }
 
     /// Cancels this task, which runs the piece of this place: if it hasn't begun, it won't, and the piece isn't run; if it runs, the piece sees
@@ -140,10 +205,11 @@ impl<'a, L: Handed<J>, J: Piece> Pieces<'a, L, J> {
         caller: &mut Caller,
         place: u32,
         task: TaskHandle,
-    ) -> Result<(), MtapiStatus>
-        ensures { Called mtapi done (TaskCancel task) caller.old caller.new result }
+    ) -> Result<(), PieceRefusal>
+        ensures called { Called mtapi done (TaskCancel task) caller.old caller.new (told.by_status result) }
+        ensures named { IfErr result (λ r. (r.call ≡ call.Cancel) × (r.place ≡ Some place)) }
     {
-        caller.task_cancel(rt, task)?;
+        named(caller.task_cancel(rt, task), PieceCall::Cancel, Some(place))?;
         let _ = self.shared.cancels.add(rt, place as usize, caller, task);
         Ok(())
     }
@@ -161,10 +227,12 @@ impl<'a, L: Handed<J>, J: Piece> Pieces<'a, L, J> {
         caller: &mut Caller,
         group: GroupHandle,
         timeout: Timeout,
-    ) -> Result<Option<u32>, MtapiStatus>
-        ensures { Waited mtapi told.first_place (FirstMember group) (looks_of timeout) caller.old caller.new result }
+    ) -> Result<Option<u32>, PieceRefusal>
+        ensures called { Waited mtapi told.first_place (FirstMember group) (looks_of timeout) caller.old caller.new (told.by_status result) }
+        ensures named { IfErr result (λ r. (r.call ≡ call.WaitAny) × (r.place ≡ None)) }
     {
-        place_alone(caller.group_wait_any(rt, group, timeout))
+        let place = place_alone(caller.group_wait_any(rt, group, timeout));
+        named(place, PieceCall::WaitAny, None)
     }
 
     /// Takes the result of this place while the node runs, if its piece has run. It is none of the results in the end.

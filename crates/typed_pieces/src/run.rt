@@ -10,7 +10,7 @@ ghost use Rattle.typed_pieces.specs.Runs.{FailsBy, HasRun, HasRunAll, IfNoResult
 use crate::client::PieceClient;
 use crate::node::{Worked, with_pieces};
 use crate::piece::Piece;
-use crate::pieces::Pieces;
+use crate::pieces::{Pieces, make_action, start_place};
 use crate::table::Handed;
 use crate::unfinished::Unfinished;
 use mtapi_values::{MtapiStatus, NodeAttr, TaskAttr, Timeout};
@@ -43,12 +43,12 @@ impl<J: Piece> PieceClient<J> for AllPieces {
         self,
         rt: &R,
         caller: &mut Caller,
-        pieces: &Pieces<L, J>,
+        _pieces: &Pieces<L, J>,
     ) -> Result<(), MtapiStatus> {
-        pieces.action(rt, caller, JOB)?;
+        make_action(rt, caller, JOB)?;
         let group = caller.group_create(rt)?;
         for place in 0..self.count {
-            pieces.start(rt, caller, place, JOB, TaskAttr::new(), Some(group))?;
+            start_place(rt, caller, place, JOB, TaskAttr::new(), Some(group))?;
         }
         caller.group_wait_all(rt, group, Timeout::Infinite)
     }

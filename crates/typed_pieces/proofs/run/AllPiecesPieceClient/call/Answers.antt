@@ -3,10 +3,10 @@ use Rattle.typed_pieces.proofs.Runs.{awaited, goes_on, refused_told, started_mor
 use Rattle.typed_pieces.proofs.run.AllPiecesPieceClient.call.Goals as goal
 
 pub loop-place-init : goal.loop-place-init
-loop-place-init g c = goes_on _ _ _ _ (started_none _ _ _ _ _ _ _ c.action.ensures c.in_ok-action.was c.group_create.ensures c.in_ok-group.was)
+loop-place-init g c = goes_on _ _ _ _ (started_none _ _ _ _ _ _ _ c.make_action.ensures c.in_ok-make_action.was c.group_create.ensures c.in_ok-group.was)
 
 pub loop-place-preserved : goal.loop-place-preserved
-loop-place-preserved g c = goes_on _ _ _ _ (started_more _ _ _ _ _ _ _ _ c.new.ensures c.loop-place.invariant.2 c.start.ensures c.in_ok-start.was)
+loop-place-preserved g c = goes_on _ _ _ _ (started_more _ _ _ _ _ _ _ _ c.new.ensures c.loop-place.invariant.2 c.start_place.ensures c.in_ok-start_place.was)
 
 pub returns-clause-kept : goal.returns-clause-kept
 returns-clause-kept g c =
@@ -16,11 +16,11 @@ returns-clause-kept g c =
 
 pub returns-in_err-group-clause-kept : goal.returns-in_err-group-clause-kept
 returns-in_err-group-clause-kept g c =
-    let stopped = stops_at_group c.args.self.count _ _ _ _ _ _ _ c.action.ensures c.in_ok-action.was c.group_create.ensures c.in_err-group.was in
+    let stopped = stops_at_group c.args.self.count _ _ _ _ _ _ _ c.make_action.ensures c.in_ok-make_action.was c.group_create.ensures c.in_err-group.was in
     refused_told _ _ _ _ _ (search rules) stopped
 
-pub returns-in_err-start-clause-kept : goal.returns-in_err-start-clause-kept
-returns-in_err-start-clause-kept g c =
+pub returns-in_err-start_place-clause-kept : goal.returns-in_err-start_place-clause-kept
+returns-in_err-start_place-clause-kept g c =
     let few = c.loop-place-test.true in
-    let stopped = stops_at_start _ _ c.args.self.count _ _ _ _ _ _ c.new.ensures (search rules) c.loop-place.invariant.2 c.start.ensures c.in_err-start.was in
+    let stopped = stops_at_start _ _ c.args.self.count _ _ _ _ _ _ c.new.ensures (search rules) c.loop-place.invariant.2 c.start_place.ensures c.in_err-start_place.was in
     refused_told _ _ _ _ _ (search rules) stopped

@@ -1,0 +1,5 @@
+use Rattle.typed_pieces.proofs.Told.{called_named}
+use Rattle.typed_pieces.proofs.pieces.Pieces.action.Goals as goal
+
+pub returns-clause-called : goal.returns-clause-called
+returns-clause-called g c = called_named _ _ _ _ _ _ c.make_action.ensures c.named.ensures.same
