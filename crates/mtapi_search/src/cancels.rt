@@ -38,8 +38,8 @@ impl Piece for Count {
 struct CancelsOne;
 
 impl PieceClient<Count> for CancelsOne {
-    /// Whether the second cancel was refused.
-    type Told = Result<bool, Refusal>;
+    /// What refused the second cancel.
+    type Told = Result<Option<Refusal>, Refusal>;
 
     ghost promise = { λ _ _ _ _ _. Unit {0} };
 
@@ -49,14 +49,14 @@ impl PieceClient<Count> for CancelsOne {
         rt: &R,
         caller: &mut Caller,
         pieces: &Pieces<L, Count>,
-    ) -> Result<bool, Refusal> {
+    ) -> Result<Option<Refusal>, Refusal> {
         pieces.action(rt, caller, ECHO)?;
         caller.action_create(rt, ADD, Kind::Add, ActionAttr::new())?;
         let first = pieces.start(rt, caller, 0, ECHO, TaskAttr::new(), None)?;
         pieces.cancel(rt, caller, 0, first)?;
         caller.task_wait(rt, first, Timeout::Infinite)?;
         // That task is gone, so this is refused.
-        let refused = pieces.cancel(rt, caller, 1, first).is_err();
+        let refused = pieces.cancel(rt, caller, 1, first).err();
         let second = pieces.start(rt, caller, 1, ECHO, TaskAttr::new(), None)?;
         caller.task_wait(rt, second, Timeout::Infinite)?;
         let third = pieces.start(rt, caller, 2, ECHO, TaskAttr::new(), None)?;
@@ -68,15 +68,15 @@ impl PieceClient<Count> for CancelsOne {
         let _ = two.push(3);
         let other = caller.task_start(rt, ECHO, &two, TaskAttr::new(), None)?;
         caller.task_wait(rt, other, Timeout::Infinite)?;
-        Ok(refused)
+        Ok(refused.map(|refused| Refusal::from(refused)))
     }
 }
 
-/// Whether the second cancel was refused, and what the second, the third and the fourth piece counted.
+/// What refused the second cancel, and what the second, the third and the fourth piece counted.
 pub fn counted<R: Threads + Wait + Sync>(
     rt: &R,
     alloc: Global,
-) -> Result<(bool, Vec<Option<u64>>), Unfinished> {
+) -> Result<(Option<Refusal>, Vec<Option<u64>>), Unfinished> {
     // Only by its cancel the first one ends soon.
     let pieces = vec![in alloc; Count(1 << 62), Count(1_000), Count(2_000), Count(3_000)]?;
     let mut worked = with_pieces(rt, alloc, NodeAttr::new(), pieces, CancelsOne)?;

@@ -131,7 +131,8 @@ fn tell_found(rt: &HostRuntime, found: Result<Taken, Unfinished>) -> io::Result<
 fn main(rt: HostRuntime) -> io::Result<()> {
     tell_found(&rt, first_found(&rt, rt.alloc()))?;
     match counted(&rt, rt.alloc()) {
-        Ok((refused, counts)) => println!(rt; "refused: {refused}, counted: {counts:?}"),
+        Ok((Some(refusal), counts)) => println!(rt; "refused {refusal}; counted: {counts:?}"),
+        Ok((None, counts)) => println!(rt; "nothing refused; counted: {counts:?}"),
         Err(unfinished) => println!(rt; "{unfinished}"),
     }
 }
