@@ -266,7 +266,7 @@ try_installed_words() {
     for each in check picture trace; do try_words 0 mtapi_ '' "$there $each work kept"; done
     for each in 'verify work' 'expect work report' 'bounded work 500'; do
         # shellcheck disable=SC2086 # a word and its files
-        "$stand/$there" $each >/dev/null 2>"$stand/err"
+        (cd "$stand" && "$there" $each) </dev/null >/dev/null 2>"$stand/err"
         if grep -q 'not found\|No such file' "$stand/err"; then count_words wrong "$there $each: $(cat "$stand/err")"; else count_words right; fi
     done
     try_words 0 'mtapi was removed from ' '' './mtapi uninstall place'
