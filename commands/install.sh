@@ -5,7 +5,7 @@
 # completes words in bash. All of it is put together first, so that a full disk leaves what was there.
 # shellcheck shell=bash disable=SC2154 # what isn't set here is of the script that sources this
 
-installed_parts=(words colours files waits verify judge orders) # of commands/, which the installed script needs
+installed_parts=(words colours files verify judge orders) # of commands/, which the installed script needs
 stage=''                                          # where the parts are put together
 
 give_up_install() {

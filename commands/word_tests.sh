@@ -237,6 +237,42 @@ try_no_timeout() {
     store mtapi_cli.run.--journal "$(cat "$stand/kept")"$'\n'
 }
 
+# Programs that count as proved here: each answers with its name and its words. No toolchain is asked for them.
+make_proved_programs() {
+    local each
+    cp -R "$top/docs" "$stand/"
+    for each in "${programs[@]}"; do
+        mkdir -p "$stand/crates/$each/src" "$stand/crates/$each/out"
+        : >"$stand/crates/$each/src/main.rt"
+        printf '#!/bin/sh\ncat >/dev/null\necho "%s $*"\n' "$each" >"$stand/crates/$each/out/$each"
+        chmod +x "$stand/crates/$each/out/$each"
+    done
+    (
+        top=$stand
+        for each in "${programs[@]}"; do keep_note "$each" "$(sum_of_sources "$each")" "$default_processor"; done
+    ) 2>/dev/null
+}
+
+# What is installed has all parts that its words need.
+try_installed_words() {
+    local each there=place/bin/mtapi
+    make_proved_programs
+    try_words 0 "$stand/place/bin/mtapi runs the proved programs" '' './mtapi install place'
+    try_words 0 'mtapi ' '' "$there --version"
+    try_words 0 'mtapi_cli run' '' "$there run work"
+    try_words 0 'mtapi_cli gen 5 2' '' "$there gen 5 2"
+    try_words 0 mtapi_judge '' "$there judge kept"
+    for each in explain orders; do try_words 0 "mtapi_$each" '' "$there $each work"; done
+    for each in check picture trace; do try_words 0 mtapi_ '' "$there $each work kept"; done
+    for each in 'verify work' 'expect work report' 'bounded work 500'; do
+        # shellcheck disable=SC2086 # a word and its files
+        (cd "$stand" && "$there" $each) </dev/null >/dev/null 2>"$stand/err"
+        if grep -q 'not found\|No such file' "$stand/err"; then count_words wrong "$there $each: $(cat "$stand/err")"; else count_words right; fi
+    done
+    try_words 0 'mtapi was removed from ' '' './mtapi uninstall place'
+    try_words 0 '' '' '! [ -e place/lib/mtapi ]'
+}
+
 test_words() {
     local each
     make_stand_in
@@ -246,5 +282,6 @@ test_words() {
     try_command_words
     try_show_words
     try_further_words
+    try_installed_words
     echo "words: $words_passed passed, $words_failed failed"
 }

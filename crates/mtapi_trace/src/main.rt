@@ -3,14 +3,14 @@
 #![tactic(auto)]
 
 mod calls;
-mod course;
 mod events;
 mod names;
+mod writer;
 
-use course::trace_of;
 use journal_reading::{KeptRun, RunText, RunView, program};
 use std::alloc::{AllocError, Global};
 use std::process::ExitCode;
+use writer::trace_of;
 
 /// Makes the trace of a run.
 struct Trace;

@@ -3,7 +3,7 @@
 //! A seat is *stuck* while what it waits for without end is held, or run, by seats that are stuck: by one of them, or for a semaphore,
 //! for a reader, and for any task of a group, by all. A task that hasn't begun may begin, so who waits for it isn't stuck.
 
-use crate::course::{Course, MadeMutex};
+use crate::progress::{MadeMutex, Progress};
 use crate::run::BoundedRun;
 use journal_text::{NodeObject, object_named};
 use mtapi_machine::{Entry, Op, Reply};
@@ -15,7 +15,7 @@ use workload_file::Deed;
 #[derive(Drop)]
 pub struct Looks<'a> {
     pub run: &'a BoundedRun<'a>,
-    pub course: &'a Course,
+    pub progress: &'a Progress,
     /// For each seat the place of the entry whose look it repeats.
     pub looks: Vec<Option<usize>>,
     pub stuck: Vec<bool>,
@@ -65,11 +65,11 @@ pub fn is_endless(deed: &Deed) -> bool {
 }
 
 /// The entry whose look a seat repeats while the entry at this place is made.
-fn look_at(run: &BoundedRun, course: &Course, seat: u32, place: usize) -> Option<usize> {
+fn look_at(run: &BoundedRun, progress: &Progress, seat: u32, place: usize) -> Option<usize> {
     if run.entries.get(place)?.who == seat {
         return Some(place);
     }
-    let latest = course.latest_of(seat)?;
+    let latest = progress.latest_of(seat)?;
     let last = run.entries.get(latest)?;
     if matches!(last.reply, Reply::Pending) {
         return if is_look(&last.op) {
@@ -97,13 +97,13 @@ fn look_at(run: &BoundedRun, course: &Course, seat: u32, place: usize) -> Option
 fn all_looks(
     alloc: Global,
     run: &BoundedRun,
-    course: &Course,
+    progress: &Progress,
     place: usize,
 ) -> Result<Vec<Option<usize>>, AllocError> {
     let mut looks = Vec::new(alloc);
     for seat in 0..run.seats() {
         let seat = u32::try_from(seat).unwrap_or(u32::MAX);
-        looks.push(look_at(run, course, seat, place))?;
+        looks.push(look_at(run, progress, seat, place))?;
     }
     Ok(looks)
 }
@@ -113,14 +113,14 @@ impl<'a> Looks<'a> {
     pub fn new(
         alloc: Global,
         run: &'a BoundedRun<'a>,
-        course: &'a Course,
+        progress: &'a Progress,
         place: usize,
     ) -> Result<Looks<'a>, AllocError> {
-        let looks = all_looks(alloc, run, course, place)?;
+        let looks = all_looks(alloc, run, progress, place)?;
         let stuck = vec![in alloc; false; looks.len()]?;
         let mut all = Looks {
             run,
-            course,
+            progress,
             looks,
             stuck,
         };
@@ -146,7 +146,7 @@ impl<'a> Looks<'a> {
     /// The mutex that the look of a worker's tally waits for.
     pub fn mutex_looked_for(&self, look: &Entry) -> Option<MadeMutex> {
         match look.op {
-            Op::TallyLock { .. } => self.course.mutex_of_tally(look.who),
+            Op::TallyLock { .. } => self.progress.mutex_of_tally(look.who),
             _ => None,
         }
     }
@@ -184,9 +184,9 @@ impl<'a> Looks<'a> {
     ) -> Result<Vec<u32>, AllocError> {
         let mut seats = Vec::new(alloc);
         for task in tasks {
-            match self.course.runner_of(*task) {
+            match self.progress.runner_of(*task) {
                 Some(seat) => seats.push(seat)?,
-                None if one_is_enough && !self.course.has_ended(*task) => {
+                None if one_is_enough && !self.progress.has_ended(*task) => {
                     return Ok(Vec::new(alloc));
                 }
                 None => {}
@@ -198,7 +198,7 @@ impl<'a> Looks<'a> {
     /// The worker that runs a task, if one does.
     fn runner_alone(&self, alloc: Global, task: &TaskHandle) -> Result<Vec<u32>, AllocError> {
         let mut seats = Vec::new(alloc);
-        if let Some(seat) = self.course.runner_of(task.0) {
+        if let Some(seat) = self.progress.runner_of(task.0) {
             seats.push(seat)?;
         }
         Ok(seats)
@@ -208,7 +208,7 @@ impl<'a> Looks<'a> {
     fn holders_of(&self, alloc: Global, look: &Entry) -> Result<Vec<u32>, AllocError> {
         let mut seats = Vec::new(alloc);
         if let Some(object) = self.object_of(look) {
-            for holder in self.course.holders() {
+            for holder in self.progress.holders() {
                 if holder.object == object {
                     seats.push(holder.seat)?;
                 }
@@ -226,7 +226,7 @@ impl<'a> Looks<'a> {
         let seats = match &look.op {
             Op::TaskLook { task, .. } => self.runner_alone(alloc, task)?,
             Op::AllLook { group, .. } | Op::AnyLook { group, .. } => {
-                self.runners_of(alloc, self.course.members_of(*group), one_is_enough)?
+                self.runners_of(alloc, self.progress.members_of(*group), one_is_enough)?
             }
             _ => self.holders_of(alloc, look)?,
         };

@@ -3,10 +3,10 @@
 //! waited. Its stored run is of two callers that lock two mutexes crosswise.
 #![tactic(auto)]
 
-mod course;
 mod ends;
 mod looks;
 mod page;
+mod progress;
 mod run;
 mod words;
 

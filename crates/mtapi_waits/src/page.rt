@@ -1,7 +1,7 @@
 //! What is told of the waits that ran out.
 
-use crate::course::{Course, HeldAs, course_of};
 use crate::looks::{Looks, is_endless, waits_for_tasks};
+use crate::progress::{HeldAs, Progress, progress_of};
 use crate::run::BoundedRun;
 use mtapi_machine::{Entry, Op, Reply};
 use mtapi_values::{MrapiStatus, MtapiStatus};
@@ -143,7 +143,7 @@ fn push_holders(
         return Ok(());
     };
     let mut is_first = true;
-    for holder in looks.course.holders() {
+    for holder in looks.progress.holders() {
         if holder.object == object {
             let seat = seat_name(alloc, looks.run, holder.seat)?;
             let how = held_words(holder.held_as);
@@ -252,7 +252,7 @@ fn chain_of(
 fn told_at(
     alloc: Global,
     run: &BoundedRun,
-    course: &Course,
+    progress: &Progress,
     place: usize,
     entry: &Entry,
     count: u64,
@@ -266,7 +266,7 @@ fn told_at(
     let Some(wait) = wait_of(&statement.deed) else {
         return Ok(None);
     };
-    let looks = Looks::new(alloc, run, course, place)?;
+    let looks = Looks::new(alloc, run, progress, place)?;
     let line = statement.line;
     let word = wait.word;
     let seat = seat_name(alloc, run, entry.who)?;
@@ -281,13 +281,13 @@ fn told_at(
 
 /// Follows a run. Gives what is told of its waits that ran out, in the order of its entries.
 fn told_waits(alloc: Global, run: &BoundedRun, count: u64) -> Result<Vec<ToldWait>, AllocError> {
-    let mut course = course_of(alloc, run)?;
+    let mut progress = progress_of(alloc, run)?;
     let mut told = Vec::new(alloc);
     for (place, entry) in run.entries.iter().enumerate() {
-        if let Some(wait) = told_at(alloc, run, &course, place, entry, count)? {
+        if let Some(wait) = told_at(alloc, run, &progress, place, entry, count)? {
             told.push(wait)?;
         }
-        course.note(place, entry)?;
+        progress.note(place, entry)?;
     }
     Ok(told)
 }

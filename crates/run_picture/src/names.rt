@@ -9,7 +9,7 @@ use workload_runs::{Call, call_of};
 
 /// How far a caller has come in its part of the workload.
 #[derive(Drop)]
-struct Course {
+struct PartProgress {
     /// The place of the statement whose call is next.
     next: usize,
     /// The handle that each statement before bound, 0 where it bound none.
@@ -38,16 +38,16 @@ fn is_of_call(call: &Call, op: &Op) -> bool {
 }
 
 /// Goes on behind a statement that was answered.
-fn go_on(course: &mut Course, reply: &Reply) -> Result<(), AllocError> {
+fn go_on(progress: &mut PartProgress, reply: &Reply) -> Result<(), AllocError> {
     match reply {
         Reply::Pending => {}
         Reply::Handle(handle) => {
-            course.bound.push(*handle)?;
-            course.next = course.next.saturating_add(1);
+            progress.bound.push(*handle)?;
+            progress.next = progress.next.saturating_add(1);
         }
         _ => {
-            course.bound.push(0)?;
-            course.next = course.next.saturating_add(1);
+            progress.bound.push(0)?;
+            progress.next = progress.next.saturating_add(1);
         }
     }
     Ok(())
@@ -55,15 +55,15 @@ fn go_on(course: &mut Course, reply: &Reply) -> Result<(), AllocError> {
 
 /// The place of the statement that made an entry, if it is the next one.
 fn place_made(
-    course: &mut Course,
+    progress: &mut PartProgress,
     part: &Part,
     entry: &Entry,
 ) -> Result<Option<usize>, AllocError> {
-    let place = course.next;
+    let place = progress.next;
     match part.statements.as_slice().get(place) {
         Some(statement) => {
-            if is_of_call(&call_of(&statement.deed, &course.bound), &entry.op) {
-                go_on(course, &entry.reply)?;
+            if is_of_call(&call_of(&statement.deed, &progress.bound), &entry.op) {
+                go_on(progress, &entry.reply)?;
                 return Ok(Some(place));
             }
             Ok(None)
@@ -80,13 +80,13 @@ fn note_part(
     part: &Part,
     entries: &[Entry],
 ) -> Result<(), AllocError> {
-    let mut course = Course {
+    let mut progress = PartProgress {
         next: 0,
         bound: Vec::new(alloc),
     };
     for (place, entry) in entries.iter().enumerate() {
         if entry.who == who {
-            let made = place_made(&mut course, part, entry)?;
+            let made = place_made(&mut progress, part, entry)?;
             put(statements, place, made);
         }
     }

@@ -48,7 +48,7 @@ pub struct MadeMutex {
 
 /// How things stand behind some entries of a run.
 #[derive(Drop)]
-pub struct Course {
+pub struct Progress {
     alloc: Global,
     workers: u32,
     standings: Standings,
@@ -85,10 +85,10 @@ fn mode_of(writer: bool) -> HeldAs {
     }
 }
 
-impl Course {
+impl Progress {
     /// Before the first entry.
-    pub fn new(alloc: Global, workers: u32, seats: usize) -> Result<Course, AllocError> {
-        Ok(Course {
+    pub fn new(alloc: Global, workers: u32, seats: usize) -> Result<Progress, AllocError> {
+        Ok(Progress {
             alloc,
             workers: workers.min(64),
             standings: no_standings(alloc, 0)?,
@@ -351,6 +351,6 @@ impl Course {
 }
 
 /// Before the first entry of a run.
-pub fn course_of(alloc: Global, run: &BoundedRun) -> Result<Course, AllocError> {
-    Course::new(alloc, run.workers, run.seats())
+pub fn progress_of(alloc: Global, run: &BoundedRun) -> Result<Progress, AllocError> {
+    Progress::new(alloc, run.workers, run.seats())
 }

@@ -53,7 +53,7 @@ struct Counter {
 
 /// A trace while the entries are followed.
 #[derive(Drop)]
-struct Course<'a> {
+struct TraceWriter<'a> {
     alloc: Global,
     workers: u32,
     names: Names<'a>,
@@ -66,7 +66,7 @@ struct Course<'a> {
     out: String,
 }
 
-impl<'a> Course<'a> {
+impl<'a> TraceWriter<'a> {
     fn track_of(&self, seat: u32) -> u32 {
         match seat.checked_sub(self.workers) {
             Some(caller) => caller.saturating_add(FIRST_CALLER),
@@ -455,7 +455,7 @@ pub fn trace_of(alloc: Global, run: &KeptRun) -> Result<String, AllocError> {
         queue: None,
         tasks: 0,
     };
-    let mut course = Course {
+    let mut writer = TraceWriter {
         alloc,
         workers,
         names: Names::new(alloc, run)?,
@@ -466,9 +466,9 @@ pub fn trace_of(alloc: Global, run: &KeptRun) -> Result<String, AllocError> {
         tasks: WaitingTasks::new(alloc, workers)?,
         out: String::from_str(alloc, BEGIN)?,
     };
-    course.push_tracks(seats)?;
-    course.follow(entries, journal.entries.skipped())?;
-    course.push_left((entries.len() as u64).saturating_add(1))?;
-    course.out.push_str(END)?;
-    Ok(course.out)
+    writer.push_tracks(seats)?;
+    writer.follow(entries, journal.entries.skipped())?;
+    writer.push_left((entries.len() as u64).saturating_add(1))?;
+    writer.out.push_str(END)?;
+    Ok(writer.out)
 }
