@@ -69,7 +69,8 @@ module _ (load : Workload) (layout : Layout) (es looks refused : List NodeEntry)
 
   refused_first : AllByRecursion (IsNext s) refused × LegalFrom s looks
   refused_first =
-      all_allowed s (IsRefused main_seat) (refused_stays s main_seat) refused looks (recursion_from_All (IsRefused main_seat) refused halts.refused_each) from_here
+      all_allowed s (IsRefused main_seat) (refused_stays s main_seat) refused looks
+      (recursion_from_All (IsRefused main_seat) refused halts.refused_each) from_here
 
   refused_next : (e : NodeEntry) → Contains refused e → IsNext s e
   refused_next e c = All-contains (IsNext s) refused e (All-from_recursion (IsNext s) refused refused_first.0) c
@@ -131,7 +132,8 @@ module _ (load : Workload) (layout : Layout) (es looks refused : List NodeEntry)
   -- Callers
 
   -- a look at the statement that a seat has come to
-  on_look : (who : ℕ) (os : List Op) (ss : List Statement) (tail : List Op) (x : NodeEntry) → LooksOn looks who (length os) ss (reply_handles who es) → x.who ≡ who
+  on_look : (who : ℕ) (os : List Op) (ss : List Statement) (tail : List Op) (x : NodeEntry) → LooksOn looks who (length os) ss (reply_handles who es)
+      → x.who ≡ who
       → AsksPart os ss tail (decided who es) x.op → IsNext s x → Passes x
   on_look who os ss tail x l is asks n =
       as_look who (l.1 false) x l.3 is
@@ -151,7 +153,8 @@ module _ (load : Workload) (layout : Layout) (es looks refused : List NodeEntry)
   as_caller who ss x (through all) is asks n =
       let count : length (decided who es) ≡ suc (length ss) = sym (length-map (decided who es) handle_of) ∙ all in
       absurd (part_behind (op.Enter ∷ []) ss [] (decided who es) x.op (omega (arith, count)) asks).2
-  as_caller who ss x (outside none c) is asks n = as_look who op.Enter x c is (enters (decided who es) (sym (length-map (decided who es) handle_of) ∙ ap (λ (l : List ℕ). length l) none) asks) n
+  as_caller who ss x (outside none c) is asks n =
+      as_look who op.Enter x c is (enters (decided who es) (sym (length-map (decided who es) handle_of) ∙ ap (λ (l : List ℕ). length l) none) asks) n
     where
       enters : (rs : List Reply) → length rs ≡ 0 → CallerAsks ss rs x.op → x.op ≡ op.Enter
       enters [] e a = a
@@ -167,7 +170,8 @@ module _ (load : Workload) (layout : Layout) (es looks refused : List NodeEntry)
 
   -- The entries that come next
 
-  module _ (D more : List NodeEntry) (x : NodeEntry) (ns : List ℕ) (same : (who : ℕ) → main_seat ≤ who → decided who (es ++ D) ≡ decided who es) (n : IsNext s x)
+  module _ (D more : List NodeEntry) (x : NodeEntry) (ns : List ℕ) (same : (who : ℕ) → main_seat ≤ who
+      → decided who (es ++ D) ≡ decided who es) (n : IsNext s x)
       (b : Begun load ((es ++ D) ++ x ∷ more) ns) where
     shaped : (o : Op) → x.who ≡ main_seat → x.op ≡ o → IsNext s (entry main_seat o x.reply)
     shaped o is asks = subst (λ (e : NodeEntry). IsNext s e) (λ i. entry (is i) (asks i) x.reply) n
@@ -183,7 +187,8 @@ module _ (load : Workload) (layout : Layout) (es looks refused : List NodeEntry)
     as_main p ps are (main_looks l) is asks = on_look main_seat (main_head (has_begin p.statements)) p.statements (op.Close ∷ op.Final ∷ []) x l is asks n
     as_main p ps are (stays_open all lacks) is asks =
         let count : length (decided main_seat es) ≡ calls_ahead p.statements + length p.statements = sym (length-map (decided main_seat es) handle_of) ∙ all in
-        let y = part_behind (main_head (has_begin p.statements)) p.statements (op.Close ∷ op.Final ∷ []) (decided main_seat es) x.op (omega (arith, count)) asks in
+        let y = part_behind (main_head (has_begin p.statements)) p.statements (op.Close ∷ op.Final
+        ∷ []) (decided main_seat es) x.op (omega (arith, count)) asks in
         let sum = y.1 in
         let closes : x.op ≡ op.Close = asks_first y.0 x.op (omega (arith, sum, count)) y.2 in
         let here = ap (λ (l : List Reply). length l) (same main_seat (omega arith)) in
@@ -191,15 +196,19 @@ module _ (load : Workload) (layout : Layout) (es looks refused : List NodeEntry)
         (close_decides s main_seat x.reply (shaped op.Close is closes)) run_cut (omega (arith, here, count))
         (λ w far. ap (λ (l : List Reply). length l) (same w (omega (arith, far)))) lacks)
     as_main p ps are (stays_up all c) is asks =
-        let count : length (decided main_seat es) ≡ suc (calls_ahead p.statements + length p.statements) = sym (length-map (decided main_seat es) handle_of) ∙ all in
-        let y = part_behind (main_head (has_begin p.statements)) p.statements (op.Close ∷ op.Final ∷ []) (decided main_seat es) x.op (omega (arith, count)) asks in
+        let count : length (decided main_seat es) ≡ suc (calls_ahead p.statements + length p.statements) =
+        sym (length-map (decided main_seat es) handle_of) ∙ all in
+        let y = part_behind (main_head (has_begin p.statements)) p.statements (op.Close ∷ op.Final
+        ∷ []) (decided main_seat es) x.op (omega (arith, count)) asks in
         let sum = y.1 in
         let finals : x.op ≡ op.Final = (asks_second y.0 x.op (omega (arith, sum, count)) y.2).1 in
         let refuses : x.reply ≡ reply.Mtapi m.ErrNodeInitialized =
-        row_alone s main_seat op.Final (reply.Mtapi m.ErrNodeInitialized) x.reply (refused_next (refused_final main_seat) c).allowed refl (shaped op.Final is finals).allowed in
+        row_alone s main_seat op.Final (reply.Mtapi m.ErrNodeInitialized) x.reply (refused_next (refused_final main_seat) c).allowed refl
+        (shaped op.Final is finals).allowed in
         let here = ap (λ (l : List Reply). length l) (same main_seat (omega arith)) in
         let well : x.reply ≡ reply.Ok =
-        finals_well load p ps are (((es ++ D) ++ x ∷ more) ++ b.rest) (ns ++ b.beside) even b.run (es ++ D) x (more ++ b.rest) is (ap is_pending refuses) run_cut
+        finals_well load p ps are (((es ++ D) ++ x ∷ more) ++ b.rest) (ns ++ b.beside) even b.run (es ++ D) x (more
+        ++ b.rest) is (ap is_pending refuses) run_cut
         (omega (arith, here, count)) in
         absurd (let both : reply.Ok ≡ reply.Mtapi m.ErrNodeInitialized = sym well ∙ refuses in cc)
 

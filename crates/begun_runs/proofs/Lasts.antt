@@ -91,7 +91,8 @@ next_behind bound (s ∷ ss) tail [] p l a = absurd (omega (arith, l))
 next_behind bound (s ∷ ss) tail (r ∷ rs) p l a =
     let x = next_behind (bound ++ handle_of r ∷ []) ss tail rs p (omega (arith, l)) a in let e = x.1 in (x.0, omega (arith, e), x.2)
 
-pub part_behind : (os : List Op) (ss : List Statement) (tail : List Op) (rs : List Reply) (p : Op) → length os + length ss ≤ length rs → AsksPart os ss tail rs p
+pub part_behind : (os : List Op) (ss : List Statement) (tail : List Op) (rs : List Reply) (p : Op) → length os + length ss ≤ length rs
+    → AsksPart os ss tail rs p
     → Behind tail (length os + length ss) rs p
 unfolding AsksPart
 part_behind [] ss tail rs p l a =
@@ -150,7 +151,8 @@ none_without who (x ∷ L) e = grind (arith, nat_tests, none_without who L)
 
 front_decides : (c : Call) (front : List Line) (r : Reply) → FrontOf c front r → length (decided_in front) ≡ 1
 front_decides c front r (one p n is asked decides) =
-    ap (λ (f : List Line). length (decided_in f)) is ∙ (ap (λ (l : List Reply). length l) (decided_first (line p r n) [] decides) ∙ ap (λ (l : List Reply). suc (length l)) decided_none)
+    ap (λ (f : List Line). length (decided_in f)) is
+    ∙ (ap (λ (l : List Reply). length l) (decided_first (line p r n) [] decides) ∙ ap (λ (l : List Reply). suc (length l)) decided_none)
 front_decides c front r (two q p m n is looks asked decides) =
     ap (λ (f : List Line). length (decided_in f)) is
     ∙ (ap (λ (l : List Reply). length l) (decided_later (line q reply.Pending m) (line p r n ∷ []) refl)
@@ -165,7 +167,8 @@ carried_count bound (s ∷ ss) body [] c = absurd c
 carried_count bound (s ∷ ss) body (r ∷ rs) c =
     let first = front_decides (call_of bound s.deed) c.0 r (front_of (call_of bound s.deed) c.0 r c.3) in
     let others = carried_count (bound ++ handle_of r ∷ []) ss c.1 rs c.4 in
-    let whole : length (decided_in body) ≡ length (decided_in c.0 ++ decided_in c.1) = ap (λ (l : List Reply). length l) (ap decided_in c.2 ∙ in_append c.0 c.1) in
+    let whole : length (decided_in body) ≡ length (decided_in c.0 ++ decided_in c.1) =
+    ap (λ (l : List Reply). length l) (ap decided_in c.2 ∙ in_append c.0 c.1) in
     let split = length-append (decided_in c.0) (decided_in c.1) in
     omega (arith, whole, split, first, others)
 
@@ -175,7 +178,8 @@ caller_count ss ls rs c =
     ap (λ (f : List Line). length (decided_in f)) c.entered.1
     ∙ (ap (λ (l : List Reply). length l) (decided_first (line op.Enter reply.Ok c.entered.0) [] refl) ∙ ap (λ (l : List Reply). suc (length l)) decided_none) in
     let others = carried_count [] ss c.body rs c.carried in
-    let whole : length (decided_in ls) ≡ length (decided_in c.front ++ decided_in c.body) = ap (λ (l : List Reply). length l) (ap decided_in c.is ∙ in_append c.front c.body) in
+    let whole : length (decided_in ls) ≡ length (decided_in c.front ++ decided_in c.body) =
+    ap (λ (l : List Reply). length l) (ap decided_in c.is ∙ in_append c.front c.body) in
     let split = length-append (decided_in c.front) (decided_in c.body) in
     omega (arith, whole, split, enters, others)
 
@@ -234,7 +238,8 @@ two_cuts {A = A} (a ∷ L) x M (b ∷ X) y Z e = under (two_cuts L x M X y Z (cc
 
 -- Main's last two entries in a run
 
-module _ (load : Workload) (p : Part) (ps : List Part) (are : load.parts ≡ p ∷ ps) (R : List NodeEntry) (N : List ℕ) (even : length R ≡ length N) (run : RunOf load R N) where
+module _ (load : Workload) (p : Part) (ps : List Part) (are : load.parts ≡ p ∷ ps) (R : List NodeEntry) (N : List ℕ) (even : length R
+    ≡ length N) (run : RunOf load R N) where
   abbrev seat : ℕ
   seat = load.settings.workers
 
@@ -323,7 +328,8 @@ module _ (load : Workload) (p : Part) (ps : List Part) (are : load.parts ≡ p �
       none_last : decided lack.who (ends.behind ++ final ∷ []) ≡ []
       none_last =
           decided_append lack.who ends.behind (final ∷ [])
-          ∙ (ap (λ (l : List Reply). l ++ decided lack.who (final ∷ [])) (none_without lack.who ends.behind (ends.callers_ended lack.who lack.further)) ∙ not_main final refl)
+          ∙ (ap (λ (l : List Reply). l ++ decided lack.who (final ∷ [])) (none_without lack.who ends.behind (ends.callers_ended lack.who lack.further))
+          ∙ not_main final refl)
 
       by : TwoCuts A x B ends.before close (ends.behind ++ final ∷ []) → ⊥
       by (cut_before C earlier) =

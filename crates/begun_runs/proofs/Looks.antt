@@ -66,7 +66,8 @@ other_if h last y false true a = refl
 other_if h last y false false a = absurd (late_or h last y a)
 
 other_in : (h : ℕ) (last : Bool) (o : Option Task)
-    → Allows (live o (says (reply.Mtapi m.ErrTaskInvalid)) (λ x. mtapi_unless (task_look_refusals 0 x) (looks_at 0 h last x.state))) (reply.Mtapi m.ErrWaitPending)
+    → Allows (live o (says (reply.Mtapi m.ErrTaskInvalid)) (λ x. mtapi_unless (task_look_refusals 0 x) (looks_at 0 h last x.state)))
+    (reply.Mtapi m.ErrWaitPending)
     → HasOther o
 other_in h last None a = absurd (cc)
 other_in h last (Some x) a = (x, refl, other_if h last x.state _ _ a)
@@ -100,7 +101,8 @@ alike s who (op.TaskLook t last) n g = waits_on s who t last (has_other s t last
 alike s who _ n g = refl
 
 -- an entry that leaves the state is one that a journal leaves out
-pub is_left_out : (s : State) (refused : List NodeEntry) → ((e : NodeEntry) → Contains refused e → IsNext s e) → (e : NodeEntry) → LeavesState refused e → IsNext s e
+pub is_left_out : (s : State) (refused : List NodeEntry) → ((e : NodeEntry) → Contains refused e → IsNext s e) → (e : NodeEntry) → LeavesState refused e
+    → IsNext s e
     → is_dropped s e ≡ true
 is_left_out s refused each e (inl idle) n = ap (λ (r : Reply). drops (pends_alike s e.who e.op) r) idle
 is_left_out s refused each e (inr x) n =
@@ -231,7 +233,8 @@ module _ (s : State) (w : ℕ) (t : TaskHandle) where
   write_runs : (v : ℤ) {ms : List Move} → Answers s w (op.TallyWrite t v) reply.Ok ms → Runs s w t.0 kinds.Tally (λ x. (x.notes.tally.stage == 0) ≡ false)
   write_runs _ (is.tally_writes _ v x y k z f) = (x, k, grind (arith, nat_tests))
 
-  end_runs : (e : TaskEnd) {ms : List Move} → Answers s w (op.TallyEnd t) (reply.Ended e) ms → Runs s w t.0 kinds.Tally (λ x. (x.notes.tally.stage == 0) ≡ false)
+  end_runs : (e : TaskEnd) {ms : List Move} → Answers s w (op.TallyEnd t) (reply.Ended e) ms
+      → Runs s w t.0 kinds.Tally (λ x. (x.notes.tally.stage == 0) ≡ false)
   end_runs _ (is.tally_ends_failed _ x k z) = (x, k, grind (arith, nat_tests))
   end_runs _ (is.tally_ends _ x y z k early late f g) = (x, k, grind (arith, nat_tests))
 
@@ -246,9 +249,11 @@ no_task s w h k P none r = none_that (runs_on w) s.tasks h r.0 none r.1.found (r
 pub idle_work : (s : State) (w : ℕ) (o : Op) (r : Reply) → IsNext s (entry w op.Pick reply.Idle) → is_work o r ≡ true → IsNext s (entry w o r) → r ≡ reply.Idle
 idle_work s w op.Pick r p e n = (idle_pick s w r p n).1
 idle_work s w (op.Finish t done) reply.Ok p e n =
-    absurd (no_task s w t.0 done.kind (λ x. Unit {0}) (idle_pick s w reply.Idle p p).0 (finish_runs s w t done (answered s w (op.Finish t done) reply.Ok n.allowed)))
+    absurd (no_task s w t.0 done.kind (λ x. Unit {0}) (idle_pick s w reply.Idle p p).0
+    (finish_runs s w t done (answered s w (op.Finish t done) reply.Ok n.allowed)))
 idle_work s w (op.Asked t) (reply.Asked b) p e n =
-    absurd (no_task s w t.0 kinds.Watch (λ x. Unit {0}) (idle_pick s w reply.Idle p p).0 (asked_runs s w t b (answered s w (op.Asked t) (reply.Asked b) n.allowed)))
+    absurd (no_task s w t.0 kinds.Watch (λ x. Unit {0}) (idle_pick s w reply.Idle p p).0
+    (asked_runs s w t b (answered s w (op.Asked t) (reply.Asked b) n.allowed)))
 idle_work s w (op.WatchEnd t) (reply.Ended v) p e n =
     absurd (no_task s w t.0 kinds.Watch (λ x. Unit {0}) (idle_pick s w reply.Idle p p).0
     (watch_runs s w t v (answered s w (op.WatchEnd t) (reply.Ended v) n.allowed)))
@@ -332,7 +337,8 @@ module _ (s : State) (w : ℕ) (t : TaskHandle) (one : AtMostOne w s) (mine : Ru
   tally_waits : (o : Op) (r : Reply) → IsNext s (entry w (op.TallyLock t) reply.Pending) → is_work o r ≡ true → IsNext s (entry w o r) → r ≡ reply.Pending
   tally_waits op.Pick r p e n = absurd (pick_works r e (busy_pick s w r is_busy n))
   tally_waits (op.Finish u done) reply.Ok p e n =
-      absurd (not_pure done.kind (kind_is u.0 done.kind (λ x. Unit {0}) (finish_runs s w u done (answered s w (op.Finish u done) reply.Ok n.allowed))) n.honest.pure)
+      absurd (not_pure done.kind (kind_is u.0 done.kind (λ x. Unit {0})
+      (finish_runs s w u done (answered s w (op.Finish u done) reply.Ok n.allowed))) n.honest.pure)
   tally_waits (op.Asked u) (reply.Asked b) p e n =
       absurd (no_watch u.0 (λ x. Unit {0}) (asked_runs s w u b (answered s w (op.Asked u) (reply.Asked b) n.allowed)))
   tally_waits (op.WatchEnd u) (reply.Ended v) p e n =
@@ -348,7 +354,8 @@ module _ (s : State) (w : ℕ) (t : TaskHandle) (one : AtMostOne w s) (mine : Ru
   tally_waits _ _ p e n = absurd (cc)
 
 -- what a worker makes whose tally waits is answered Pending
-pub tally_work : (s : State) (w : ℕ) (t : TaskHandle) (o : Op) (r : Reply) → AtMostOne w s → IsNext s (entry w (op.TallyLock t) reply.Pending) → is_work o r ≡ true
+pub tally_work : (s : State) (w : ℕ) (t : TaskHandle) (o : Op) (r : Reply) → AtMostOne w s → IsNext s (entry w (op.TallyLock t) reply.Pending)
+    → is_work o r ≡ true
     → IsNext s (entry w o r) → r ≡ reply.Pending
 tally_work s w t o r one p e n = tally_waits s w t one (pending_runs s w t (answered s w (op.TallyLock t) reply.Pending p.allowed)) o r p e n
 

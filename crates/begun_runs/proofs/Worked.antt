@@ -104,8 +104,7 @@ cancelled_ran = record {
     record {
       body = _;
       is = refl;
-      carried =
-          (_ ∷ [], _, refl, (refl, refl), (_ ∷ [], _, refl, (refl, refl), (_ ∷ [], [], refl, (refl, refl), refl)));
+      carried = (_ ∷ [], _, refl, (refl, refl), (_ ∷ [], _, refl, (refl, refl), (_ ∷ [], [], refl, (refl, refl), refl)));
     },
     tt,
   );
@@ -121,8 +120,7 @@ completed_ran = record {
     record {
       body = _;
       is = refl;
-      carried =
-          (_ ∷ [], _, refl, (refl, refl), (_ ∷ [], _, refl, (refl, refl), (_ ∷ [], [], refl, (refl, refl), refl)));
+      carried = (_ ∷ [], _, refl, (refl, refl), (_ ∷ [], _, refl, (refl, refl), (_ ∷ [], [], refl, (refl, refl), refl)));
     },
     tt,
   );
@@ -352,8 +350,7 @@ free_ran = record {
     is = refl;
     works = refl;
   });
-  ends =
-      the_end ((stuck_history ++ enters) ++ main (op.SemLook (record { 0 = 4294967296 }) false) reply.Ok ∷ entry 2 (op.SemCreate 2 1) reply.Ok ∷ []);
+  ends = the_end ((stuck_history ++ enters) ++ main (op.SemLook (record { 0 = 4294967296 }) false) reply.Ok ∷ entry 2 (op.SemCreate 2 1) reply.Ok ∷ []);
 }
   where
     at_once : Made (call_of (4294967296 ∷ []) (deed.SemLock 0 timeout.Infinite)) (line (op.SemLook (record { 0 = 4294967296 }) false) reply.Ok 0 ∷ []) reply.Ok
