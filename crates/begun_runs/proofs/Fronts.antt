@@ -1,5 +1,5 @@
 -- Fronts of runs, and that no run goes on from a deadlock.
-use Rattle.std.proofs.Common.{◌≡◌, ℕ, Bool, true, false, cond, List, [], ◌∷◌, ◌++◌, sym, ◌∙◌, subst, arith, append_assoc}
+use Rattle.std.proofs.Common.{◌≡◌, ℕ, Bool, true, false, cond, List, [], ◌∷◌, ◌++◌, length, refl, sym, ◌∙◌, subst, arith, append_assoc}
 use Rattle.std.proofs.lemmas.List.{append-nil, length-append, nil_from_length}
 use Rattle.history.specs.Histories.{entry}
 use Rattle.mtapi_machine.specs.declared.ops.Op.{Op}
@@ -8,20 +8,33 @@ use Rattle.mtapi_machine.specs.declared.replies.Reply.TheVariants as reply
 use Rattle.mtapi_machine.specs.State.{State}
 use Rattle.mtapi_machine.specs.Legal.{NodeEntry, next, after}
 use Rattle.mtapi_machine.specs.Kept.{is_dropped, kept}
+use Rattle.workload_file.specs.declared.workload.Workload.{Workload}
 use Rattle.workload_runs.specs.RunOf.{RunOf}
 use Rattle.run_report.specs.Report.{run_terms}
 use Rattle.begun_runs.specs.Begun.{Begun, FrontsOfRuns, FrontsOfBegun, NoRunGoesOn}
 
 pub fronts_of_runs : FrontsOfRuns
-fronts_of_runs load es more ns beside even run = record { rest = more; beside = beside; even = even; run = run }
+fronts_of_runs load es more ns beside even even_rest run = record { rest = more; beside = beside; even = even; even_rest = even_rest; run = run }
 
 pub fronts_of_begun : FrontsOfBegun
 fronts_of_begun load es more ns beside even b = record {
   rest = more ++ b.rest;
   beside = beside ++ b.beside;
   even = even;
+  even_rest = let whole = b.even in let others = b.even_rest in grind (arith, length-append);
   run = subst (λ (l : List NodeEntry). RunOf load l (ns ++ (beside ++ b.beside))) (append_assoc es more b.rest)
       (subst (λ (l : List ℕ). RunOf load ((es ++ more) ++ b.rest) l) (append_assoc ns beside b.beside) b.run);
+}
+
+-- a run has begun
+pub begun_whole : (load : Workload) (es : List NodeEntry) (ns : List ℕ) → length es ≡ length ns → RunOf load es ns → Begun load es ns
+begun_whole load es ns even run = record {
+  rest = [];
+  beside = [];
+  even = even;
+  even_rest = refl;
+  run = subst (λ (l : List NodeEntry). RunOf load l (ns ++ [])) (sym (append-nil es))
+      (subst (λ (l : List ℕ). RunOf load es l) (sym (append-nil ns)) run);
 }
 
 -- an entry that was answered Ok stays in a journal
@@ -47,13 +60,7 @@ last_behind (a ∷ es) more (b ∷ X) y e some = last_behind es more X y (cc) so
 
 pub no_run_goes_on : NoRunGoesOn
 no_run_goes_on load layout es more ns beside stuck even legal run =
-    let begun : Begun load (es ++ more) (ns ++ beside) = record {
-      rest = [];
-      beside = [];
-      even = even;
-      run = subst (λ (l : List NodeEntry). RunOf load l ((ns ++ beside) ++ [])) (sym (append-nil (es ++ more)))
-          (subst (λ (l : List ℕ). RunOf load (es ++ more) l) (sym (append-nil (ns ++ beside))) run);
-    } in
+    let begun : Begun load (es ++ more) (ns ++ beside) = begun_whole load (es ++ more) (ns ++ beside) even run in
     let still = stuck.still more beside legal begun in
     let ends = run.ends in
     let close = entry load.settings.workers op.Close reply.Ok in

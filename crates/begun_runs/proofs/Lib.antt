@@ -3,3 +3,6 @@ mod Next
 mod Worked
 mod GoesOn
 mod WorkedAsks
+pub mod Looks
+pub mod Lasts
+pub mod Deadlocks

@@ -25,12 +25,12 @@ use Rattle.begun_runs.proofs.Fronts.{fronts_of_begun}
 use Rattle.begun_runs.specs.Asks.{AskedBy, AsksOp, AsksNext, AsksPart, main_head, MainAsks, CallerAsks, MayMake, worker, main, caller, EachIsAsked}
 
 -- the replies of these lines that decide
-decided_in : List Line → List Reply
+unfoldable pub decided_in : List Line → List Reply
 decided_in [] = []
 decided_in (l ∷ ls) = cond (not (is_pending l.reply)) (l.reply ∷ decided_in ls) (decided_in ls)
 
 -- those of a seat's lines are those of its entries
-decided_lines : (who : ℕ) (es : List NodeEntry) (ns : List ℕ) → length es ≡ length ns → decided who es ≡ decided_in (lines_of who es ns)
+pub decided_lines : (who : ℕ) (es : List NodeEntry) (ns : List ℕ) → length es ≡ length ns → decided who es ≡ decided_in (lines_of who es ns)
 unfolding decided lines_of decided_in
 decided_lines who [] ns l = refl
 decided_lines who (e ∷ es) [] l = absurd (omega arith)
@@ -46,15 +46,15 @@ nothing_ends : {A : Type 0} (xs ys : List A) (x : A) → [] ≡ xs ++ x ∷ ys �
 nothing_ends [] ys x e = cc
 nothing_ends (y ∷ xs) ys x e = cc
 
-decided_first : (l : Line) (ls : List Line) → is_pending l.reply ≡ false → decided_in (l ∷ ls) ≡ l.reply ∷ decided_in ls
+pub decided_first : (l : Line) (ls : List Line) → is_pending l.reply ≡ false → decided_in (l ∷ ls) ≡ l.reply ∷ decided_in ls
 unfolding decided_in
 decided_first l ls e = λ i. cond (not (e i)) (l.reply ∷ decided_in ls) (decided_in ls)
 
-decided_later : (l : Line) (ls : List Line) → is_pending l.reply ≡ true → decided_in (l ∷ ls) ≡ decided_in ls
+pub decided_later : (l : Line) (ls : List Line) → is_pending l.reply ≡ true → decided_in (l ∷ ls) ≡ decided_in ls
 unfolding decided_in
 decided_later l ls e = λ i. cond (not (e i)) (l.reply ∷ decided_in ls) (decided_in ls)
 
-decided_none : decided_in [] ≡ []
+pub decided_none : decided_in [] ≡ []
 unfolding decided_in
 decided_none = refl
 
@@ -71,11 +71,11 @@ asks_op (o ∷ os) (t ∷ T) (a ∷ A) B l are e =
     subst (λ rs. AsksOp (o ∷ os) rs l.op) (sym (decided_first a A (ap (λ z. is_pending z.reply) (sym here) ∙ are.1))) (asks_op os T A B l are.2 more)
 
 -- the lines of a call: one that decides, or a look that doesn't and one that does
-data FrontOf (c : Call) (front : List Line) (r : Reply) : Type 0 where
+pub data FrontOf (c : Call) (front : List Line) (r : Reply) : Type 0 where
   one : (p : Op) (n : ℕ) → front ≡ line p r n ∷ [] → AskedBy c p → is_pending r ≡ false → FrontOf c front r
   two : (q p : Op) (m n : ℕ) → front ≡ line q reply.Pending m ∷ line p r n ∷ [] → AskedBy c q → AskedBy c p → is_pending r ≡ false → FrontOf c front r
 
-front_of : (c : Call) (front : List Line) (r : Reply) → Made c front r → FrontOf c front r
+pub front_of : (c : Call) (front : List Line) (r : Reply) → Made c front r → FrontOf c front r
 front_of (Once o) front r m = one o 0 m.0 refl m.1
 front_of (Looking waits o timeout) front r m = by m.first m.is
   where
@@ -211,7 +211,7 @@ lines_split who (x ∷ es) e rest (m ∷ ns) n beside even is = both (x.who == w
     both false xs ys zs q = q
 
 -- the part of a further caller's seat
-record PartAt (made : ℕ → List Line) (who : ℕ) (ps : List Part) (w : ℕ) : Type 0 where
+pub record PartAt (made : ℕ → List Line) (who : ℕ) (ps : List Part) (w : ℕ) : Type 0 where
   pub before : List Part
   pub part : Part
   pub behind : List Part
@@ -250,7 +250,7 @@ first_or_later made who p ps rs w c low more = by (w == who) refl
           ran = x.ran;
         }
 
-part_at : (made : ℕ → List Line) (who : ℕ) (ps : List Part) (rss : List (List Reply)) (w : ℕ) → CallersRan in_lines made who ps rss → who ≤ w
+pub part_at : (made : ℕ → List Line) (who : ℕ) (ps : List Part) (rss : List (List Reply)) (w : ℕ) → CallersRan in_lines made who ps rss → who ≤ w
     → w < who + length ps
     → PartAt made who ps w
 unfolding CallersRan

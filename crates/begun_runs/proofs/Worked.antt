@@ -51,9 +51,11 @@ use Rattle.mtapi_machine.specs.Kept.{is_dropped}
 use Rattle.run_report.specs.Replies.{decides}
 use Rattle.begun_runs.specs.Asks.{AskedBy, AsksPart, AsksNext, MainAsks, MayMake, worker, caller}
 use Rattle.begun_runs.specs.Asks as may
+use Rattle.run_report.specs.Worked.{using}
 use Rattle.begun_runs.proofs.Next.{each_is_asked}
+use Rattle.begun_runs.proofs.Lasts.{closes_behind}
 use Rattle.begun_runs.specs.Complete.{HasAllReports, HasAllDeadlocks, SamePlaces}
-use Rattle.begun_runs.specs.Worked.{none_skipped, completed_run, cancelled_text, completed_text, stuck_statements, stuck_load, stuck_history, RunsWith, WorkedComplete}
+use Rattle.begun_runs.specs.Worked.{none_skipped, completed_run, cancelled_text, completed_text, stuck_statements, stuck_load, stuck_history, free_load, early_load, early_close, RunsWith, WorkedComplete}
 
 -- Runs
 
@@ -102,8 +104,7 @@ cancelled_ran = record {
     record {
       body = _;
       is = refl;
-      carried =
-          (_ ∷ [], _, refl, (refl, refl), (_ ∷ [], _, refl, (refl, refl), (_ ∷ [], [], refl, (refl, refl), refl)));
+      carried = (_ ∷ [], _, refl, (refl, refl), (_ ∷ [], _, refl, (refl, refl), (_ ∷ [], [], refl, (refl, refl), refl)));
     },
     tt,
   );
@@ -119,8 +120,7 @@ completed_ran = record {
     record {
       body = _;
       is = refl;
-      carried =
-          (_ ∷ [], _, refl, (refl, refl), (_ ∷ [], _, refl, (refl, refl), (_ ∷ [], [], refl, (refl, refl), refl)));
+      carried = (_ ∷ [], _, refl, (refl, refl), (_ ∷ [], _, refl, (refl, refl), (_ ∷ [], [], refl, (refl, refl), refl)));
     },
     tt,
   );
@@ -187,7 +187,7 @@ carried_ran = record {
     at_once = record { first = None; beside = 0; last = false; is = refl; none_kept = λ _. refl; decides = refl; within = refl; late = λ e. absurd (cc) }
 
 stuck_begun : Begun stuck_load stuck_history (none_skipped stuck_history)
-stuck_begun = record { rest = carried_on; beside = none_skipped carried_on; even = refl; run = carried_ran }
+stuck_begun = record { rest = carried_on; beside = none_skipped carried_on; even = refl; even_rest = refl; run = carried_ran }
 
 no_stop : {A : Type 0} (work : List A) (x : A) → [] ≡ work ++ x ∷ [] → ⊥
 no_stop [] x e = cc
@@ -311,6 +311,66 @@ still more beside legal b = nothing_kept [] more (none_skipped stuck_history ++ 
 stuck : Stuck stuck_load One stuck_history (none_skipped stuck_history)
 stuck = record { legal = stuck_legal; begun = stuck_begun; unended = stuck_unended; still = still }
 
+-- where a further caller may still enter
+
+abbrev enters : List NodeEntry
+enters = entry 2 op.Enter reply.Ok ∷ []
+
+free_legal : Legal (run_terms One free_load) (stuck_history ++ enters)
+unfolding replay live_of issue change listed issued_at retired is_full may_issue fits answer_of has_worker end_each is_ready can_take has_better
+free_legal = record { fits = search (rules, is_at_most); from = legal_if _ _ refl }
+
+abbrev free_rest : List NodeEntry
+free_rest = main (op.SemLook (record { 0 = 4294967296 }) false) reply.Ok ∷ entry 2 (op.SemCreate 2 1) reply.Ok ∷ closed
+
+free_ran : RunOf free_load ((stuck_history ++ enters) ++ free_rest) (none_skipped ((stuck_history ++ enters) ++ free_rest))
+unfolding Carried CallersRan lines_of all_work has_begin is_begin
+free_ran = record {
+  replies = (reply.Handle 4294967296 ∷ reply.Ok ∷ reply.Ok ∷ []) ∷ (reply.Ok ∷ []) ∷ [];
+  parts = (
+    record {
+      body = _;
+      is = refl;
+      carried = (_ ∷ [], _, refl, (refl, refl), (_ ∷ [], _, refl, at_once, (_ ∷ [], [], refl, at_once, refl)));
+    },
+    (
+      record {
+        front = _;
+        body = line (op.SemCreate 2 1) reply.Ok 0 ∷ [];
+        entered = (0, refl);
+        is = refl;
+        carried = (_ ∷ [], [], refl, (refl, refl), refl);
+      },
+      tt,
+    ),
+  );
+  workers = only_worker ((stuck_history ++ enters) ++ free_rest) (none_skipped ((stuck_history ++ enters) ++ free_rest)) (record {
+    work = [];
+    beside = 0;
+    is = refl;
+    works = refl;
+  });
+  ends = the_end ((stuck_history ++ enters) ++ main (op.SemLook (record { 0 = 4294967296 }) false) reply.Ok ∷ entry 2 (op.SemCreate 2 1) reply.Ok ∷ []);
+}
+  where
+    at_once : Made (call_of (4294967296 ∷ []) (deed.SemLock 0 timeout.Infinite)) (line (op.SemLook (record { 0 = 4294967296 }) false) reply.Ok 0 ∷ []) reply.Ok
+    at_once = record { first = None; beside = 0; last = false; is = refl; none_kept = λ _. refl; decides = refl; within = refl; late = λ e. absurd (cc) }
+
+still_enters : Stuck free_load One stuck_history (none_skipped stuck_history) → ⊥
+unfolding kept
+still_enters stuck =
+    let none : kept (after (run_terms One free_load) stuck_history) enters ≡ [] =
+    stuck.still enters (0 ∷ []) free_legal (record { rest = free_rest; beside = none_skipped free_rest; even = refl; even_rest = refl; run = free_ran }) in
+    cc
+
+closes_too_early : Begun early_load early_close (none_skipped early_close) → ⊥
+unfolding decided has_begin is_begin
+closes_too_early b =
+    closes_behind early_load (record { line = 0; name = codes "main"; statements = [] })
+    (record { line = 4; name = codes "b"; statements = using 5 (deed.Sem 2 1) ∷ [] } ∷ []) refl (early_close ++ b.rest) (none_skipped early_close ++ b.beside)
+    (let e = b.even_rest in omega (arith, e)) b.run (main op.Initialize reply.Ok ∷ main op.Release reply.Ok ∷ []) (main op.Close reply.Ok) b.rest
+    (main op.Initialize reply.Ok ∷ main op.Release reply.Ok ∷ []) refl refl refl refl (omega arith) (λ w l. refl) (inl (omega arith))
+
 no_history : HasAllDeadlocks stuck_load [] → ⊥
 no_history all = let x = all One stuck_history (none_skipped stuck_history) stuck in omega (arith, x.2)
 
@@ -335,6 +395,8 @@ worked_complete = record {
   lacks_completed = lacks cancelled_load completed_run completed_text cancelled_text completed_runs refl (λ e. cc);
   lacks_cancelled = lacks cancelled_load cancelled_run cancelled_text completed_text cancelled_runs refl (λ e. cc);
   deadlock = stuck;
+  goes_on = still_enters;
+  closes_early = closes_too_early;
   lacks_deadlock = no_history;
   too_early = no_short_one;
 }

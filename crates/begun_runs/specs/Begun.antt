@@ -8,12 +8,13 @@ use Rattle.node_journals.specs.Journals.{KeptEntries}
 use Rattle.workload_runs.specs.RunOf.{RunOf}
 use Rattle.run_report.specs.Report.{run_terms}
 
--- The journal with these entries, and these numbers beside them, is that of a run which has begun: some entries behind it make it a run,
--- whatever the machine would reply.
+-- The journal with these entries, and these numbers beside them, is that of a run which has begun: some entries behind it, with a number
+-- beside each, make it a run, whatever the machine would reply.
 pub record Begun (load : Workload) (es : List NodeEntry) (ns : List ℕ) : Type 0 where
   pub rest : List NodeEntry
   pub beside : List ℕ
   pub even : length es ≡ length ns
+  pub even_rest : length rest ≡ length beside
   pub run : RunOf load (es ++ rest) (ns ++ beside)
 
 -- the later list is the earlier one with more behind it
@@ -30,7 +31,8 @@ pub record Stuck (load : Workload) (layout : Layout) (es : List NodeEntry) (ns :
 
 -- each front of a run has begun, and so has each front of what has begun
 abbrev pub FrontsOfRuns : Type 0
-FrontsOfRuns = (load : Workload) (es more : List NodeEntry) (ns beside : List ℕ) → length es ≡ length ns → RunOf load (es ++ more) (ns ++ beside)
+FrontsOfRuns = (load : Workload) (es more : List NodeEntry) (ns beside : List ℕ) → length es ≡ length ns → length more ≡ length beside
+    → RunOf load (es ++ more) (ns ++ beside)
     → Begun load es ns
 
 abbrev pub FrontsOfBegun : Type 0

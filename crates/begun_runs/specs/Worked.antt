@@ -13,7 +13,7 @@ use Rattle.mtapi_values.specs.declared.kinds.Kind.TheVariants as kind
 use Rattle.run_report.specs.Report.{report, run_terms}
 use Rattle.run_report.specs.Worked.{lines, statement, using, workload, cancelled_load, cancelled_run}
 use Rattle.workload_runs.specs.RunOf.{RunOf}
-use Rattle.begun_runs.specs.Begun.{Stuck}
+use Rattle.begun_runs.specs.Begun.{Begun, Stuck}
 use Rattle.begun_runs.specs.Complete.{HasAllReports, HasAllDeadlocks}
 
 -- no skipped entries beside the others
@@ -53,6 +53,23 @@ stuck_history =
     ∷ main (op.SemLook (record { 0 = first_handle }) false) reply.Ok
     ∷ []
 
+-- beside it a further caller that may still enter
+abbrev pub free_load : Workload
+free_load = record stuck_load {
+  parts = record { line = 0; name = codes "main"; statements = stuck_statements }
+      ∷ record { line = 4; name = codes "b"; statements = using 5 (deed.Sem 2 1) ∷ [] } ∷ [];
+}
+
+-- main has nothing to make, and a further caller has
+abbrev pub early_load : Workload
+early_load = record stuck_load {
+  parts = record { line = 0; name = codes "main"; statements = [] }
+      ∷ record { line = 4; name = codes "b"; statements = using 5 (deed.Sem 2 1) ∷ [] } ∷ [];
+}
+
+abbrev pub early_close : List NodeEntry
+early_close = main op.Initialize reply.Ok ∷ main op.Release reply.Ok ∷ main op.Close reply.Ok ∷ []
+
 -- a legal journal of a run, with this report
 pub record RunsWith (load : Workload) (es : List NodeEntry) (text : List ℕ) : Type 0 where
   pub legal : Legal (run_terms One load) es
@@ -67,5 +84,8 @@ pub record WorkedComplete : Type 0 where
   pub lacks_completed : HasAllReports cancelled_load (cancelled_text ∷ []) → ⊥
   pub lacks_cancelled : HasAllReports cancelled_load (completed_text ∷ []) → ⊥
   pub deadlock : Stuck stuck_load One stuck_history (none_skipped stuck_history)
+  -- where one caller waits for good and another may still go on, it is none; and no run closes before each caller has made its statements
+  pub goes_on : Stuck free_load One stuck_history (none_skipped stuck_history) → ⊥
+  pub closes_early : Begun early_load early_close (none_skipped early_close) → ⊥
   pub lacks_deadlock : HasAllDeadlocks stuck_load [] → ⊥
   pub too_early : HasAllDeadlocks stuck_load ((main op.Initialize reply.Ok ∷ []) ∷ []) → ⊥

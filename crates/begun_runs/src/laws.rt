@@ -1,6 +1,7 @@
 //! Laws of runs that have begun.
 
 ghost use Rattle.begun_runs.specs.Asks.{EachIsAsked};
+ghost use Rattle.begun_runs.specs.Halts.{HaltsIsStuck};
 ghost use Rattle.begun_runs.specs.Begun.{FrontsOfRuns, FrontsOfBegun, NoRunGoesOn};
 ghost use Rattle.begun_runs.specs.Worked.{WorkedComplete};
 ghost use Rattle.begun_runs.specs.WorkedAsks.{WorkedAsks};
@@ -21,6 +22,11 @@ pub fn law_next()
 /// No legal run goes on from a deadlock.
 pub fn law_deadlock()
     ensures { NoRunGoesOn }
+{}
+
+/// Where no seat goes on behind a history, as looks and refusals tell that the machine allows there, it is a deadlock.
+pub fn law_halts()
+    ensures { HaltsIsStuck }
 {}
 
 /// Worked lists of reports and of deadlocks, of which those that lack one are refused.

@@ -8,4 +8,4 @@ mod completing;
 mod laws;
 
 pub use begun::is_begun;
-pub use laws::{law_deadlock, law_fronts, law_next, worked_asks, worked_complete};
+pub use laws::{law_deadlock, law_fronts, law_halts, law_next, worked_asks, worked_complete};
