@@ -1,7 +1,7 @@
 -- What is known of the reports and the deadlocks that are listed.
 use Rattle.std.specs.Prelude.{◌≡◌, ℕ, List, [], ◌∷◌, length, map}
 use Rattle.workload_file.specs.declared.workload.Workload.{Workload}
-use Rattle.begun_runs.specs.Begun.{Begun}
+use Rattle.begun_runs.specs.Begun.{Begun, Stuck}
 use Rattle.workload_orders.specs.Names.{IsLegal, IsRun, report}
 use Rattle.workload_orders.specs.declared.listed.Report.{Report}
 use Rattle.workload_orders.specs.declared.listed.Deadlock.{Deadlock}
@@ -32,11 +32,18 @@ abbrev pub AllHaveHistories : Workload → List Deadlock → Type 0
 AllHaveHistories load [] = Unit {0}
 AllHaveHistories load (d ∷ ds) = HasHistory load d × AllHaveHistories load ds
 
+-- each deadlock is one: no seat goes on behind its journal
+abbrev pub AllAreStuck : Workload → List Deadlock → Type 0
+AllAreStuck load [] = Unit {0}
+AllAreStuck load (d ∷ ds) = Stuck load d.journal.layout d.journal.entries.entries d.journal.entries.skipped × AllAreStuck load ds
+
 -- the texts of these reports
 abbrev pub texts : List Report → List (List ℕ)
 texts reports = map (λ r. r.text.items) reports
 
--- both
+-- all that is known of what is listed
 pub record IsShown (load : Workload) (o : Orders) : Type 0 where
   pub reports : AllShow load o.reports.items
   pub deadlocks : AllHaveHistories load o.deadlocks.items
+  pub stuck : AllAreStuck load o.deadlocks.items
+  pub stops : AllHaveHistories load o.stops.items
