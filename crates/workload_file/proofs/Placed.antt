@@ -1,6 +1,6 @@
 -- Options at their places, and words that add nothing.
 use Rattle.std.proofs.lemmas.Bool.Decides.{nat_tests}
-use Rattle.workload_file.proofs.Cited.{◌≡◌, ℕ, zero, suc, ◌<◌, ◌≤◌, ◌+◌, ◌-◌, ◌⊎◌, List, [], ◌∷◌, ◌++◌, length, Bool, true, false, cond, eqb, Option, Some, None, Ok, is_some, refl, sym, ap, ◌∙◌, arith, inl, inr, map, get_or, take, drop, replicate, find, list_any, list_all, bytes_eq, option_map, or_parts, and_parts, and_from, cases_Bool, Field, Key, Word, Statement, OptionValue, Reading, fields, key_text, key_of, value_of, text_of, field_of, is_known, has_twice, value_at, values_in, length-map, length-append, take_more, take_all, with_change, is_statement, is_comment, words_meet, word_causes, words_say, rest_of, first_rest, some_cond}
+use Rattle.workload_file.proofs.Cited.{◌≡◌, ℕ, zero, suc, ◌<◌, ◌≤◌, ◌+◌, ◌-◌, ◌⊎◌, List, [], ◌∷◌, ◌++◌, length, Bool, true, false, cond, eqb, Option, Some, None, Ok, is_some, refl, sym, ap, ◌∙◌, arith, inl, inr, map, get_or, take, drop, replicate, find, list_any, list_all, bytes_eq, option_map, or_parts, and_parts, and_from, cases_Bool, Field, Key, Word, Statement, OptionValue, Reading, fields, key_text, key_of, value_of, text_of, field_of, is_known, has_twice, value_at, values_in, length-map, length-append, append_assoc, append-nil, take_more, take_all, with_change, is_statement, is_comment, words_meet, word_causes, words_say, rest_of, first_rest, some_cond}
 use Rattle.std.specs.Prelude.{set}
 use Rattle.std.proofs.lemmas.List.{drop_all, drop_more, length-drop, map-set}
 use Rattle.std.specs.Option.{option_copied}
@@ -226,6 +226,27 @@ fresh_texts xs old n len fs none zero_len long e =
 pub values_given : (before : List Statement) (fs : List Field) (ws : List (List ℕ)) → values_of before fs (texts_in fs ws) ≡ values_in before ws fs
 values_given before [] ws = refl
 values_given before (f ∷ fs) ws = ap (λ (vs : List OptionValue). value_at before f (text_of f.key ws) ∷ vs) (values_given before fs ws)
+
+-- the values so far, one by one
+pub value_more : (before : List Statement) (vs : List OptionValue) (fs : List Field) (given : List (Option (Bor (List ℕ)))) (at : ℕ) (d : Field)
+    (e : Option (Bor (List ℕ))) (total : List OptionValue) → at < length fs → at < length given
+    → vs ++ values_of before (drop at fs) (map option_copied (drop at given)) ≡ total
+    → (vs ++ value_at before (get_or fs at d) (option_copied (get_or given at e)) ∷ [])
+    ++ values_of before (drop (at + 1) fs) (map option_copied (drop (at + 1) given)) ≡ total
+value_more before vs fs given at d e total lf lg h =
+    append_assoc vs (value_at before (get_or fs at d) (option_copied (get_or given at e)) ∷ []) _ ∙ rw (drop_more fs at d lf, drop_more given at e lg) at h
+
+none_given : (before : List Statement) (fs : List Field) → values_of before fs [] ≡ []
+none_given before [] = refl
+none_given before (f ∷ fs) = refl
+
+pub fields_end : (before : List Statement) (vs : List OptionValue) (fs : List Field) (given : List (Option (Bor (List ℕ)))) (at : ℕ)
+    (total : List OptionValue) → length fs ≤ at → vs ++ values_of before (drop at fs) (map option_copied (drop at given)) ≡ total → vs ≡ total
+fields_end before vs fs given at total le h = sym (append-nil vs) ∙ rw (drop_all at fs le) at h
+
+pub given_end : (before : List Statement) (vs : List OptionValue) (fs : List Field) (given : List (Option (Bor (List ℕ)))) (at : ℕ)
+    (total : List OptionValue) → length given ≤ at → vs ++ values_of before (drop at fs) (map option_copied (drop at given)) ≡ total → vs ≡ total
+given_end before vs fs given at total le h = sym (append-nil vs) ∙ rw (drop_all at given le, none_given before (drop at fs)) at h
 
 pub values_read : (before : List Statement) (w : Word) (ws : List (List ℕ)) (given : List (Option (Bor (List ℕ)))) (fs : List Field) (vs : List OptionValue)
     → fs ≡ fields w → map option_copied given ≡ texts_in (fields w) ws → vs ≡ values_of before fs (map option_copied given)

@@ -108,28 +108,8 @@ fn push_value(
     Ok(())
 }
 
-fn add_values(
-    values: &mut Vec<OptionValue>,
-    r: &Reader,
-    fields: &[Field],
-    given: &[Option<&[u8]>],
-) -> Result<(), AllocError>
-    requires { IsReader r.now }
-    ensures { OnOk result (values.new.items ≡ values.old.items ++ values_of r.now.said.current.statements fields.now (map option_copied given.now)) }
-{
-    match fields {
-        [] => Ok(()),
-        [field, fields @ ..] => match given {
-            [] => Ok(()),
-            [text, given @ ..] => {
-                push_value(values, r, *field, *text)?;
-                add_values(values, r, fields, given)
-            }
-        },
-    }
-}
-
 /// What options of these texts give, in the order of the table. Each text is read once, and the list keeps its memory.
+#[tactic(auto, using(crate::proofs::Placed::value_more, crate::proofs::Placed::fields_end, crate::proofs::Placed::given_end))]
 pub fn read_values(
     values: &mut Vec<OptionValue>,
     r: &Reader,
@@ -140,5 +120,10 @@ pub fn read_values(
     ensures { OnOk result (values.new.items ≡ values_of r.now.said.current.statements fields.now (map option_copied given.now)) }
 {
     values.clear();
-    add_values(values, r, fields, given)
+    let mut at = 0;
+    'fields: while at < fields.len() && at < given.len() {
+        push_value(values, r, fields[at], given[at])?;
+        at += 1;
+    }
+    Ok(())
 }
