@@ -1,12 +1,12 @@
 -- Options at their places, and words that add nothing.
 use Rattle.std.proofs.lemmas.Bool.Decides.{nat_tests}
-use Rattle.workload_file.proofs.Cited.{◌≡◌, ℕ, zero, suc, ◌<◌, ◌≤◌, ◌+◌, ◌-◌, ◌⊎◌, List, [], ◌∷◌, ◌++◌, length, Bool, true, false, cond, eqb, Option, Some, None, Ok, is_some, refl, sym, ap, ◌∙◌, arith, inl, inr, map, get_or, take, drop, replicate, find, list_any, list_all, bytes_eq, option_map, or_parts, and_parts, and_from, cases_Bool, Field, Key, Word, Statement, OptionValue, Reading, fields, key_text, key_of, value_of, text_of, field_of, is_known, has_twice, value_at, values_in, length-map, length-append, append_assoc, append-nil, take_more, take_all, with_change, is_statement, is_comment, words_meet, word_causes, words_say, rest_of, first_rest, some_cond}
+use Rattle.workload_file.proofs.Cited.{◌≡◌, ℕ, zero, suc, ◌<◌, ◌≤◌, ◌+◌, ◌-◌, ◌⊎◌, List, [], ◌∷◌, ◌++◌, length, Bool, true, false, cond, eqb, Option, Some, None, Ok, is_some, refl, sym, ap, ◌∙◌, arith, inl, inr, map, get_or, take, drop, replicate, find, list_any, list_all, bytes_eq, option_map, is_bad, is_missing, names_nothing, or_parts, or_from, and_parts, and_from, cases_Bool, Field, Key, Word, Statement, OptionValue, Reading, fields, key_text, key_of, value_of, text_of, field_of, is_known, has_twice, value_at, values_in, length-map, length-append, append_assoc, append-nil, take_more, take_all, with_change, is_statement, is_comment, words_meet, word_causes, words_say, rest_of, first_rest, some_cond}
 use Rattle.std.specs.Prelude.{set}
 use Rattle.std.proofs.lemmas.List.{drop_all, drop_more, length-drop, map-set}
 use Rattle.std.specs.Option.{option_copied}
 use Rattle.workload_file.specs.Options.{opens}
 use Rattle.workload_file.specs.Texts.{texts}
-use Rattle.workload_file.specs.Steps.{texts_in, IsOptionAt, values_of, unless_met}
+use Rattle.workload_file.specs.Steps.{texts_in, IsOptionAt, values_of, is_wrong, unless_met}
 use Rattle.workload_file.proofs.Facts.{some, nothing, none_some, silent_says}
 use Rattle.workload_file.proofs.Fields.{AreApart, fields_apart, option_is}
 use Rattle.workload_file.proofs.Invariant.{any_push}
@@ -252,6 +252,19 @@ pub values_read : (before : List Statement) (w : Word) (ws : List (List ℕ)) (g
     → fs ≡ fields w → map option_copied given ≡ texts_in (fields w) ws → vs ≡ values_of before fs (map option_copied given)
     → vs ≡ values_in before ws (fields w)
 values_read before w ws given fs vs e is read = rw (read, e, is) (values_given before (fields w) ws)
+
+-- where no value is wrong, none is so in one way
+apart_wrong : (v : OptionValue) → is_wrong v ≡ false → (is_bad v ≡ false) × (is_missing v ≡ false) × (names_nothing v ≡ false)
+apart_wrong v h = grind (arith, nat_tests)
+
+pub none_wrong : (vs : List OptionValue) → list_any is_wrong vs ≡ false
+    → (list_any is_bad vs ≡ false) × (list_any is_missing vs ≡ false) × (list_any names_nothing vs ≡ false)
+none_wrong [] h = (refl, refl, refl)
+none_wrong (v ∷ vs) h =
+    let both = or_parts (is_wrong v) (list_any is_wrong vs) h in
+    let here = apart_wrong v both.0 in
+    let rest = none_wrong vs both.1 in
+    (or_from (is_bad v) _ here.0 rest.0, or_from (is_missing v) _ here.1 rest.1, or_from (names_nothing v) _ here.2 rest.2)
 
 -- ---- words that add nothing
 

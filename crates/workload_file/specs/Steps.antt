@@ -1,7 +1,8 @@
 -- What reading a line goes through: options at their places, and what words add.
-use Rattle.std.specs.Prelude.{◌≡◌, ℕ, zero, suc, List, [], ◌∷◌, map, Option, Result, Ok}
+use Rattle.std.specs.Prelude.{◌≡◌, ℕ, zero, suc, Bool, true, false, List, [], ◌∷◌, map, Option, Result, Ok}
 use Rattle.workload_file.specs.declared.table.Field.{Field}
 use Rattle.workload_file.specs.declared.values.OptionValue.{OptionValue}
+use Rattle.workload_file.specs.declared.values.OptionValue.TheVariants as given
 use Rattle.workload_file.specs.declared.workload.Statement.{Statement}
 use Rattle.workload_file.specs.declared.reading.Reading.{Reading}
 use Rattle.workload_file.specs.declared.reading.LineEffect.{LineEffect}
@@ -27,6 +28,13 @@ IsOptionAt (field ∷ fields) word (suc place) = IsOptionAt fields word place
 abbrev pub values_of : List Statement → List Field → List (Option (List ℕ)) → List OptionValue
 values_of before (field ∷ fields) (text ∷ texts) = value_at before field text ∷ values_of before fields texts
 values_of before _ _ = []
+
+-- a value that is none: its text is bad, lacks, or names nothing
+abbrev pub is_wrong : OptionValue → Bool
+is_wrong given.Bad = true
+is_wrong given.Missing = true
+is_wrong given.Unbound = true
+is_wrong _ = false
 
 -- the causes that are looked for when the options of a statement are read
 abbrev pub late_causes : List Cause

@@ -8,7 +8,7 @@ ghost use Rattle.workload_file.specs.Names.{has_second, name_in, options_in, use
 ghost use Rattle.workload_file.specs.Changes.{is_bad, is_missing, names_nothing, values_in, bound_name, change_with, change_of};
 ghost use Rattle.workload_file.specs.Faulty.{is_printable, is_comment, is_faulty, statement_causes, word_causes, words_meet};
 ghost use Rattle.workload_file.specs.Reading.{words_say, line_adds, Gives};
-ghost use Rattle.workload_file.specs.Steps.{late_causes, unless_met};
+ghost use Rattle.workload_file.specs.Steps.{is_wrong, late_causes, unless_met};
 ghost use Rattle.workload_file.specs.Indexed.{IsReader, found, said_then, with_name};
 
 use crate::changes::with_change;
@@ -45,6 +45,15 @@ fn any_unbound(values: &[OptionValue]) -> bool
     values.iter().any(|v| matches!(v, OptionValue::Unbound))
 }
 
+fn any_wrong(values: &[OptionValue]) -> bool
+    ensures { result ≡ list_any is_wrong values.now }
+{
+    values.iter().any(|v| matches!(
+        v,
+        OptionValue::Bad | OptionValue::Missing | OptionValue::Unbound
+    ))
+}
+
 fn is_unbound(naming: Naming, place: Option<u32>) -> bool
     ensures { result ≡ is_unbound naming place }
 {
@@ -55,9 +64,10 @@ macro_rules! met {
     ($($test:expr => $cause:ident),*) => {$(if $test { return Ok(Some(Cause::$cause)); })*};
 }
 
-/// The first of the causes that a statement meets by its values and its names. With none, the name that it binds is bound.
+/// The first of the causes that a statement meets by its values and its names. With none, the name that it binds is bound. Where no
+/// value is wrong, they are looked through once.
 #[rattlefmt::skip]
-#[tactic(auto, unfolding(crate::specs::Faulty::is_faulty))]
+#[tactic(auto, unfolding(crate::specs::Faulty::is_faulty), using(crate::proofs::Placed::none_wrong))]
 fn late_met(r: &mut Reader, word: Word, name: &[u8], options: &[&[u8]], place: Option<u32>, values: &[OptionValue]) -> Result<Option<Cause>, AllocError>
     requires reader { IsReader r.old }
     requires place { place ≡ use_in r.old.said.current.statements (naming word) name.now }
@@ -69,9 +79,10 @@ fn late_met(r: &mut Reader, word: Word, name: &[u8], options: &[&[u8]], place: O
     ensures bound { IfOk result (λ met. met ≡ None → (other : List ℕ)
         → found r.new.names other ≡ with_name (bound_name (naming word) name.now) (length r.old.said.current.statements) (found r.old.names) other) }
 {
-    met!(any_bad(values) => BadValue, any_missing(values) => OptionMissing);
+    let wrong = any_wrong(values);
+    met!(wrong && any_bad(values) => BadValue, wrong && any_missing(values) => OptionMissing);
     let free = take_name(r, word.naming(), name)?;
-    met!(!free => NameTaken, is_unbound(word.naming(), place) || any_unbound(values) => NameUnknown);
+    met!(!free => NameTaken, is_unbound(word.naming(), place) || (wrong && any_unbound(values)) => NameUnknown);
     Ok(None)
 }
 
