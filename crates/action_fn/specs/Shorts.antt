@@ -1,5 +1,5 @@
 -- The short form in which an answer stands beside its arguments.
-use Rattle.std.specs.Prelude.{List, [], ◌∷◌, ℤ}
+use Rattle.std.specs.Prelude.{◌≡◌, ◌⊎◌, ⊤, List, [], ◌∷◌, length, ℤ}
 use Rattle.action_fn.specs.declared.finished.ActEnd.{ActEnd}
 use Rattle.action_fn.specs.declared.finished.ActEnd.TheVariants.{Done, Fails}
 use Rattle.action_fn.specs.declared.finished.Short.{Short}
@@ -10,3 +10,8 @@ abbrev pub in_full : List ℤ → Short → ActEnd
 in_full args (Number z) = Done (z ∷ [])
 in_full args TheArgs = Done args
 in_full args (Fails_short status) = Fails status
+
+-- what is answered is one number, or the arguments
+abbrev pub IsNumberOrArgs : List ℤ → ActEnd → Type 0
+IsNumberOrArgs args (Done numbers) = (length numbers ≡ 1) ⊎ (numbers ≡ args)
+IsNumberOrArgs args (Fails status) = ⊤

@@ -3,7 +3,7 @@
 ghost use Rattle.std.specs.Prelude.{◌≡◌, ◌≤◌, ◌∷◌, [], length, true};
 ghost use Rattle.action_fn.specs.declared.finished.ActEnd.TheVariants.{Done};
 ghost use Rattle.action_fn.specs.Answers.{answer_of, is_pure};
-ghost use Rattle.action_fn.specs.Shorts.{in_full};
+ghost use Rattle.action_fn.specs.Shorts.{in_full, IsNumberOrArgs};
 ghost use Rattle.std.specs.Cmp.Lexicographic.{pointwise};
 ghost use Rattle.std.specs.Cmp.Rules.{comparing};
 ghost use Rattle.std.specs.Ordering.{int_eq, on, eq_of_both};
@@ -119,6 +119,7 @@ impl Finished {
     pub fn end(&self) -> ActEnd
         ensures value { result ≡ self.now.end }
         ensures answer { self.now.end ≡ answer_of self.now.kind self.now.args }
+        ensures short { IsNumberOrArgs self.now.args result }
     {
         match self.end {
             Short::Number(number) => one_number(number),

@@ -1,6 +1,14 @@
 -- The ops of workers are steps of the machine.
 use Rattle.node_steps.proofs.Names.{◌≡◌, ℕ, ◌<◌, Bool, true, false, not, cond, List, Option, Some, None, Result, Ok, Err, refl, sym, ◌∙◌, ap, subst, arith, ◌&&◌, nat_lt, is_none, int_eq, nat_tests, TaskHandle, MtapiStatus, TaskEnd, first, Answered, IsAnswered, slot_value, with_value, put, changed, Listed, update, Task, with_notes, runs_as, finish_refusals, asked_refusals, asked_once, watch_end_refusals, watch_end, after_asked, watch_end_of, unless_refused, TaskTable, Op, Reply, task_end, option_map, PoolNode, Lists, Holds, Live, Steps}
+use Rattle.std.proofs.Common.{ℤ, inl, inr}
+use Rattle.std.proofs.lemmas.Bool.{and_parts}
+use Rattle.std.proofs.lemmas.Slice.Eq.{slice_eq-Decides, Decides-int_eq}
+use Rattle.std.specs.Prelude.{◌⊎◌}
 use Rattle.std.specs.Cmp.Lexicographic.{pointwise}
+use Rattle.action_fn.specs.declared.finished.ActEnd.{ActEnd}
+use Rattle.action_fn.specs.declared.finished.ActEnd.TheVariants.{Done, Fails}
+use Rattle.action_fn.specs.Shorts.{IsNumberOrArgs}
+use Rattle.task_core.specs.Ends.{IsShortFor}
 use Rattle.mtapi_values.specs.declared.statuses.MtapiStatus.TheVariants as m
 use Rattle.task_core.specs.Answers.{asked_of}
 use Rattle.mtapi_machine.specs.declared.ops.Op.TheVariants as op
@@ -32,6 +40,16 @@ finish_steps n l who t done x e q v w g r d a new =
   where
     runs : first (finish_refusals who done.kind done.args x) ≡ None
     runs = ap (λ (b : Bool). cond (not b) (Some m.ErrTaskInvalid) None) r
+
+args_same : (xs ys : List ℤ) → pointwise int_eq xs ys ≡ true → xs ≡ ys
+args_same xs ys e = (slice_eq-Decides Decides-int_eq xs ys (pointwise int_eq xs ys) refl).0 e
+
+-- what was finished is short for the task that ran so
+pub finish_short : (x : Task) (who : ℕ) (done : Answered) (a : ActEnd) → (runs_as who done.kind x && pointwise int_eq x.args done.args) ≡ true
+    → IsNumberOrArgs done.args a → IsShortFor (task_end a) (Some x)
+finish_short x who done (Done numbers) r (inl one) = inl one
+finish_short x who done (Done numbers) r (inr same) = inr (same ∙ sym (args_same x.args done.args (and_parts _ _ r).1))
+finish_short x who done (Fails status) r s = tt
 
 -- what doesn't run so
 pub finish_absent : (n : PoolNode) (l : Lists) (who : ℕ) (t : TaskHandle) (done : Answered) → Live n l → who < n.scheduler.settings.workers

@@ -7,6 +7,7 @@ ghost use Rattle.action_fn.specs.Answers.{fitting};
 ghost use Rattle.handle_pool.specs.Slots.{slot_value};
 ghost use Rattle.mtapi_values.specs.declared.statuses.MtapiStatus.TheVariants as status;
 ghost use Rattle.mtapi_objects.specs.Tasks.{is_unended, cell_in, number_in};
+ghost use Rattle.task_core.specs.Ends.{IsShortFor};
 ghost use Rattle.task_core.specs.Tallies.{adds_of};
 ghost use Rattle.task_core.specs.Table.{IsLiveAnd};
 ghost use Rattle.mtapi_machine.specs.declared.ops.Op.TheVariants as op;
@@ -295,6 +296,7 @@ impl PoolNode {
     ) -> Reply
         requires seat { who < 25 }
         requires unended { IsLiveAnd is_unended (slot_value self.old.scheduler.tasks.pool task.0) }
+        requires short { IsShortFor end (slot_value self.old.scheduler.tasks.pool task.0) }
         ensures { GivesBack self.old who task.0 mutex.0 segment.0 end result self.new }
     {
         self.resources.tally_end(who, mutex, segment);

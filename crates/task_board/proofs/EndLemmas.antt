@@ -1,5 +1,7 @@
 -- What is kept while the waiting tasks that pass end, one after the other.
 use Rattle.task_board.proofs.Names.{◌≡◌, ℕ, ◌<◌, ◌+◌, Bool, true, false, cond, List, [], ◌∷◌, ◌++◌, length, Option, Some, None, slice_get, refl, sym, ◌∙◌, ap, subst, arith, nat_tests, ◌==◌, ◌&&◌, IsSome, TaskEnd, holds, Slots, slot_value, list_at, has_handle, Task, is_unstarted, is_in, HeldQueue, tasks_of, TaskTable, ended_in, Seen, seen, seen_in, NoneWaitsIn, SchedulerTable, IsScheduler, Becomes, AreWaiting, records_of, group_slots, Walk, Waiting, AreIn, is_walked, passes, walk_of, ends_by, ended_next, ended_if, ended_each, EndsWaiting, and_parts}
+use Rattle.mtapi_values.specs.declared.ends.TaskEnd.TheVariants.{Completed, Cancelled, Failed}
+use Rattle.task_core.specs.Ends.{IsShortFor, AnswersNothing}
 use Rattle.task_board.specs.declared.ends.WaitingTest.{WaitingTest}
 use Rattle.task_board.specs.declared.ends.WaitingTest.TheVariants.{Unserved, InQueue, Shut}
 use Rattle.task_board.proofs.SeenLemmas.{some_same, seen-as, seen-live, unstarted-seen}
@@ -182,3 +184,9 @@ each-none p e q (h ∷ hs) none = grind (arith, nat_tests, each-none p e q hs, e
 pub none-ends : (p : Task → Bool) (e : TaskEnd) (b : SchedulerTable) → IsScheduler b
     → ((h : ℕ) (t : Task) → slot_value b.tasks.pool h ≡ Some t → is_unstarted t ≡ true → p t ≡ false) → EndsWaiting p e b.tasks b.tasks
 none-ends p e b e1 e2 = grind (arith, nat_tests, list_at, each-none, waits-live)
+
+-- an end without an answer is short for any task
+pub nothing_short : (e : TaskEnd) (o : Option Task) → AnswersNothing e → IsShortFor e o
+nothing_short (Completed numbers) o h = absurd h
+nothing_short Cancelled o h = tt
+nothing_short (Failed status) o h = tt

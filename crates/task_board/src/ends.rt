@@ -7,6 +7,7 @@ ghost use Rattle.mtapi_values.specs.declared.ends.TaskEnd.TheVariants.{Failed, C
 ghost use Rattle.mtapi_objects.specs.Actions.{Action};
 ghost use Rattle.job_table.specs.Answers.{Covers, IsUnion};
 ghost use Rattle.mtapi_objects.specs.Queues.{is_in};
+ghost use Rattle.task_core.specs.Ends.{AnswersNothing};
 ghost use Rattle.task_core.specs.Records.{queue_number};
 ghost use Rattle.task_board.specs.Scheduler.{IsScheduler, Becomes, records_of};
 ghost use Rattle.task_board.specs.Ends.{is_shut, passes, walk_of, ends_by, ended_if, AreServed, EndsWaiting, EndsUnserved, EndsUnless};
@@ -102,8 +103,10 @@ impl Scheduler {
     }
 
     // Ends a live task, if it hasn't begun and passes.
+    #[tactic(auto, using(crate::proofs::EndLemmas::nothing_short))]
     fn end_if(&mut self, task: TaskHandle, test: WaitingTest, end: &TaskEnd)
-        requires { IsSome (slot_value self.old.tasks.pool task.0) }
+        requires live { IsSome (slot_value self.old.tasks.pool task.0) }
+        requires answers { AnswersNothing end.now }
         ensures new { Becomes self.old self.new self.old.actions (ended_if (ends_by self.old.settings.workers (records_of self.old.queues.pool) test) end.now task.0 self.old.tasks) }
         ensures kept { IsScheduler self.new }
     {
@@ -118,6 +121,7 @@ impl Scheduler {
 
     // Ends each task that hasn't begun and passes, in the order of their starts. It visits each of the list that the test asks for once.
     fn end_waiting(&mut self, test: WaitingTest, end: &TaskEnd)
+        requires { AnswersNothing end.now }
         ensures new { Becomes self.old self.new self.old.actions self.new.tasks }
         ensures ends { EndsWaiting (passes self.old.settings.workers (records_of self.old.queues.pool) test) end.now self.old.tasks self.new.tasks }
     {
@@ -162,6 +166,7 @@ impl Scheduler {
 
     /// Ends the tasks of a queue that haven't begun, in the order of their starts.
     pub fn end_queued(&mut self, queue: QueueHandle, end: &TaskEnd)
+        requires { AnswersNothing end.now }
         ensures new { Becomes self.old self.new self.old.actions self.new.tasks }
         ensures ends { EndsWaiting (is_in queue.0) end.now self.old.tasks self.new.tasks }
     {

@@ -11,6 +11,7 @@ ghost use Rattle.linked_places.specs.Lists.{list_at, has_handle};
 ghost use Rattle.mtapi_objects.specs.Actions.{Action, with_enabled};
 ghost use Rattle.job_table.specs.Answers.{Creates as CreatesAction, Covers, IsUnion, Passes, job_of};
 ghost use Rattle.mtapi_objects.specs.Tasks.{Task, is_unstarted, is_unended, runs_on, with_state, Running, runner, with_notes, cancel_requested};
+ghost use Rattle.task_core.specs.Ends.{IsShortFor};
 ghost use Rattle.task_core.specs.Records.{asked_task, group_number, shown_state};
 ghost use Rattle.task_core.specs.Answers.{look_reply, asked_of, after_asked, watch_end_of};
 ghost use Rattle.task_core.specs.Tallies.{tallied};
@@ -586,7 +587,8 @@ impl Scheduler {
 
     /// Ends a task, as `Tasks::end_with` says it.
     pub fn end_with(&mut self, t: TaskHandle, end: TaskEnd)
-        requires { IsLiveAnd is_unended (slot_value self.old.tasks.pool t.0) }
+        requires live { IsLiveAnd is_unended (slot_value self.old.tasks.pool t.0) }
+        requires short { IsShortFor end (slot_value self.old.tasks.pool t.0) }
         ensures { Becomes self.old self.new self.old.actions (record self.old.tasks { pool = ended_in self.old.tasks.pool t.0 end self.old.tasks.ends (slot_value self.old.tasks.pool t.0); ends = self.old.tasks.ends + 1 }) }
     {
         let Some(task) = self.tasks.get(t) else {

@@ -1,3 +1,4 @@
+pub mod Ends
 pub mod Records
 pub mod Answers
 pub mod Table

@@ -5,6 +5,7 @@ use Rattle.mtapi_values.specs.declared.ends.TaskEnd.{TaskEnd}
 use Rattle.mtapi_values.specs.declared.handles.GroupHandle.{GroupHandle}
 use Rattle.mtapi_values.specs.declared.handles.QueueHandle.{QueueHandle}
 use Rattle.mtapi_objects.specs.Tasks.{TaskState, Scheduled, Running, Ended, NewTask, looks_of}
+use Rattle.task_core.specs.Ends.{end_beside}
 use Rattle.task_core.specs.declared.record.Progress.{Progress}
 use Rattle.task_core.specs.declared.record.Progress.TheVariants as progress
 use Rattle.task_core.specs.declared.states.TaskState.{TaskState as ShownState}
@@ -30,11 +31,11 @@ asked_task t = record {
   queue = queue_number t.queue;
 }
 
--- how far the task has come
-abbrev pub state_of : Progress → TaskState
-state_of progress.Scheduled = Scheduled
-state_of (progress.Running worker kind) = Running worker kind
-state_of (progress.Ended end number) = Ended end number
+-- how far the task with these arguments has come
+abbrev pub state_of : List ℤ → Progress → TaskState
+state_of args progress.Scheduled = Scheduled
+state_of args (progress.Running worker kind) = Running worker kind
+state_of args (progress.Ended end number) = Ended (end_beside args end) number
 
 -- a state without the end
 abbrev pub shown_state : TaskState → ShownState

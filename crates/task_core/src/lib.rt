@@ -1,6 +1,7 @@
 //! Task records: their state, their looks and their ends.
 #![tactic(auto)]
 
+mod ends;
 pub mod record;
 pub mod states;
 pub mod tallies;
@@ -9,6 +10,7 @@ ghost use Rattle.std.specs.Prelude.{◌≡◌, ◌+◌, ◌≤◌, ◌<◌, ◌^
 ghost use Rattle.std.specs.Option.{option_copied, option_map};
 ghost use Rattle.handle_pool.specs.Slots.{slot_value, free_slot, without, changed, used_at, live_count};
 ghost use Rattle.mtapi_objects.specs.Tasks.{Task, is_unstarted, is_unended, with_state, Running, runner, end_of, with_notes, cancel_requested};
+ghost use Rattle.task_core.specs.Ends.{IsShortFor};
 ghost use Rattle.task_core.specs.Records.{asked_task, shown_state, end_in};
 ghost use Rattle.task_core.specs.Answers.{look_reply, asked_of, after_asked, watch_end_of};
 ghost use Rattle.task_core.specs.Tallies.{tallied};
@@ -136,9 +138,10 @@ impl Tasks {
         note_tally(&mut self.pool, t.0, tally);
     }
 
-    /// Ends a task, with the next number of an end. A detached one stops being live.
+    /// Ends a task, with the next number of an end. A detached one stops being live. What it answers is one number, or its arguments.
     pub fn end_with(&mut self, t: TaskHandle, end: TaskEnd)
-        requires { IsLiveAnd is_unended (slot_value self.old.pool t.0) }
+        requires live { IsLiveAnd is_unended (slot_value self.old.pool t.0) }
+        requires short { IsShortFor end (slot_value self.old.pool t.0) }
         ensures { self.new ≡ record self.old { pool = ended_in self.old.pool t.0 end self.old.ends (slot_value self.old.pool t.0); ends = self.old.ends + 1 } }
     {
         finish(&mut self.pool, t.0, end, self.ends);
@@ -244,7 +247,8 @@ impl Tasks {
 
 // Ends a task with the number of its end. A detached one is given up.
 fn finish(pool: &mut Pool<TaskRecord>, handle: u64, end: TaskEnd, number: u64)
-    requires { IsSome (slot_value pool.old handle) }
+    requires live { IsSome (slot_value pool.old handle) }
+    requires short { IsShortFor end (slot_value pool.old handle) }
     ensures { pool.new ≡ ended_in pool.old handle end number (slot_value pool.old handle) }
 {
     match pool.get_mut(handle) {

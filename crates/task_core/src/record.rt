@@ -5,9 +5,11 @@ ghost use Rattle.std.specs.Option.{option_copied, option_map};
 ghost use Rattle.mtapi_values.specs.Conditions.{first};
 ghost use Rattle.mtapi_objects.specs.Tasks.{new_task, end_of, is_unended, with_state, with_notes, tally_args, Running, Ended, cancel_requested, with_waiter, task_look_refusals, runs_as, looks_of};
 ghost use Rattle.task_core.specs.Answers.{without_group, unended_look, waiter_after, asked_reply, after_asked, watch_end_reply, args_fault};
+ghost use Rattle.task_core.specs.Ends.{IsShort};
 ghost use Rattle.task_core.specs.Records.{asked_task, group_number, queue_number, shown_state, end_in, number_in};
 ghost use Rattle.task_core.specs.Tallies.{adds_of, notes_of, tallied};
 
+use crate::ends::ShortEnd;
 use crate::states::{NewTask, TaskLook, TaskState};
 use crate::tallies::{TallyArgs, TallyState, tally_args};
 use mtapi_values::{Args, GroupHandle, Kind, Mask, MtapiStatus, QueueHandle, TaskEnd};
@@ -22,8 +24,8 @@ enum Progress {
     Scheduled,
     // The worker, and the kind of the action.
     Running(u32, Kind),
-    // The end, and its number.
-    Ended(TaskEnd, u64),
+    // The end in short, and its number.
+    Ended(ShortEnd, u64),
 }
 
 /// One task: what was asked for, how far it has come, who waits for it, and what a tally has done.
@@ -60,7 +62,7 @@ impl Model for TaskRecord {
       cores = t.cores.0;
       queue = queue_number t.queue;
       start = t.start;
-      state = state_of t.progress;
+      state = state_of t.args t.progress;
       notes = record {
         detached = t.detached;
         group = group_number t.group;
@@ -195,12 +197,12 @@ impl TaskRecord {
         self.seen
     }
 
-    /// How it ended, if it has.
-    pub fn end(&self) -> Option<&TaskEnd>
-        ensures { option_copied result ≡ end_in (end_of self.now.state) }
+    /// How it ended, if it has. It takes no memory.
+    pub fn end(&self) -> Option<TaskEnd>
+        ensures { result ≡ end_in (end_of self.now.state) }
     {
         match &self.progress {
-            Progress::Ended(end, _) => Some(end),
+            Progress::Ended(end, _) => Some(end.full(self.args.again())),
             _ => None,
         }
     }
@@ -230,9 +232,10 @@ impl TaskRecord {
 
     // Ends, with the number of its end.
     pub(crate) fn finish(&mut self, end: TaskEnd, number: u64)
+        requires { IsShort self.old.args end }
         ensures { self.new ≡ with_state (Ended end number) self.old }
     {
-        self.progress = Progress::Ended(end, number);
+        self.progress = Progress::Ended(ShortEnd::of(&end, &self.args), number);
     }
 
     pub(crate) fn request(&mut self)
@@ -289,7 +292,7 @@ impl TaskRecord {
         ensures { end_in (end_of self.state) ≡ Some result }
     {
         match self.progress {
-            Progress::Ended(end, _) => end,
+            Progress::Ended(end, _) => end.full(self.args),
             Progress::Scheduled | Progress::Running(_, _) => unreachable!(),
         }
     }

@@ -1,6 +1,6 @@
 use Rattle.node_steps.proofs.Names.{refl, sym, ◌∙◌, ap, subst, arith, task_end, PoolNode, Steps}
 use Rattle.action_fn.specs.declared.finished.ActEnd.{ActEnd}
-use Rattle.node_steps.proofs.WorkSteps.{finish_steps, finish_absent, finish_other}
+use Rattle.node_steps.proofs.WorkSteps.{finish_short, finish_steps, finish_absent, finish_other}
 use Rattle.mtapi_values.specs.declared.statuses.MtapiStatus.TheVariants as m
 use Rattle.mtapi_machine.specs.declared.ops.Op.TheVariants as op
 use Rattle.mtapi_machine.specs.declared.replies.Reply.TheVariants as reply
@@ -25,3 +25,7 @@ returns-in_default c l v = elim c.in_default.branch [
       subst (λ (n : PoolNode). Steps c.args.self.now l c.args.who (op.Finish c.args.task c.args.done.now) (reply.Mtapi m.ErrTaskInvalid) n) (sym w.self-is)
       (finish_absent c.args.self.now l c.args.who c.args.task c.args.done.now v (omega arith) (sym w.in_default.ensures) c.is_answered.ensures)
 ]
+
+pub end_with-requires-clause-short : goal.end_with-requires-clause-short
+end_with-requires-clause-short c = rw (sym c.in-Some.ensures, c.task_end.ensures)
+    (finish_short c.in-Some.found.now c.args.who c.args.done.now c.end.result (sym c.if-runs_so.ensures) c.end.ensures.short)

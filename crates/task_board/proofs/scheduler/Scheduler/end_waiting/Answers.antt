@@ -14,8 +14,8 @@ pub next_walked-next-requires : goal.next_walked-next-requires
 next_walked-next-requires c = going-has _ _ _ c.args.self.now c.loop-index.self c.loop-index._index c.loop-index.next c.loop-index.invariant c.in-Some.task
     c.in-Some.is
 
-pub end_if-requires : goal.end_if-requires
-end_if-requires c = going-live _ _ _ c.args.self.now c.loop-index.self c.loop-index._index c.loop-index.next c.loop-index.invariant c.in-Some.task c.in-Some.is
+pub end_if-requires-clause-live : goal.end_if-requires-clause-live
+end_if-requires-clause-live c = going-live _ _ _ c.args.self.now c.loop-index.self c.loop-index._index c.loop-index.next c.loop-index.invariant c.in-Some.task c.in-Some.is
 
 pub loop-index-preserved : goal.loop-index-preserved
 loop-index-preserved c =

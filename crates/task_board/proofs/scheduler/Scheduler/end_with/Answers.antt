@@ -8,7 +8,7 @@ use Rattle.task_board.proofs.scheduler.Scheduler.end_with.Goals as goal
 pub leave_queue-requires-clause-member : goal.leave_queue-requires-clause-member
 leave_queue-requires-clause-member c =
     member-of _ c.args.t.0 c.in-Some.task.now _ c.self.invariant (sym c.in-Some.ensures)
-    (subst (λ (b : SchedulerTable). IsLiveAnd is_unended (slot_value b.tasks.pool c.args.t.0)) (sym c.self.view_is) c.requires) c.queue-queue.ensures
+    (subst (λ (b : SchedulerTable). IsLiveAnd is_unended (slot_value b.tasks.pool c.args.t.0)) (sym c.self.view_is) c.requires.live) c.queue-queue.ensures
 
 pub leave_queue-requires-clause-place : goal.leave_queue-requires-clause-place
 leave_queue-requires-clause-place c h e =
