@@ -54,12 +54,47 @@ impl Args {
         self.values.as_slice()
     }
 
-    /// An equal list.
+    /// An equal list. A list of one or two numbers, as most are, is written number by number, with no call that copies.
     pub fn again(&self) -> Args
         ensures { result ≡ self.now }
     {
+        match self.values.as_slice() {
+            [] => Args::new(),
+            [number] => Args::of_one(*number),
+            [first, second] => Args::of_two(*first, *second),
+            numbers => Args::of_many(numbers),
+        }
+    }
+
+    /// The list of one number.
+    #[inline]
+    pub fn of_one(number: i64) -> Args
+        ensures { result ≡ number ∷ [] }
+    {
+        let mut args = Args::new();
+        args.push(number);
+        args
+    }
+
+    /// The list of two numbers.
+    #[inline]
+    pub fn of_two(first: i64, second: i64) -> Args
+        ensures { result ≡ first ∷ second ∷ [] }
+    {
+        let mut args = Args::new();
+        args.push(first);
+        args.push(second);
+        args
+    }
+
+    // The list of these numbers.
+    #[inline(never)]
+    fn of_many(numbers: &[i64]) -> Args
+        requires { length numbers.now ≤ 16 }
+        ensures { result ≡ numbers.now }
+    {
         let mut values = ArrayVec::new();
-        let _ = values.try_extend_from_slice(self.values.as_slice());
+        let _ = values.try_extend_from_slice(numbers);
         Args { values }
     }
 }
