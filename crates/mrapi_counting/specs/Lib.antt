@@ -1,2 +1,1 @@
-pub mod SemCalls
-pub mod RwlCalls
+pub mod Kept

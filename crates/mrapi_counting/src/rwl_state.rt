@@ -1,20 +1,24 @@
 //! One reader-writer lock.
 
-ghost use Rattle.std.specs.Prelude.{◌≡◌, ◌≤◌, ◌<◌, ◌↔◌, IsTrue};
-ghost use Rattle.std.specs.Result.{result_err};
-ghost use Rattle.mtapi_values.specs.Conditions.{first};
-ghost use Rattle.mtapi_objects.specs.Rwls.{new_rwl, rwl_held, rwl_busy, rwl_unlock_refusals};
-ghost use Rattle.mrapi_counting.specs.RwlCalls.{rwl_look_answer, rwl_after_look, rwl_after_unlock};
+ghost use Rattle.std.specs.Prelude.{◌≡◌, refl};
+ghost use Rattle.mtapi_objects.specs.Rwls.{new_rwl, rwl_create_refusals, rwl_look_refusals, rwl_held, rwl_busy, rwl_taken, rwl_unlock_refusals, rwl_given};
+ghost use Rattle.mrapi_counting.specs.Kept.{given_keeps_id, taken_keeps_id};
+ghost use Rattle.mtapi_values.specs.declared.statuses.MrapiStatus.TheVariants.{ErrRwlInvalid, ErrRwlIdInvalid, ErrRwlExists, ErrRwlLimit, ErrRwlLocked};
 
 use crate::marks;
 use keyed_pool::HasId;
+use mrapi_pool::{Lock, Resource, Statuses};
 use mtapi_values::seats::{self, SEATS};
 use mtapi_values::{Look, MrapiStatus};
+use std::alloc::{AllocError, Global};
 use std::marker::Model;
+
+/// The most readers that a lock may have.
+const MAX_READERS: u32 = 32;
 
 /// One reader-writer lock: the seats that read, and the one that writes.
 #[derive(Drop)]
-pub(crate) struct RwlState {
+pub struct RwlState {
     id: u32,
     limit: u32,
     readers: [bool; SEATS],
@@ -43,25 +47,7 @@ impl HasId for RwlState {
 }
 
 impl RwlState {
-    pub(crate) fn new(id: u32, limit: u32) -> RwlState
-        ensures { result ≡ new_rwl id limit }
-    {
-        RwlState {
-            id,
-            limit,
-            readers: [false; SEATS],
-            writer: None,
-        }
-    }
-
-    /// Whether somebody holds it, in either mode.
-    pub(crate) fn is_held(&self) -> bool
-        ensures { result ≡ rwl_held self.now }
-    {
-        self.writer.is_some() || seats::is_any(&self.readers)
-    }
-
-    /// Whether a look in this mode, by a seat that doesn't hold it, has to come again.
+    // Whether a look in this mode, by a seat that doesn't hold it, has to come again.
     fn is_busy(&self, writer: bool) -> bool
         ensures { result ≡ rwl_busy writer self.now }
     {
@@ -70,31 +56,75 @@ impl RwlState {
         }
         self.writer.is_some() || marks::count(&self.readers) == self.limit
     }
+}
 
-    pub(crate) fn look(&mut self, who: u32, writer: bool) -> Look<()>
-        requires { who < 25 }
-        ensures reply { result ≡ rwl_look_answer who writer self.old }
-        ensures new { self.new ≡ rwl_after_look who writer self.old }
-    {
-        if self.writer == Some(who) || self.readers[who as usize] {
-            return Look::Refused(MrapiStatus::ErrRwlLocked);
+impl Resource for RwlState {
+    type Setting = u32;
+
+    type Change = bool;
+
+    type Memory = ();
+
+    ghost statuses = { record {
+      invalid = ErrRwlInvalid;
+      id_invalid = ErrRwlIdInvalid;
+      exists = ErrRwlExists;
+      limit = ErrRwlLimit;
+      held = ErrRwlLocked;
+    } };
+
+    ghost created = { new_rwl };
+
+    ghost create_refusals = { rwl_create_refusals };
+
+    ghost is_held = { rwl_held };
+
+    ghost change_refusals = { rwl_unlock_refusals };
+
+    ghost after_change = { rwl_given };
+
+    ghost has_id = { λ id limit. refl };
+
+    ghost keeps_id = { given_keeps_id };
+
+    fn statuses() -> Statuses {
+        Statuses {
+            invalid: MrapiStatus::ErrRwlInvalid,
+            id_invalid: MrapiStatus::ErrRwlIdInvalid,
+            exists: MrapiStatus::ErrRwlExists,
+            limit: MrapiStatus::ErrRwlLimit,
+            held: MrapiStatus::ErrRwlLocked,
         }
-        if self.is_busy(writer) {
-            return Look::Busy;
-        }
-        if writer {
-            self.writer = Some(who);
-        } else {
-            self.readers[who as usize] = true;
-        }
-        Look::Got(())
     }
 
-    pub(crate) fn unlock(&mut self, who: u32, writer: bool) -> Result<(), MrapiStatus>
-        requires { who < 25 }
-        ensures reply { result_err result ≡ first (rwl_unlock_refusals who writer self.old) }
-        ensures new { self.new ≡ rwl_after_unlock who writer self.old }
-    {
+    fn memory(_alloc: Global) -> Result<(), AllocError> {
+        Ok(())
+    }
+
+    fn create_refusal(limit: &u32) -> Option<MrapiStatus> {
+        if *limit == 0 || *limit > MAX_READERS {
+            Some(MrapiStatus::ErrParameter)
+        } else {
+            None
+        }
+    }
+
+    fn new(id: u32, limit: u32, _memory: ()) -> RwlState {
+        RwlState {
+            id,
+            limit,
+            readers: [false; SEATS],
+            writer: None,
+        }
+    }
+
+    fn into_memory(self) {}
+
+    fn is_held(&self) -> bool {
+        self.writer.is_some() || seats::is_any(&self.readers)
+    }
+
+    fn change(&mut self, who: u32, writer: bool) -> Result<(), MrapiStatus> {
         let holds = if writer {
             self.writer == Some(who)
         } else {
@@ -109,5 +139,36 @@ impl RwlState {
             self.readers[who as usize] = false;
         }
         Ok(())
+    }
+}
+
+impl Lock for RwlState {
+    type Mode = bool;
+
+    type Key = ();
+
+    ghost look_refusals = { rwl_look_refusals };
+
+    ghost is_busy = { λ who writer r. rwl_busy writer r };
+
+    ghost key = { λ r. tt };
+
+    ghost locked = { rwl_taken };
+
+    ghost stays = { taken_keeps_id };
+
+    fn look(&mut self, who: u32, writer: bool) -> Look<()> {
+        if self.writer == Some(who) || self.readers[who as usize] {
+            return Look::Refused(MrapiStatus::ErrRwlLocked);
+        }
+        if self.is_busy(writer) {
+            return Look::Busy;
+        }
+        if writer {
+            self.writer = Some(who);
+        } else {
+            self.readers[who as usize] = true;
+        }
+        Look::Got(())
     }
 }

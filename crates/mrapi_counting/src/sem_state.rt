@@ -1,19 +1,22 @@
 //! One semaphore.
 
-ghost use Rattle.std.specs.Prelude.{◌≡◌, ◌≤◌, ◌<◌, ◌↔◌, IsTrue};
-ghost use Rattle.std.specs.Result.{result_err};
-ghost use Rattle.mtapi_values.specs.Conditions.{first};
-ghost use Rattle.mtapi_objects.specs.Sems.{new_sem, total, sem_unlock_refusals};
-ghost use Rattle.mrapi_counting.specs.SemCalls.{sem_look_answer, sem_after_look, sem_after_unlock};
+ghost use Rattle.std.specs.Prelude.{[], nat_lt, refl};
+ghost use Rattle.mtapi_objects.specs.Sems.{new_sem, total, sem_create_refusals, sem_busy, sem_taken, sem_unlock_refusals, sem_given};
+ghost use Rattle.mtapi_values.specs.declared.statuses.MrapiStatus.TheVariants.{ErrSemInvalid, ErrSemIdInvalid, ErrSemExists, ErrSemLimit, ErrSemLocked};
 
 use keyed_pool::HasId;
+use mrapi_pool::{Lock, Resource, Statuses};
 use mtapi_values::seats::SEATS;
 use mtapi_values::{Look, MrapiStatus};
+use std::alloc::{AllocError, Global};
 use std::marker::Model;
+
+/// The most that a semaphore may be held.
+const MAX_LIMIT: u32 = 65535;
 
 /// One semaphore: how often each seat holds it.
 #[derive(Drop)]
-pub(crate) struct SemState {
+pub struct SemState {
     id: u32,
     limit: u32,
     holdings: [u32; SEATS],
@@ -21,7 +24,7 @@ pub(crate) struct SemState {
 
 impl Model for SemState {
     ghost use Rattle.mtapi_objects.specs.Sems.{Sem};
-    ghost use Rattle.mrapi_counting.specs.SemCalls.{IsSem};
+    ghost use Rattle.mrapi_counting.specs.Kept.{IsSem};
 
     ghost Value = { Sem };
 
@@ -43,11 +46,58 @@ impl HasId for SemState {
 }
 
 #[tactic(auto, using(crate::proofs::Totals::total_is_sum, std::proofs::lemmas::Grind::common_steps))]
-impl SemState {
-    pub(crate) fn new(id: u32, limit: u32) -> SemState
-        requires { limit ≤ 65535 }
-        ensures { result ≡ new_sem id limit }
-    {
+impl Resource for SemState {
+    type Setting = u32;
+
+    type Change = ();
+
+    type Memory = ();
+
+    ghost statuses = { record {
+      invalid = ErrSemInvalid;
+      id_invalid = ErrSemIdInvalid;
+      exists = ErrSemExists;
+      limit = ErrSemLimit;
+      held = ErrSemLocked;
+    } };
+
+    ghost created = { new_sem };
+
+    ghost create_refusals = { sem_create_refusals };
+
+    ghost is_held = { λ s. nat_lt 0 (total s.holdings) };
+
+    ghost change_refusals = { λ who change s. sem_unlock_refusals who s };
+
+    ghost after_change = { λ who change s. sem_given who s };
+
+    ghost has_id = { λ id limit. refl };
+
+    ghost keeps_id = { λ who change s. refl };
+
+    fn statuses() -> Statuses {
+        Statuses {
+            invalid: MrapiStatus::ErrSemInvalid,
+            id_invalid: MrapiStatus::ErrSemIdInvalid,
+            exists: MrapiStatus::ErrSemExists,
+            limit: MrapiStatus::ErrSemLimit,
+            held: MrapiStatus::ErrSemLocked,
+        }
+    }
+
+    fn memory(_alloc: Global) -> Result<(), AllocError> {
+        Ok(())
+    }
+
+    fn create_refusal(limit: &u32) -> Option<MrapiStatus> {
+        if *limit == 0 || *limit > MAX_LIMIT {
+            Some(MrapiStatus::ErrParameter)
+        } else {
+            None
+        }
+    }
+
+    fn new(id: u32, limit: u32, _memory: ()) -> SemState {
         SemState {
             id,
             limit,
@@ -55,35 +105,44 @@ impl SemState {
         }
     }
 
-    /// How often all seats together hold it.
-    pub(crate) fn held(&self) -> u32
-        ensures { result ≡ total self.now.holdings }
-    {
-        self.holdings.iter().sum()
+    fn into_memory(self) {}
+
+    fn is_held(&self) -> bool {
+        let held: u32 = self.holdings.iter().sum();
+        held > 0
     }
 
-    pub(crate) fn look(&mut self, who: u32) -> Look<()>
-        requires { who < 25 }
-        ensures reply { result ≡ sem_look_answer self.old }
-        ensures new { self.new ≡ sem_after_look who self.old }
-    {
+    fn change(&mut self, who: u32, _change: ()) -> Result<(), MrapiStatus> {
+        if self.holdings[who as usize] == 0 {
+            return Err(MrapiStatus::ErrSemNotlocked);
+        }
+        self.holdings[who as usize] -= 1;
+        Ok(())
+    }
+}
+
+#[tactic(auto, using(crate::proofs::Totals::total_is_sum, std::proofs::lemmas::Grind::common_steps))]
+impl Lock for SemState {
+    type Mode = ();
+
+    type Key = ();
+
+    ghost look_refusals = { λ who s. [] };
+
+    ghost is_busy = { λ who mode s. sem_busy s };
+
+    ghost key = { λ s. tt };
+
+    ghost locked = { λ who mode s. sem_taken who s };
+
+    ghost stays = { λ who mode s. refl };
+
+    fn look(&mut self, who: u32, _mode: ()) -> Look<()> {
         let held: u32 = self.holdings.iter().sum();
         if held >= self.limit {
             return Look::Busy;
         }
         self.holdings[who as usize] += 1;
         Look::Got(())
-    }
-
-    pub(crate) fn unlock(&mut self, who: u32) -> Result<(), MrapiStatus>
-        requires { who < 25 }
-        ensures reply { result_err result ≡ first (sem_unlock_refusals who self.old) }
-        ensures new { self.new ≡ sem_after_unlock who self.old }
-    {
-        if self.holdings[who as usize] == 0 {
-            return Err(MrapiStatus::ErrSemNotlocked);
-        }
-        self.holdings[who as usize] -= 1;
-        Ok(())
     }
 }

@@ -1,13 +1,13 @@
 //! One mutex.
 
-ghost use Rattle.std.specs.Prelude.{◌≡◌, is_some};
-ghost use Rattle.std.specs.Result.{result_err};
-ghost use Rattle.mtapi_values.specs.Conditions.{first};
-ghost use Rattle.mtapi_objects.specs.Mutexes.{new_mutex, mutex_unlock_refusals};
-ghost use Rattle.mrapi_mutex.specs.Calls.{look_answer, after_look, after_unlock};
+ghost use Rattle.std.specs.Prelude.{◌≡◌, ◌+◌, [], is_some, refl};
+ghost use Rattle.mtapi_objects.specs.Mutexes.{new_mutex, mutex_look_refusals, mutex_busy, locked_by, mutex_unlock_refusals, unlocked};
+ghost use Rattle.mtapi_values.specs.declared.statuses.MrapiStatus.TheVariants.{ErrMutexInvalid, ErrMutexIdInvalid, ErrMutexExists, ErrMutexLimit, ErrMutexLocked};
 
 use keyed_pool::HasId;
+use mrapi_pool::{Lock, Resource, Statuses};
 use mtapi_values::{Look, MrapiStatus};
+use std::alloc::{AllocError, Global};
 use std::marker::Model;
 
 /// How deep a recursive mutex may be locked.
@@ -15,7 +15,7 @@ const MAX_DEPTH: u32 = 64;
 
 /// One mutex: the seat that owns it, and how often.
 #[derive(Drop)]
-pub(crate) struct MutexState {
+pub struct MutexState {
     id: u32,
     recursive: bool,
     owner: Option<u32>,
@@ -46,10 +46,54 @@ impl HasId for MutexState {
     }
 }
 
-impl MutexState {
-    pub(crate) fn new(id: u32, recursive: bool) -> MutexState
-        ensures { result ≡ new_mutex id recursive }
-    {
+impl Resource for MutexState {
+    type Setting = bool;
+
+    type Change = u32;
+
+    type Memory = ();
+
+    ghost statuses = { record {
+      invalid = ErrMutexInvalid;
+      id_invalid = ErrMutexIdInvalid;
+      exists = ErrMutexExists;
+      limit = ErrMutexLimit;
+      held = ErrMutexLocked;
+    } };
+
+    ghost created = { new_mutex };
+
+    ghost create_refusals = { λ recursive. [] };
+
+    ghost is_held = { λ m. is_some m.owner };
+
+    ghost change_refusals = { mutex_unlock_refusals };
+
+    ghost after_change = { λ who key m. unlocked m };
+
+    ghost has_id = { λ id recursive. refl };
+
+    ghost keeps_id = { λ who key m. refl };
+
+    fn statuses() -> Statuses {
+        Statuses {
+            invalid: MrapiStatus::ErrMutexInvalid,
+            id_invalid: MrapiStatus::ErrMutexIdInvalid,
+            exists: MrapiStatus::ErrMutexExists,
+            limit: MrapiStatus::ErrMutexLimit,
+            held: MrapiStatus::ErrMutexLocked,
+        }
+    }
+
+    fn memory(_alloc: Global) -> Result<(), AllocError> {
+        Ok(())
+    }
+
+    fn create_refusal(_recursive: &bool) -> Option<MrapiStatus> {
+        None
+    }
+
+    fn new(id: u32, recursive: bool, _memory: ()) -> MutexState {
         MutexState {
             id,
             recursive,
@@ -58,33 +102,13 @@ impl MutexState {
         }
     }
 
-    pub(crate) fn is_locked(&self) -> bool
-        ensures { result ≡ is_some self.now.owner }
-    {
+    fn into_memory(self) {}
+
+    fn is_held(&self) -> bool {
         self.owner.is_some()
     }
 
-    pub(crate) fn look(&mut self, who: u32) -> Look<u32>
-        ensures reply { result ≡ look_answer who self.old }
-        ensures new { self.new ≡ after_look who self.old }
-    {
-        if let Some(owner) = self.owner {
-            if owner != who {
-                return Look::Busy;
-            }
-            if !self.recursive || self.depth >= MAX_DEPTH {
-                return Look::Refused(MrapiStatus::ErrMutexLocked);
-            }
-        }
-        self.owner = Some(who);
-        self.depth += 1;
-        Look::Got(self.depth)
-    }
-
-    pub(crate) fn unlock(&mut self, who: u32, key: u32) -> Result<(), MrapiStatus>
-        ensures reply { result_err result ≡ first (mutex_unlock_refusals who key self.old) }
-        ensures new { self.new ≡ after_unlock who key self.old }
-    {
+    fn change(&mut self, who: u32, key: u32) -> Result<(), MrapiStatus> {
         if self.owner != Some(who) {
             return Err(MrapiStatus::ErrMutexNotlocked);
         }
@@ -99,5 +123,35 @@ impl MutexState {
         }
         self.depth -= 1;
         Ok(())
+    }
+}
+
+impl Lock for MutexState {
+    type Mode = ();
+
+    type Key = u32;
+
+    ghost look_refusals = { mutex_look_refusals };
+
+    ghost is_busy = { λ who mode m. mutex_busy who m };
+
+    ghost key = { λ m. m.depth + 1 };
+
+    ghost locked = { λ who mode m. locked_by who m };
+
+    ghost stays = { λ who mode m. refl };
+
+    fn look(&mut self, who: u32, _mode: ()) -> Look<u32> {
+        if let Some(owner) = self.owner {
+            if owner != who {
+                return Look::Busy;
+            }
+            if !self.recursive || self.depth >= MAX_DEPTH {
+                return Look::Refused(MrapiStatus::ErrMutexLocked);
+            }
+        }
+        self.owner = Some(who);
+        self.depth += 1;
+        Look::Got(self.depth)
     }
 }

@@ -10,7 +10,7 @@ pub(crate) const MAX_CELLS: u32 = 4096;
 
 /// Memory for 4,096 cells, and the numbers in those that are in use.
 #[derive(Drop)]
-pub(crate) struct Room {
+pub struct Room {
     cells: Vec<i64>,
 }
 

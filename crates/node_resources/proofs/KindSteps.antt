@@ -1,8 +1,7 @@
 -- A step of one kind is a step of all four.
-use Rattle.node_resources.proofs.Names.{◌≡◌, ℕ, List, None, refl, sym, subst, ◌∙◌, first, MrapiStatus, Listed, Slots, slot_value, NoneLive, HasLive, OneEach, Op, Reply, Keyed, mrapi, gets, State, is_up, Sort, Groups, Queues, Mutexes, Sems, Rwls, Segments, Fields, all_of, Gate, ResourceTable, HoldsList, Stands, Does, IsAt, gate_refusals, with_lists_of}
-use Rattle.mtapi_machine.specs.declared.replies.Reply.TheVariants as reply
+use Rattle.node_resources.proofs.Names.{◌≡◌, ℕ, List, refl, sym, subst, Listed, Slots, Op, Reply, State, Sort, Groups, Queues, Mutexes, Sems, Rwls, Segments, Fields, all_of, ResourceTable, HoldsList, Stands, Does, with_lists_of}
 use Rattle.mtapi_machine.specs.Rows.{row}
-use Rattle.node_resources.proofs.RowLemmas.{Leads, past_up, gets_does, gets_none}
+use Rattle.node_resources.proofs.RowLemmas.{Leads}
 
 abbrev IsResource : Sort → Type 0
 IsResource Groups = ⊥
@@ -73,22 +72,3 @@ module _ (k : Sort) (is : IsResource k) (s : State) (who : ℕ) (op : Op) where
         others = subst (λ (t : State). t ≡ with_lists_of t s) (sym g.leads) (p.others g.list);
         stands = subst (λ (t : State). Stands t (with_slots k q old)) (sym g.leads) (p.stands q g.list g.holds);
       })
-
-  -- a get, where the pools are seen as the table now
-  module _ (o : Keyed k) (g : Gate) (a : IsAt s g) (old now : ResourceTable) (view : old ≡ now) (v : Stands s now) (n : ℕ) (in_row : (r : Reply)
-      → row s who op r ≡ mrapi s who (gets o s n)) (passes : None ≡ first (gate_refusals (is_up g.phase) who g.workers)) where
-    answers : (r : Reply) → Leads k s (gets o s n) r (slots_of k is old) → Does s who op r now
-    answers r leads =
-        let was = rw (← view) at v in
-        let told = past_up k s g who a (gets o s n) r (slots_of k is old) passes leads in
-        rw (← (parts k is s old was).same ∙ view) (kind_does r old was r (slots_of k is old) refl (rw (← in_row r) at told))
-
-    held : HoldsList (all_of k) s.terms.settings (slots_of k is old) ((all_of k).list s)
-    held = (parts k is s old (subst (λ (t : ResourceTable). Stands s t) (sym view) v)).holds
-
-    pub got : (h : ℕ) → OneEach o.id (slots_of k is old) → HasLive (slots_of k is old) h (λ y. o.id y ≡ n) → Does s who op (reply.Handle h) now
-    got h each has = answers (reply.Handle h) (gets_does k s o (slots_of k is old) held n h each has)
-
-    pub got_none : (absent : MrapiStatus) → o.absent ≡ reply.Mrapi absent → (c : MrapiStatus)
-        → (c ≡ absent) × NoneLive (slot_value (slots_of k is old)) (λ y. o.id y ≡ n) → Does s who op (reply.Mrapi c) now
-    got_none absent is_absent c told = answers (reply.Mrapi c) (gets_none k s o (slots_of k is old) held absent is_absent n c told.0 told.1)

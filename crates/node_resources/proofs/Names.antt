@@ -2,13 +2,13 @@
 pub use Rattle.std.proofs.Common.{Bool, Err, FitsSigned, List, None, Ok, Option, Result, Some, [], ap, arith, cond, false, inl, inr, not, pos, refl, replicate, rules, subst, suc, sym, true, zero, ℕ, ◌&&◌, ◌++◌, ◌+◌, ◌∙◌, ◌∷◌, ◌≡◌, ◌≤◌, ◌⊎◌}
 pub use Rattle.std.proofs.lemmas.Int.{to_z-of_z}
 pub use Rattle.std.specs.Option.{IfSome, option_map}
-pub use Rattle.std.specs.Prelude.{IsNone, OnErr, OnOk, is_none, is_some, length, nat_lt, slice_set, ℤ, ◌==◌, ◌||◌}
+pub use Rattle.std.specs.Prelude.{IfErr, IfOk, IsNone, OnErr, OnOk, is_none, is_some, length, nat_lt, slice_set, ℤ, ◌==◌, ◌||◌}
 pub use mir.Syntax.{w64}
 pub use Rattle.handle_pool.specs.Issued.{Listed, any_listed, first_handle, is_full, issue, live_object, live_of, may_issue, retire, update}
 pub use Rattle.handle_pool.specs.Slots.{Inserts, IsFull, Slots, changed, free_slot, max_of, put, slot_value, without}
 pub use Rattle.handle_pool.specs.Walks.{HasLive, NoneLive, OneEach, SomeLive}
 pub use Rattle.mrapi_mutex.specs.Calls.{after_look, after_unlock}
-pub use Rattle.mrapi_shmem.specs.Calls.{after_attach, after_detach, after_write}
+pub use Rattle.mrapi_shmem.specs.Calls.{after_attach, after_detach}
 pub use Rattle.mtapi_machine.specs.KeyedRows.{Keyed, alters_one, creates_keyed, deletes, gets, keyed_mutexes, keyed_rwls, keyed_segments, keyed_sems, looks_one, mrapi, mrapi_open, mrapi_unless}
 pub use Rattle.mtapi_machine.specs.Moves.{Fields, Groups, Mutexes, Queues, Rwls, Segments, Sems, Sort, after_moves, all_of, alters, is_fresh, makes, notes, removes}
 pub use Rattle.mtapi_machine.specs.Row.{Allows, Row, after_row, creates, gives, live, not_yet, on, only, says, unless}

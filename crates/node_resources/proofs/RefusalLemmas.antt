@@ -39,12 +39,7 @@ module _ {T : Type 0} (size turns : ℕ) (p : Slots T) (l : List (Listed T)) (ke
   none_has : NoneLive (slot_value p) (λ x. key x ≡ id) → first by_id ≡ None
   none_has none = ap (λ (b : Bool). cond b (Some exists) None) (no_id size turns p l key id v none)
 
-  pub id_told : (o : Option MrapiStatus) → IfSome o (λ c. (c ≡ exists) × SomeLive (slot_value p) (λ x. key x ≡ id))
-      → (IsNone o → NoneLive (slot_value p) (λ x. key x ≡ id)) → first by_id ≡ o
-  id_told (Some c) some none = it_exists c some
-  id_told None some none = none_has (none refl)
-
-  -- the same after refusals of its own
+  -- what the pool tells of a create, after refusals of its own
   pub told_after : (cs : List (Bool × MrapiStatus)) (o : Option MrapiStatus)
       → IfSome o (λ c. (first cs ≡ Some c) ⊎ ((first cs ≡ None) × (c ≡ exists) × SomeLive (slot_value p) (λ x. key x ≡ id))) → (IsNone o → first cs ≡ None)
       → (IsNone o → NoneLive (slot_value p) (λ x. key x ≡ id)) → first (cs ++ by_id) ≡ o

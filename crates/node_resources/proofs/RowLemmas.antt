@@ -1,5 +1,5 @@
 -- What the rows of resources do, one lemma a shape of row, for every kind.
-use Rattle.node_resources.proofs.Names.{◌≡◌, ◌⊎◌, inl, inr, ℕ, Bool, true, false, ◌&&◌, cond, List, [], ◌∷◌, Option, Some, None, Result, Ok, Err, refl, sym, ◌∙◌, ap, subst, OnErr, OnOk, is_none, ◌==◌, option_map, MrapiStatus, Timeout, first, answer, is_got, Slots, slot_value, put, changed, without, Inserts, IsFull, SomeLive, NoneLive, HasLive, OneEach, Listed, live_object, update, retire, issue, any_listed, Reply, State, workers, is_open, is_up, Sort, Groups, Queues, Mutexes, Sems, Rwls, Segments, Fields, all_of, makes, alters, removes, is_fresh, Row, unless, gives, says, not_yet, only, Allows, after_row, live, on, creates, Keyed, mrapi, mrapi_open, mrapi_unless, creates_keyed, gets, alters_one, looks_one, deletes, Gate, HoldsList, IsAt, gate_refusals}
+use Rattle.node_resources.proofs.Names.{◌≡◌, ◌⊎◌, inl, inr, ℕ, Bool, true, false, ◌&&◌, cond, List, [], ◌∷◌, Option, Some, None, Result, Ok, Err, refl, sym, ◌∙◌, ap, subst, OnErr, OnOk, IfOk, IfErr, is_none, ◌==◌, option_map, MrapiStatus, Timeout, first, answer, is_got, Slots, slot_value, put, changed, without, Inserts, IsFull, SomeLive, NoneLive, HasLive, OneEach, Listed, live_object, update, retire, issue, any_listed, Reply, State, workers, is_open, is_up, Sort, Groups, Queues, Mutexes, Sems, Rwls, Segments, Fields, all_of, makes, alters, removes, is_fresh, Row, unless, gives, says, not_yet, only, Allows, after_row, live, on, creates, Keyed, mrapi, mrapi_open, mrapi_unless, creates_keyed, gets, alters_one, looks_one, deletes, Gate, HoldsList, IsAt, gate_refusals}
 use Rattle.std.specs.Result.{result_err}
 use Rattle.mtapi_values.specs.declared.looks.Look.{Look}
 use Rattle.mtapi_values.specs.declared.looks.Look.TheVariants.{Refused}
@@ -7,7 +7,7 @@ use Rattle.mtapi_values.specs.declared.handles.Layout.TheVariants.{One}
 use Rattle.mtapi_values.specs.declared.handles.ObjectKind.{ObjectKind}
 use Rattle.mtapi_values.specs.Layouts.{names_kind}
 use Rattle.mtapi_machine.specs.declared.replies.Reply.TheVariants as reply
-use Rattle.node_resources.specs.Replies.{done_reply, waits_reply, look_reply}
+use Rattle.node_resources.specs.Replies.{done_reply, given_reply, waits_reply, look_reply}
 use Rattle.node_resources.proofs.HoldsLemmas.{found, full_list, room_in, may_be, holds_insert, holds_changed, holds_remove, has_id, no_id, id_absent, id_found}
 
 -- the row allows the reply, and leads to a list of the kind for which these slots stand
@@ -185,10 +185,10 @@ module _ (k : Sort) (s : State) where
       waits true = stays (says (reply.Mrapi Timeout)) (reply.Mrapi Timeout) p v refl refl
       waits false = stays (says reply.Pending) reply.Pending p v refl refl
 
-      pub looks_does : (F : Fields k → Fields k) → ((x : Fields k) → is_got (answer (first (causes x)) (busy x) (value x)) ≡ true → F x ≡ f x)
-          → (l : Look X) (q : Slots (Fields k)) → l ≡ look_of (slot_value p h) → q ≡ changed p h F → (is_got l ≡ false → q ≡ p) →
-          Leads k s (looks_one k s h last causes busy (λ x. got (value x)) f) (look_reply got last l) q
-      looks_does F once l q reported becomes kept = rw reported (by_found (slot_value p h) refl (λ e. kept (ap is_got reported ∙ e)))
+      pub looks_does : (l : Look X) (q : Slots (Fields k)) → l ≡ look_of (slot_value p h)
+          → q ≡ changed p h (λ x. cond (is_got (answer (first (causes x)) (busy x) (value x))) (f x) x) → (is_got l ≡ false → q ≡ p)
+          → Leads k s (looks_one k s h last causes busy (λ x. got (value x)) f) (look_reply got last l) q
+      looks_does l q reported becomes kept = rw reported (by_found (slot_value p h) refl (λ e. kept (ap is_got reported ∙ e)))
         where
           by_busy : (x : Fields k) → slot_value p h ≡ Some x → first (causes x) ≡ None → (b : Bool) → busy x ≡ b
               → (is_got (answer None b (value x)) ≡ false → q ≡ p) → Leads k s (rest x) (look_reply got last (answer None b (value x))) q
@@ -198,7 +198,8 @@ module _ (k : Sort) (s : State) where
           by_busy x e free false is stay =
               subst (λ (c : Bool). Leads k s (cond c (not_yet last (reply.Mrapi Timeout)) (gives (got (value x)) (alters k h f ∷ []))) (got (value x)) q)
               (sym is)
-              (altered (got (value x)) F f x q e (once x (λ i. is_got (answer (free i) (is i) (value x)))) becomes)
+              (altered (got (value x)) (λ y. cond (is_got (answer (first (causes y)) (busy y) (value y))) (f y) y) f x q e
+              (λ i. cond (is_got (answer (free i) (is i) (value x))) (f x) x) becomes)
 
           by_causes : (x : Fields k) → slot_value p h ≡ Some x → (o : Option MrapiStatus) → first (causes x) ≡ o
               → (is_got (answer o (busy x) (value x)) ≡ false → q ≡ p)
@@ -249,7 +250,7 @@ module _ (k : Sort) (s : State) where
     created r n x = unless (any_listed (λ y. o.id y == n) ((all_of k).list s)) o.exists (creates (all_of k) s r (λ h. makes k h x))
 
     -- a new object, under the handle that the pool gives; with layout one a handle names no kind
-    pub creates_does : (x : Fields k) (n h : ℕ) (q : Slots (Fields k)) → o.id x ≡ n → NoneLive (slot_value p) (λ y. o.id y ≡ n) → (IsFull p → ⊥)
+    creates_does : (x : Fields k) (n h : ℕ) (q : Slots (Fields k)) → o.id x ≡ n → NoneLive (slot_value p) (λ y. o.id y ≡ n) → (IsFull p → ⊥)
         → Inserts p q h x → s.terms.layout ≡ One → Leads k s (creates_keyed o s (reply.Handle h) x) (reply.Handle h) q
     creates_does x n h q is none room i one = subst (λ (m : ℕ). Leads k s (created (reply.Handle h) m x) (reply.Handle h) q) (sym is) by_id
       where
@@ -271,11 +272,11 @@ module _ (k : Sort) (s : State) where
             (lets (is_fresh (all_of k) s h) _ (reply.Handle h) q may makes_it))
 
     -- none is made where a live one has the id, and where there is no room
-    abbrev pub MakesNone : MrapiStatus → MrapiStatus → ℕ → MrapiStatus → Type 0
+    abbrev MakesNone : MrapiStatus → MrapiStatus → ℕ → MrapiStatus → Type 0
     MakesNone exists limit n c = ((c ≡ exists) × SomeLive (slot_value p) (λ y. o.id y ≡ n))
         ⊎ ((c ≡ limit) × NoneLive (slot_value p) (λ y. o.id y ≡ n) × IsFull p)
 
-    pub refuses_does : (exists limit : MrapiStatus) → o.exists ≡ reply.Mrapi exists → (all_of k).limit ≡ reply.Mrapi limit
+    refuses_does : (exists limit : MrapiStatus) → o.exists ≡ reply.Mrapi exists → (all_of k).limit ≡ reply.Mrapi limit
         → (x : Fields k) (n : ℕ) (c : MrapiStatus) → o.id x ≡ n → MakesNone exists limit n c → Leads k s (creates_keyed o s (reply.Mrapi c) x) (reply.Mrapi c) p
     refuses_does exists limit is_exists is_limit x n c is why = rw is (by_why why)
       where
@@ -292,18 +293,30 @@ module _ (k : Sort) (s : State) where
             (met_one _ (all_of k).limit _ p (full_list _ _ p ((all_of k).list s) v full.2) v))
 
     -- the same after refusals of its own
-    pub refuses_within : (cs : List (Bool × MrapiStatus)) (exists limit : MrapiStatus) → o.exists ≡ reply.Mrapi exists → (all_of k).limit ≡ reply.Mrapi limit
+    refuses_within : (cs : List (Bool × MrapiStatus)) (exists limit : MrapiStatus) → o.exists ≡ reply.Mrapi exists → (all_of k).limit ≡ reply.Mrapi limit
         → (x : Fields k) (n : ℕ) (c : MrapiStatus) → o.id x ≡ n → (first cs ≡ Some c) ⊎ ((first cs ≡ None) × MakesNone exists limit n c)
         → Leads k s (mrapi_unless cs (creates_keyed o s (reply.Mrapi c) x)) (reply.Mrapi c) p
     refuses_within cs exists limit is_exists is_limit x n c is (inl e) = met cs c (creates_keyed o s (reply.Mrapi c) x) p e v
     refuses_within cs exists limit is_exists is_limit x n c is (inr e) =
         past cs (creates_keyed o s (reply.Mrapi c) x) (reply.Mrapi c) p e.0 (refuses_does exists limit is_exists is_limit x n c is e.1)
 
-    -- the handle of an id
-    pub gets_does : (n h : ℕ) → OneEach o.id p → HasLive p h (λ y. o.id y ≡ n) → Leads k s (gets o s n) (reply.Handle h) p
-    gets_does n h each has = rw (id_found _ _ p ((all_of k).list s) o.id n v h each has) (stays (says (reply.Handle h)) (reply.Handle h) p v refl refl)
+    -- a create, by what its call answers
+    pub makes_does : (exists limit : MrapiStatus) → o.exists ≡ reply.Mrapi exists → (all_of k).limit ≡ reply.Mrapi limit → (cs : List (Bool × MrapiStatus))
+        (x : Fields k) (n : ℕ) → o.id x ≡ n → s.terms.layout ≡ One → (r : Result ℕ MrapiStatus) (q : Slots (Fields k)) → OnOk r (first cs ≡ None)
+        → OnOk r (NoneLive (slot_value p) (λ y. o.id y ≡ n)) → OnOk r (IsFull p → ⊥) → IfOk r (λ h. Inserts p q h x)
+        → IfErr r (λ c. (first cs ≡ Some c) ⊎ ((first cs ≡ None) × MakesNone exists limit n c)) → OnErr r (q ≡ p)
+        → Leads k s (mrapi_unless cs (creates_keyed o s (given_reply r) x)) (given_reply r) q
+    makes_does exists limit is_exists is_limit cs x n is one (Ok h) q range none room made refused kept =
+        past cs (creates_keyed o s (reply.Handle h) x) (reply.Handle h) q range (creates_does x n h q is none room made one)
+    makes_does exists limit is_exists is_limit cs x n is one (Err c) q range none room made refused kept =
+        as_was (mrapi_unless cs (creates_keyed o s (reply.Mrapi c) x)) (reply.Mrapi c) p q kept
+        (refuses_within cs exists limit is_exists is_limit x n c is refused)
 
-    pub gets_none : (absent : MrapiStatus) → o.absent ≡ reply.Mrapi absent → (n : ℕ) (c : MrapiStatus) → c ≡ absent → NoneLive (slot_value p) (λ y. o.id y ≡ n)
-        → Leads k s (gets o s n) (reply.Mrapi c) p
-    gets_none absent is n c e none = rw (id_absent _ _ p ((all_of k).list s) o.id n v none)
-        (stays (says o.absent) (reply.Mrapi c) p v (ap reply.Mrapi e ∙ sym is) refl)
+    -- the handle of an id, by what a get answers
+    pub gets_does : (absent : MrapiStatus) → o.absent ≡ reply.Mrapi absent → (n : ℕ) (r : Result ℕ MrapiStatus) → OneEach o.id p
+        → IfOk r (λ h. HasLive p h (λ y. o.id y ≡ n)) → IfErr r (λ c. (c ≡ absent) × NoneLive (slot_value p) (λ y. o.id y ≡ n))
+        → Leads k s (gets o s n) (given_reply r) p
+    gets_does absent is n (Ok h) each has none =
+        rw (id_found _ _ p ((all_of k).list s) o.id n v h each has) (stays (says (reply.Handle h)) (reply.Handle h) p v refl refl)
+    gets_does absent is n (Err c) each has none = rw (id_absent _ _ p ((all_of k).list s) o.id n v none.1)
+        (stays (says o.absent) (reply.Mrapi c) p v (ap reply.Mrapi none.0 ∙ sym is) refl)

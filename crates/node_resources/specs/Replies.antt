@@ -12,6 +12,11 @@ abbrev pub done_reply : Result Unit MrapiStatus → Reply
 done_reply (Ok x) = reply.Ok
 done_reply (Err c) = reply.Mrapi c
 
+-- a call that answers a handle
+abbrev pub given_reply : Result ℕ MrapiStatus → Reply
+given_reply (Ok h) = reply.Handle h
+given_reply (Err c) = reply.Mrapi c
+
 -- a call that reads a number
 abbrev pub read_reply : Result ℤ MrapiStatus → Reply
 read_reply (Ok n) = reply.Number n

@@ -35,8 +35,8 @@ pub struct Resources {
     rwls: Rwls,
     segments: Segments,
     // The mutex and the segment that a tally on each seat found last.
-    tally_mutexes: [Option<MutexHandle>; 25],
-    tally_segments: [Option<ShmemHandle>; 25],
+    tally_mutexes: [Option<u64>; 25],
+    tally_segments: [Option<u64>; 25],
 }
 
 impl Model for Resources {
@@ -87,7 +87,7 @@ impl Resources {
     pub fn is_mutex(&self, mutex: MutexHandle) -> bool
         ensures { result ≡ is_some (slot_value self.now.mutexes mutex.0) }
     {
-        self.mutexes.is_live(mutex)
+        self.mutexes.is_live(mutex.0)
     }
 
     /// Tells how many semaphores are live.
@@ -101,7 +101,7 @@ impl Resources {
     pub fn is_sem(&self, sem: SemHandle) -> bool
         ensures { result ≡ is_some (slot_value self.now.sems sem.0) }
     {
-        self.sems.is_live(sem)
+        self.sems.is_live(sem.0)
     }
 
     /// Tells how many reader-writer locks are live.
@@ -115,7 +115,7 @@ impl Resources {
     pub fn is_rwl(&self, rwl: RwlHandle) -> bool
         ensures { result ≡ is_some (slot_value self.now.rwls rwl.0) }
     {
-        self.rwls.is_live(rwl)
+        self.rwls.is_live(rwl.0)
     }
 
     /// Tells how many segments are live.
@@ -129,6 +129,6 @@ impl Resources {
     pub fn is_segment(&self, shmem: ShmemHandle) -> bool
         ensures { result ≡ is_some (slot_value self.now.segments shmem.0) }
     {
-        self.segments.is_live(shmem)
+        self.segments.is_live(shmem.0)
     }
 }

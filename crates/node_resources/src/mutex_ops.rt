@@ -1,6 +1,6 @@
 //! The ops on mutexes.
 
-ghost use Rattle.std.specs.Prelude.{◌≡◌};
+ghost use Rattle.std.specs.Prelude.{◌≡◌, ◌<◌};
 ghost use Rattle.mtapi_machine.specs.declared.ops.Op.TheVariants as op;
 ghost use Rattle.mtapi_machine.specs.State.{State};
 ghost use Rattle.mtapi_values.specs.Conditions.{first};
@@ -10,7 +10,7 @@ ghost use Rattle.node_resources.specs.Steps.{Steps, IsAt};
 
 use crate::Resources;
 use crate::gate::Gate;
-use crate::replies::{done, looked_key};
+use crate::replies::{done, handle_given, looked_key};
 use mtapi_machine::Reply;
 use mtapi_values::{MrapiStatus, MutexHandle};
 
@@ -22,10 +22,7 @@ impl Resources {
         if let Some(status) = gate.open_refusal(who) {
             return Reply::Mrapi(status);
         }
-        match self.mutexes.create(id, recursive) {
-            Ok(mutex) => Reply::Handle(mutex.0),
-            Err(status) => Reply::Mrapi(status),
-        }
+        handle_given(self.mutexes.create(id, recursive))
     }
 
     /// Tells why `mutex_create` refuses, whether there is room or not. None where only want of room
@@ -36,7 +33,7 @@ impl Resources {
         if let Some(status) = gate.open_refusal(who) {
             return Some(status);
         }
-        self.mutexes.create_refusal(id)
+        self.mutexes.create_refusal(id, &false)
     }
 
     /// The handle of the live mutex of an id, and MUTEX_ID_INVALID where there is none.
@@ -46,10 +43,7 @@ impl Resources {
         if let Some(status) = gate.refusal(who) {
             return Reply::Mrapi(status);
         }
-        match self.mutexes.get(id) {
-            Ok(mutex) => Reply::Handle(mutex.0),
-            Err(status) => Reply::Mrapi(status),
-        }
+        handle_given(self.mutexes.get(id))
     }
 
     /// Gives up a mutex: MUTEX_INVALID where the handle names none, and MUTEX_LOCKED while a seat owns it.
@@ -59,28 +53,30 @@ impl Resources {
         if let Some(status) = gate.open_refusal(who) {
             return Reply::Mrapi(status);
         }
-        done(self.mutexes.delete(mutex))
+        done(self.mutexes.delete(mutex.0))
     }
 
-    /// One look of a seat that wants a mutex: the key, 1 to 64, where it gets it, and MUTEX_LOCKED where it owns it and may not lock it
+    /// One look of a seat, below 25, that wants a mutex: the key, 1 to 64, where it gets it, and MUTEX_LOCKED where it owns it and may not lock it
     /// once more. While another seat owns it the look is to be asked again, and `last` tells that it won't be.
     pub fn mutex_look(&mut self, gate: Gate, who: u32, mutex: MutexHandle, last: bool) -> Reply
+        requires seat { who < 25 }
         ensures { Steps self.old gate who (op.MutexLook mutex last) result self.new }
     {
         if let Some(status) = gate.refusal(who) {
             return Reply::Mrapi(status);
         }
-        looked_key(self.mutexes.look(mutex, who), last)
+        looked_key(self.mutexes.look(mutex.0, who, ()), last)
     }
 
-    /// Takes the last key of a mutex back: MUTEX_NOTLOCKED for a seat that doesn't own it, MUTEX_KEY for a key that isn't out, and
+    /// Takes the last key of a mutex back from a seat, below 25: MUTEX_NOTLOCKED for a seat that doesn't own it, MUTEX_KEY for a key that isn't out, and
     /// MUTEX_LOCKORDER for one that isn't the last.
     pub fn mutex_unlock(&mut self, gate: Gate, who: u32, mutex: MutexHandle, key: u32) -> Reply
+        requires seat { who < 25 }
         ensures { Steps self.old gate who (op.MutexUnlock mutex key) result self.new }
     {
         if let Some(status) = gate.refusal(who) {
             return Reply::Mrapi(status);
         }
-        done(self.mutexes.unlock(mutex, who, key))
+        done(self.mutexes.change(mutex.0, who, key))
     }
 }

@@ -1,7 +1,7 @@
 //! The replies of calls on one object.
 
 ghost use Rattle.std.specs.Prelude.{◌≡◌};
-ghost use Rattle.node_resources.specs.Replies.{done_reply, looked_reply, key_reply, waits_reply, read_reply};
+ghost use Rattle.node_resources.specs.Replies.{done_reply, given_reply, looked_reply, key_reply, waits_reply, read_reply};
 
 use mtapi_machine::Reply;
 use mtapi_values::{Look, MrapiStatus};
@@ -12,6 +12,16 @@ pub(crate) fn done(answer: Result<(), MrapiStatus>) -> Reply
 {
     match answer {
         Ok(()) => Reply::Ok,
+        Err(status) => Reply::Mrapi(status),
+    }
+}
+
+/// The reply of a call that answers a handle.
+pub(crate) fn handle_given(answer: Result<u64, MrapiStatus>) -> Reply
+    ensures { result ≡ given_reply answer }
+{
+    match answer {
+        Ok(handle) => Reply::Handle(handle),
         Err(status) => Reply::Mrapi(status),
     }
 }

@@ -10,7 +10,7 @@ ghost use Rattle.node_resources.specs.Steps.{Steps, IsAt};
 
 use crate::Resources;
 use crate::gate::Gate;
-use crate::replies::{done, looked};
+use crate::replies::{done, handle_given, looked};
 use mtapi_machine::Reply;
 use mtapi_values::{MrapiStatus, RwlHandle};
 
@@ -23,10 +23,7 @@ impl Resources {
         if let Some(status) = gate.open_refusal(who) {
             return Reply::Mrapi(status);
         }
-        match self.rwls.create(id, limit) {
-            Ok(rwl) => Reply::Handle(rwl.0),
-            Err(status) => Reply::Mrapi(status),
-        }
+        handle_given(self.rwls.create(id, limit))
     }
 
     /// Tells why `rwl_create` refuses, whether there is room or not. None where only want of room
@@ -37,7 +34,7 @@ impl Resources {
         if let Some(status) = gate.open_refusal(who) {
             return Some(status);
         }
-        self.rwls.create_refusal(id, limit)
+        self.rwls.create_refusal(id, &limit)
     }
 
     /// The handle of the live lock of an id, and RWL_ID_INVALID where there is none.
@@ -47,10 +44,7 @@ impl Resources {
         if let Some(status) = gate.refusal(who) {
             return Reply::Mrapi(status);
         }
-        match self.rwls.get(id) {
-            Ok(rwl) => Reply::Handle(rwl.0),
-            Err(status) => Reply::Mrapi(status),
-        }
+        handle_given(self.rwls.get(id))
     }
 
     /// Gives up a lock: RWL_INVALID where the handle names none, and RWL_LOCKED while a seat holds it.
@@ -60,7 +54,7 @@ impl Resources {
         if let Some(status) = gate.open_refusal(who) {
             return Reply::Mrapi(status);
         }
-        done(self.rwls.delete(rwl))
+        done(self.rwls.delete(rwl.0))
     }
 
     /// One look of a seat, below 25, that wants to hold a lock, as the writer or as a reader: RWL_LOCKED where it holds it already.
@@ -79,7 +73,7 @@ impl Resources {
         if let Some(status) = gate.refusal(who) {
             return Reply::Mrapi(status);
         }
-        looked(self.rwls.look(rwl, who, writer), last)
+        looked(self.rwls.look(rwl.0, who, writer), last)
     }
 
     /// Gives back the hold of a seat, below 25: RWL_NOTLOCKED where it doesn't hold the lock in this mode.
@@ -90,6 +84,6 @@ impl Resources {
         if let Some(status) = gate.refusal(who) {
             return Reply::Mrapi(status);
         }
-        done(self.rwls.unlock(rwl, who, writer))
+        done(self.rwls.change(rwl.0, who, writer))
     }
 }

@@ -10,7 +10,7 @@ ghost use Rattle.node_resources.specs.Steps.{Steps, IsAt};
 
 use crate::Resources;
 use crate::gate::Gate;
-use crate::replies::{done, looked};
+use crate::replies::{done, handle_given, looked};
 use mtapi_machine::Reply;
 use mtapi_values::{MrapiStatus, SemHandle};
 
@@ -23,10 +23,7 @@ impl Resources {
         if let Some(status) = gate.open_refusal(who) {
             return Reply::Mrapi(status);
         }
-        match self.sems.create(id, limit) {
-            Ok(sem) => Reply::Handle(sem.0),
-            Err(status) => Reply::Mrapi(status),
-        }
+        handle_given(self.sems.create(id, limit))
     }
 
     /// Tells why `sem_create` refuses, whether there is room or not. None where only want of room
@@ -37,7 +34,7 @@ impl Resources {
         if let Some(status) = gate.open_refusal(who) {
             return Some(status);
         }
-        self.sems.create_refusal(id, limit)
+        self.sems.create_refusal(id, &limit)
     }
 
     /// The handle of the live semaphore of an id, and SEM_ID_INVALID where there is none.
@@ -47,10 +44,7 @@ impl Resources {
         if let Some(status) = gate.refusal(who) {
             return Reply::Mrapi(status);
         }
-        match self.sems.get(id) {
-            Ok(sem) => Reply::Handle(sem.0),
-            Err(status) => Reply::Mrapi(status),
-        }
+        handle_given(self.sems.get(id))
     }
 
     /// Gives up a semaphore: SEM_INVALID where the handle names none, and SEM_LOCKED while a seat holds it.
@@ -60,7 +54,7 @@ impl Resources {
         if let Some(status) = gate.open_refusal(who) {
             return Reply::Mrapi(status);
         }
-        done(self.sems.delete(sem))
+        done(self.sems.delete(sem.0))
     }
 
     /// One look of a seat, below 25, that wants to hold a semaphore once more. While it is held as often as it may be the look is to be
@@ -72,7 +66,7 @@ impl Resources {
         if let Some(status) = gate.refusal(who) {
             return Reply::Mrapi(status);
         }
-        looked(self.sems.look(sem, who), last)
+        looked(self.sems.look(sem.0, who, ()), last)
     }
 
     /// Gives back one hold of a seat, below 25: SEM_NOTLOCKED where it has none.
@@ -83,6 +77,6 @@ impl Resources {
         if let Some(status) = gate.refusal(who) {
             return Reply::Mrapi(status);
         }
-        done(self.sems.unlock(sem, who))
+        done(self.sems.change(sem.0, who, ()))
     }
 }

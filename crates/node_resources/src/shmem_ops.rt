@@ -10,7 +10,8 @@ ghost use Rattle.node_resources.specs.Steps.{Steps, IsAt};
 
 use crate::Resources;
 use crate::gate::Gate;
-use crate::replies::{done, number_read};
+use crate::replies::{done, handle_given, number_read};
+use mrapi_shmem::SegmentChange;
 use mtapi_machine::Reply;
 use mtapi_values::{MrapiStatus, ShmemHandle};
 
@@ -23,10 +24,7 @@ impl Resources {
         if let Some(status) = gate.open_refusal(who) {
             return Reply::Mrapi(status);
         }
-        match self.segments.create(id, cells) {
-            Ok(shmem) => Reply::Handle(shmem.0),
-            Err(status) => Reply::Mrapi(status),
-        }
+        handle_given(self.segments.create(id, cells))
     }
 
     /// Tells why `shmem_create` refuses, whether there is room or not. None where only want of room
@@ -37,7 +35,7 @@ impl Resources {
         if let Some(status) = gate.open_refusal(who) {
             return Some(status);
         }
-        self.segments.create_refusal(id, cells)
+        self.segments.create_refusal(id, &cells)
     }
 
     /// The handle of the live segment of an id, and SHM_ID_INVALID where there is none.
@@ -47,10 +45,7 @@ impl Resources {
         if let Some(status) = gate.refusal(who) {
             return Reply::Mrapi(status);
         }
-        match self.segments.get(id) {
-            Ok(shmem) => Reply::Handle(shmem.0),
-            Err(status) => Reply::Mrapi(status),
-        }
+        handle_given(self.segments.get(id))
     }
 
     /// Gives up a segment: SHM_INVALID where the handle names none, and SHM_ATTACHED while a seat is attached.
@@ -60,7 +55,7 @@ impl Resources {
         if let Some(status) = gate.open_refusal(who) {
             return Reply::Mrapi(status);
         }
-        done(self.segments.delete(shmem))
+        done(self.segments.delete(shmem.0))
     }
 
     /// Attaches a seat, below 25: SHM_ATTACHED where it is attached.
@@ -71,7 +66,7 @@ impl Resources {
         if let Some(status) = gate.refusal(who) {
             return Reply::Mrapi(status);
         }
-        done(self.segments.attach(shmem, who))
+        done(self.segments.change(shmem.0, who, SegmentChange::Attach))
     }
 
     /// Detaches a seat, below 25: SHM_NOTATTACHED where it isn't attached.
@@ -82,7 +77,7 @@ impl Resources {
         if let Some(status) = gate.refusal(who) {
             return Reply::Mrapi(status);
         }
-        done(self.segments.detach(shmem, who))
+        done(self.segments.change(shmem.0, who, SegmentChange::Detach))
     }
 
     /// The number in a cell, counted from 0, for a seat, below 25: SHM_NOTATTACHED where it isn't attached, and PARAMETER where there is
@@ -94,7 +89,7 @@ impl Resources {
         if let Some(status) = gate.refusal(who) {
             return Reply::Mrapi(status);
         }
-        number_read(self.segments.read(shmem, who, cell))
+        number_read(mrapi_shmem::read(&self.segments, shmem.0, who, cell))
     }
 
     /// Puts a number into a cell, counted from 0, for a seat, below 25: SHM_NOTATTACHED where it isn't attached, and PARAMETER where
@@ -113,6 +108,7 @@ impl Resources {
         if let Some(status) = gate.refusal(who) {
             return Reply::Mrapi(status);
         }
-        done(self.segments.write(shmem, who, cell, value))
+        let change = SegmentChange::Write { cell, value };
+        done(self.segments.change(shmem.0, who, change))
     }
 }

@@ -14,6 +14,8 @@ ghost use Rattle.node_resources.specs.Holds.{Stands};
 ghost use Rattle.node_resources.specs.Tallies.{Locks};
 
 use crate::Resources;
+use mrapi_pool::Resource;
+use mrapi_shmem::SegmentChange;
 use mtapi_values::{MutexHandle, ShmemHandle};
 
 /// What a tally is told that wants its mutex and its segment.
@@ -61,7 +63,7 @@ impl Resources {
             .mutexes
             .find_again(self.tally_mutexes[who as usize], id);
         self.tally_mutexes[who as usize] = mutex;
-        mutex
+        Some(MutexHandle(mutex?))
     }
 
     // The same of a segment.
@@ -76,7 +78,7 @@ impl Resources {
             .segments
             .find_again(self.tally_segments[who as usize], id);
         self.tally_segments[who as usize] = segment;
-        segment
+        Some(ShmemHandle(segment?))
     }
 
     // Whether a live segment has the cell.
@@ -84,14 +86,20 @@ impl Resources {
         ensures { (y : Segment) → slot_value self.now.segments segment.0 ≡ Some y
             → nat_lt cell (length y.cells) ≡ result }
     {
-        self.segments.cell_count(segment).unwrap_or(0) as u64 > cell
+        match self.segments.object(segment.0) {
+            Some(segment) => segment.cell_count() as u64 > cell,
+            None => false,
+        }
     }
 
     // Whether a seat owns a live mutex.
     fn is_owned(&self, mutex: MutexHandle) -> bool
         ensures { (x : Mutex) → slot_value self.now.mutexes mutex.0 ≡ Some x → is_some x.owner ≡ result }
     {
-        self.mutexes.is_owned(mutex).unwrap_or(false)
+        match self.mutexes.object(mutex.0) {
+            Some(mutex) => mutex.is_held(),
+            None => false,
+        }
     }
 
     // Has a seat own a free mutex and attaches it to a segment.
@@ -100,8 +108,8 @@ impl Resources {
         requires free { (x : Mutex) → slot_value self.old.mutexes mutex.0 ≡ Some x → is_some x.owner ≡ false }
         ensures { self.new ≡ record self.old { mutexes = changed self.old.mutexes mutex.0 (locked_by who); segments = changed self.old.segments segment.0 (with_attached who true) } }
     {
-        let _ = self.mutexes.look(mutex, who);
-        let _ = self.segments.attach(segment, who);
+        let _ = self.mutexes.look(mutex.0, who, ());
+        let _ = self.segments.change(segment.0, who, SegmentChange::Attach);
     }
 
     /// The number in a cell of a tally's segment; 0 where the segment isn't live.
@@ -111,7 +119,10 @@ impl Resources {
         ensures reads { (s : State) (y : Segment) → Stands s self.now → live_object s.segments segment.0 ≡ Some y
             → result ≡ cell_of cell y }
     {
-        self.segments.number(segment, cell).unwrap_or(0)
+        match self.segments.object(segment.0) {
+            Some(segment) => segment.number(cell),
+            None => 0,
+        }
     }
 
     /// Puts a number into a cell of a tally's segment.
@@ -119,7 +130,8 @@ impl Resources {
         ensures { (s : State) → Stands s self.old
             → Stands (after_moves (alters Segments segment.0 (with_cell cell value) ∷ []) s) self.new }
     {
-        self.segments.set_number(segment, cell, value);
+        let change = SegmentChange::Put { cell, value };
+        let _ = self.segments.change(segment.0, 0, change);
     }
 
     /// Takes the mutex and the segment of a tally back from the worker `who`, below 25, which owns the mutex once. What the worker
@@ -131,7 +143,7 @@ impl Resources {
             → x.owner ≡ Some who → x.depth ≡ 1
             → Stands (after_moves (alters Segments segment.0 (with_attached who false) ∷ alters Mutexes mutex.0 unlocked ∷ []) s) self.new }
     {
-        let _ = self.segments.detach(segment, who);
-        let _ = self.mutexes.unlock(mutex, who, 1);
+        let _ = self.segments.change(segment.0, who, SegmentChange::Detach);
+        let _ = self.mutexes.change(mutex.0, who, 1);
     }
 }

@@ -6,11 +6,11 @@ use std::test::Fail;
 fn a_semaphore_is_held_up_to_its_limit(rt: HostRuntime) -> Result<(), Fail> {
     let mut sems = Sems::new(rt.alloc(), 2, 10)?;
     let s = sems.create(1, 1).ok().ok_or("refused")?;
-    assert!(rt; sems.look(s, 0) == Look::Got(()));
-    assert!(rt; sems.look(s, 1) == Look::Busy);
-    assert!(rt; sems.unlock(s, 1) == Err(MrapiStatus::ErrSemNotlocked));
-    assert!(rt; sems.unlock(s, 0) == Ok(()));
-    assert!(rt; sems.look(s, 24) == Look::Got(()));
+    assert!(rt; sems.look(s, 0, ()) == Look::Got(()));
+    assert!(rt; sems.look(s, 1, ()) == Look::Busy);
+    assert!(rt; sems.change(s, 1, ()) == Err(MrapiStatus::ErrSemNotlocked));
+    assert!(rt; sems.change(s, 0, ()) == Ok(()));
+    assert!(rt; sems.look(s, 24, ()) == Look::Got(()));
     Ok(())
 }
 
@@ -24,12 +24,12 @@ fn one_place_has_one_semaphore(rt: HostRuntime) -> Result<(), Fail> {
     assert!(rt; sems.create(1, 1) == Err(MrapiStatus::ErrSemExists));
     assert!(rt; sems.create(2, 1) == Err(MrapiStatus::ErrSemLimit));
     assert!(rt; sems.get(1) == Ok(s));
-    assert!(rt; sems.look(s, 7) == Look::Got(()));
+    assert!(rt; sems.look(s, 7, ()) == Look::Got(()));
     assert!(rt; sems.delete(s) == Err(MrapiStatus::ErrSemLocked));
-    assert!(rt; sems.unlock(s, 7) == Ok(()));
+    assert!(rt; sems.change(s, 7, ()) == Ok(()));
     assert!(rt; sems.delete(s) == Ok(()));
     assert!(rt; sems.delete(s) == Err(MrapiStatus::ErrSemInvalid));
-    assert!(rt; sems.look(s, 7) == Look::Refused(MrapiStatus::ErrSemInvalid));
+    assert!(rt; sems.look(s, 7, ()) == Look::Refused(MrapiStatus::ErrSemInvalid));
     Ok(())
 }
 
@@ -41,14 +41,14 @@ fn readers_and_a_writer_keep_apart(rt: HostRuntime) -> Result<(), Fail> {
     assert!(rt; rwls.look(r, 1, true) == Look::Busy);
     assert!(rt; rwls.look(r, 1, false) == Look::Busy);
     assert!(rt; rwls.look(r, 0, false) == Look::Refused(MrapiStatus::ErrRwlLocked));
-    assert!(rt; rwls.unlock(r, 0, true) == Err(MrapiStatus::ErrRwlNotlocked));
-    assert!(rt; rwls.unlock(r, 0, false) == Ok(()));
+    assert!(rt; rwls.change(r, 0, true) == Err(MrapiStatus::ErrRwlNotlocked));
+    assert!(rt; rwls.change(r, 0, false) == Ok(()));
     assert!(rt; rwls.look(r, 1, true) == Look::Got(()));
     assert!(rt; rwls.look(r, 0, false) == Look::Busy);
     assert!(rt; rwls.look(r, 0, true) == Look::Busy);
-    assert!(rt; rwls.unlock(r, 0, true) == Err(MrapiStatus::ErrRwlNotlocked));
+    assert!(rt; rwls.change(r, 0, true) == Err(MrapiStatus::ErrRwlNotlocked));
     assert!(rt; rwls.delete(r) == Err(MrapiStatus::ErrRwlLocked));
-    assert!(rt; rwls.unlock(r, 1, true) == Ok(()));
+    assert!(rt; rwls.change(r, 1, true) == Ok(()));
     assert!(rt; rwls.delete(r) == Ok(()));
     Ok(())
 }
@@ -65,8 +65,8 @@ fn one_place_has_one_lock(rt: HostRuntime) -> Result<(), Fail> {
     assert!(rt; rwls.get(1) == Ok(r));
     assert!(rt; rwls.look(r, 24, false) == Look::Got(()));
     assert!(rt; rwls.delete(r) == Err(MrapiStatus::ErrRwlLocked));
-    assert!(rt; rwls.unlock(r, 24, false) == Ok(()));
+    assert!(rt; rwls.change(r, 24, false) == Ok(()));
     assert!(rt; rwls.delete(r) == Ok(()));
-    assert!(rt; rwls.unlock(r, 24, false) == Err(MrapiStatus::ErrRwlInvalid));
+    assert!(rt; rwls.change(r, 24, false) == Err(MrapiStatus::ErrRwlInvalid));
     Ok(())
 }

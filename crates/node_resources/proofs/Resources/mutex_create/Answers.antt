@@ -1,28 +1,15 @@
-use Rattle.node_resources.proofs.Names.{refl, sym, ◌∙◌, subst, ErrMutexExists, ErrMutexLimit, new_mutex, keyed_mutexes, Mutexes, ResourceTable, Stands, the_view}
+use Rattle.node_resources.proofs.Names.{refl, sym, ◌∙◌, [], ErrMutexExists, ErrMutexLimit, new_mutex, keyed_mutexes, Mutexes, the_view}
 use Rattle.mtapi_machine.specs.declared.ops.Op.TheVariants as op
 use Rattle.node_resources.proofs.KindSteps.{kind_does}
-use Rattle.node_resources.proofs.RowLemmas.{as_was, past_open, creates_does, refuses_does}
+use Rattle.node_resources.proofs.RowLemmas.{past_open, makes_does}
 use Rattle.node_resources.proofs.Resources.mutex_create.Goals as goal
-use Rattle.node_resources.proofs.Resources.mutex_create.Goals.{in-Ok, in-Err}
 
 pub returns : goal.returns
 returns c s a v =
-    let t = subst (λ (t : ResourceTable). Stands s t) (sym c.self.view_is) v in
-    let p = c.self.inside.mutexes in
-    let x = new_mutex c.args.id c.args.recursive in
-    let g = sym c.in_default.is ∙ c.open_refusal.ensures in
-    elim c.match-create.branch [
-      | in-Ok w ↦
-          kind_does Mutexes tt s c.args.who (op.MutexCreate c.args.id c.args.recursive) _
-          (the_view c.self.inside) t c.match-create.result c.create.new.self w.result-is
-          (past_open Mutexes s c.args.gate c.args.who a _ _ _ g
-          (creates_does Mutexes s keyed_mutexes p t.mutexes x c.args.id w.in-Ok.mutex.0 c.create.new.self refl w.in-Ok.ensures.new_id w.in-Ok.ensures.room
-          w.in-Ok.ensures.made a.layout))
-      | in-Err w ↦
-          kind_does Mutexes tt s c.args.who (op.MutexCreate c.args.id c.args.recursive) _
-          (the_view c.self.inside) t c.match-create.result c.create.new.self w.result-is
-          (past_open Mutexes s c.args.gate c.args.who a _ _ _ g
-          (as_was Mutexes s _ _ p c.create.new.self w.in-Err.ensures.unchanged
-          (refuses_does Mutexes s keyed_mutexes p t.mutexes ErrMutexExists ErrMutexLimit refl refl x c.args.id w.in-Err.status refl
-          w.in-Err.ensures.refused)))
-    ]
+    let w = rw (← c.self.view_is) at v in
+    kind_does Mutexes tt s c.args.who (op.MutexCreate c.args.id c.args.recursive) _
+    (the_view c.self.inside) w c.handle_given.result c.create.new.self c.handle_given.ensures
+    (past_open Mutexes s c.args.gate c.args.who a _ _ _ (sym c.in_default.is
+    ∙ c.open_refusal.ensures) (makes_does Mutexes s keyed_mutexes c.self.inside.mutexes w.mutexes ErrMutexExists ErrMutexLimit refl refl []
+    (new_mutex c.args.id c.args.recursive) c.args.id refl a.layout c.create.result c.create.new.self c.create.ensures.in_range c.create.ensures.new_id
+    c.create.ensures.room c.create.ensures.made c.create.ensures.refused c.create.ensures.unchanged))

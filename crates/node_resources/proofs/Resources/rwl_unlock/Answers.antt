@@ -7,7 +7,7 @@ use Rattle.node_resources.proofs.Resources.rwl_unlock.Goals as goal
 pub returns : goal.returns
 returns c s a v =
     let w = rw (← c.self.view_is) at v in
-    kind_does Rwls tt s c.args.who (op.RwlUnlock c.args.rwl c.args.writer) _ (the_view c.self.inside) w c.done.result c.unlock.new.self c.done.ensures
+    kind_does Rwls tt s c.args.who (op.RwlUnlock c.args.rwl c.args.writer) _ (the_view c.self.inside) w c.done.result c.change.new.self c.done.ensures
     (past_up Rwls s c.args.gate c.args.who a _ _ _ (sym c.in_default.is
     ∙ c.refusal.ensures) (alters_does Rwls s c.self.inside.rwls w.rwls ErrRwlInvalid refl c.args.rwl.0 (rwl_unlock_refusals c.args.who c.args.writer)
-    (rwl_given c.args.who c.args.writer) c.unlock.result c.unlock.new.self c.unlock.ensures.refused c.unlock.ensures.new c.unlock.ensures.unchanged))
+    (rwl_given c.args.who c.args.writer) c.change.result c.change.new.self c.change.ensures.refused c.change.ensures.new c.change.ensures.unchanged))

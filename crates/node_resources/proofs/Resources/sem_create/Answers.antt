@@ -1,27 +1,15 @@
-use Rattle.node_resources.proofs.Names.{refl, sym, ◌∙◌, subst, ErrSemExists, ErrSemLimit, new_sem, sem_create_refusals, keyed_sems, Sems, ResourceTable, Stands, the_view}
+use Rattle.node_resources.proofs.Names.{refl, sym, ◌∙◌, sem_create_refusals, ErrSemExists, ErrSemLimit, new_sem, keyed_sems, Sems, the_view}
 use Rattle.mtapi_machine.specs.declared.ops.Op.TheVariants as op
 use Rattle.node_resources.proofs.KindSteps.{kind_does}
-use Rattle.node_resources.proofs.RowLemmas.{as_was, past, past_open, creates_does, refuses_within}
+use Rattle.node_resources.proofs.RowLemmas.{past_open, makes_does}
 use Rattle.node_resources.proofs.Resources.sem_create.Goals as goal
-use Rattle.node_resources.proofs.Resources.sem_create.Goals.{in-Ok, in-Err}
 
 pub returns : goal.returns
 returns c s a v =
-    let t = subst (λ (t : ResourceTable). Stands s t) (sym c.self.view_is) v in
-    let p = c.self.inside.sems in
-    let x = new_sem c.args.id c.args.limit in
-    let g = sym c.in_default.is ∙ c.open_refusal.ensures in
-    elim c.match-create.branch [
-      | in-Ok w ↦
-          kind_does Sems tt s c.args.who (op.SemCreate c.args.id c.args.limit) _ (the_view c.self.inside) t c.match-create.result c.create.new.self w.result-is
-          (past_open Sems s c.args.gate c.args.who a _ _ _ g
-          (past Sems s (sem_create_refusals c.args.limit) _ _ _ w.in-Ok.ensures.in_range
-          (creates_does Sems s keyed_sems p t.sems x c.args.id w.in-Ok.sem.0 c.create.new.self refl w.in-Ok.ensures.new_id w.in-Ok.ensures.room
-          w.in-Ok.ensures.made a.layout)))
-      | in-Err w ↦
-          kind_does Sems tt s c.args.who (op.SemCreate c.args.id c.args.limit) _ (the_view c.self.inside) t c.match-create.result c.create.new.self w.result-is
-          (past_open Sems s c.args.gate c.args.who a _ _ _ g
-          (as_was Sems s _ _ p c.create.new.self w.in-Err.ensures.unchanged
-          (refuses_within Sems s keyed_sems p t.sems
-          (sem_create_refusals c.args.limit) ErrSemExists ErrSemLimit refl refl x c.args.id w.in-Err.status refl w.in-Err.ensures.refused)))
-    ]
+    let w = rw (← c.self.view_is) at v in
+    kind_does Sems tt s c.args.who (op.SemCreate c.args.id c.args.limit) _
+    (the_view c.self.inside) w c.handle_given.result c.create.new.self c.handle_given.ensures
+    (past_open Sems s c.args.gate c.args.who a _ _ _ (sym c.in_default.is
+    ∙ c.open_refusal.ensures) (makes_does Sems s keyed_sems c.self.inside.sems w.sems ErrSemExists ErrSemLimit refl refl (sem_create_refusals c.args.limit)
+    (new_sem c.args.id c.args.limit) c.args.id refl a.layout c.create.result c.create.new.self c.create.ensures.in_range c.create.ensures.new_id
+    c.create.ensures.room c.create.ensures.made c.create.ensures.refused c.create.ensures.unchanged))

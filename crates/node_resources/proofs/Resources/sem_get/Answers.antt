@@ -1,14 +1,14 @@
 use Rattle.node_resources.proofs.Names.{refl, sym, ◌∙◌, ErrSemIdInvalid, keyed_sems, Sems, the_view}
 use Rattle.mtapi_machine.specs.declared.ops.Op.TheVariants as op
-use Rattle.node_resources.proofs.KindSteps.{got, got_none}
+use Rattle.node_resources.proofs.KindSteps.{kind_does}
+use Rattle.node_resources.proofs.RowLemmas.{past_up, gets_does}
 use Rattle.node_resources.proofs.Resources.sem_get.Goals as goal
 
-pub returns-in-Ok : goal.returns-in-Ok
-returns-in-Ok c s a v =
-    got Sems tt s c.args.who (op.SemGet c.args.id) keyed_sems c.args.gate a (the_view c.self.inside) c.args.self.now c.self.view_is v c.args.id (λ r. refl)
-    (sym c.in_default.is ∙ c.refusal.ensures) c.in-Ok.sem.0 c.in-Ok.ensures.only c.in-Ok.ensures.found
-
-pub returns-in-Err : goal.returns-in-Err
-returns-in-Err c s a v =
-    got_none Sems tt s c.args.who (op.SemGet c.args.id) keyed_sems c.args.gate a (the_view c.self.inside) c.args.self.now c.self.view_is v c.args.id (λ r. refl)
-    (sym c.in_default.is ∙ c.refusal.ensures) ErrSemIdInvalid refl c.in-Err.status c.in-Err.ensures.absent
+pub returns : goal.returns
+returns c s a v =
+    let w = rw (← c.self.view_is) at v in
+    rw (← c.self.view_is) (kind_does Sems tt s c.args.who (op.SemGet c.args.id) _
+    (the_view c.self.inside) w c.handle_given.result c.self.inside.sems c.handle_given.ensures
+    (past_up Sems s c.args.gate c.args.who a _ _ _ (sym c.in_default.is
+    ∙ c.refusal.ensures) (gets_does Sems s keyed_sems c.self.inside.sems w.sems ErrSemIdInvalid refl c.args.id c.get.result c.get.ensures.only
+    c.get.ensures.found c.get.ensures.absent)))

@@ -1,14 +1,9 @@
-use Rattle.node_resources.proofs.Names.{◌≡◌, Bool, true, false, cond, refl, sym, ◌∙◌, [], None, ErrSemInvalid, Sem, sem_busy, sem_taken, Sems, the_view, answer, is_got, ℕ}
-use Rattle.mrapi_counting.specs.SemCalls.{sem_after_look}
+use Rattle.node_resources.proofs.Names.{[], refl, sym, ◌∙◌, ErrSemInvalid, sem_busy, sem_taken, Sems, the_view}
 use Rattle.mtapi_machine.specs.declared.replies.Reply.TheVariants as reply
 use Rattle.mtapi_machine.specs.declared.ops.Op.TheVariants as op
 use Rattle.node_resources.proofs.KindSteps.{kind_does}
 use Rattle.node_resources.proofs.RowLemmas.{past_up, looks_does}
 use Rattle.node_resources.proofs.Resources.sem_look.Goals as goal
-
-takes : (who : ℕ) (x : Sem) (b : Bool) → is_got (answer None b (tt {0})) ≡ true → cond b x (sem_taken who x) ≡ sem_taken who x
-takes who x true e = absurd (cc)
-takes who x false e = refl
 
 pub returns : goal.returns
 returns c s a v =
@@ -16,5 +11,4 @@ returns c s a v =
     kind_does Sems tt s c.args.who (op.SemLook c.args.sem c.args.last) _ (the_view c.self.inside) w c.looked.result c.look.new.self c.looked.ensures
     (past_up Sems s c.args.gate c.args.who a _ _ _ (sym c.in_default.is
     ∙ c.refusal.ensures) (looks_does Sems s c.self.inside.sems w.sems ErrSemInvalid refl c.args.sem.0 (λ u. reply.Ok) (λ x. tt) (λ x. []) sem_busy
-    (sem_taken c.args.who) c.args.last (sem_after_look c.args.who)
-    (λ x e. takes c.args.who x (sem_busy x) e) c.look.result c.look.new.self c.look.ensures.reply c.look.ensures.new c.look.ensures.unchanged))
+    (sem_taken c.args.who) c.args.last c.look.result c.look.new.self c.look.ensures.reply c.look.ensures.new c.look.ensures.unchanged))

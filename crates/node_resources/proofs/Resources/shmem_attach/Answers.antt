@@ -7,7 +7,7 @@ use Rattle.node_resources.proofs.Resources.shmem_attach.Goals as goal
 pub returns : goal.returns
 returns c s a v =
     let w = rw (← c.self.view_is) at v in
-    kind_does Segments tt s c.args.who (op.ShmemAttach c.args.shmem) _ (the_view c.self.inside) w c.done.result c.attach.new.self c.done.ensures
+    kind_does Segments tt s c.args.who (op.ShmemAttach c.args.shmem) _ (the_view c.self.inside) w c.done.result c.change.new.self c.done.ensures
     (past_up Segments s c.args.gate c.args.who a _ _ _ (sym c.in_default.is
     ∙ c.refusal.ensures) (alters_does Segments s c.self.inside.segments w.segments ErrShmInvalid refl c.args.shmem.0 (attach_refusals c.args.who)
-    (with_attached c.args.who true) c.attach.result c.attach.new.self c.attach.ensures.refused c.attach.ensures.new c.attach.ensures.unchanged))
+    (with_attached c.args.who true) c.change.result c.change.new.self c.change.ensures.refused c.change.ensures.new c.change.ensures.unchanged))

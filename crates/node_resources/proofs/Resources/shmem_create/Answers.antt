@@ -1,29 +1,15 @@
-use Rattle.node_resources.proofs.Names.{refl, sym, ◌∙◌, subst, ErrShmExists, ErrShmLimit, new_segment, shmem_create_refusals, keyed_segments, Segments, ResourceTable, Stands, the_view}
+use Rattle.node_resources.proofs.Names.{refl, sym, ◌∙◌, shmem_create_refusals, ErrShmExists, ErrShmLimit, new_segment, keyed_segments, Segments, the_view}
 use Rattle.mtapi_machine.specs.declared.ops.Op.TheVariants as op
 use Rattle.node_resources.proofs.KindSteps.{kind_does}
-use Rattle.node_resources.proofs.RowLemmas.{as_was, past, past_open, creates_does, refuses_within}
+use Rattle.node_resources.proofs.RowLemmas.{past_open, makes_does}
 use Rattle.node_resources.proofs.Resources.shmem_create.Goals as goal
-use Rattle.node_resources.proofs.Resources.shmem_create.Goals.{in-Ok, in-Err}
 
 pub returns : goal.returns
 returns c s a v =
-    let t = subst (λ (t : ResourceTable). Stands s t) (sym c.self.view_is) v in
-    let p = c.self.inside.segments in
-    let x = new_segment c.args.id c.args.cells in
-    let g = sym c.in_default.is ∙ c.open_refusal.ensures in
-    elim c.match-create.branch [
-      | in-Ok w ↦
-          kind_does Segments tt s c.args.who (op.ShmemCreate c.args.id c.args.cells) _
-          (the_view c.self.inside) t c.match-create.result c.create.new.self w.result-is
-          (past_open Segments s c.args.gate c.args.who a _ _ _ g
-          (past Segments s (shmem_create_refusals c.args.cells) _ _ _ w.in-Ok.ensures.in_range
-          (creates_does Segments s keyed_segments p t.segments x c.args.id w.in-Ok.shmem.0 c.create.new.self refl w.in-Ok.ensures.new_id w.in-Ok.ensures.room
-          w.in-Ok.ensures.made a.layout)))
-      | in-Err w ↦
-          kind_does Segments tt s c.args.who (op.ShmemCreate c.args.id c.args.cells) _
-          (the_view c.self.inside) t c.match-create.result c.create.new.self w.result-is
-          (past_open Segments s c.args.gate c.args.who a _ _ _ g
-          (as_was Segments s _ _ p c.create.new.self w.in-Err.ensures.unchanged
-          (refuses_within Segments s keyed_segments p t.segments
-          (shmem_create_refusals c.args.cells) ErrShmExists ErrShmLimit refl refl x c.args.id w.in-Err.status refl w.in-Err.ensures.refused)))
-    ]
+    let w = rw (← c.self.view_is) at v in
+    kind_does Segments tt s c.args.who (op.ShmemCreate c.args.id c.args.cells) _
+    (the_view c.self.inside) w c.handle_given.result c.create.new.self c.handle_given.ensures
+    (past_open Segments s c.args.gate c.args.who a _ _ _ (sym c.in_default.is
+    ∙ c.open_refusal.ensures) (makes_does Segments s keyed_segments c.self.inside.segments w.segments ErrShmExists ErrShmLimit refl refl
+    (shmem_create_refusals c.args.cells) (new_segment c.args.id c.args.cells) c.args.id refl a.layout c.create.result c.create.new.self
+    c.create.ensures.in_range c.create.ensures.new_id c.create.ensures.room c.create.ensures.made c.create.ensures.refused c.create.ensures.unchanged))

@@ -8,6 +8,6 @@ returns c =
     let free : (x : Mutex) → slot_value p.mutexes c.args.mutex.0 ≡ Some x → is_some x.owner ≡ false = rw (← c.self.view_is) at c.requires.free in
     let ms = c.look.ensures.new ∙ changed_as p.mutexes c.args.mutex.0 (after_look c.args.who) (locked_by c.args.who)
     (λ x e. look_locks c.args.who x (free x e)) in
-    let gs = c.attach.ensures.new ∙ changed_as p.segments c.args.segment.0 (after_attach c.args.who) (with_attached c.args.who true)
+    let gs = c.change.ensures.new ∙ changed_as p.segments c.args.segment.0 (after_attach c.args.who) (with_attached c.args.who true)
     (λ y e. attach_marks c.args.who y) in
     rw (← c.self.view_is) (λ i. record (the_view p) { mutexes = ms i; segments = gs i })

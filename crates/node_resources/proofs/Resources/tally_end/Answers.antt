@@ -8,10 +8,10 @@ returns-clause-ends c s x v f o d =
     let w = subst (λ (t : ResourceTable). Stands s t) (sym c.self.view_is) v in
     subst (λ (t : ResourceTable). Stands (after_moves (alters Segments c.args.segment.0 (with_attached c.args.who false)
     ∷ alters Mutexes c.args.mutex.0 unlocked ∷ []) s) t)
-    (λ i. record (the_view p) { mutexes = sym c.unlock.ensures.new i; segments = sym c.detach.ensures.new i })
+    (λ i. record (the_view p) { mutexes = sym c.change-2.ensures.new i; segments = sym c.change.ensures.new i })
     (gives_stand s (the_view p) c.args.who c.args.mutex.0 c.args.segment.0 x w f o d)
 
 pub returns-clause-new : goal.returns-clause-new
 returns-clause-new c =
     let p = c.self.inside in
-    rw (← c.self.view_is) (λ i. record (the_view p) { mutexes = c.unlock.ensures.new i; segments = c.detach.ensures.new i })
+    rw (← c.self.view_is) (λ i. record (the_view p) { mutexes = c.change-2.ensures.new i; segments = c.change.ensures.new i })
