@@ -1,6 +1,6 @@
 //! One reader-writer lock.
 
-ghost use Rattle.std.specs.Prelude.{◌≡◌, refl};
+ghost use Rattle.std.specs.Prelude.{◌≡◌, ◌<◌, refl};
 ghost use Rattle.mtapi_objects.specs.Rwls.{new_rwl, rwl_create_refusals, rwl_look_refusals, rwl_held, rwl_busy, rwl_taken, rwl_unlock_refusals, rwl_given};
 ghost use Rattle.mrapi_counting.specs.Kept.{given_keeps_id, taken_keeps_id};
 ghost use Rattle.mtapi_values.specs.declared.statuses.MrapiStatus.TheVariants.{ErrRwlInvalid, ErrRwlIdInvalid, ErrRwlExists, ErrRwlLimit, ErrRwlLocked};
@@ -72,6 +72,8 @@ impl Resource for RwlState {
       limit = ErrRwlLimit;
       held = ErrRwlLocked;
     } };
+
+    ghost may_ask = { λ who. who < 25 };
 
     ghost created = { new_rwl };
 

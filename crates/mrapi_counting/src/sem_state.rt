@@ -1,6 +1,6 @@
 //! One semaphore.
 
-ghost use Rattle.std.specs.Prelude.{[], nat_lt, refl};
+ghost use Rattle.std.specs.Prelude.{◌<◌, [], nat_lt, refl};
 ghost use Rattle.mtapi_objects.specs.Sems.{new_sem, total, sem_create_refusals, sem_busy, sem_taken, sem_unlock_refusals, sem_given};
 ghost use Rattle.mtapi_values.specs.declared.statuses.MrapiStatus.TheVariants.{ErrSemInvalid, ErrSemIdInvalid, ErrSemExists, ErrSemLimit, ErrSemLocked};
 
@@ -60,6 +60,8 @@ impl Resource for SemState {
       limit = ErrSemLimit;
       held = ErrSemLocked;
     } };
+
+    ghost may_ask = { λ who. who < 25 };
 
     ghost created = { new_sem };
 

@@ -61,6 +61,8 @@ impl Resource for MutexState {
       held = ErrMutexLocked;
     } };
 
+    ghost may_ask = { λ who. Unit {0} };
+
     ghost created = { new_mutex };
 
     ghost create_refusals = { λ recursive. [] };

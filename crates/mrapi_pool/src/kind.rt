@@ -1,6 +1,6 @@
 //! What the kinds of MRAPI have in common, and what each says of itself.
 
-ghost use Rattle.std.specs.Prelude.{◌≡◌, ◌<◌, ℕ, Bool, List, None};
+ghost use Rattle.std.specs.Prelude.{◌≡◌, ℕ, Bool, List, None};
 ghost use Rattle.mtapi_values.specs.declared.statuses.MrapiStatus.{MrapiStatus};
 ghost use Rattle.mtapi_values.specs.Conditions.{first};
 ghost use Rattle.mtapi_values.specs.Looks.{answer};
@@ -38,6 +38,8 @@ pub trait Resource: HasId + Drop {
 
     ghost statuses: { Statuses };
 
+    ghost may_ask: { ℕ → Type 0 };
+
     ghost created: { ℕ → Self.Setting → Self };
 
     ghost create_refusals: { Self.Setting → List (Bool × MrapiStatus) };
@@ -71,9 +73,9 @@ pub trait Resource: HasId + Drop {
     fn is_held(&self) -> bool
         ensures { result ≡ is_held self.now };
 
-    /// Changes the object for the seat `who`, which is below 25, or tells why not.
+    /// Changes the object for the seat `who`, which may ask, or tells why not.
     fn change(&mut self, who: u32, change: Self::Change) -> Result<(), MrapiStatus>
-        requires { who < 25 }
+        requires { may_ask who }
         ensures reply { result_err result ≡ first (change_refusals who change self.old) }
         ensures new { self.new ≡ if_allowed (change_refusals who change) (after_change who change) self.old };
 
@@ -97,9 +99,9 @@ pub trait Lock: Resource {
 
     ghost locked: { ℕ → Self.Mode → Self → Self };
 
-    /// Looks once for the seat `who`, which is below 25.
+    /// Looks once for the seat `who`, which may ask.
     fn look(&mut self, who: u32, mode: Self::Mode) -> Look<Self::Key>
-        requires { who < 25 }
+        requires { Self.may_ask who }
         ensures reply { result ≡ answer (first (look_refusals who self.old)) (is_busy who mode self.old) (key self.old) }
         ensures new { self.new ≡ if_got (λ x. answer (first (look_refusals who x)) (is_busy who mode x) (key x)) (locked who mode) self.old };
 

@@ -5,7 +5,7 @@
 
 mod kind;
 
-ghost use Rattle.std.specs.Prelude.{◌≡◌, ◌⊎◌, ◌≤◌, ◌<◌, ◌+◌, [], ◌∷◌, None, Some, false, is_some, replicate, option_copied, IfSome, IsNone, IfOk, IfErr, OnOk, OnErr};
+ghost use Rattle.std.specs.Prelude.{◌≡◌, ◌⊎◌, ◌≤◌, ◌+◌, [], ◌∷◌, None, Some, false, is_some, replicate, option_copied, IfSome, IsNone, IfOk, IfErr, OnOk, OnErr};
 ghost use Rattle.std.specs.Bool.{OnTrue};
 ghost use Rattle.std.specs.Result.{result_err};
 ghost use Rattle.mtapi_values.specs.Conditions.{first};
@@ -211,14 +211,14 @@ impl<T: Resource> ResourcePool<T> {
         Ok(())
     }
 
-    /// Changes an object for the seat `who`, which is below 25.
+    /// Changes an object for the seat `who`, which may ask.
     ///
     /// # Errors
     ///
     /// - `invalid`: the object isn't live.
     /// - the first of the object's own refusals.
     pub fn change(&mut self, handle: u64, who: u32, change: T::Change) -> Result<(), MrapiStatus>
-        requires { who < 25 }
+        requires { T.may_ask who }
         ensures refused { result_err result ≡ refusal T.statuses.invalid (T.change_refusals who change) (slot_value self.old handle) }
         ensures new { self.new ≡ changed self.old handle (if_allowed (T.change_refusals who change) (T.after_change who change)) }
         ensures unchanged { OnErr result (self.new ≡ self.old) }
@@ -234,14 +234,14 @@ impl<T: Resource> ResourcePool<T> {
 }
 
 impl<T: Lock> ResourcePool<T> {
-    /// Looks once for the seat `who`, which is below 25: it gets the object, or is told Busy where others hold it so that it can't.
+    /// Looks once for the seat `who`, which may ask: it gets the object, or is told Busy where others hold it so that it can't.
     ///
     /// # Errors
     ///
     /// - `invalid`: the object isn't live.
     /// - the first of the object's own refusals.
     pub fn look(&mut self, handle: u64, who: u32, mode: T::Mode) -> Look<T::Key>
-        requires { who < 25 }
+        requires { T.may_ask who }
         ensures reply { result
             ≡ look_at T.statuses.invalid (λ x. answer (first (T.look_refusals who x)) (T.is_busy who mode x) (T.key x)) (slot_value self.old handle) }
         ensures new { self.new

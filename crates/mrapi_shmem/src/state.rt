@@ -160,6 +160,8 @@ impl Resource for SegmentState {
       held = ErrShmAttached;
     } };
 
+    ghost may_ask = { λ who. who < 25 };
+
     ghost created = { new_segment };
 
     ghost create_refusals = { shmem_create_refusals };

@@ -1,6 +1,6 @@
 //! The ops on mutexes.
 
-ghost use Rattle.std.specs.Prelude.{◌≡◌, ◌<◌};
+ghost use Rattle.std.specs.Prelude.{◌≡◌};
 ghost use Rattle.mtapi_machine.specs.declared.ops.Op.TheVariants as op;
 ghost use Rattle.mtapi_machine.specs.State.{State};
 ghost use Rattle.mtapi_values.specs.Conditions.{first};
@@ -56,10 +56,9 @@ impl Resources {
         done(self.mutexes.delete(mutex.0))
     }
 
-    /// One look of a seat, below 25, that wants a mutex: the key, 1 to 64, where it gets it, and MUTEX_LOCKED where it owns it and may not lock it
+    /// One look of a seat that wants a mutex: the key, 1 to 64, where it gets it, and MUTEX_LOCKED where it owns it and may not lock it
     /// once more. While another seat owns it the look is to be asked again, and `last` tells that it won't be.
     pub fn mutex_look(&mut self, gate: Gate, who: u32, mutex: MutexHandle, last: bool) -> Reply
-        requires seat { who < 25 }
         ensures { Steps self.old gate who (op.MutexLook mutex last) result self.new }
     {
         if let Some(status) = gate.refusal(who) {
@@ -68,10 +67,9 @@ impl Resources {
         looked_key(self.mutexes.look(mutex.0, who, ()), last)
     }
 
-    /// Takes the last key of a mutex back from a seat, below 25: MUTEX_NOTLOCKED for a seat that doesn't own it, MUTEX_KEY for a key that isn't out, and
+    /// Takes the last key of a mutex back: MUTEX_NOTLOCKED for a seat that doesn't own it, MUTEX_KEY for a key that isn't out, and
     /// MUTEX_LOCKORDER for one that isn't the last.
     pub fn mutex_unlock(&mut self, gate: Gate, who: u32, mutex: MutexHandle, key: u32) -> Reply
-        requires seat { who < 25 }
         ensures { Steps self.old gate who (op.MutexUnlock mutex key) result self.new }
     {
         if let Some(status) = gate.refusal(who) {
