@@ -1,69 +1,24 @@
 //! The program behind `mtapi judge`: it reads what `mtapi run --journal` writes, or a journal alone, of any program, and writes whether
-//! it is a legal history, or the first line that isn't allowed, why, and what would be. With the word `run` it writes why a journal is
-//! no run of the workload before it. Its stored run judges a journal in which a worker takes a task out of turn.
+//! it is a legal history, or the first line that isn't allowed, why, and what would be. Its stored run judges a journal in which a worker
+//! takes a task out of turn.
 #![tactic(auto)]
 
 use byte_io::{StdSink, StdSource};
 use journal_reading::ShowEnd;
-use journal_reasons::{JudgeEnd, judge_input, tell, tell_run};
-use std::alloc::AllocError;
-use std::env;
-use std::io::ErrorKind;
+use journal_reasons::{JudgeEnd, judge_input, tell};
+use kept_texts::words_of;
 use std::process::ExitCode;
 
-/// What the program is asked for.
-#[derive(Clone, Copy, Drop)]
-enum Asked {
-    /// To judge a journal.
-    Judge,
-    /// Why a journal is no run of the workload before it: the word `run`.
-    Run,
-    /// Something else.
-    Other,
-}
-
-/// The words behind the program's name. Where one isn't UTF-8 there is a word that asks for nothing.
-fn words_of(host: &HostRuntime) -> Result<Vec<String>, AllocError> {
-    let mut words = Vec::new(host.alloc());
-    match env::args(host) {
-        Ok(all) => {
-            for word in all.skip(1) {
-                words.push(word)?;
-            }
-        }
-        Err(error) => {
-            if error.kind() == ErrorKind::OutOfMemory {
-                return Err(AllocError);
-            }
-            words.push(String::new(host.alloc()))?;
-        }
-    }
-    Ok(words)
-}
-
-/// What these words ask for.
-fn asked_by(words: &[String]) -> Asked {
-    let Some(word) = words.first() else {
-        return Asked::Judge;
-    };
-    if words.len() == 1 && word.as_str() == "run" {
-        return Asked::Run;
-    }
-    Asked::Other
-}
-
-/// Does what is asked for.
+/// Judges the journal in standard input; there are no words.
 fn end_of(rt: &HostRuntime) -> JudgeEnd {
-    let alloc = rt.alloc();
-    let mut out = StdSink::new(rt.stdout());
     let Ok(words) = words_of(rt) else {
         return JudgeEnd::Refused(ShowEnd::Memory);
     };
-    match asked_by(&words) {
-        Asked::Judge => judge_input(alloc, &mut StdSource::new(rt.stdin()), &mut out),
-        Asked::Run => tell_run(alloc, &mut StdSource::new(rt.stdin()), &mut out),
-        Asked::Other => JudgeEnd::Usage,
+    if !words.is_empty() {
+        return JudgeEnd::Usage;
     }
+    let mut out = StdSink::new(rt.stdout());
+    judge_input(rt.alloc(), &mut StdSource::new(rt.stdin()), &mut out)
 }
 
 fn main(rt: HostRuntime) -> ExitCode {

@@ -2,7 +2,8 @@
 //! Its stored run draws a run of two workers and two callers with a queue and a group.
 #![tactic(auto)]
 
-use journal_reading::{KeptRun, RunText, RunView, program};
+use journal_reading::{KeptRun, RunText, RunView};
+use kept_texts::program;
 use run_picture::svg_of;
 use std::alloc::{AllocError, Global};
 use std::process::ExitCode;

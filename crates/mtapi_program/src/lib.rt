@@ -6,6 +6,8 @@ ghost use Rattle.std.specs.Prelude.{◌≡◌, ◌⊎◌, true, false, IfSome};
 ghost use Rattle.std.specs.Process.{exit_status};
 ghost use Rattle.std.specs.Io.KnownBytes.{Appends};
 ghost use Rattle.byte_io.specs.Causes.{Rose, AppendsFront};
+ghost use Rattle.journal_check.specs.declared.verdicts.Verdict.TheVariants.{Yes};
+ghost use Rattle.mtapi_top.specs.Check.{IsJudged, verdict_line};
 ghost use Rattle.mtapi_top.specs.Command.{IsWorkload};
 ghost use Rattle.mtapi_top.specs.Ended.{HasEnded, IsReadFor};
 ghost use Rattle.mtapi_top.specs.Headline.{Ran};
@@ -74,6 +76,10 @@ pub fn run_words<R: StartsThreads + Wait + Sync, S: Source, W: Sink, E: Sink, B:
         → (Rose (S.faults src.old) (S.faults src.new) → ⊥)
         → (Rose (W.faults out.old) (W.faults out.new) → ⊥)
         → (result.status ≡ 0) ⊎ (result.status ≡ 3) ⊎ (result.status ≡ 6) ⊎ (result.status ≡ 9) }
+
+    // With 0 the journal that was judged is that of a run of the workload before it, and the verdict was written.
+    ensures check_yes { judges (asked_of (texts words.now)) ≡ true → result.status ≡ 0
+        → IsJudged (S.left src.old) Yes × Appends (W.held out.old) (W.held out.new) (verdict_line Yes) }
 
     // The status with its cause, the journal, what shows that the turns are used up, what was written and what was said are those of one
     // end of the command; and no more is read than it takes.

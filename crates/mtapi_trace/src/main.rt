@@ -7,7 +7,8 @@ mod events;
 mod names;
 mod writer;
 
-use journal_reading::{KeptRun, RunText, RunView, program};
+use journal_reading::{KeptRun, RunText, RunView};
+use kept_texts::program;
 use std::alloc::{AllocError, Global};
 use std::process::ExitCode;
 use writer::trace_of;
