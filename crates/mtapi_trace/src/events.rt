@@ -30,6 +30,24 @@ pub struct Details<'a> {
     pub answer: &'a str,
 }
 
+/// How long a seat held a lock, on a track of the lock.
+#[derive(Drop, Serialize)]
+pub struct HeldSlice<'a> {
+    pub name: &'a str,
+    pub cat: &'a str,
+    pub ph: &'a str,
+    pub pid: u32,
+    pub tid: u32,
+    pub ts: u64,
+    pub dur: u64,
+    pub args: HeldDetails<'a>,
+}
+
+#[derive(Drop, Serialize)]
+pub struct HeldDetails<'a> {
+    pub lock: &'a str,
+}
+
 /// An end of an arrow between two slices. Both ends have one number.
 #[derive(Drop, Serialize)]
 pub struct FlowEnd<'a> {

@@ -2,14 +2,15 @@
 
 use crate::calls::{answer_of, end_of};
 use crate::events::{
-    Count, Details, FlowEnd, PROCESS, Slice, SortIndex, Tasks, Title, Track, TrackPlace, push_event,
+    Count, Details, FlowEnd, HeldDetails, HeldSlice, PROCESS, Slice, SortIndex, Tasks, Title,
+    Track, TrackPlace, push_event,
 };
 use crate::names::{Binding, Names};
 use journal_reading::KeptRun;
 use journal_text::{NodeObject, object_made, object_named, shown_word};
 use mtapi_machine::{Entry, Op, Reply};
 use mtapi_values::ObjectKind;
-use run_picture::WaitingTasks;
+use run_picture::{HeldSpan, WaitingTasks, held_in};
 use std::alloc::{AllocError, Global};
 use std::collections::HashMap;
 use std::str::from_utf8;
@@ -18,6 +19,9 @@ use std::str::from_utf8;
 const FIRST_CALLER: u32 = 1;
 
 const FIRST_WORKER: u32 = 11;
+
+/// And those of locks behind all workers.
+const FIRST_LOCK: u32 = 101;
 
 const BEGIN: &str =
     "{\"traceEvents\":[\n{\"name\":\"process_name\",\"ph\":\"M\",\"pid\":1,\"args\":{\"name\":\"mtapi\"}}";
@@ -376,30 +380,89 @@ impl<'a> TraceWriter<'a> {
         Ok(())
     }
 
-    /// The name and the place of each track.
+    fn seat_name(&self, seat: u32) -> Result<String, AllocError> {
+        match seat.checked_sub(self.workers) {
+            None => format!(in self.alloc; "w{seat}"),
+            Some(caller) => match self.names.parts.get(caller as usize) {
+                Some(part) => {
+                    let name = from_utf8(part.name.as_slice()).unwrap_or("");
+                    String::from_str(self.alloc, name)
+                }
+                None => format!(in self.alloc; "c{caller}"),
+            },
+        }
+    }
+
+    /// The name and the place of a track.
+    fn push_track(&mut self, tid: u32, name: &str) -> Result<(), AllocError> {
+        let track = Track {
+            name: "thread_name",
+            ph: "M",
+            pid: PROCESS,
+            tid,
+            args: Title { name },
+        };
+        push_event(self.alloc, &mut self.out, &track)?;
+        self.push_place(tid)
+    }
+
+    /// The tracks of the seats.
     fn push_tracks(&mut self, seats: u32) -> Result<(), AllocError> {
         for seat in 0..seats {
-            let name = match seat.checked_sub(self.workers) {
-                None => format!(in self.alloc; "w{seat}")?,
-                Some(caller) => match self.names.parts.get(caller as usize) {
-                    Some(part) => {
-                        let name = from_utf8(part.name.as_slice()).unwrap_or("");
-                        String::from_str(self.alloc, name)?
-                    }
-                    None => format!(in self.alloc; "c{caller}")?,
-                },
+            let name = self.seat_name(seat)?;
+            self.push_track(self.track_of(seat), name.as_str())?;
+        }
+        Ok(())
+    }
+
+    /// The track of a lock, or of one of those that hold it at a time.
+    fn push_lock_track(&mut self, tid: u32, span: HeldSpan) -> Result<(), AllocError> {
+        let name = self.names.name_of(self.alloc, span.lock)?;
+        let name = name.as_str();
+        let title = if span.part == 0 {
+            format!(in self.alloc; "{name}: held by")?
+        } else {
+            let number = span.part.saturating_add(1);
+            format!(in self.alloc; "{name}: held by, {number}")?
+        };
+        self.push_track(tid, title.as_str())
+    }
+
+    /// A slice on the track of a lock, with the name of who held it.
+    fn push_span(&mut self, tid: u32, span: HeldSpan) -> Result<(), AllocError> {
+        let name = self.seat_name(span.seat)?;
+        let lock = self.names.name_of(self.alloc, span.lock)?;
+        let length = (span.to as u64).saturating_sub(span.from as u64);
+        let slice = HeldSlice {
+            name: name.as_str(),
+            cat: "held",
+            ph: "X",
+            pid: PROCESS,
+            tid,
+            ts: (span.from as u64).saturating_add(1),
+            dur: length.saturating_add(1),
+            args: HeldDetails {
+                lock: lock.as_str(),
+            },
+        };
+        push_event(self.alloc, &mut self.out, &slice)
+    }
+
+    /// The tracks of locks: who held each, from the entry that took it to the one that gave it back.
+    fn push_locks(&mut self, seats: u32, entries: &[Entry]) -> Result<(), AllocError> {
+        let spans = held_in(self.alloc, self.workers, seats, entries)?;
+        let mut tracks: Vec<HeldSpan> = Vec::new(self.alloc);
+        for span in spans.as_slice() {
+            let place = match place_of(tracks.as_slice(), *span) {
+                Some(place) => place,
+                None => {
+                    let place = tracks.len();
+                    tracks.push(*span)?;
+                    self.push_lock_track(lock_track(place), *span)?;
+                    place
+                }
             };
-            let track = Track {
-                name: "thread_name",
-                ph: "M",
-                pid: PROCESS,
-                tid: self.track_of(seat),
-                args: Title {
-                    name: name.as_str(),
-                },
-            };
-            push_event(self.alloc, &mut self.out, &track)?;
-            self.push_place(track.tid)?;
+            self.push_span(lock_track(place), *span)?;
         }
         Ok(())
     }
@@ -426,6 +489,20 @@ impl<'a> TraceWriter<'a> {
         }
         Ok(())
     }
+}
+
+fn lock_track(place: usize) -> u32 {
+    (place.min(1_000_000) as u32).saturating_add(FIRST_LOCK)
+}
+
+/// The place of the track on which this one stands too.
+fn place_of(tracks: &[HeldSpan], span: HeldSpan) -> Option<usize> {
+    for (place, track) in tracks.iter().enumerate() {
+        if track.lock == span.lock && track.part == span.part {
+            return Some(place);
+        }
+    }
+    None
 }
 
 fn line_of(binding: Option<Binding<'_>>) -> Option<u64> {
@@ -469,6 +546,7 @@ pub fn trace_of(alloc: Global, run: &KeptRun) -> Result<String, AllocError> {
     writer.push_tracks(seats)?;
     writer.follow(entries, journal.entries.skipped())?;
     writer.push_left((entries.len() as u64).saturating_add(1))?;
+    writer.push_locks(seats, entries)?;
     writer.out.push_str(END)?;
     Ok(writer.out)
 }

@@ -79,7 +79,30 @@ pub fn chart_of(
     entries: &[Entry],
     skipped: &[u64],
 ) -> Result<Chart, AllocError> {
-    let mut chart = no_chart(alloc, seats, entries.len())?;
+    let chart = no_chart(alloc, seats, entries.len())?;
+    filled(alloc, chart, workers, entries, skipped)
+}
+
+/// The chart with a mark for each thing, however many there are.
+pub fn chart_of_each(
+    alloc: Global,
+    workers: u32,
+    seats: u32,
+    entries: &[Entry],
+) -> Result<Chart, AllocError> {
+    // Where there are few entries no marks are joined.
+    filled(alloc, no_chart(alloc, seats, 0)?, workers, entries, &[])
+}
+
+/// The chart of these entries over one of none.
+fn filled(
+    alloc: Global,
+    empty: Chart,
+    workers: u32,
+    entries: &[Entry],
+    skipped: &[u64],
+) -> Result<Chart, AllocError> {
+    let mut chart = empty;
     let mut waiting = WaitingTasks::new(alloc, workers)?;
     for (place, entry) in entries.iter().enumerate() {
         let looks = at(skipped, place).unwrap_or(0);
@@ -87,7 +110,7 @@ pub fn chart_of(
         let ended = waiting.note(entry)?;
         end_several(alloc, &mut chart, place, entry, ended.as_slice())?;
     }
-    for who in 0..seats {
+    for who in 0..chart.seats.len() as u32 {
         end_run(
             &mut chart,
             who,

@@ -5,6 +5,7 @@
 
 mod drawing;
 mod follow;
+mod held;
 mod lanes;
 mod lists;
 mod marks;
@@ -19,5 +20,6 @@ mod titles;
 mod waiting;
 mod words;
 
+pub use held::{HeldSpan, held_in};
 pub use page::svg_of;
 pub use waiting::WaitingTasks;
