@@ -9,6 +9,7 @@ mod handles;
 mod instead;
 mod judging;
 mod page;
+mod pick_reasons;
 mod picks;
 mod proposing;
 mod reading;

@@ -5,6 +5,7 @@ use crate::case::{
 use crate::conditions::{mrapi_condition, mtapi_condition, pending};
 use crate::free_slots::{last_handles, slot_of};
 use crate::handles::{liveness, progress};
+use crate::pick_reasons::not_so_taken;
 use crate::picks::{priority_of, standings_before};
 use crate::traces::{live_before, phases_before};
 use journal_text::{NodeObject, object_named};
@@ -228,7 +229,7 @@ fn task_text(case: &Case, task: u64) -> Result<String, AllocError> {
 
 fn other_pick(case: &Case, task: u64, given: &Reply) -> Result<String, AllocError> {
     match given {
-        Reply::Picked { task: wrong, .. } => wrong_pick(case, task, wrong.0),
+        Reply::Picked { task: wrong, .. } => wrong_pick(case, task, wrong.0, given),
         _ => {
             let name = task_text(case, task)?;
             let seat = seat_text(case, case.given.who)?;
@@ -238,8 +239,9 @@ fn other_pick(case: &Case, task: u64, given: &Reply) -> Result<String, AllocErro
 }
 
 // Why a worker may not take this task, where it may take another one.
-fn wrong_pick(case: &Case, task: u64, wrong: u64) -> Result<String, AllocError> {
-    if !standings_before(case)?.unstarted.contains_key(&wrong) {
+fn wrong_pick(case: &Case, task: u64, wrong: u64, given: &Reply) -> Result<String, AllocError> {
+    let table = standings_before(case)?;
+    if !table.unstarted.contains_key(&wrong) {
         return progress(case, wrong);
     }
     let name = task_text(case, task)?;
@@ -250,15 +252,8 @@ fn wrong_pick(case: &Case, task: u64, wrong: u64) -> Result<String, AllocError> 
                 "{name} goes first: its priority is {first}, and that of {other} {second}"
             )
         }
-        _ => not_so_taken(case, &other),
+        _ => not_so_taken(case, &table, given),
     }
-}
-
-fn not_so_taken(case: &Case, other: &String) -> Result<String, AllocError> {
-    let seat = seat_text(case, case.given.who)?;
-    format!(in case.alloc;
-        "{other} may not be taken by {seat}, or not by this action or with these arguments"
-    )
 }
 
 fn nothing_to_take(case: &Case, given: &Reply) -> Result<String, AllocError> {
