@@ -56,6 +56,12 @@ over count size most more =
 pub few_chunks : (count size items most : ℕ) → count * size < items + size → items ≤ size * most → count ≤ most
 few_chunks count size items most few enough = at_most count most (λ more. let past = over count size most more in absurd (omega (arith, past, few, enough)))
 
+-- the items are in as many pieces as chunks
+pub enough_pieces : {A B : Type 0} (made : A → B) (chunks : List A) (pieces : List B) (size items : ℕ) → pieces ≡ map made chunks
+    → items ≤ length chunks * size → items ≤ length pieces * size
+enough_pieces made chunks pieces size items are enough =
+    subst (λ n. items ≤ n * size) (sym (ap length are ∙ length-map chunks made)) enough
+
 -- the first item of a chunk is one of the items
 item_before : (place count size items : ℕ) → place < count → count * size < items + size → place * size < items
 item_before place count size items within few =

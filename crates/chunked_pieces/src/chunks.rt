@@ -14,6 +14,7 @@ pub fn size_for(items: usize, chunks: u32) -> usize
     requires { 0 < chunks }
     ensures some { 0 < result }
     ensures enough { items ≤ result * chunks }
+    ensures least { (result - 1) * chunks ≤ items - 1 }
 {
     items.saturating_sub(1) / chunks as usize + 1
 }
@@ -43,6 +44,7 @@ pub fn chunks_of<T: Drop>(
     requires { 0 < size }
     ensures whole { IfOk result (λ v. items_of v.items ≡ items.items) }
     ensures few { IfOk result (λ v. length v.items * size < length items.items + size) }
+    ensures enough { IfOk result (λ v. length items.items ≤ length v.items * size) }
 {
     let mut items = items;
     let mut chunks = VecDeque::new(alloc);

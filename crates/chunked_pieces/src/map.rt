@@ -4,7 +4,7 @@ ghost use Rattle.std.specs.Prelude.{◌≡◌, ◌≤◌, ◌<◌, ℕ, IfOk, If
 ghost use Rattle.std.specs.List.{All, AllZip};
 ghost use Rattle.node_with_workers.specs.Clients.{IfRefused};
 ghost use Rattle.typed_pieces.specs.Runs.{FailsBy, HasRun, HasRunAll, IfNoResult, RefusesPieces};
-ghost use Rattle.chunked_pieces.specs.Chunks.{at_item};
+ghost use Rattle.chunked_pieces.specs.Chunks.{AreSpread, at_item};
 
 use crate::chunks::{chunks_of, joined, size_for, with_function};
 use mtapi_values::NodeAttr;
@@ -41,7 +41,7 @@ pub fn map_chunks<T: Send + Drop, D: Send + Drop, F: Fn(T) -> D + Sync, R: Threa
 ) -> Result<Worked<(), D>, Unfinished>
     requires ready { All (F.pre f.now) items.items }
     ensures run { IfOk result (λ w. HasRun settings w.journal) }
-    ensures awaited { IfOk result (λ w. (tasks : ℕ) × (tasks ≤ settings.tasks) × HasRunAll settings tasks w.journal) }
+    ensures awaited { IfOk result (λ w. (tasks : ℕ) × (tasks ≤ settings.tasks) × AreSpread (vec_len items) settings.tasks tasks × HasRunAll settings tasks w.journal) }
     ensures causes { IfErr result (λ u. FailsBy u (λ e. IfRefused e (RefusesPieces settings))) }
     ensures missing { IfErr result (λ u. IfNoResult u (λ place. place < vec_len items)) }
     ensures kept { IfOk result (λ w. AllZip (F.post f.now) items.items w.results.items) }

@@ -12,7 +12,8 @@ use std::io;
 use std::sync::Wait;
 use std::thread::Threads;
 use typed_pieces::{
-    Handed, Piece, PieceClient, Pieces, Refusal, TaskContext, Unfinished, with_pieces,
+    Handed, Piece, PieceCall, PieceClient, PieceRefusal, Pieces, Refusal, TaskContext, Unfinished,
+    with_pieces,
 };
 
 const NUMBER: u64 = 998_247_347_733_059;
@@ -128,8 +129,31 @@ fn tell_found(rt: &HostRuntime, found: Result<Taken, Unfinished>) -> io::Result<
     }
 }
 
+// How a refusal of each call is told.
+fn tell_refusals(rt: &HostRuntime) -> io::Result<()> {
+    for (call, place) in [
+        (PieceCall::Action, None),
+        (PieceCall::Start, Some(2)),
+        (PieceCall::Enqueue, Some(3)),
+        (PieceCall::Cancel, Some(4)),
+        (PieceCall::WaitAny, None),
+    ] {
+        let status = MtapiStatus::ErrParameter;
+        println!(rt;
+            "{}",
+            PieceRefusal {
+                call,
+                place,
+                status
+            }
+        )?;
+    }
+    Ok(())
+}
+
 fn main(rt: HostRuntime) -> io::Result<()> {
     tell_found(&rt, first_found(&rt, rt.alloc()))?;
+    tell_refusals(&rt)?;
     match counted(&rt, rt.alloc()) {
         Ok((Some(refusal), counts)) => println!(rt; "refused {refusal}; counted: {counts:?}"),
         Ok((None, counts)) => println!(rt; "nothing refused; counted: {counts:?}"),

@@ -3,7 +3,7 @@
 ghost use Rattle.std.specs.Prelude.{◌≡◌, IfSome};
 
 use crate::settings;
-use nested_pieces::{NestFailure, run_nested};
+use nested_pieces::{NestFailure, Nested, run_nested_within};
 use std::alloc::Global;
 use std::sync::Wait;
 use std::thread::Threads;
@@ -79,9 +79,13 @@ impl Split for Placings {
     }
 }
 
-/// How many ways there are to place eight queens so that none attacks another.
-pub fn eight_queens<R: Threads + Wait + Sync>(rt: &R, alloc: Global) -> Result<u64, NestFailure> {
+/// How many ways there are to place eight queens so that none attacks another, by at most so many pieces.
+pub fn eight_queens<R: Threads + Wait + Sync>(
+    rt: &R,
+    alloc: Global,
+    most: u32,
+) -> Result<Nested<u64>, NestFailure> {
     let (rows, attacked) = (8, [0; 3]);
     let root = Placings(Board { rows, attacked }, alloc);
-    Ok(run_nested(rt, alloc, settings()?, root)?.result)
+    run_nested_within(rt, alloc, settings()?, root, most)
 }

@@ -2,7 +2,7 @@ use Rattle.std.proofs.Common.{rules, sym, subst, All, vec_len, length, ◌≤◌
 use Rattle.std.specs.Prelude.{IfOk}
 use Rattle.std.specs.List.{AllZip}
 use Rattle.typed_pieces.proofs.Mapping.{all_made, kept_made}
-use Rattle.chunked_pieces.proofs.Kept.{all_chunks, all_kept, as_many, few_pieces}
+use Rattle.chunked_pieces.proofs.Kept.{all_chunks, all_kept, as_many, enough_pieces, few_pieces}
 use Rattle.chunked_pieces.proofs.map.map_chunks.Goals as goal
 
 pub run_pieces-requires-clause-ready : goal.run_pieces-requires-clause-ready
@@ -18,6 +18,12 @@ returns-clause-awaited g c =
     c.in_ok-pieces.ensures c.in_ok-chunks.ensures.few (search (rules, c.size_for-size.ensures.enough, c.tasks.ensures.value)) in (
       vec_len c.in_ok-pieces.pieces,
       search (rules, few),
+      (
+        c.size_for-size.result,
+        search (rules, c.size_for-size.ensures.least, c.tasks.ensures.value),
+        enough_pieces _ c.in_ok-chunks.chunks.items c.in_ok-pieces.pieces.items c.size_for-size.result (length c.args.items.items) c.in_ok-pieces.ensures
+            c.in_ok-chunks.ensures.enough,
+      ),
       c.in-Ok.ensures.awaited (search (rules, few, c.tasks.ensures.range, c.tasks.ensures.value)),
     )
 
