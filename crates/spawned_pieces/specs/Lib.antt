@@ -1,0 +1,2 @@
+pub mod Spawned
+pub mod Links

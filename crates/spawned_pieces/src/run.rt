@@ -1,0 +1,197 @@
+//! Pieces that start pieces, run on one node.
+
+ghost use Rattle.std.specs.Prelude.{◌≡◌, ◌≤◌, IfOk, IfErr, Some, map, vec_len, [], ◌∷◌};
+ghost use Rattle.node_with_workers.specs.Clients.{IfRefused};
+ghost use Rattle.node_with_workers.specs.declared.failure.Failure.TheVariants.{Memory};
+ghost use Rattle.typed_pieces.specs.Runs.{FailsBy, IfNoResult};
+ghost use Rattle.nested_pieces.specs.Runs.{HasRunNested, RefusesNested};
+ghost use Rattle.spawned_pieces.specs.Spawned.{AreSpawned};
+
+use crate::check::{gather, linked};
+use crate::pool::Pool;
+use crate::runner::SpawnRunners;
+use crate::slot::{End, Named, Slot};
+use crate::source::Source;
+use crate::spawn::Spawns;
+use mtapi_values::NodeAttr;
+use nested_pieces::client::Root;
+use nested_pieces::names::{NameList, Names, no_names};
+use node_core::RunJournal;
+use node_with_workers::{Done, with_servers_alone};
+use std::alloc::{AllocError, Global};
+use std::marker::Brand;
+use std::snapshot::Snapshot;
+use std::sync::atomic::AtomicU64;
+use std::sync::{Mutex, OnceLock, Wait};
+use std::thread::Threads;
+use typed_pieces::Unfinished;
+use typed_pieces::run::all_there;
+
+/// What comes of pieces that start pieces.
+#[derive(Drop)]
+pub struct SpawnRun<D: Drop> {
+    /// The results, in the order in which the pieces were accepted. The first is that of the root.
+    pub results: Vec<D>,
+    /// The journal of all calls of the node.
+    pub journal: RunJournal,
+}
+
+// So many places, of which the first has the root.
+fn slots_with<'n, L: Names, P: Spawns>(
+    alloc: Global,
+    count: usize,
+    root: Slot<'n, L, P>,
+) -> Result<Vec<Mutex<Option<Slot<'n, L, P>>>>, AllocError> {
+    let mut slots = Vec::with_capacity(alloc, count)?;
+    slots.push(Mutex::new(Some(root)))?;
+    for _ in 1..count {
+        slots.push(Mutex::new(None))?;
+    }
+    Ok(slots)
+}
+
+// What is shared, and the place of the root.
+fn pool_of<'n, L: Names, P: Spawns>(
+    alloc: Global,
+    root: P,
+    names: &NameList<'n, L, Snapshot<P>>,
+) -> Result<(Pool<'n, L, P>, Named<'n, L, P>), Unfinished>
+    ensures root { IfOk result (λ r. r.1.token.value.value ≡ root) }
+    ensures causes { IfErr result (λ u. FailsBy u (λ f. IfRefused f (λ _. ⊥))) }
+    ensures missing { IfErr result (λ u. IfNoResult u (λ place. place ≡ 0)) }
+{
+    let Some(lock) = names.at(0) else {
+        return Err(Unfinished::NoResult(0));
+    };
+    let Ok(token) = lock.try_set(Snapshot::of(&root)) else {
+        return Err(Unfinished::NoResult(0));
+    };
+    let name = Named::new(0, token);
+    let slot = Slot::new(alloc, name.again(), Source::Client(0), root);
+    let slots = slots_with(alloc, names.count(), slot)?;
+    let pool = Pool {
+        alloc,
+        slots,
+        next: AtomicU64::new(1),
+        group: OnceLock::new(),
+    };
+    Ok((pool, name))
+}
+
+// The results of all places.
+fn results_of<'n, L: Names, P: Spawns>(
+    alloc: Global,
+    pool: Pool<'n, L, P>,
+    root: Named<'n, L, P>,
+) -> Result<Vec<Option<P::Done>>, Unfinished>
+    ensures kept { IfOk result (λ v. AreSpawned P.promise (root.token.value.value ∷ []) v.items) }
+    ensures causes { IfErr result (λ u. FailsBy u (λ f. f ≡ Memory)) }
+{
+    let Pool { slots, .. } = pool;
+    let (ends, started) = gather(alloc, slots)?;
+    let mut of_main = Vec::new(alloc);
+    of_main.push(root)?;
+    let mut clients = Vec::new(alloc);
+    clients.push(of_main)?;
+    if !linked(&ends, started, clients) {
+        let place = u32::try_from(ends.len()).unwrap_or(u32::MAX);
+        return Err(Unfinished::NoResult(place));
+    }
+    Ok(ends.into_iter().map(|end| end.result).collect(alloc)?)
+}
+
+// The node whose workers run the root and what is started.
+fn over<'n, L: Names + Send, P: Spawns + Send, R: Threads + Wait + Sync>(
+    rt: &R,
+    alloc: Global,
+    settings: NodeAttr,
+    names: &'n [OnceLock<Snapshot<P>>],
+    pool: &Pool<'n, L, P>,
+) -> Result<RunJournal, Unfinished>
+where
+    P::Done: Send,
+    requires { L.ids ≡ map (λ name. name.id) names.now }
+    ensures run { IfOk result (λ j. HasRunNested settings j) }
+    ensures causes { IfErr result (λ u. FailsBy u (λ f. IfRefused f (RefusesNested settings))) }
+    ensures missing { IfErr result (λ u. IfNoResult u (λ _. ⊥)) }
+{
+    let mut runners = SpawnRunners {
+        pool,
+        names: NameList::new(names),
+        alloc,
+    };
+    let root = Root { group: &pool.group };
+    let done = with_servers_alone(rt, alloc, settings, &mut runners, root)?;
+    let Done { told, journal, .. } = done;
+    told?;
+    Ok(journal)
+}
+
+// The same, where the locks that name the pieces are named by a type.
+fn run_named<'n, L: Names + Send, P: Spawns + Send, R: Threads + Wait + Sync>(
+    rt: &R,
+    alloc: Global,
+    settings: NodeAttr,
+    root: P,
+    names: &'n [OnceLock<Snapshot<P>>],
+) -> Result<SpawnRun<P::Done>, Unfinished>
+where
+    P::Done: Send,
+    requires { L.ids ≡ map (λ name. name.id) names.now }
+    ensures run { IfOk result (λ r. HasRunNested settings r.journal) }
+    ensures kept { IfOk result (λ r. AreSpawned P.promise (root ∷ []) (map Some r.results.items)) }
+    ensures causes { IfErr result (λ u. FailsBy u (λ f. IfRefused f (RefusesNested settings))) }
+{
+    let list = NameList::<L, Snapshot<P>>::new(names);
+    let (pool, root) = pool_of(alloc, root, &list)?;
+    let journal = over(rt, alloc, settings, names, &pool)?;
+    let results = results_of(alloc, pool, root)?;
+    let results = all_there(alloc, results)?;
+    Ok(SpawnRun { results, journal })
+}
+
+/// The same as `run_spawning`, with at most so many pieces in all.
+///
+/// # Errors
+///
+/// Those of `run_spawning`.
+pub fn run_spawning_within<P: Spawns + Send, R: Threads + Wait + Sync>(
+    rt: &R,
+    alloc: Global,
+    settings: NodeAttr,
+    root: P,
+    most: u32,
+) -> Result<SpawnRun<P::Done>, Unfinished>
+where
+    P::Done: Send,
+    ensures run { IfOk result (λ r. HasRunNested settings r.journal) }
+    ensures kept { IfOk result (λ r. AreSpawned P.promise (root ∷ []) (map Some r.results.items)) }
+    ensures causes { IfErr result (λ u. FailsBy u (λ f. IfRefused f (RefusesNested settings))) }
+{
+    let names = no_names(alloc, most as usize)?;
+    run_named::<Brand, P, R>(rt, alloc, settings, root, &names)
+}
+
+/// Runs a piece, the root, on a node with these settings, and all pieces that are started while pieces run, each as a task; waits for all of them,
+/// and ends the node. There is a result for each piece that was accepted, in that order, and each keeps what its piece promises of it and of the
+/// pieces that this one started.
+///
+/// There may be as many pieces as the node has tasks (`NodeAttr::TASKS`). What would be one more comes back to the piece that would start it.
+///
+/// # Errors
+///
+/// As with `run_pieces`. `NoResult` doesn't occur, but no clause says so.
+pub fn run_spawning<P: Spawns + Send, R: Threads + Wait + Sync>(
+    rt: &R,
+    alloc: Global,
+    settings: NodeAttr,
+    root: P,
+) -> Result<SpawnRun<P::Done>, Unfinished>
+where
+    P::Done: Send,
+    ensures run { IfOk result (λ r. HasRunNested settings r.journal) }
+    ensures kept { IfOk result (λ r. AreSpawned P.promise (root ∷ []) (map Some r.results.items)) }
+    ensures causes { IfErr result (λ u. FailsBy u (λ f. IfRefused f (RefusesNested settings))) }
+{
+    run_spawning_within(rt, alloc, settings, root, settings.tasks())
+}
