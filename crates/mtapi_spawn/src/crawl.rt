@@ -1,4 +1,4 @@
-//! A crawl: pages that are found on the way are each read once.
+//! A crawl over a graph: pages are found on the way, and each of them is read once.
 
 use crate::settings;
 use spawned_pieces::{Spawner, Spawns, run_spawning};
@@ -8,57 +8,54 @@ use std::sync::{Mutex, Wait};
 use std::thread::Threads;
 use typed_pieces::{TaskContext, Unfinished};
 
-/// A page that has been found, and the pages that are known.
-#[derive(Drop)]
-struct Page<'a> {
-    number: u64,
-    known: &'a Mutex<HashSet<u64>>,
-    pages: u64,
-}
+// How many pages there are.
+const PAGES: u64 = 900;
 
-impl<'a> Page<'a> {
-    // The pages that it links to.
-    fn links(&self) -> [u64; 3] {
-        let n = self.number;
-        [n * 2 % self.pages, (n + 1) % self.pages, n / 3]
-    }
+/// A page, and the pages that have been found.
+#[derive(Drop)]
+struct Page<'a>(u64, &'a Mutex<HashSet<u64>>);
+
+// The pages that this one links to.
+fn links(page: u64) -> [u64; 3] {
+    let page = page % PAGES;
+    [page * 2 % PAGES, (page + 7) % PAGES, page / 3]
 }
 
 impl<'a> Spawns for Page<'a> {
+    /// How many pages it has found for which there was no room.
     type Done = u64;
 
     ghost promise = { λ _ _ _. Unit {0} };
 
-    fn go<R: Wait, S: Spawner<Page<'a>>>(self, rt: &R, _task: &TaskContext, spawner: &mut S) -> u64 {
-        let mut links = 0u64;
-        for number in self.links() {
-            links += 1;
-            let fresh = self.known.lock(rt).insert(number);
+    fn go<R: Wait, S: Spawner<Page<'a>>>(
+        self,
+        rt: &R,
+        _task: &TaskContext,
+        spawner: &mut S,
+    ) -> u64 {
+        let Page(page, found) = self;
+        let mut left = 0u64;
+        for link in links(page) {
+            let fresh = found.lock(rt).insert(link);
             if let Ok(true) = fresh {
-                let page = Page {
-                    number,
-                    known: self.known,
-                    pages: self.pages,
-                };
-                let _ = spawner.spawn(rt, page);
+                if spawner.spawn(rt, Page(link, found)).is_err() {
+                    left = left.saturating_add(1);
+                }
             }
         }
-        links
+        left
     }
 }
 
-pub fn crawl<R: Threads + Wait + Sync>(
-    rt: &R,
-    alloc: Global,
-    pages: u64,
-) -> Result<(usize, u64), Unfinished> {
-    let known = Mutex::new(HashSet::new(alloc));
-    let root = Page {
-        number: 1,
-        known: &known,
-        pages,
-    };
-    let run = run_spawning(rt, alloc, settings()?, root)?;
-    let links = run.results.iter().fold(0u64, |sum, links| sum + *links);
-    Ok((run.results.len(), links))
+/// How many pages can be reached from page 1, and for how many of those that were found there was no room.
+pub fn crawl<R: Threads + Wait + Sync>(rt: &R, alloc: Global) -> Result<(usize, u64), Unfinished> {
+    let mut known = HashSet::new(alloc);
+    known.insert(1)?;
+    let found = Mutex::new(known);
+    let run = run_spawning(rt, alloc, settings()?, Page(1, &found))?;
+    let left = run
+        .results
+        .iter()
+        .fold(0u64, |sum, left| sum.saturating_add(*left));
+    Ok((run.results.len(), left))
 }

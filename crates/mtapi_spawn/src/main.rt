@@ -1,10 +1,12 @@
-//! Work that starts work.
+//! Work that starts work, on the workers of a node: the files of a tree of folders are counted, and the pages of a graph are crawled.
 #![tactic(auto)]
 
 mod crawl;
+mod tree;
 
 use mtapi_values::{MtapiStatus, NodeAttr};
 use std::io;
+use tree::Folder;
 
 const WORKERS: u64 = 4;
 
@@ -15,8 +17,13 @@ fn settings() -> Result<NodeAttr, MtapiStatus> {
 }
 
 fn main(rt: HostRuntime) -> io::Result<()> {
-    match crawl::crawl(&rt, rt.alloc(), 5000) {
-        Ok((pages, links)) => println!(rt; "{pages} pages, {links} links"),
+    let folder = Folder::new(rt.alloc(), 5)?;
+    match tree::count_files(&rt, rt.alloc(), folder) {
+        Ok(files) => println!(rt; "{files} files")?,
+        Err(failure) => println!(rt; "{failure}")?,
+    }
+    match crawl::crawl(&rt, rt.alloc()) {
+        Ok((pages, left)) => println!(rt; "{pages} pages, {left} left"),
         Err(failure) => println!(rt; "{failure}"),
     }
 }

@@ -1,16 +1,15 @@
 //! Pieces that start pieces, run on one node.
 
-ghost use Rattle.std.specs.Prelude.{◌≡◌, ◌≤◌, IfOk, IfErr, Some, map, vec_len, [], ◌∷◌};
+ghost use Rattle.std.specs.Prelude.{◌≡◌, ◌<◌, ◌≤◌, IfOk, IfErr, Some, map, vec_len, [], ◌∷◌};
 ghost use Rattle.node_with_workers.specs.Clients.{IfRefused};
-ghost use Rattle.node_with_workers.specs.declared.failure.Failure.TheVariants.{Memory};
 ghost use Rattle.typed_pieces.specs.Runs.{FailsBy, IfNoResult};
 ghost use Rattle.nested_pieces.specs.Runs.{HasRunNested, RefusesNested};
 ghost use Rattle.spawned_pieces.specs.Spawned.{AreSpawned};
 
-use crate::check::{gather, linked};
+use crate::check;
 use crate::pool::Pool;
 use crate::runner::SpawnRunners;
-use crate::slot::{End, Named, Slot};
+use crate::slot::{Named, Slot};
 use crate::source::Source;
 use crate::spawn::Spawns;
 use mtapi_values::NodeAttr;
@@ -36,16 +35,16 @@ pub struct SpawnRun<D: Drop> {
     pub journal: RunJournal,
 }
 
-// So many places, of which the first has the root.
+// So many places, of which the first has the root, if there is one.
 fn slots_with<'n, L: Names, P: Spawns>(
     alloc: Global,
     count: usize,
     root: Slot<'n, L, P>,
 ) -> Result<Vec<Mutex<Option<Slot<'n, L, P>>>>, AllocError> {
     let mut slots = Vec::with_capacity(alloc, count)?;
-    slots.push(Mutex::new(Some(root)))?;
-    for _ in 1..count {
-        slots.push(Mutex::new(None))?;
+    let mut root = Some(root);
+    for _ in 0..count {
+        slots.push(Mutex::new(root.take()))?;
     }
     Ok(slots)
 }
@@ -55,6 +54,7 @@ fn pool_of<'n, L: Names, P: Spawns>(
     alloc: Global,
     root: P,
     names: &NameList<'n, L, Snapshot<P>>,
+    most: u32,
 ) -> Result<(Pool<'n, L, P>, Named<'n, L, P>), Unfinished>
     ensures root { IfOk result (λ r. r.1.token.value.value ≡ root) }
     ensures causes { IfErr result (λ u. FailsBy u (λ f. IfRefused f (λ _. ⊥))) }
@@ -68,7 +68,7 @@ fn pool_of<'n, L: Names, P: Spawns>(
     };
     let name = Named::new(0, token);
     let slot = Slot::new(alloc, name.again(), Source::Client(0), root);
-    let slots = slots_with(alloc, names.count(), slot)?;
+    let slots = slots_with(alloc, most as usize, slot)?;
     let pool = Pool {
         alloc,
         slots,
@@ -78,29 +78,41 @@ fn pool_of<'n, L: Names, P: Spawns>(
     Ok((pool, name))
 }
 
-// The results of all places.
-fn results_of<'n, L: Names, P: Spawns>(
+// The results of these pieces, if each is there.
+fn there<D: Drop>(alloc: Global, results: Vec<Option<D>>) -> Result<Vec<D>, Unfinished>
+    ensures there { IfOk result (λ v. map Some v.items ≡ results.items) }
+    ensures many { IfOk result (λ v. vec_len v ≡ vec_len results) }
+    ensures causes { IfErr result (λ u. FailsBy u (λ f. IfRefused f (λ _. ⊥))) }
+    ensures missing { IfErr result (λ u. IfNoResult u (λ place. place < vec_len results)) }
+{
+    all_there(alloc, results)
+}
+
+// The results of all places, if there are at most so many.
+fn results_of<'n, L: Names, P: Spawns + 'n>(
     alloc: Global,
     pool: Pool<'n, L, P>,
     root: Named<'n, L, P>,
-) -> Result<Vec<Option<P::Done>>, Unfinished>
-    ensures kept { IfOk result (λ v. AreSpawned P.promise (root.token.value.value ∷ []) v.items) }
-    ensures causes { IfErr result (λ u. FailsBy u (λ f. f ≡ Memory)) }
+    most: u32,
+) -> Result<Vec<P::Done>, Unfinished>
+    ensures kept { IfOk result (λ v. AreSpawned P.promise ((root.entry.token.value.value ∷ []) ∷ []) (map Some v.items)) }
+    ensures within { IfOk result (λ v. vec_len v ≤ most) }
+    ensures causes { IfErr result (λ u. FailsBy u (λ f. IfRefused f (λ _. ⊥))) }
+    ensures missing { IfErr result (λ u. IfNoResult u (λ place. place ≤ most)) }
 {
-    let Pool { slots, .. } = pool;
-    let (ends, started) = gather(alloc, slots)?;
-    let mut of_main = Vec::new(alloc);
-    of_main.push(root)?;
-    let mut clients = Vec::new(alloc);
-    clients.push(of_main)?;
-    if !linked(&ends, started, clients) {
-        let place = u32::try_from(ends.len()).unwrap_or(u32::MAX);
-        return Err(Unfinished::NoResult(place));
+    let clients = check::main_list(alloc, root)?;
+    let found = check::results_of(alloc, pool, clients)?;
+    let Some(all) = found else {
+        return Err(Unfinished::NoResult(0));
+    };
+    if all.len() > most as usize {
+        return Err(Unfinished::NoResult(most));
     }
-    Ok(ends.into_iter().map(|end| end.result).collect(alloc)?)
+    there(alloc, all)
 }
 
 // The node whose workers run the root and what is started.
+#[tactic(auto, using(nested_pieces::proofs::Runs::has_run_nested, nested_pieces::proofs::Runs::node_why_nested))]
 fn over<'n, L: Names + Send, P: Spawns + Send, R: Threads + Wait + Sync>(
     rt: &R,
     alloc: Global,
@@ -133,20 +145,22 @@ fn run_named<'n, L: Names + Send, P: Spawns + Send, R: Threads + Wait + Sync>(
     alloc: Global,
     settings: NodeAttr,
     root: P,
+    most: u32,
     names: &'n [OnceLock<Snapshot<P>>],
 ) -> Result<SpawnRun<P::Done>, Unfinished>
 where
     P::Done: Send,
     requires { L.ids ≡ map (λ name. name.id) names.now }
     ensures run { IfOk result (λ r. HasRunNested settings r.journal) }
-    ensures kept { IfOk result (λ r. AreSpawned P.promise (root ∷ []) (map Some r.results.items)) }
+    ensures kept { IfOk result (λ r. AreSpawned P.promise ((root ∷ []) ∷ []) (map Some r.results.items)) }
+    ensures within { IfOk result (λ r. vec_len r.results ≤ most) }
     ensures causes { IfErr result (λ u. FailsBy u (λ f. IfRefused f (RefusesNested settings))) }
+    ensures missing { IfErr result (λ u. IfNoResult u (λ place. place ≤ most)) }
 {
     let list = NameList::<L, Snapshot<P>>::new(names);
-    let (pool, root) = pool_of(alloc, root, &list)?;
+    let (pool, root) = pool_of(alloc, root, &list, most)?;
     let journal = over(rt, alloc, settings, names, &pool)?;
-    let results = results_of(alloc, pool, root)?;
-    let results = all_there(alloc, results)?;
+    let results = results_of(alloc, pool, root, most)?;
     Ok(SpawnRun { results, journal })
 }
 
@@ -165,11 +179,13 @@ pub fn run_spawning_within<P: Spawns + Send, R: Threads + Wait + Sync>(
 where
     P::Done: Send,
     ensures run { IfOk result (λ r. HasRunNested settings r.journal) }
-    ensures kept { IfOk result (λ r. AreSpawned P.promise (root ∷ []) (map Some r.results.items)) }
+    ensures kept { IfOk result (λ r. AreSpawned P.promise ((root ∷ []) ∷ []) (map Some r.results.items)) }
+    ensures within { IfOk result (λ r. vec_len r.results ≤ most) }
     ensures causes { IfErr result (λ u. FailsBy u (λ f. IfRefused f (RefusesNested settings))) }
+    ensures missing { IfErr result (λ u. IfNoResult u (λ place. place ≤ most)) }
 {
     let names = no_names(alloc, most as usize)?;
-    run_named::<Brand, P, R>(rt, alloc, settings, root, &names)
+    run_named::<Brand, P, R>(rt, alloc, settings, root, most, &names)
 }
 
 /// Runs a piece, the root, on a node with these settings, and all pieces that are started while pieces run, each as a task; waits for all of them,
@@ -190,8 +206,10 @@ pub fn run_spawning<P: Spawns + Send, R: Threads + Wait + Sync>(
 where
     P::Done: Send,
     ensures run { IfOk result (λ r. HasRunNested settings r.journal) }
-    ensures kept { IfOk result (λ r. AreSpawned P.promise (root ∷ []) (map Some r.results.items)) }
+    ensures kept { IfOk result (λ r. AreSpawned P.promise ((root ∷ []) ∷ []) (map Some r.results.items)) }
+    ensures within { IfOk result (λ r. vec_len r.results ≤ settings.tasks) }
     ensures causes { IfErr result (λ u. FailsBy u (λ f. IfRefused f (RefusesNested settings))) }
+    ensures missing { IfErr result (λ u. IfNoResult u (λ place. place ≤ settings.tasks)) }
 {
     run_spawning_within(rt, alloc, settings, root, settings.tasks())
 }

@@ -1,6 +1,6 @@
 //! What the workers do: each runs the pieces whose tasks it takes, and starts tasks for those that they start.
 
-ghost use Rattle.std.specs.Prelude.{map};
+ghost use Rattle.std.specs.Prelude.{◌≡◌, ◌<◌, ◌++◌, ◌∷◌, [], true, map, vec_len, vec_capacity};
 
 use crate::pool::Pool;
 use crate::slot::{Came, Named, Waiting};
@@ -31,6 +31,25 @@ pub struct Spawning<'s, 'c, 'a, 'n, B: Began, L: Names, P: Spawns> {
 }
 
 impl<'s, 'c, 'a, 'n, B: Began, L: Names, P: Spawns> Spawning<'s, 'c, 'a, 'n, B, L, P> {
+    // Whether there is room for one more piece in both lists: with it a piece can't be accepted and then lost.
+    fn has_room(&mut self) -> bool
+        ensures room { result ≡ true → vec_len self.new.started < vec_capacity self.new.started }
+        ensures same { self.new.started.items ≡ self.old.started.items }
+    {
+        match (self.started.reserve(1), self.todo.reserve(1)) {
+            (Ok(()), Ok(())) => true,
+            _ => false,
+        }
+    }
+
+    // Keeps what shows that this piece was accepted.
+    fn note(&mut self, name: Named<'n, L, P>)
+        requires { vec_len self.old.started < vec_capacity self.old.started }
+        ensures { self.new.started.items ≡ self.old.started.items ++ name.entry ∷ [] }
+    {
+        let _ = self.started.push(name);
+    }
+
     // Starts a task for the piece of this place. If it is refused, this worker runs the piece itself.
     fn start_task<R: Wait>(&mut self, rt: &R, place: u32)
         ensures { self.new.started ≡ self.old.started }
@@ -48,16 +67,20 @@ impl<'s, 'c, 'a, 'n, B: Began, L: Names, P: Spawns> Spawner<P>
     for Spawning<'s, 'c, 'a, 'n, B, L, P> {
     ghost accepted = { λ s. map (λ n. n.token.value.value) s.started.items };
 
+    #[tactic(auto, using(crate::proofs::Links::noted))]
     fn spawn<R: Wait>(&mut self, rt: &R, piece: P) -> Result<u32, P> {
-        // With room for it in both lists it can't be accepted and then lost.
-        if self.started.reserve(1).is_err() || self.todo.reserve(1).is_err() {
+        if !self.has_room() {
             return Err(piece);
         }
-        let name = self.pool.accept(rt, &self.names, self.by, piece)?;
-        let place = name.place;
-        let _ = self.started.push(name);
-        self.start_task(rt, place);
-        Ok(place)
+        match self.pool.accept(rt, &self.names, self.by, piece) {
+            Ok(name) => {
+                let place = name.place;
+                self.note(name);
+                self.start_task(rt, place);
+                Ok(place)
+            }
+            Err(piece) => Err(piece),
+        }
     }
 }
 
@@ -75,11 +98,9 @@ pub struct SpawnRunner<S: Drop, N: Drop> {
 /// A runner of these pieces.
 pub type RunnerOf<'a, 'n, L, P> = SpawnRunner<&'a Pool<'n, L, P>, NameList<'n, L, Snapshot<P>>>;
 
-impl<'a, 'n, L: Names, P: Spawns> SpawnRunner<
-    &'a Pool<'n, L, P>,
-    NameList<'n, L, Snapshot<P>>,
-> {
+impl<'a, 'n, L: Names, P: Spawns> SpawnRunner<&'a Pool<'n, L, P>, NameList<'n, L, Snapshot<P>>> {
     // Runs a piece.
+    #[tactic(auto, using(crate::proofs::Links::came_of))]
     fn run_piece<R: Wait, B: Began>(
         &mut self,
         rt: &R,

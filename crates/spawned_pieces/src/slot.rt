@@ -22,18 +22,6 @@ pub struct Named<'n, L: Names, P: Drop> {
     ghost named: { slice_get L.ids place ≡ Some token.of },
 }
 
-/// A place: the piece until it is taken, and its result, once it is there.
-#[derive(Drop)]
-pub struct Slot<'n, L: Names, P: Spawns> {
-    name: Named<'n, L, P>,
-    by: Source,
-    piece: Option<P>,
-    started: Vec<Named<'n, L, P>>,
-    result: Option<P::Done>,
-    ghost waits: { ForSome piece (λ p. p ≡ name.token.value.value) },
-    ghost kept: { ∥ IfSome result (λ d. P.promise name.token.value.value (map (λ n. n.token.value.value) started.items) d) ∥₁ },
-}
-
 /// What is at a place in the end, but for the pieces that its piece started.
 #[derive(Drop)]
 pub struct End<'n, L: Names, P: Spawns> {
@@ -43,6 +31,22 @@ pub struct End<'n, L: Names, P: Spawns> {
     pub by: Source,
     /// The result.
     pub result: Option<P::Done>,
+}
+
+/// What is at a place, but for the piece.
+#[derive(Drop)]
+pub struct Kept<'n, L: Names, P: Spawns> {
+    end: End<'n, L, P>,
+    started: Vec<Named<'n, L, P>>,
+    ghost kept: { ∥ IfSome end.result (λ d. P.promise end.name.token.value.value (map (λ n. n.token.value.value) started.items) d) ∥₁ },
+}
+
+/// A place: the piece until it is taken, and its result, once it is there.
+#[derive(Drop)]
+pub struct Slot<'n, L: Names, P: Spawns> {
+    piece: Option<P>,
+    kept: Kept<'n, L, P>,
+    ghost waits: { ForSome piece (λ p. p ≡ kept.end.name.token.value.value) },
 }
 
 /// A piece that was taken.
@@ -71,7 +75,7 @@ impl<'n, L: Names, P: Drop> Named<'n, L, P> {
     /// That this piece was accepted at this place.
     pub fn new(place: u32, token: OnceToken<'n, Snapshot<P>>) -> Named<'n, L, P>
         requires { slice_get L.ids place ≡ Some token.of }
-        ensures { result.token.value ≡ token.value }
+        ensures { result.token.value ≡ token.entry.value }
     {
         Named {
             place,
@@ -103,17 +107,47 @@ impl<'n, L: Names, P: Drop> Named<'n, L, P> {
     }
 }
 
+impl<'n, L: Names, P: Spawns> Kept<'n, L, P> {
+    // Puts the result of this place.
+    fn put(&mut self, came: Came<'n, L, P>)
+        ensures { self.new.end.name ≡ self.old.end.name }
+    {
+        let Came {
+            name,
+            started,
+            result,
+        } = came;
+        if self.end.name.is(&name) {
+            self.started = started;
+            self.end.result = Some(result);
+        }
+    }
+
+    /// What is there, and the pieces that its piece started.
+    pub fn into_parts(self) -> (End<'n, L, P>, Vec<Named<'n, L, P>>)
+        ensures { IfSome result.0.result (λ d. P.promise result.0.name.token.value.value (map (λ n. n.token.value.value) result.1.items) d) }
+    {
+        let Kept { end, started } = self;
+        (end, started)
+    }
+}
+
 impl<'n, L: Names, P: Spawns> Slot<'n, L, P> {
     /// Of a piece that waits.
     pub fn new(alloc: Global, name: Named<'n, L, P>, by: Source, piece: P) -> Slot<'n, L, P>
         requires { name.token.value.value ≡ piece }
     {
-        Slot {
+        let end = End {
             name,
             by,
-            piece: Some(piece),
-            started: Vec::new(alloc),
             result: None,
+        };
+        Slot {
+            piece: Some(piece),
+            kept: Kept {
+                end,
+                started: Vec::new(alloc),
+            },
         }
     }
 
@@ -121,7 +155,7 @@ impl<'n, L: Names, P: Spawns> Slot<'n, L, P> {
     pub fn take(&mut self) -> Option<Waiting<'n, L, P>> {
         match self.piece.take() {
             Some(piece) => Some(Waiting {
-                name: self.name.again(),
+                name: self.kept.end.name.again(),
                 piece,
             }),
             None => None,
@@ -130,28 +164,12 @@ impl<'n, L: Names, P: Spawns> Slot<'n, L, P> {
 
     /// Puts its result.
     pub fn put(&mut self, came: Came<'n, L, P>) {
-        let Came {
-            name,
-            started,
-            result,
-        } = came;
-        if self.name.is(&name) {
-            self.started = started;
-            self.result = Some(result);
-        }
+        self.kept.put(came);
     }
 
-    /// What is there, and the pieces that its piece started.
-    pub fn into_parts(self) -> (End<'n, L, P>, Vec<Named<'n, L, P>>)
-        ensures { IfSome result.0.result (λ d. P.promise result.0.name.token.value.value (map (λ n. n.token.value.value) result.1.items) d) }
-    {
-        let Slot {
-            name,
-            by,
-            piece: _,
-            started,
-            result,
-        } = self;
-        (End { name, by, result }, started)
+    /// What is there, but for the piece.
+    pub fn into_kept(self) -> Kept<'n, L, P> {
+        let Slot { kept, .. } = self;
+        kept
     }
 }

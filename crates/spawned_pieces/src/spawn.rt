@@ -29,7 +29,12 @@ pub trait Spawns: Drop {
     ghost promise: { Self → List Self → Self.Done → Type 0 };
 
     /// Does the work, on the thread of a worker. It may wait.
-    fn go<R: Wait, S: Spawner<Self>>(self, rt: &R, task: &TaskContext, spawner: &mut S) -> Self::Done
+    fn go<R: Wait, S: Spawner<Self>>(
+        self,
+        rt: &R,
+        task: &TaskContext,
+        spawner: &mut S,
+    ) -> Self::Done
         requires new { S.accepted spawner.old ≡ [] }
         ensures { promise self (S.accepted spawner.new) result };
 }
