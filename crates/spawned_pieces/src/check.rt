@@ -11,9 +11,12 @@ use crate::source::Source;
 use crate::spawn::Spawns;
 use nested_pieces::names::Names;
 use std::alloc::{AllocError, Global};
+use std::marker::PhantomData;
+use std::snapshot::Snapshot;
+use std::sync::OnceToken;
 
 // What is at the places up to the first that has no piece, and the pieces that each of these pieces started.
-fn gather<'n, L: Names, P: Spawns + 'n>(
+fn gather<'n, L: Names, P: Spawns>(
     alloc: Global,
     pool: Pool<'n, L, P>,
 ) -> Result<(Vec<End<'n, L, P>>, Vec<Vec<Named<'n, L, P>>>), AllocError>
@@ -55,6 +58,8 @@ fn popped<'n, L: Names, P: Spawns>(
 struct Lists<'n, L: Names, P: Spawns> {
     pieces: Vec<Vec<Named<'n, L, P>>>,
     clients: Vec<Vec<Named<'n, L, P>>>,
+    // It has tokens of the names, so the pieces' type lives as long as these.
+    shown: PhantomData<OnceToken<'n, Snapshot<P>>>,
 }
 
 impl<'n, L: Names, P: Spawns> Lists<'n, L, P> {
@@ -80,7 +85,7 @@ fn all_empty<T: Drop>(lists: &Vec<Vec<T>>) -> bool
 }
 
 // Whether each of these pieces is the one that its source knows, in the order of the places, and no source knows another one.
-fn linked<'n, L: Names, P: Spawns + 'n>(ends: &[End<'n, L, P>], lists: Lists<'n, L, P>) -> bool
+fn linked<'n, L: Names, P: Spawns>(ends: &[End<'n, L, P>], lists: Lists<'n, L, P>) -> bool
     ensures { result ≡ true → AreLinked (map (λ e. taken e.name.token.value.value e.by e.result) ends.now) (map (λ l. map (λ n. n.token.value.value) l.items) lists.entry.pieces.items) (map (λ l. map (λ n. n.token.value.value) l.items) lists.entry.clients.items) }
 {
     let mut lists = lists;
@@ -107,7 +112,7 @@ fn results_alone<'n, L: Names, P: Spawns>(
 
 /// The results of the pieces at these places, where these are the ones that each client knows that it started. None if what is there isn't what
 /// the clients and the pieces know: that doesn't occur, but no clause says so.
-pub fn results_of<'n, L: Names, P: Spawns + 'n>(
+pub fn results_of<'n, L: Names, P: Spawns>(
     alloc: Global,
     pool: Pool<'n, L, P>,
     clients: Vec<Vec<Named<'n, L, P>>>,
@@ -116,7 +121,12 @@ pub fn results_of<'n, L: Names, P: Spawns + 'n>(
 {
     let gathered = gather(alloc, pool)?;
     let (ends, pieces) = gathered;
-    if !linked(&ends, Lists { pieces, clients }) {
+    let lists = Lists {
+        pieces,
+        clients,
+        shown: PhantomData,
+    };
+    if !linked(&ends, lists) {
         return Ok(None);
     }
     let results = results_alone(alloc, ends)?;
@@ -125,7 +135,7 @@ pub fn results_of<'n, L: Names, P: Spawns + 'n>(
 
 /// What main knows, where it started the root alone.
 #[tactic(auto, using(crate::proofs::Links::main_alone))]
-pub fn main_list<'n, L: Names, P: Spawns + 'n>(
+pub fn main_list<'n, L: Names, P: Spawns>(
     alloc: Global,
     root: Named<'n, L, P>,
 ) -> Result<Vec<Vec<Named<'n, L, P>>>, AllocError>

@@ -8,10 +8,11 @@ use crate::spawn::Spawns;
 use mtapi_values::GroupHandle;
 use nested_pieces::names::{NameList, Names};
 use std::alloc::Global;
+use std::marker::PhantomData;
 use std::snapshot::Snapshot;
 use std::sync::atomic::AtomicU64;
 use std::sync::atomic::Ordering::SeqCst;
-use std::sync::{Mutex, OnceLock, Wait};
+use std::sync::{Mutex, OnceLock, OnceToken, Wait};
 
 /// The places of all pieces.
 #[derive(Drop)]
@@ -24,6 +25,8 @@ pub struct Pool<'n, L: Names, P: Spawns> {
     pub next: AtomicU64,
     /// The group of all tasks.
     pub group: OnceLock<GroupHandle>,
+    /// It has tokens of the names, so the pieces' type lives as long as these.
+    pub shown: PhantomData<OnceToken<'n, Snapshot<P>>>,
 }
 
 impl<'n, L: Names, P: Spawns> Pool<'n, L, P> {

@@ -18,7 +18,7 @@ use nested_pieces::names::{NameList, Names, no_names};
 use node_core::RunJournal;
 use node_with_workers::{Done, with_servers_alone};
 use std::alloc::{AllocError, Global};
-use std::marker::Brand;
+use std::marker::{Brand, PhantomData};
 use std::snapshot::Snapshot;
 use std::sync::atomic::AtomicU64;
 use std::sync::{Mutex, OnceLock, Wait};
@@ -74,6 +74,7 @@ fn pool_of<'n, L: Names, P: Spawns>(
         slots,
         next: AtomicU64::new(1),
         group: OnceLock::new(),
+        shown: PhantomData,
     };
     Ok((pool, name))
 }
@@ -89,7 +90,7 @@ fn there<D: Drop>(alloc: Global, results: Vec<Option<D>>) -> Result<Vec<D>, Unfi
 }
 
 // The results of all places, if there are at most so many.
-fn results_of<'n, L: Names, P: Spawns + 'n>(
+fn results_of<'n, L: Names, P: Spawns>(
     alloc: Global,
     pool: Pool<'n, L, P>,
     root: Named<'n, L, P>,
