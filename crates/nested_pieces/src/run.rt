@@ -102,6 +102,7 @@ fn shared_of<'n, L: Names, P: Split>(
     root: P,
     names: &NameList<'n, L, Snapshot<Vec<P>>>,
     most: u32,
+    workers: u32,
 ) -> Result<(Shared<'n, L, P>, Place<'n, L, P>), NestFailure>
     ensures parts { IfOk result (λ r. r.1.parts.value.value.items ≡ root ∷ []) }
     ensures index { IfOk result (λ r. r.1.index ≡ 0) }
@@ -130,6 +131,9 @@ fn shared_of<'n, L: Names, P: Split>(
         next: AtomicU64::new(1),
         pieces: AtomicU64::new(1),
         most,
+        // That of the root, which the client starts.
+        waiting: AtomicU64::new(1),
+        enough: u64::from(workers),
         group: OnceLock::new(),
         want: OnceLock::new(),
     };
@@ -210,7 +214,7 @@ where
     ensures first { IfErr result (λ e. NestFails e (λ u. IfNoResult u (λ place. place ≡ 0))) }
 {
     let list = NameList::<L, Snapshot<Vec<P>>>::new(names);
-    let (shared, place) = shared_of(alloc, root, &list, most)?;
+    let (shared, place) = shared_of(alloc, root, &list, most, settings.workers())?;
     let journal = over(rt, alloc, settings, names, &shared)?;
     let (_, done) = result_of(shared, place)?.into_parts();
     within(done, journal, most)
@@ -244,8 +248,9 @@ where
 
 /// Runs work that splits on one node with these settings, and gives the result of this piece, the root, which keeps what the piece promises.
 ///
-/// The worker that ran a piece which split starts its parts at once, each as a task, but the first, which it runs itself; where the node has no
-/// room for a task, it runs that part itself too. Whoever ends the last part of a piece joins their results, outside any lock.
+/// The worker that ran a piece which split has to run its parts, the first one next. As long as fewer tasks wait than the node has workers, it
+/// starts a task for the part that it has had to run for longest; where the node has no room for a task, it runs that part itself. So deep work
+/// makes few tasks. Whoever ends the last part of a piece joins their results, outside any lock.
 ///
 /// There may be as many pieces in all as the node has tasks (`NodeAttr::TASKS`).
 ///

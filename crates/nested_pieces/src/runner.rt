@@ -2,7 +2,7 @@
 
 use crate::names::{NameList, Names};
 use crate::parts::Ran;
-use crate::shared::{Shared, Started};
+use crate::shared::{Shared, Started, Want};
 use action_fn::{Finished, answer_of};
 use mtapi_values::{Args, Kind, TaskAttr};
 use nested_workers::{Began, Nesting, RunTasks, Starter};
@@ -57,53 +57,57 @@ impl<'a, 'n, L: Names, P: Split> NestedRunner<
     &'a Shared<'n, L, P>,
     NameList<'n, L, Snapshot<Vec<P>>>,
 > {
-    // Starts a task for this part. If it is refused, this worker runs the part itself.
-    fn start_one<R: Wait, B: Began>(
-        &mut self,
-        rt: &R,
-        starter: &Starter<B>,
-        number: usize,
-        index: usize,
-    ) {
-        let group = self.shared.group.get().copied();
-        let args = args_of(number, index);
-        let started = starter.start(rt, JOB, args, TaskAttr::new(), group);
-        if started.is_err() {
-            let _ = self.todo.push((number, index));
+    // Has this worker run the part itself, before those that it has to run by now.
+    fn keep(&mut self, number: usize, index: usize) {
+        if self.todo.push((number, index)).is_err() {
+            self.shared.wants(Want::Memory);
         }
     }
 
-    // Starts a task for each of these parts but the first, which this worker runs next.
-    fn start_parts<R: Wait, B: Began>(&mut self, rt: &R, starter: &Starter<B>, started: Started) {
-        let Started { number, count } = started;
-        for index in 1..count {
-            self.start_one(rt, starter, number, index);
+    // Starts a task for the part that this worker has had to run for longest. Whether that was accepted.
+    fn start_oldest<R: Wait, B: Began>(&mut self, rt: &R, starter: &Starter<B>) -> bool {
+        let Some((number, index)) = self.todo.first().copied() else {
+            return false;
+        };
+        let group = self.shared.group.get().copied();
+        let args = args_of(number, index);
+        self.shared.counts_task();
+        let started = starter.start(rt, JOB, args, TaskAttr::new(), group);
+        if started.is_err() {
+            self.shared.begins_task();
+            return false;
         }
-        let _ = self.todo.push((number, 0));
+        self.todo.remove(0);
+        true
+    }
+
+    // Starts tasks for the parts that this worker has had to run for longest, while few tasks wait for a worker. The last one it keeps.
+    fn offer<R: Wait, B: Began>(&mut self, rt: &R, starter: &Starter<B>) {
+        for _ in 1..self.todo.len() {
+            if !self.shared.lacks_tasks() || !self.start_oldest(rt, starter) {
+                return;
+            }
+        }
     }
 
     // Runs one part outside the locks, so that others run beside it.
-    fn work_one<R: Wait, B: Began>(
-        &mut self,
-        rt: &R,
-        starter: &Starter<B>,
-        number: usize,
-        index: usize,
-    ) {
+    fn work_one<R: Wait>(&mut self, rt: &R, number: usize, index: usize) {
         let shared = self.shared;
         if let Some(part) = shared.take(rt, number, index) {
             match part.run(rt, &TaskContext::uncancelled()) {
                 Ran::Ended(ended) => shared.settle(rt, ended),
                 Ran::Opens(opening) => {
-                    if let Some(started) = shared.open(rt, &self.names, opening) {
-                        self.start_parts(rt, starter, started);
+                    if let Some(Started { number, count }) = shared.open(rt, &self.names, opening) {
+                        for index in (0..count).rev() {
+                            self.keep(number, index);
+                        }
                     }
                 }
             }
         }
     }
 
-    // Runs this part and those that this worker has to run after it.
+    // Runs this part and those that this worker has to run after it. Of these it starts tasks for some.
     fn work<R: Wait, B: Began>(
         &mut self,
         rt: &R,
@@ -111,10 +115,15 @@ impl<'a, 'n, L: Names, P: Split> NestedRunner<
         number: usize,
         index: usize,
     ) {
-        self.work_one(rt, starter, number, index);
+        self.work_one(rt, number, index);
         for _ in rt.forever() {
+            // (the rest is lost with the result of the root)
+            if self.shared.want.get().is_some() {
+                self.todo.clear();
+            }
+            self.offer(rt, starter);
             match self.todo.pop() {
-                Some((number, index)) => self.work_one(rt, starter, number, index),
+                Some((number, index)) => self.work_one(rt, number, index),
                 None => return,
             }
         }
@@ -132,7 +141,10 @@ impl<'a, 'n, L: Names, P: Split> RunTasks
         args: Args,
     ) -> Finished {
         if let (Kind::Echo, Some((number, index))) = (kind, part_of(&args)) {
-            self.work(rt, starter, number, index);
+            self.shared.begins_task();
+            if self.shared.want.get().is_none() {
+                self.work(rt, starter, number, index);
+            }
         }
         let end = answer_of(kind, &args);
         Finished::new(kind, args, end)

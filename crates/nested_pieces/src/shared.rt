@@ -32,13 +32,16 @@ pub struct Shared<'n, L: Names, P: Split> {
     /// How many pieces there are, of how many that there may be.
     pub pieces: AtomicU64,
     pub most: u32,
+    /// How many tasks have been started and not begun, and how many of them are enough.
+    pub waiting: AtomicU64,
+    pub enough: u64,
     /// The group of all tasks.
     pub group: OnceLock<GroupHandle>,
     /// Why not all pieces have run.
     pub want: OnceLock<Want>,
 }
 
-/// Which parts are to be started: those of this frame, so many.
+/// Which parts are to be run: those of this frame, so many.
 #[derive(Clone, Copy, Drop)]
 pub struct Started {
     /// The number of the frame.
@@ -48,9 +51,24 @@ pub struct Started {
 }
 
 impl<'n, L: Names, P: Split> Shared<'n, L, P> {
-    // Not all pieces will run.
-    fn wants(&self, want: Want) {
+    /// Not all pieces will run.
+    pub fn wants(&self, want: Want) {
         let _ = self.want.try_set(want);
+    }
+
+    /// A task is started.
+    pub fn counts_task(&self) {
+        self.waiting.fetch_add(1, SeqCst);
+    }
+
+    /// A task begins, or was refused.
+    pub fn begins_task(&self) {
+        self.waiting.fetch_sub(1, SeqCst);
+    }
+
+    /// Whether fewer tasks wait for a worker than are enough.
+    pub fn lacks_tasks(&self) -> bool {
+        self.waiting.load(SeqCst) < self.enough
     }
 
     /// Takes a part, if it waits.
