@@ -25,6 +25,10 @@ complaint; `PROVES`, if nothing fails; or `BAD SLIP`, if the text doesn't stand 
 own. Fails if a slip isn't refused. A slip takes 10 to 60 seconds; several calls may run beside one another, each on slips of its
 own.
 
+With `--together` before the names, wrong bodies of one crate that stand in several of its functions are tried at once, by one
+check of the whole crate: that each function is refused by goals of its own shows in what the check says of it. It is several
+times as fast where a crate has many. Slips of definitions, and what runs a case, are tried one by one all the same.
+
 `bench/slips.py --match` tries none: in a second it tells of each slip, those of the glue in `bench/c_slips` too, whose text doesn't
 stand once in today's text, or that names no crate or test, and fails if there is one. The gate calls it.
 """
@@ -46,6 +50,7 @@ SECONDS = 900  # that one check or one run may take
 SHOWN = 200  # letters of a complaint
 COMPLAINT = re.compile(r"^(\S+?):\d+:\d+: error: (.*)$", re.M)
 IS_TRIED = re.compile(r"not proved|must prove")  # the function's goals were tried
+SAID_OF_FUNCTION = re.compile(r"^fn (\S+): ((?:no proof|not proved).*)$", re.M)
 NOT_DECIDED = re.compile(r"declarations? that depends? on")
 
 Slip = collections.namedtuple("Slip", "name say changes refused_by")
@@ -134,6 +139,15 @@ def made(folder, slip):
     return wrong
 
 
+def made_beside(folder, slip):
+    """Makes the slip beside others, or leaves it out. What is wrong with it, or nothing."""
+    texts, wrong = changed_files(folder, slip)
+    for name, text in texts.items() if not wrong else ():
+        with open(os.path.join(folder, name), "w") as file:
+            file.write(text)
+    return wrong
+
+
 def mismatch(slip):
     """Why the slip can't be tried on today's text, or nothing."""
     wrong = changed_files(TOP, slip)[1]
@@ -158,9 +172,58 @@ def taken_back(folder, slip):
             shutil.copy2(os.path.join(TOP, change.file), os.path.join(folder, change.file))
 
 
-def said_by(command, crate, stdin=subprocess.DEVNULL):
+def is_body(slip):
+    """Whether the slip is one of code alone, in the crate one of whose functions has to be refused."""
+    crate, _, function = slip.refused_by.partition(" ")
+    return crate != "case" and function and all(change.file.startswith(f"crates/{crate}/src/") for change in slip.changes)
+
+
+def rounds_of(slips):
+    """These wrong bodies in rounds: in each those of one crate, of each of its functions one at most."""
+    left = sorted(slips, key=lambda slip: (slip.refused_by, slip.name))
+    while left:
+        crate, taken = left[0].refused_by.split()[0], {}
+        for slip in left:
+            if slip.refused_by.split()[0] == crate:
+                taken.setdefault(slip.refused_by, slip)
+        yield list(taken.values())
+        left = [slip for slip in left if slip not in taken.values()]
+
+
+def own_complaint(function, said, complaints):
+    """The first complaint about this function itself, and not about one that it calls, or nothing."""
+    line = next((text for name, text in said if name.partition("::")[2] == function), "")
+    if "did not prove" in line:
+        return line
+    parts = set(function.split("::"))
+    own = (f"{file}: {text}" for file, text in complaints if parts <= set(file.split("/")) and not NOT_DECIDED.search(text))
+    return next(own, "") if line else ""
+
+
+def checked_together(folder, slips):
+    """Checks a crate with all of these wrong bodies: for each `refused`, `PROVES`, or `BAD SLIP` where it has to be tried alone, and why."""
+    at = os.path.join(folder, "crates", slips[0].refused_by.split()[0])
+    found = {slip.name: ("BAD SLIP", wrong) for slip in slips if (wrong := made_beside(folder, slip))}
+    try:
+        _, out, err = said_by(["rt", "check", "--jobs", "1"], at, seconds=len(slips) * SECONDS)
+    except subprocess.TimeoutExpired:
+        return {slip.name: ("BAD SLIP", "no answer in time") for slip in slips}
+    finally:
+        for slip in slips:
+            taken_back(folder, slip)
+    said = SAID_OF_FUNCTION.findall(out + err)
+    complaints = [(os.path.normpath(file), text) for file, text in COMPLAINT.findall(out + err)]
+    if not said and not re.search(r"^logic=", out + err, re.M):
+        return {slip.name: ("BAD SLIP", (out + err).strip()[-SHOWN:]) for slip in slips}
+    for slip in slips:
+        why = own_complaint(slip.refused_by.split()[1], said, complaints)
+        found.setdefault(slip.name, ("refused", why) if why else ("PROVES", slip.refused_by))
+    return found
+
+
+def said_by(command, crate, stdin=subprocess.DEVNULL, seconds=SECONDS):
     """The status of a command in a crate's folder, and what it wrote on both streams."""
-    done = subprocess.run(command, cwd=crate, stdin=stdin, capture_output=True, text=True, timeout=SECONDS)
+    done = subprocess.run(command, cwd=crate, stdin=stdin, capture_output=True, text=True, timeout=seconds)
     return done.returncode, done.stdout, done.stderr
 
 
@@ -276,13 +339,23 @@ def matched():
 def main():
     if sys.argv[1:] == ["--match"]:
         return matched()
-    slips, counts = named(sys.argv[1:]), collections.Counter()
+    are_together = sys.argv[1:2] == ["--together"]
+    slips, counts = named(sys.argv[1 + are_together :]), collections.Counter()
+    bodies = [slip for slip in slips if is_body(slip)] if are_together else []
     with tempfile.TemporaryDirectory() as folder:
         scratch_copy(folder)
-        for slip in sorted(slips, key=lambda slip: (slip.refused_by, slip.name)):
-            word, why = tried(folder, slip)
+
+        def tell(slip, word, why):
             counts[word] += 1
             print(f"{word:8} {slip.name}: {slip.say} ({slip.refused_by}: {why[:SHOWN]})", flush=True)
+
+        for together in rounds_of(bodies):
+            found = checked_together(folder, together)
+            for slip in together:
+                tell(slip, *(tried(folder, slip) if found[slip.name][0] == "BAD SLIP" else found[slip.name]))
+        for slip in sorted(slips, key=lambda slip: (slip.refused_by, slip.name)):
+            if slip not in bodies:
+                tell(slip, *tried(folder, slip))
     print(f"{counts['refused']} refused, {counts['PROVES']} prove, {counts['BAD SLIP']} bad")
     return 0 if counts["refused"] == len(slips) else 1
 
