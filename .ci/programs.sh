@@ -3,8 +3,9 @@
 # shellcheck shell=bash disable=SC2034,SC2154 # used by the scripts that source this; `top` is theirs
 
 command_crate=mtapi_cli
+kept_crate=mtapi_kept # runs and judges by the command, in memory
 # Further programs, each as WORD:CRATE: the first word that asks for it, and the crate that makes it.
-further=(judge:mtapi_judge picture:mtapi_picture trace:mtapi_trace bounded:mtapi_waits explain:mtapi_explain orders:mtapi_orders)
+further=(check:mtapi_kept judge:mtapi_judge picture:mtapi_picture trace:mtapi_trace explain:mtapi_explain orders:mtapi_orders)
 programs=("$command_crate" "${further[@]#*:}")
 libraries=(typed_pieces chunked_pieces plain_work write_run) # on which a program of one's own stands
 c_crate=mtapi_c                         # the library for C, an archive

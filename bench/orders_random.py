@@ -89,6 +89,8 @@ def found_by_program(text):
     words = lines[0].split()
     if words[0] == "at":
         return None
+    if "unproved" in words:
+        raise ValueError(f"a stop that isn't shown to be a deadlock: {lines[0]}")
     count, deadlocks = int(words[0]), int(words[3])
     return None if count > 100 else reports_in(lines[1:], count), texts_in(lines[1:]), count, deadlocks
 

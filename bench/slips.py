@@ -282,7 +282,7 @@ def tests_answer(at):
 def cases_answer(at):
     """What is wrong with the ends of the inputs in the folder cases/."""
     _, out, err = said_by(["rt", "try", "--steps", "1", "--seconds", "300", "--cases", "cases"], at)
-    ends = [re.sub(r" runners=\S*( output=differs)?.*", r"\1", line) for line in (out + err).split("\n") if line.startswith("case=")]
+    ends = [re.sub(r" runners=(?:.*?( output=differs).*|.*)$", r"\1", line) for line in (out + err).split("\n") if line.startswith("case=")]
     wanted = open(os.path.join(at, "cases.wanted")).read().split("\n")[:-1]
     other = [line for line in ends if line not in wanted] + [line for line in wanted if line not in ends]
     return f"{os.path.basename(at)}: {other[0]}" if other else ""

@@ -6,6 +6,7 @@ most_seconds=300    # that an unproved run may take once it is compiled, and a r
 page_of_waits="docs/tutorial.md, 'When nothing comes'"
 if [ -n "$installed" ]; then page_of_waits='man mtapi'; fi
 workload=FILE # as `run` was given it, for what is told of waits
+told_to=2     # where a proved program tells what it has to
 
 # A file that can't be read, and why, if that is seen.
 fault_of() {
@@ -52,11 +53,6 @@ show() {
     fi
 }
 
-# What stands behind a text begins in a line of its own.
-end_last_line() {
-    if [ -n "$(tail -c 1 "$1")" ]; then echo >>"$1"; fi
-}
-
 has_journal() {
     LC_ALL=C grep -aq '^mtapi-journal ' "$scratch/$1"
 }
@@ -68,32 +64,31 @@ need_journal() {
     fi
 }
 
-# The journal of a file, without what stands before it.
-journal_in() {
-    LC_ALL=C sed -n '/^mtapi-journal /,$p' "$scratch/$1"
-}
-
-text_before_journal() {
-    LC_ALL=C sed '/^mtapi-journal /,$d' "$scratch/$1"
-}
-
-# Whether what stands before the journal is a report and no workload, whose lines begin with a word of letters.
+# Whether a report stands before the journal: it has no comments, and no line of a workload begins so.
 begins_with_report() {
-    text_before_journal "$1" | LC_ALL=C awk 'NF && $1 !~ /^#/ { found = $1 ~ /^[!=]$/ || $1 ~ /\./; exit } END { exit !found }'
+    LC_ALL=C grep -avm 1 '^ *\(#\|$\)' "$scratch/$1" | LC_ALL=C grep -aqE '^ *([!=] |[^ ]*\.)'
 }
 
 # What `run --journal` wrote has a report and no workload in front of its journal.
 need_workload() {
-    if begins_with_report "$1"; then
+    if has_journal "$1" && begins_with_report "$1"; then
         tell "$(name_of "$2"): a report and a journal, but no workload here: use check FILE $2"
         leave "$refused"
     fi
 }
 
-# Makes one input of the workload in a file and the journal in another one.
-join_journal() {
-    end_last_line "$scratch/$1"
-    journal_in "$2" | cat "$scratch/$1" - >"$scratch/$3"
+# The journal of a file, without what stands before it.
+journal_in() {
+    LC_ALL=C sed -n '/^mtapi-journal /,$p' "$scratch/$1"
+}
+
+# Fills `whole` with a workload and, behind it, the journal in what was kept of its run: what stands there begins in a line of its own.
+take_both() {
+    take_file "$1" whole
+    take_file "$2" kept
+    need_journal kept "$2"
+    if [ -n "$(tail -c 1 "$scratch/whole")" ]; then echo >>"$scratch/whole"; fi
+    journal_in kept >>"$scratch/whole"
 }
 
 # shellcheck disable=SC2317 # called by the traps
@@ -118,7 +113,7 @@ program_on() {
     shift 3
     if is_proved "$crate"; then
         need_processor "$crate"
-        (become_program "$crate" "$@") <"$scratch/$in" >"$scratch/$out" &
+        (become_program "$crate" "$@") <"$scratch/$in" >"$scratch/$out" 2>&"$told_to" &
     else
         (run_unproved "$crate" "$@") <"$scratch/$in" >"$scratch/$out" &
     fi
@@ -145,73 +140,63 @@ run() {
     leave "$status"
 }
 
-# `check` alone: the command's own answer, and a hint where the input is what `run --journal` wrote.
-check_input() {
-    make_scratch
-    on_signals true
-    take_file - whole 'read fault'
-    program_on "$command_crate" whole verdict check
-    show "$scratch/verdict"
-    tell_why_not whole whole
-    if [ "$ended_with" -eq "$refused" ] && has_journal whole && begins_with_report whole; then
-        tell "a report stands in front of the journal: use check FILE -"
-    fi
-    leave "$ended_with"
-}
-
 # `check [FILE [KEPT]]`.
 check() {
-    if [ $# -eq 0 ]; then check_input; fi
     make_scratch
     on_signals true
-    take_file "$1" input
-    if [ $# -eq 2 ]; then
+    case $# in
+    0) take_file - whole 'read fault' ;;
+    1) take_file "$1" whole && need_journal whole "$1" ;;
+    2)
+        take_file "$1" input
         take_file "$2" kept
         need_journal kept "$2"
-        join_journal input kept whole
-    else
-        need_journal input "$1"
-        need_workload input "$1"
-        mv "$scratch/input" "$scratch/whole"
-    fi
-    program_on "$command_crate" whole verdict check
-    show "$scratch/verdict"
-    if [ $# -eq 2 ]; then tell_why_not kept whole; else tell_why_not whole whole; fi
-    leave "$ended_with"
+        cat "$scratch/input" "$scratch/kept" >"$scratch/whole"
+        answer_kept program_on whole check "$(wc -c <"$scratch/input")"
+        ;;
+    esac
+    need_workload whole "${1--}"
+    answer_kept program_on whole check
 }
 
 # Fills `whole` with a journal, behind its workload where that is known: of the files, or of a run of the first one.
 take_run() {
-    take_file "${1--}" input
     if [ $# -eq 2 ]; then
-        take_file "$2" kept
-        need_journal kept "$2"
-        join_journal input kept whole
-    elif begins_with_report input; then
-        need_journal input "${1--}"
-        journal_in input >"$scratch/whole"
-    elif [ "${1--}" = - ] || has_journal input; then
-        need_journal input "${1--}"
-        mv "$scratch/input" "$scratch/whole"
+        take_both "$@"
+        return
+    fi
+    take_file "${1--}" whole
+    if [ "${1--}" = - ] || has_journal whole; then
+        need_journal whole "${1--}"
+        if begins_with_report whole; then
+            journal_in whole >"$scratch/journal"
+            mv "$scratch/journal" "$scratch/whole"
+        fi
     else
         workload=$1
-        if is_proved "$command_crate"; then on_signals tell_where_waits_are; fi
-        command_on input ran run --journal
+        if is_proved "$kept_crate"; then on_signals tell_where_waits_are; fi
+        mv "$scratch/whole" "$scratch/input"
+        run_by "$kept_crate" input whole keep
         on_signals true
-        join_journal input ran whole
     fi
 }
 
-# Puts the names of a file before a run, as comments: each line of it is a handle and a name of 1 to 15 letters.
-name_objects() {
+# Keeps the names of a file, of which each line is a handle and a name of 1 to 15 letters.
+take_names() {
     local wrong letters=$' !#-%\x27-;=?-~' # none that the SVG would have to write otherwise
-    take_file "$1" names
-    wrong=$(LC_ALL=C sed -E '/^($|#)/d' "$scratch/names" | LC_ALL=C grep -avxE "[atgqmsrh][0-9]+\.[0-9]+ [$letters]{1,15}" | head -n 1)
+    take_file "$1" given
+    LC_ALL=C sed -E '/^($|#)/d; $a\' "$scratch/given" >"$scratch/names"
+    wrong=$(LC_ALL=C grep -avxE "[atgqmsrh][0-9]+\.[0-9]+ [$letters]{1,15}" "$scratch/names" | head -n 1)
     if [ -n "$wrong" ]; then
         tell "$(name_of "$1"): no handle and name of 1 to 15 letters: $wrong"
         leave "$refused"
     fi
-    LC_ALL=C sed -E '/^($|#)/d; s/^/# /' "$scratch/names" | cat - "$scratch/whole" >"$scratch/named"
+}
+
+# Puts the names of a file before a run, as comments.
+name_objects() {
+    take_names "$1"
+    sed 's/^/# /' "$scratch/names" | cat - "$scratch/whole" >"$scratch/named"
     mv "$scratch/named" "$scratch/whole"
 }
 
@@ -221,9 +206,10 @@ show_run() {
     shift
     if [ "${1-}" = --names ]; then names=$2 && shift 2; fi
     if [ "${1-}" = --bounded ]; then
-        take_bounded_run "${@:2}"
+        looks=${3-$default_looks}
+        begin_on_file "$2" tell_of_fewer_looks
+        run_by "$kept_crate" workload whole keep "$looks"
         on_signals true
-        join_journal bounded ran whole
     else
         make_scratch
         on_signals true
@@ -258,10 +244,7 @@ explain() {
 }
 
 place_mistakes() {
-    LC_ALL=C name=$1 awk -v bold="$bold" -v plain="$plain" '
-        match($0, /^line [0-9]+, column [0-9]+: /) {
-            split($0, words, /[ ,:]+/)
-            $0 = bold ENVIRON["name"] ":" words[2] ":" words[4] ":" plain " " substr($0, RLENGTH + 1)
-        }
-        { print }' "$scratch/told"
+    local name
+    name=$(LC_ALL=C sed 's/[\\&/]/\\&/g' <<<"$1")
+    LC_ALL=C sed -E "s/^line ([0-9]+), column ([0-9]+): /$bold${name//$'\n'/\\$'\n'}:\\1:\\2:$plain /" "$scratch/told"
 }

@@ -75,11 +75,11 @@ keep_examples() {
     mkdir "$scratch/examples"
     LC_ALL=C awk -v folder="$scratch/examples" -v page="$scratch/page" '
         /^journal of / { if (into != "") close(into) }
-        /^journal of (report|deadlock) [0-9]+$/ { into = folder "/" $3 "-" $4; next }
+        /^journal of (report|deadlock|stop) [0-9]+$/ { into = folder "/" $3 "-" $4; next }
         /^journal of line [0-9]+ text [0-9]+$/ { into = folder "/line-" $4 "-" $6; next }
         { print > (into == "" ? page : into) }' "$scratch/found"
     end_last_line "$scratch/workload"
-    if ! { mkdir -p -- "$folder" && rm -f -- "$folder"/{report,line,deadlock}-[0-9]*; } 2>/dev/null; then
+    if ! { mkdir -p -- "$folder" && rm -f -- "$folder"/{report,line,deadlock,stop}-[0-9]*; } 2>/dev/null; then
         tell "write fault: $folder"
         leave "$write_fault"
     fi

@@ -1,23 +1,34 @@
 # `mtapi verify`, `expect` and `bounded`: the command on files, whose answer is checked or compared. Sourced by `mtapi`.
 # shellcheck shell=bash disable=SC2154,SC2034 # what isn't set here is of the script that sources this
 
-# Runs the command with the words that follow on a file of the scratch folder, into another one. Its faults end the script
-# with their status; 9 is a verdict and none.
-command_on() {
+# Has a program run the workload in a file of the scratch folder, with the words behind the file that it writes. Its faults end
+# the script with their status; 1 and 9 are answers.
+run_by() {
     local within=()
-    if is_proved "$command_crate"; then within=(timeout "$most_seconds"); fi
-    program_on "$command_crate" "$@"
-    if [ "${#within[@]}" -ne 0 ] && [ "$ended_with" -eq 124 ]; then
-        tell "no answer within $most_seconds seconds; a wait that can't end: '$called bounded $workload' names it ($page_of_waits)"
-        ended_with=$no_answer
-    fi
+    if is_proved "$1"; then within=(timeout "$most_seconds"); fi
+    program_on "$@"
     case $ended_with in
-    0 | 9) ;;
-    *)
-        tell_where_mistakes_are "$ended_with"
-        leave "$ended_with"
-        ;;
+    0 | 1 | 9) return ;;
+    124) tell "no answer within $most_seconds seconds; a wait that can't end: '$called bounded $workload' names it ($page_of_waits)" && leave "$no_answer" ;;
     esac
+    show_told
+    tell_where_mistakes_are "$ended_with"
+    leave "$ended_with"
+}
+
+# Ends with what the program of kept runs, called by a function with the words behind it, makes of a file of the scratch folder.
+# What it tells stands behind what it writes; the unproved one tells as it goes.
+answer_kept() {
+    exec {told_to}>"$scratch/told"
+    "$1" "$kept_crate" "$2" shown "${@:3}"
+    paint_verdict <"$scratch/shown" >"$scratch/painted"
+    show "$scratch/painted"
+    show_told
+    leave "$ended_with"
+}
+
+show_told() {
+    if [ -e "$scratch/told" ]; then cat "$scratch/told" >&2; fi
 }
 
 # What every call here does first: takes the file, and tells with -v what runs it.
@@ -26,7 +37,7 @@ begin_on_file() {
     on_signals true
     if [ "$1" != - ]; then workload=$1; fi
     if is_proved "$command_crate"; then
-        on_signals tell_where_waits_are
+        on_signals "${2-tell_where_waits_are}"
         if [ -n "$verbose" ]; then tell "by the proved program"; fi
     fi
     take_file "$1" workload
@@ -35,21 +46,14 @@ begin_on_file() {
 # Report and verdict, whose status is that of `check`.
 verify() {
     begin_on_file "$1"
-    command_on workload ran run --journal
-    join_journal workload ran kept
-    command_on kept verdict check
-    text_before_journal ran >"$scratch/report"
-    paint_verdict <"$scratch/verdict" >"$scratch/painted"
-    show "$scratch/report" "$scratch/painted"
-    tell_why_not ran kept
-    leave "$ended_with"
+    answer_kept run_by workload verify
 }
 
 # Nothing and 0 where the report is the expected one, else the difference and 1.
 expect() {
     begin_on_file "$1"
     take_file "$2" expected
-    command_on workload report run
+    run_by "$command_crate" workload report run
     if cmp -s "$scratch/expected" "$scratch/report"; then
         tell "as expected"
         leave 0
@@ -65,30 +69,9 @@ tell_of_fewer_looks() {
     tell "stopped; with fewer looks than $looks it ends sooner: '$called bounded $workload LOOKS'"
 }
 
-# Runs a workload in which each `timeout=inf` has become so many looks. The lines of the workload stay what they are.
-take_bounded_run() {
-    looks=${2-$default_looks}
-    begin_on_file "$1"
-    if is_proved "$command_crate"; then on_signals tell_of_fewer_looks; fi
-    LC_ALL=C sed -E "/^ *#/!s/ timeout=inf( |\$)/ timeout=$looks\\1/" "$scratch/workload" >"$scratch/bounded"
-    command_on bounded ran run --journal
-}
-
-# Fills `waits` with a line for each wait of that run that ran out though the workload says `inf`. The status is that of the
-# program, 1 where there is such a line; where no wait ran out at all it isn't asked.
-find_waits_that_ran_out() {
-    : >"$scratch/waits"
-    LC_ALL=C grep -aq ' -> status M[TR]API_TIMEOUT' "$scratch/ran" || return 0
-    join_journal workload ran whole
-    program_on mtapi_waits whole waits "$looks"
-}
-
-# The report of such a run, and each wait that ran out, with which the status is 1.
+# The report of a run in which each `timeout=inf` is so many looks, and each wait that ran out, with which the status is 1.
 bounded() {
-    take_bounded_run "$@"
-    text_before_journal ran >"$scratch/report"
-    show "$scratch/report"
-    find_waits_that_ran_out
-    cat "$scratch/waits" >&2
-    leave "$ended_with"
+    looks=${2-$default_looks}
+    begin_on_file "$1" tell_of_fewer_looks
+    answer_kept run_by workload bounded "$looks"
 }

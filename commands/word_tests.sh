@@ -5,7 +5,7 @@
 # programs answer so is for their own tests, and `bench/first_answer.py` calls the words with the toolchain itself.
 # shellcheck shell=bash disable=SC2154 # what isn't set here is of the script that sources this
 
-stand='' words_passed=0 words_failed=0
+stand='' words_passed=0 words_failed=0 work_bytes=0
 
 # In the folder of a crate the stand-in is called as `rt try --steps 1 --seconds N -- WORDS`. It keeps what it was given.
 make_stand_in() {
@@ -89,10 +89,12 @@ w0 pick -> stop
 c0 final -> ok
 END
     cat "$stand/report" "$stand/journal" >"$stand/kept"
+    cat "$stand/work" "$stand/kept" >"$stand/both"
     cat "$stand/work" "$stand/journal" >"$stand/whole"
     cat "$stand/work500" "$stand/journal" >"$stand/whole500"
     printf '# mine\n\nm1.0 the guard\n' >"$stand/names"
     printf '# m1.0 the guard\n' | cat - "$stand/whole" >"$stand/named"
+    work_bytes=$(wc -c <"$stand/work")
 }
 
 # Words that are none, and what is told.
@@ -112,6 +114,8 @@ try_wrong_words() {
         try_words 2 '' "no option '--name': perhaps --names" "./mtapi $each --name a b"
         try_words 2 '' 'no number of looks: x: 0 to 1,000,000' "./mtapi $each --bounded a x"
     done
+    try_words 2 '' 'usage: mtapi judge [--names NAMES] [KEPT]' './mtapi judge a b'
+    try_words 2 '' "no option '--name': perhaps --names" './mtapi judge --name a'
     try_words 2 '' 'usage: mtapi explain [FILE]' './mtapi explain a b'
     try_words 2 '' 'usage: mtapi verify [-v] FILE' './mtapi verify'
     try_words 2 '' 'usage: mtapi expect [-v] FILE REPORT' './mtapi expect a'
@@ -166,19 +170,21 @@ try_command_words() {
     store mtapi_cli.gen.5.2 'tasks 5'
     try_words 0 'tasks 5' '' './mtapi gen 5 2'
     try_words 5 '' 'write fault' './mtapi gen 5 2 >&-'
-    store mtapi_cli.check yes
+    store "mtapi_kept.check.$work_bytes" yes
     try_words 0 yes '' './mtapi check work kept'
-    was_given mtapi_cli.check whole
+    was_given "mtapi_kept.check.$work_bytes" both
     try_words 0 yes '' './mtapi check work - <kept'
+    store mtapi_kept.check yes
     try_words 0 yes '' './mtapi check whole'
-    was_given mtapi_cli.check whole
+    was_given mtapi_kept.check whole
     try_words 5 '' 'write fault' './mtapi check whole >&-'
-    store mtapi_cli.check 'no: not a run' 9
+    store mtapi_kept.check 'no: not a run' 9
     try_words 9 'no: not a run' '' './mtapi check <whole'
+    store mtapi_kept.verify "$(cat "$stand/report")"$'\nno: not a run' 9
     try_words 9 '= main 2 1' '' './mtapi verify work'
-    store mtapi_cli.check yes
+    store mtapi_kept.verify "$(cat "$stand/report")"$'\nyes'
     try_words 0 "$(cat "$stand/report")"$'\n'yes '' './mtapi verify work'
-    was_given mtapi_cli.check whole
+    was_given mtapi_kept.verify work
     try_words 5 '' 'write fault' './mtapi verify work >&-'
     store mtapi_cli.run "$(cat "$stand/report")"$'\n'
     try_words 0 '' 'mtapi: as expected' './mtapi expect work report'
@@ -188,12 +194,15 @@ try_command_words() {
 
 try_show_words() {
     local each
+    store mtapi_kept.keep "$(cat "$stand/whole")"$'\n'
+    store mtapi_kept.keep.500 "$(cat "$stand/whole500")"$'\n'
     for each in picture trace; do
         store "mtapi_$each" "a $each"
         try_words 0 "a $each" '' "./mtapi $each work kept"
         was_given "mtapi_$each" whole
         try_words 0 "a $each" '' "./mtapi $each work"
         was_given "mtapi_$each" whole
+        was_given mtapi_kept.keep work
         try_words 0 "a $each" '' "./mtapi $each <kept"
         was_given "mtapi_$each" journal
         try_words 0 "a $each" '' "./mtapi $each --names names work kept"
@@ -201,8 +210,21 @@ try_show_words() {
         try_words 3 '' 'work: no handle and name of 1 to 15 letters: mutex m id=1' "./mtapi $each --names work work kept"
         try_words 0 "a $each" '' "./mtapi $each --bounded work 500"
         was_given "mtapi_$each" whole500
+        was_given mtapi_kept.keep.500 work
         try_words 5 '' 'write fault' "./mtapi $each work kept >&-"
     done
+}
+
+try_judge_words() {
+    store mtapi_judge 'legal'
+    try_words 0 legal '' './mtapi judge kept'
+    was_given mtapi_judge kept
+    store 'mtapi_judge.names.m1.0.the guard' 'illegal line 2' 1
+    try_words 1 'illegal line 2' '' './mtapi judge --names names kept'
+    was_given 'mtapi_judge.names.m1.0.the guard' kept
+    try_words 1 'illegal line 2' '' './mtapi judge --names names <kept'
+    try_words 3 '' 'work: no handle and name of 1 to 15 letters: mutex m id=1' './mtapi judge --names work kept'
+    try_words 5 '' 'write fault' './mtapi judge kept >&-'
 }
 
 try_further_words() {
@@ -211,14 +233,15 @@ try_further_words() {
     was_given mtapi_explain work
     try_words 3 'line 2, column 6: no name' '' './mtapi explain <work'
     try_words 5 '' 'write fault' './mtapi explain work >&-'
-    store mtapi_waits.500 $'mtapi: line 7: lock of c ran out\n' 1
+    store mtapi_kept.bounded.500 "$(cat "$stand/report")"$'\n' 1
+    echo 'mtapi: line 7: lock of c ran out' >"$stand/stored/mtapi_kept.bounded.500.err"
     try_words 1 '= main 2 1' 'line 7: lock of c ran out' './mtapi bounded work 500'
-    was_given mtapi_cli.run.--journal work500
-    was_given mtapi_waits.500 whole
+    was_given mtapi_kept.bounded.500 work
     try_words 5 '' 'write fault' './mtapi bounded work 500 >&-'
-    store mtapi_waits.500 '' 6
-    try_words 6 '= main 2 1' '' './mtapi bounded work 500'
-    try_no_timeout
+    store mtapi_kept.bounded.500 '' 6
+    try_words 6 '' '' './mtapi bounded work 500'
+    store mtapi_kept.bounded.500 "$(cat "$stand/report")"$'\n'
+    try_words 0 '= main 2 1' '' './mtapi bounded work 500'
     store mtapi_orders.5 'one report'
     try_words 0 'one report' '' './mtapi orders work 5'
     was_given mtapi_orders.5 work
@@ -227,14 +250,6 @@ try_further_words() {
     try_words 1 'two reports' '' './mtapi orders --one work'
     store mtapi_orders.--journals $'a page\njournal of report 1\nmtapi-journal 2\n'
     try_words 0 'a page' '' "./mtapi orders --journals work && tail -n 1 work.orders/report-1 | grep -qx 'mtapi-journal 2'"
-}
-
-# Where no wait ran out, the program that names waits isn't asked.
-try_no_timeout() {
-    store mtapi_cli.run.--journal "$(sed 's/status MRAPI_TIMEOUT after 499/number 1/' "$stand/kept")"$'\n'
-    rm -f "$stand/stored/mtapi_waits.500."*
-    try_words 0 '= main 2 1' '' './mtapi bounded work 500'
-    store mtapi_cli.run.--journal "$(cat "$stand/kept")"$'\n'
 }
 
 # Programs that count as proved here: each answers with its name and its words. No toolchain is asked for them.
@@ -281,6 +296,7 @@ test_words() {
     try_other_words
     try_command_words
     try_show_words
+    try_judge_words
     try_further_words
     try_installed_words
     echo "words: $words_passed passed, $words_failed failed"

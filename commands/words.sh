@@ -15,7 +15,7 @@ command|run [FILE]|runs the workload in FILE and writes its report
 command|run --journal [FILE]|writes behind it each call of the run and its answer
 command|check [FILE [KEPT]]|judges a workload with a journal behind it; or FILE by what 'run --journal' wrote into KEPT
 command|gen N [W]|runs a workload of N tasks (1 to $most_tasks) with W workers (1 to $most_workers, or 4)
-beside|judge [KEPT]|tells whether a journal, of 'run --journal' or of any program, is a legal history by itself; if not, the first line that isn't allowed, why, and what would be
+beside|judge [--names NAMES] [KEPT]|tells whether a journal, of 'run --journal' or of any program, is a legal history by itself; if not, the first line that isn't allowed, why, with the names that NAMES gives to handles, and what would be
 beside|explain [FILE]|tells every mistake for which FILE is no workload
 beside|verify [-v] FILE|runs the workload in FILE and checks its journal; writes report and verdict
 beside|expect [-v] FILE REPORT|runs the workload in FILE; status 1 and the difference if it doesn't write REPORT
@@ -140,6 +140,7 @@ tell_why() {
             tell_no_option "$2" --names --bounded
         fi
         ;;
+    judge) if [ $# -gt 1 ] && [ "$2" != --names ] && ! is_file "$2"; then tell_no_option "$2" --names; fi ;;
     prove) if [ $# -gt 1 ]; then tell_no_option "$2" --command; fi ;;
     esac
 }
@@ -199,7 +200,13 @@ are_known() {
     case $word in
     -h | --help) [ $# -eq 0 ] || { [ $# -eq 1 ] && is_word "$1"; } ;;
     --version | test) [ $# -eq 0 ] ;;
-    run | explain | judge) are_files 1 "$@" ;;
+    run | explain) are_files 1 "$@" ;;
+    judge)
+        case ${1-} in
+        --names) [ $# -ge 2 ] && are_files 2 "${@:2}" ;;
+        *) are_files 1 "$@" ;;
+        esac
+        ;;
     check) are_files 2 "$@" ;;
     picture | trace)
         case ${1-} in

@@ -34,7 +34,7 @@ use Rattle.run_report.specs.Replies.{decided}
 use Rattle.run_report.specs.Report.{run_terms}
 use Rattle.begun_runs.specs.Asks.{AskedBy, AsksOp, AsksPart, main_head, MainAsks, CallerAsks}
 use Rattle.begun_runs.specs.Begun.{Begun}
-use Rattle.begun_runs.specs.Halts.{refused_final, IsRefused, LeavesState, WorkerHalts, LooksOn, CallerHalts, through, outside, looks_on, reply_handles, CallersHalt, calls_ahead, MainHalts, main_looks, stays_open, stays_up, PartsHalt, Halts, HaltsIsStuck}
+use Rattle.begun_runs.specs.Halts.{refused_final, IsProbeRefusal, LeavesState, WorkerHalts, CallerLooksOn, CallerHalts, through, outside, looks_on, reply_handles, CallersHalt, calls_ahead, MainHalts, main_looks, stays_open, stays_up, PartsHalt, Halts, HaltsIsStuck}
 use Rattle.begun_runs.proofs.Next.{each_is_asked}
 use Rattle.begun_runs.proofs.Looks.{refused_stays, is_left_out, pending_alone, idle_work, tally_work, work_drops, no_stop_idle, no_stop_busy, close_decides}
 use Rattle.begun_runs.proofs.Lasts.{Maker, by_worker, by_main, by_caller, maker_of, part_on, part_behind, asks_first, asks_second, decided_append, none_of_other, none_pending, closes_behind, finals_well}
@@ -69,8 +69,8 @@ module _ (load : Workload) (layout : Layout) (es looks refused : List NodeEntry)
 
   refused_first : AllByRecursion (IsNext s) refused × LegalFrom s looks
   refused_first =
-      all_allowed s (IsRefused main_seat) (refused_stays s main_seat) refused looks
-      (recursion_from_All (IsRefused main_seat) refused halts.refused_each) from_here
+      all_allowed s (IsProbeRefusal main_seat) (refused_stays s main_seat) refused looks
+      (recursion_from_All (IsProbeRefusal main_seat) refused halts.refused_each) from_here
 
   refused_next : (e : NodeEntry) → Contains refused e → IsNext s e
   refused_next e c = All-contains (IsNext s) refused e (All-from_recursion (IsNext s) refused refused_first.0) c
@@ -132,7 +132,7 @@ module _ (load : Workload) (layout : Layout) (es looks refused : List NodeEntry)
   -- Callers
 
   -- a look at the statement that a seat has come to
-  on_look : (who : ℕ) (os : List Op) (ss : List Statement) (tail : List Op) (x : NodeEntry) → LooksOn looks who (length os) ss (reply_handles who es)
+  on_look : (who : ℕ) (os : List Op) (ss : List Statement) (tail : List Op) (x : NodeEntry) → CallerLooksOn looks who (length os) ss (reply_handles who es)
       → x.who ≡ who
       → AsksPart os ss tail (decided who es) x.op → IsNext s x → Passes x
   on_look who os ss tail x l is asks n =

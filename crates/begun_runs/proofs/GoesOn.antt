@@ -5,13 +5,13 @@ use Rattle.mtapi_machine.specs.Legal.{NodeEntry}
 use Rattle.node_journals.specs.Journals.{KeptEntries}
 use Rattle.workload_file.specs.declared.workload.Workload.{Workload}
 use Rattle.workload_runs.specs.RunOf.{RunOf}
-use Rattle.begun_runs.specs.Begun.{Begun, GoesOn}
+use Rattle.begun_runs.specs.Begun.{Begun, EntriesGoOn}
 
-pub goes_on_here : (a : KeptEntries) → GoesOn a a
+pub goes_on_here : (a : KeptEntries) → EntriesGoOn a a
 goes_on_here a = ([], [], sym (append-nil a.entries), sym (append-nil a.skipped))
 
-pub goes_on_one : (a b c : KeptEntries) (e : NodeEntry) (n : ℕ) → GoesOn a b
-    → c ≡ record { entries = b.entries ++ e ∷ []; skipped = b.skipped ++ n ∷ [] } → GoesOn a c
+pub goes_on_one : (a b c : KeptEntries) (e : NodeEntry) (n : ℕ) → EntriesGoOn a b
+    → c ≡ record { entries = b.entries ++ e ∷ []; skipped = b.skipped ++ n ∷ [] } → EntriesGoOn a c
 goes_on_one a b c e n g is = (
   g.0 ++ e ∷ [],
   g.1 ++ n ∷ [],
@@ -20,7 +20,7 @@ goes_on_one a b c e n g is = (
 )
 
 -- where more entries make a run of a list, it has begun
-pub begun_by : (load : Workload) (a b : KeptEntries) → length a.skipped ≡ length a.entries → length b.skipped ≡ length b.entries → GoesOn a b
+pub begun_by : (load : Workload) (a b : KeptEntries) → length a.skipped ≡ length a.entries → length b.skipped ≡ length b.entries → EntriesGoOn a b
     → RunOf load b.entries b.skipped → Begun load a.entries a.skipped
 begun_by load a b even whole g run = record {
   rest = g.0;

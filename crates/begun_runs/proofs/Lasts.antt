@@ -15,7 +15,7 @@ use Rattle.mtapi_machine.specs.Legal.{NodeEntry}
 use Rattle.mtapi_machine.specs.Row.{handle_of}
 use Rattle.mtapi_machine.specs.Kept.{is_pending}
 use Rattle.workload_runs.specs.Calls.{Call, call_of}
-use Rattle.workload_runs.specs.Lines.{Line, line, lines_of, Made, in_lines}
+use Rattle.workload_runs.specs.Lines.{Line, line_with, lines_of, MadeLines, in_lines}
 use Rattle.workload_runs.specs.Parts.{Carried, CallerRan, CallersRan, PartsRan}
 use Rattle.workload_runs.specs.RunOf.{RunOf, ClosesAtEnd, is_work}
 use Rattle.run_report.specs.Replies.{decided, decides}
@@ -152,13 +152,13 @@ none_without who (x ∷ L) e = grind (arith, nat_tests, none_without who L)
 front_decides : (c : Call) (front : List Line) (r : Reply) → FrontOf c front r → length (decided_in front) ≡ 1
 front_decides c front r (one p n is asked decides) =
     ap (λ (f : List Line). length (decided_in f)) is
-    ∙ (ap (λ (l : List Reply). length l) (decided_first (line p r n) [] decides) ∙ ap (λ (l : List Reply). suc (length l)) decided_none)
+    ∙ (ap (λ (l : List Reply). length l) (decided_first (line_with p r n) [] decides) ∙ ap (λ (l : List Reply). suc (length l)) decided_none)
 front_decides c front r (two q p m n is looks asked decides) =
     ap (λ (f : List Line). length (decided_in f)) is
-    ∙ (ap (λ (l : List Reply). length l) (decided_later (line q reply.Pending m) (line p r n ∷ []) refl)
-    ∙ (ap (λ (l : List Reply). length l) (decided_first (line p r n) [] decides) ∙ ap (λ (l : List Reply). suc (length l)) decided_none))
+    ∙ (ap (λ (l : List Reply). length l) (decided_later (line_with q reply.Pending m) (line_with p r n ∷ []) refl)
+    ∙ (ap (λ (l : List Reply). length l) (decided_first (line_with p r n) [] decides) ∙ ap (λ (l : List Reply). suc (length l)) decided_none))
 
-carried_count : (bound : List ℕ) (ss : List Statement) (body : List Line) (rs : List Reply) → Carried Made bound ss body rs
+carried_count : (bound : List ℕ) (ss : List Statement) (body : List Line) (rs : List Reply) → Carried MadeLines bound ss body rs
     → length (decided_in body) ≡ length ss
 unfolding Carried
 carried_count bound [] body [] c = ap (λ (b : List Line). length (decided_in b)) c ∙ ap (λ (l : List Reply). length l) decided_none
@@ -176,7 +176,8 @@ caller_count : (ss : List Statement) (ls : List Line) (rs : List Reply) → Call
 caller_count ss ls rs c =
     let enters : length (decided_in c.front) ≡ 1 =
     ap (λ (f : List Line). length (decided_in f)) c.entered.1
-    ∙ (ap (λ (l : List Reply). length l) (decided_first (line op.Enter reply.Ok c.entered.0) [] refl) ∙ ap (λ (l : List Reply). suc (length l)) decided_none) in
+    ∙ (ap (λ (l : List Reply). length l) (decided_first (line_with op.Enter reply.Ok c.entered.0) [] refl)
+    ∙ ap (λ (l : List Reply). suc (length l)) decided_none) in
     let others = carried_count [] ss c.body rs c.carried in
     let whole : length (decided_in ls) ≡ length (decided_in c.front ++ decided_in c.body) =
     ap (λ (l : List Reply). length l) (ap decided_in c.is ∙ in_append c.front c.body) in

@@ -6,3 +6,4 @@ mod WorkedAsks
 pub mod Looks
 pub mod Lasts
 pub mod Deadlocks
+pub mod Tests

@@ -36,11 +36,11 @@ use Rattle.history_law.proofs.lists.Firsts.{found_count, one_passes}
 use Rattle.history_law.proofs.Names.{some_same}
 use Rattle.history_law.proofs.tallies.Ties.{none_count, AtMostOne}
 use Rattle.workload_runs.specs.RunOf.{is_work}
-use Rattle.begun_runs.specs.Halts.{refused_look, IsRefused, is_task_look, LeavesState}
+use Rattle.begun_runs.specs.Halts.{refused_look, IsProbeRefusal, is_task_look, LeavesState}
 
 -- Refusals
 
-pub refused_stays : (s : State) (main : ℕ) (e : NodeEntry) → IsRefused main e → IsNext s e → next s e ≡ s
+pub refused_stays : (s : State) (main : ℕ) (e : NodeEntry) → IsProbeRefusal main e → IsNext s e → next s e ≡ s
 refused_stays s main e (inl x) n =
     status_stays s e n (ap (λ (z : NodeEntry). is_status z.reply) x.2) (ap (λ (z : NodeEntry). comes_with_change s z.op z.reply) x.2)
 refused_stays s main e (inr is) n =

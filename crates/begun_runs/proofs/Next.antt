@@ -16,7 +16,7 @@ use Rattle.mtapi_machine.specs.Legal.{NodeEntry}
 use Rattle.mtapi_machine.specs.Row.{handle_of}
 use Rattle.mtapi_machine.specs.Kept.{is_pending}
 use Rattle.workload_runs.specs.Calls.{Call, Once, Looking, call_of}
-use Rattle.workload_runs.specs.Lines.{Line, line, lines_of, before_it, Made, head_of, tail_of_main, KeepsTimeout, in_lines}
+use Rattle.workload_runs.specs.Lines.{Line, line_with, lines_of, before_it, MadeLines, head_lines, tail_of_main, KeepsTimeout, in_lines}
 use Rattle.workload_runs.specs.Parts.{Carried, MainRan, CallerRan, CallersRan, PartsRan, has_begin}
 use Rattle.workload_runs.specs.RunOf.{is_work, all_work}
 use Rattle.run_report.specs.Replies.{decided}
@@ -72,10 +72,10 @@ asks_op (o ∷ os) (t ∷ T) (a ∷ A) B l are e =
 
 -- the lines of a call: one that decides, or a look that doesn't and one that does
 pub data FrontOf (c : Call) (front : List Line) (r : Reply) : Type 0 where
-  one : (p : Op) (n : ℕ) → front ≡ line p r n ∷ [] → AskedBy c p → is_pending r ≡ false → FrontOf c front r
-  two : (q p : Op) (m n : ℕ) → front ≡ line q reply.Pending m ∷ line p r n ∷ [] → AskedBy c q → AskedBy c p → is_pending r ≡ false → FrontOf c front r
+  one : (p : Op) (n : ℕ) → front ≡ line_with p r n ∷ [] → AskedBy c p → is_pending r ≡ false → FrontOf c front r
+  two : (q p : Op) (m n : ℕ) → front ≡ line_with q reply.Pending m ∷ line_with p r n ∷ [] → AskedBy c q → AskedBy c p → is_pending r ≡ false → FrontOf c front r
 
-pub front_of : (c : Call) (front : List Line) (r : Reply) → Made c front r → FrontOf c front r
+pub front_of : (c : Call) (front : List Line) (r : Reply) → MadeLines c front r → FrontOf c front r
 front_of (Once o) front r m = one o 0 m.0 refl m.1
 front_of (Looking waits o timeout) front r m = by m.first m.is
   where
@@ -86,7 +86,7 @@ front_of (Looking waits o timeout) front r m = by m.first m.is
     decides_by : looks_of timeout ≡ None → m.last ≡ false
     decides_by e = never_last (looks_of timeout) m.last _ m.within e
 
-    by : (first : Option ℕ) → front ≡ before_it (o false) first ++ line (o m.last) r m.beside ∷ [] → FrontOf (Looking waits o timeout) front r
+    by : (first : Option ℕ) → front ≡ before_it (o false) first ++ line_with (o m.last) r m.beside ∷ [] → FrontOf (Looking waits o timeout) front r
     by None e = one (o m.last) m.beside e (m.last, refl, decides_by) m.decides
     by (Some n) e = two (o false) (o m.last) n m.beside e (false, refl, λ _. refl) (m.last, refl, decides_by) m.decides
 
@@ -98,32 +98,33 @@ module _ (bound : List ℕ) (s : Statement) (ss : List Statement) (tail : List O
   at_none p asked is = subst (λ (x : List Reply). AsksNext bound (s ∷ ss) tail x l.op) (sym decided_none)
       (subst (λ (x : Op). AskedBy (call_of bound s.deed) x) (sym is) asked)
 
-  last_line : (p : Op) (n : ℕ) → AskedBy (call_of bound s.deed) p → is_pending r ≡ false → (X : List Line) → line p r n ∷ (rest ++ T) ≡ X ++ l ∷ B
+  last_line : (p : Op) (n : ℕ) → AskedBy (call_of bound s.deed) p → is_pending r ≡ false → (X : List Line) → line_with p r n ∷ (rest ++ T) ≡ X ++ l ∷ B
       → AsksNext bound (s ∷ ss) tail (decided_in X) l.op
   unfolding AsksNext
-  last_line p n asked decides [] q = let here : line p r n ≡ l = cc in at_none p asked (ap (λ z. z.op) (sym here))
+  last_line p n asked decides [] q = let here : line_with p r n ≡ l = cc in at_none p asked (ap (λ z. z.op) (sym here))
   last_line p n asked decides (a ∷ X) q =
-      let here : line p r n ≡ a = cc in
+      let here : line_with p r n ≡ a = cc in
       let more : rest ++ T ≡ X ++ l ∷ B = cc in
       subst (λ (x : List Reply). AsksNext bound (s ∷ ss) tail x l.op)
-      (sym (subst (λ (z : Line). decided_in (z ∷ X) ≡ r ∷ decided_in X) here (decided_first (line p r n) X decides))) (go X more)
+      (sym (subst (λ (z : Line). decided_in (z ∷ X) ≡ r ∷ decided_in X) here (decided_first (line_with p r n) X decides))) (go X more)
 
   asks_front : (front : List Line) → FrontOf (call_of bound s.deed) front r → (X : List Line) → front ++ (rest ++ T) ≡ X ++ l ∷ B
       → AsksNext bound (s ∷ ss) tail (decided_in X) l.op
   asks_front front (one p n is asked decides) X q = last_line p n asked decides X (ap (λ (f : List Line). f ++ (rest ++ T)) (sym is) ∙ q)
   asks_front front (two o p m n is looks asked decides) [] q =
-      let all : line o reply.Pending m ∷ line p r n ∷ (rest ++ T) ≡ l ∷ B = ap (λ (f : List Line). f ++ (rest ++ T)) (sym is) ∙ q in
-      let here : line o reply.Pending m ≡ l = cc in
+      let all : line_with o reply.Pending m ∷ line_with p r n ∷ (rest ++ T) ≡ l ∷ B = ap (λ (f : List Line). f ++ (rest ++ T)) (sym is) ∙ q in
+      let here : line_with o reply.Pending m ≡ l = cc in
       at_none o looks (ap (λ z. z.op) (sym here))
   asks_front front (two o p m n is looks asked decides) (a ∷ X) q =
-      let all : line o reply.Pending m ∷ line p r n ∷ (rest ++ T) ≡ a ∷ (X ++ l ∷ B) = ap (λ (f : List Line). f ++ (rest ++ T)) (sym is) ∙ q in
-      let here : line o reply.Pending m ≡ a = cc in
-      let more : line p r n ∷ (rest ++ T) ≡ X ++ l ∷ B = cc in
+      let all : line_with o reply.Pending m ∷ line_with p r n ∷ (rest ++ T) ≡ a ∷ (X ++ l ∷ B) = ap (λ (f : List Line). f ++ (rest ++ T)) (sym is) ∙ q in
+      let here : line_with o reply.Pending m ≡ a = cc in
+      let more : line_with p r n ∷ (rest ++ T) ≡ X ++ l ∷ B = cc in
       subst (λ (x : List Reply). AsksNext bound (s ∷ ss) tail x l.op)
-      (sym (subst (λ (z : Line). decided_in (z ∷ X) ≡ decided_in X) here (decided_later (line o reply.Pending m) X refl))) (last_line p n asked decides X more)
+      (sym (subst (λ (z : Line). decided_in (z ∷ X) ≡ decided_in X) here (decided_later (line_with o reply.Pending m) X refl)))
+      (last_line p n asked decides X more)
 
 asks_next : (bound : List ℕ) (ss : List Statement) (tail : List Op) (T body : List Line) (rs : List Reply) (A B : List Line) (l : Line)
-    → Carried Made bound ss body rs → AreOf tail T → body ++ T ≡ A ++ l ∷ B → AsksNext bound ss tail (decided_in A) l.op
+    → Carried MadeLines bound ss body rs → AreOf tail T → body ++ T ≡ A ++ l ∷ B → AsksNext bound ss tail (decided_in A) l.op
 unfolding Carried AsksNext
 asks_next bound [] tail T body [] A B l c are e = asks_op tail T A B l are (subst (λ (b : List Line). b ++ T ≡ A ++ l ∷ B) c e)
 asks_next bound [] tail T body (r ∷ rs) A B l c are e = absurd c
@@ -134,7 +135,7 @@ asks_next bound (s ∷ ss) tail T body (r ∷ rs) A B l c are e =
     (sym (append_assoc c.0 c.1 T) ∙ (ap (λ (b : List Line). b ++ T) (sym c.2) ∙ e))
 
 asks_part : (os : List Op) (H : List Line) (ss : List Statement) (tail : List Op) (T body : List Line) (rs : List Reply) (A B : List Line) (l : Line)
-    → AreOf os H → Carried Made [] ss body rs → AreOf tail T → H ++ (body ++ T) ≡ A ++ l ∷ B → AsksPart os ss tail (decided_in A) l.op
+    → AreOf os H → Carried MadeLines [] ss body rs → AreOf tail T → H ++ (body ++ T) ≡ A ++ l ∷ B → AsksPart os ss tail (decided_in A) l.op
 unfolding AreOf AsksPart
 asks_part [] H ss tail T body rs A B l head c are e =
     asks_next [] ss tail T body rs A B l c are (subst (λ (h : List Line). h ++ (body ++ T) ≡ A ++ l ∷ B) head e)
@@ -148,7 +149,7 @@ asks_part (o ∷ os) (h ∷ H) ss tail T body rs (a ∷ A) B l head c are e =
     subst (λ (x : List Reply). AsksPart (o ∷ os) ss tail x l.op) (sym (decided_first a A (ap (λ z. is_pending z.reply) (sym here) ∙ head.1)))
     (asks_part os H ss tail T body rs A B l head.2 c are more)
 
-heads_are : (b : Bool) → AreOf (main_head b) (head_of b)
+heads_are : (b : Bool) → AreOf (main_head b) (head_lines b)
 unfolding AreOf
 heads_are true = (refl, refl, refl)
 heads_are false = (refl, refl, (refl, refl, refl))
@@ -157,7 +158,7 @@ tails_are : AreOf (op.Close ∷ op.Final ∷ []) tail_of_main
 unfolding AreOf
 tails_are = (refl, refl, (refl, refl, refl))
 
-entered_is : (looks : ℕ) → AreOf (op.Enter ∷ []) (line op.Enter reply.Ok looks ∷ [])
+entered_is : (looks : ℕ) → AreOf (op.Enter ∷ []) (line_with op.Enter reply.Ok looks ∷ [])
 unfolding AreOf
 entered_is looks = (refl, refl, refl)
 
@@ -168,14 +169,14 @@ none_are = refl
 main_asks : (ss : List Statement) (lines A B : List Line) (l : Line) (rs : List Reply) → MainRan in_lines ss lines rs → lines ≡ A ++ l ∷ B
     → MainAsks ss (decided_in A) l.op
 main_asks ss lines A B l rs m e =
-    asks_part (main_head (has_begin ss)) (head_of (has_begin ss)) ss (op.Close ∷ op.Final ∷ []) tail_of_main m.body rs A B l (heads_are (has_begin ss))
+    asks_part (main_head (has_begin ss)) (head_lines (has_begin ss)) ss (op.Close ∷ op.Final ∷ []) tail_of_main m.body rs A B l (heads_are (has_begin ss))
     m.carried tails_are (sym m.is ∙ e)
 
 caller_asks : (ss : List Statement) (lines A B : List Line) (l : Line) (rs : List Reply) → CallerRan in_lines ss lines rs → lines ≡ A ++ l ∷ B
     → CallerAsks ss (decided_in A) l.op
 caller_asks ss lines A B l rs m e =
-    asks_part (op.Enter ∷ []) (line op.Enter reply.Ok m.entered.0 ∷ []) ss [] [] m.body rs A B l (entered_is m.entered.0) m.carried none_are
-    (ap (λ (x : List Line). line op.Enter reply.Ok m.entered.0 ∷ x) (append-nil m.body)
+    asks_part (op.Enter ∷ []) (line_with op.Enter reply.Ok m.entered.0 ∷ []) ss [] [] m.body rs A B l (entered_is m.entered.0) m.carried none_are
+    (ap (λ (x : List Line). line_with op.Enter reply.Ok m.entered.0 ∷ x) (append-nil m.body)
     ∙ (ap (λ (f : List Line). f ++ m.body) (sym m.entered.1) ∙ (sym m.is ∙ e)))
 
 -- a worker's line is work, or the last one
@@ -198,16 +199,16 @@ worker_makes (x ∷ work) (a ∷ A) B l stop w e = worker_makes work A B l stop 
 -- the lines of a seat over two lists, of which the second begins with its entry
 lines_split : (who : ℕ) (es : List NodeEntry) (e : NodeEntry) (rest : List NodeEntry) (ns : List ℕ) (n : ℕ) (beside : List ℕ) → length es ≡ length ns
     → (e.who == who) ≡ true
-    → lines_of who ((es ++ e ∷ []) ++ rest) ((ns ++ n ∷ []) ++ beside) ≡ lines_of who es ns ++ line e.op e.reply n ∷ lines_of who rest beside
+    → lines_of who ((es ++ e ∷ []) ++ rest) ((ns ++ n ∷ []) ++ beside) ≡ lines_of who es ns ++ line_with e.op e.reply n ∷ lines_of who rest beside
 unfolding lines_of
 lines_split who [] e rest [] n beside even is =
-    λ i. cond (is i) (line e.op e.reply n ∷ lines_of who rest beside) (lines_of who rest beside)
+    λ i. cond (is i) (line_with e.op e.reply n ∷ lines_of who rest beside) (lines_of who rest beside)
 lines_split who [] e rest (m ∷ ns) n beside even is = absurd (omega (arith, even))
 lines_split who (x ∷ es) e rest [] n beside even is = absurd (omega (arith, even))
 lines_split who (x ∷ es) e rest (m ∷ ns) n beside even is = both (x.who == who) _ _ _ (lines_split who es e rest ns n beside (omega (arith, even)) is)
   where
-    both : (b : Bool) (xs ys zs : List Line) → xs ≡ ys ++ zs → cond b (line x.op x.reply m ∷ xs) xs ≡ cond b (line x.op x.reply m ∷ ys) ys ++ zs
-    both true xs ys zs q = ap (λ (l : List Line). line x.op x.reply m ∷ l) q
+    both : (b : Bool) (xs ys zs : List Line) → xs ≡ ys ++ zs → cond b (line_with x.op x.reply m ∷ xs) xs ≡ cond b (line_with x.op x.reply m ∷ ys) ys ++ zs
+    both true xs ys zs q = ap (λ (l : List Line). line_with x.op x.reply m ∷ l) q
     both false xs ys zs q = q
 
 -- the part of a further caller's seat
@@ -270,7 +271,7 @@ module _ (load : Workload) (es : List NodeEntry) (e : NodeEntry) (ns : List ℕ)
   made who = lines_of who ((es ++ e ∷ []) ++ b.rest) ((ns ++ n ∷ []) ++ b.beside)
 
   -- the lines of its seat
-  split : (who : ℕ) → e.who ≡ who → made who ≡ lines_of who es ns ++ line e.op e.reply n ∷ lines_of who b.rest b.beside
+  split : (who : ℕ) → e.who ≡ who → made who ≡ lines_of who es ns ++ line_with e.op e.reply n ∷ lines_of who b.rest b.beside
   split who is = lines_split who es e b.rest ns n b.beside even (grind (arith, nat_tests))
 
   decided_are : (who : ℕ) → decided_in (lines_of who es ns) ≡ decided who es
@@ -279,11 +280,11 @@ module _ (load : Workload) (es : List NodeEntry) (e : NodeEntry) (ns : List ℕ)
   by_worker : e.who < load.settings.workers → MayMake load es e
   by_worker small =
       let w = b.run.workers e.who small in
-      worker e small (made_so (worker_makes w.work (lines_of e.who es ns) (lines_of e.who b.rest b.beside) (line e.op e.reply n)
-      (line op.Pick reply.Stop w.beside)
+      worker e small (made_so (worker_makes w.work (lines_of e.who es ns) (lines_of e.who b.rest b.beside) (line_with e.op e.reply n)
+      (line_with op.Pick reply.Stop w.beside)
       w.works (sym w.is ∙ split e.who refl)))
     where
-      made_so : {m : ℕ} → (is_work e.op e.reply ≡ true) ⊎ (line e.op e.reply n ≡ line op.Pick reply.Stop m)
+      made_so : {m : ℕ} → (is_work e.op e.reply ≡ true) ⊎ (line_with e.op e.reply n ≡ line_with op.Pick reply.Stop m)
           → (is_work e.op e.reply ≡ true) ⊎ (e ≡ entry e.who op.Pick reply.Stop)
       made_so (inl works) = inl works
       made_so (inr is) = inr (λ i. entry e.who (is i).op (is i).reply)
@@ -294,7 +295,7 @@ module _ (load : Workload) (es : List NodeEntry) (e : NodeEntry) (ns : List ℕ)
   by_main (p ∷ ps) [] are ran is = absurd ran
   by_main (p ∷ ps) (rs ∷ rss) are ran is =
       main e p ps are is (subst (λ (x : List Reply). MainAsks p.statements x e.op) (decided_are e.who)
-      (main_asks p.statements (made e.who) (lines_of e.who es ns) (lines_of e.who b.rest b.beside) (line e.op e.reply n) rs
+      (main_asks p.statements (made e.who) (lines_of e.who es ns) (lines_of e.who b.rest b.beside) (line_with e.op e.reply n) rs
       (subst (λ (w : ℕ). MainRan in_lines p.statements (made w) rs) (sym is) ran.0) (split e.who refl)))
 
   by_caller : (ps : List Part) (rss : List (List Reply)) → load.parts ≡ ps → PartsRan in_lines made load.settings.workers ps rss
@@ -306,7 +307,7 @@ module _ (load : Workload) (es : List NodeEntry) (e : NodeEntry) (ns : List ℕ)
       let y = x.at in
       caller e p x.before x.behind x.part (are ∙ ap (λ (l : List Part). p ∷ l) x.is) (omega (arith, y))
       (subst (λ (z : List Reply). CallerAsks x.part.statements z e.op) (decided_are e.who)
-      (caller_asks x.part.statements (made e.who) (lines_of e.who es ns) (lines_of e.who b.rest b.beside) (line e.op e.reply n) x.replies x.ran
+      (caller_asks x.part.statements (made e.who) (lines_of e.who es ns) (lines_of e.who b.rest b.beside) (line_with e.op e.reply n) x.replies x.ran
       (split e.who refl)))
 
 next_is_asked : (load : Workload) (es : List NodeEntry) (e : NodeEntry) (ns : List ℕ) (n : ℕ) → e.who < load.settings.workers + length load.parts

@@ -20,10 +20,10 @@ use Rattle.mtapi_machine.specs.declared.ops.Op.TheVariants as op
 use Rattle.mtapi_machine.specs.declared.replies.Reply.{Reply}
 use Rattle.mtapi_machine.specs.declared.replies.Reply.TheVariants as reply
 use Rattle.mtapi_machine.specs.Legal.{NodeEntry}
-use Rattle.mtapi_machine.specs.Worked.{main, closed}
+use Rattle.mtapi_machine.specs.Worked.{main_entry, closed}
 use Rattle.workload_file.specs.Deeds.{is_begin}
 use Rattle.workload_file.specs.declared.workload.Workload.{Workload}
-use Rattle.workload_runs.specs.Lines.{line, lines_of, Made}
+use Rattle.workload_runs.specs.Lines.{line_with, lines_of, MadeLines}
 use Rattle.workload_runs.specs.Parts.{Carried, CallersRan, has_begin}
 use Rattle.workload_runs.specs.RunOf.{all_work, WorkerRan, RunOf, ClosesAtEnd}
 use Rattle.run_report.specs.Calls.{shown_of, task_lines_of, task_name, call_lines_of}
@@ -55,7 +55,7 @@ use Rattle.run_report.specs.Worked.{using}
 use Rattle.begun_runs.proofs.Next.{each_is_asked}
 use Rattle.begun_runs.proofs.Lasts.{closes_behind}
 use Rattle.begun_runs.specs.Complete.{HasAllReports, HasAllDeadlocks, SamePlaces}
-use Rattle.begun_runs.specs.Worked.{none_skipped, completed_run, cancelled_text, completed_text, stuck_statements, stuck_load, stuck_history, free_load, early_load, early_close, RunsWith, WorkedComplete}
+use Rattle.begun_runs.specs.Worked.{none_skipped, completed_run, cancelled_text, completed_text, stuck_statements, stuck_load, stuck_history, free_load, early_load, early_close, RunsToReport, WorkedComplete}
 
 -- Runs
 
@@ -109,7 +109,7 @@ cancelled_ran = record {
     tt,
   );
   workers = only_worker cancelled_run (none_skipped cancelled_run) (record { work = []; beside = 0; is = refl; works = refl });
-  ends = the_end (main op.Initialize reply.Ok ∷ main op.Release reply.Ok ∷ _ ∷ _ ∷ _ ∷ []);
+  ends = the_end (main_entry op.Initialize reply.Ok ∷ main_entry op.Release reply.Ok ∷ _ ∷ _ ∷ _ ∷ []);
 }
 
 completed_ran : RunOf cancelled_load completed_run (none_skipped completed_run)
@@ -125,7 +125,7 @@ completed_ran = record {
     tt,
   );
   workers = only_worker completed_run (none_skipped completed_run) (record { work = _ ∷ _ ∷ []; beside = 0; is = refl; works = refl });
-  ends = the_end (main op.Initialize reply.Ok ∷ main op.Release reply.Ok ∷ _ ∷ _ ∷ _ ∷ _ ∷ _ ∷ []);
+  ends = the_end (main_entry op.Initialize reply.Ok ∷ main_entry op.Release reply.Ok ∷ _ ∷ _ ∷ _ ∷ _ ∷ _ ∷ []);
 }
 
 -- Lists that lack a report
@@ -134,15 +134,15 @@ only_one : (a b : List ℕ) → Contains (a ∷ []) b → a ≡ b
 only_one a b (zero, l, e) = e
 only_one a b (suc k, l, e) = absurd (omega (arith, l))
 
-lacks : (load : Workload) (es : List NodeEntry) (text other : List ℕ) → RunsWith load es text → length es ≡ length (none_skipped es) → (other ≡ text → ⊥)
+lacks : (load : Workload) (es : List NodeEntry) (text other : List ℕ) → RunsToReport load es text → length es ≡ length (none_skipped es) → (other ≡ text → ⊥)
     → HasAllReports load (other ∷ []) → ⊥
 lacks load es text other r even differ all =
     differ (only_one other (report One load es) (all One es (none_skipped es) even r.legal r.run) ∙ r.reads)
 
-cancelled_runs : RunsWith cancelled_load cancelled_run cancelled_text
+cancelled_runs : RunsToReport cancelled_load cancelled_run cancelled_text
 cancelled_runs = record { legal = cancelled_legal; run = cancelled_ran; reads = cancelled_reads }
 
-completed_runs : RunsWith cancelled_load completed_run completed_text
+completed_runs : RunsToReport cancelled_load completed_run completed_text
 completed_runs = record { legal = completed_legal; run = completed_ran; reads = completed_reads }
 
 -- The deadlock
@@ -159,13 +159,13 @@ unfolding replay live_of issue change listed issued_at retired is_full may_issue
 stuck_legal = record { fits = search (rules, is_at_most); from = legal_if _ _ refl }
 
 abbrev look : NodeEntry
-look = main (op.SemLook (record { 0 = 4294967296 }) false) reply.Pending
+look = main_entry (op.SemLook (record { 0 = 4294967296 }) false) reply.Pending
 
 abbrev idle : NodeEntry
 idle = entry 0 op.Pick reply.Idle
 
 abbrev carried_on : List NodeEntry
-carried_on = main (op.SemLook (record { 0 = 4294967296 }) false) reply.Ok ∷ closed
+carried_on = main_entry (op.SemLook (record { 0 = 4294967296 }) false) reply.Ok ∷ closed
 
 carried_ran : RunOf stuck_load (stuck_history ++ carried_on) (none_skipped (stuck_history ++ carried_on))
 unfolding Carried CallersRan lines_of all_work has_begin is_begin
@@ -180,10 +180,11 @@ carried_ran = record {
     tt,
   );
   workers = only_worker (stuck_history ++ carried_on) (none_skipped (stuck_history ++ carried_on)) (record { work = []; beside = 0; is = refl; works = refl });
-  ends = the_end (stuck_history ++ main (op.SemLook (record { 0 = 4294967296 }) false) reply.Ok ∷ []);
+  ends = the_end (stuck_history ++ main_entry (op.SemLook (record { 0 = 4294967296 }) false) reply.Ok ∷ []);
 }
   where
-    at_once : Made (call_of (4294967296 ∷ []) (deed.SemLock 0 timeout.Infinite)) (line (op.SemLook (record { 0 = 4294967296 }) false) reply.Ok 0 ∷ []) reply.Ok
+    at_once : MadeLines (call_of (4294967296 ∷ []) (deed.SemLock 0 timeout.Infinite)) (line_with (op.SemLook (record { 0 = 4294967296 }) false) reply.Ok 0
+        ∷ []) reply.Ok
     at_once = record { first = None; beside = 0; last = false; is = refl; none_kept = λ _. refl; decides = refl; within = refl; late = λ e. absurd (cc) }
 
 stuck_begun : Begun stuck_load stuck_history (none_skipped stuck_history)
@@ -195,7 +196,7 @@ no_stop (y ∷ work) x e = cc
 
 stuck_unended : RunOf stuck_load stuck_history (none_skipped stuck_history) → ⊥
 unfolding lines_of
-stuck_unended run = let w = run.workers 0 (omega arith) in no_stop w.work (line op.Pick reply.Stop w.beside) w.is
+stuck_unended run = let w = run.workers 0 (omega arith) in no_stop w.work (line_with op.Pick reply.Stop w.beside) w.is
 
 -- the worker is idle
 worker_idles : (o : Op) (r : Reply) → is_work o r ≡ true → Allows (row held 0 o r) r → entry 0 o r ≡ idle
@@ -321,7 +322,7 @@ unfolding replay live_of issue change listed issued_at retired is_full may_issue
 free_legal = record { fits = search (rules, is_at_most); from = legal_if _ _ refl }
 
 abbrev free_rest : List NodeEntry
-free_rest = main (op.SemLook (record { 0 = 4294967296 }) false) reply.Ok ∷ entry 2 (op.SemCreate 2 1) reply.Ok ∷ closed
+free_rest = main_entry (op.SemLook (record { 0 = 4294967296 }) false) reply.Ok ∷ entry 2 (op.SemCreate 2 1) reply.Ok ∷ closed
 
 free_ran : RunOf free_load ((stuck_history ++ enters) ++ free_rest) (none_skipped ((stuck_history ++ enters) ++ free_rest))
 unfolding Carried CallersRan lines_of all_work has_begin is_begin
@@ -336,7 +337,7 @@ free_ran = record {
     (
       record {
         front = _;
-        body = line (op.SemCreate 2 1) reply.Ok 0 ∷ [];
+        body = line_with (op.SemCreate 2 1) reply.Ok 0 ∷ [];
         entered = (0, refl);
         is = refl;
         carried = (_ ∷ [], [], refl, (refl, refl), refl);
@@ -350,10 +351,11 @@ free_ran = record {
     is = refl;
     works = refl;
   });
-  ends = the_end ((stuck_history ++ enters) ++ main (op.SemLook (record { 0 = 4294967296 }) false) reply.Ok ∷ entry 2 (op.SemCreate 2 1) reply.Ok ∷ []);
+  ends = the_end ((stuck_history ++ enters) ++ main_entry (op.SemLook (record { 0 = 4294967296 }) false) reply.Ok ∷ entry 2 (op.SemCreate 2 1) reply.Ok ∷ []);
 }
   where
-    at_once : Made (call_of (4294967296 ∷ []) (deed.SemLock 0 timeout.Infinite)) (line (op.SemLook (record { 0 = 4294967296 }) false) reply.Ok 0 ∷ []) reply.Ok
+    at_once : MadeLines (call_of (4294967296 ∷ []) (deed.SemLock 0 timeout.Infinite)) (line_with (op.SemLook (record { 0 = 4294967296 }) false) reply.Ok 0
+        ∷ []) reply.Ok
     at_once = record { first = None; beside = 0; last = false; is = refl; none_kept = λ _. refl; decides = refl; within = refl; late = λ e. absurd (cc) }
 
 still_enters : Stuck free_load One stuck_history (none_skipped stuck_history) → ⊥
@@ -368,15 +370,16 @@ unfolding decided has_begin is_begin
 closes_too_early b =
     closes_behind early_load (record { line = 0; name = codes "main"; statements = [] })
     (record { line = 4; name = codes "b"; statements = using 5 (deed.Sem 2 1) ∷ [] } ∷ []) refl (early_close ++ b.rest) (none_skipped early_close ++ b.beside)
-    (let e = b.even_rest in omega (arith, e)) b.run (main op.Initialize reply.Ok ∷ main op.Release reply.Ok ∷ []) (main op.Close reply.Ok) b.rest
-    (main op.Initialize reply.Ok ∷ main op.Release reply.Ok ∷ []) refl refl refl refl (omega arith) (λ w l. refl) (inl (omega arith))
+    (let e = b.even_rest in omega (arith, e)) b.run (main_entry op.Initialize reply.Ok ∷ main_entry op.Release reply.Ok
+    ∷ []) (main_entry op.Close reply.Ok) b.rest
+    (main_entry op.Initialize reply.Ok ∷ main_entry op.Release reply.Ok ∷ []) refl refl refl refl (omega arith) (λ w l. refl) (inl (omega arith))
 
 no_history : HasAllDeadlocks stuck_load [] → ⊥
 no_history all = let x = all One stuck_history (none_skipped stuck_history) stuck in omega (arith, x.2)
 
 -- a history in which main has made one call has not come as far
 abbrev opened : List NodeEntry
-opened = main op.Initialize reply.Ok ∷ []
+opened = main_entry op.Initialize reply.Ok ∷ []
 
 no_short_one : HasAllDeadlocks stuck_load (opened ∷ []) → ⊥
 unfolding decided

@@ -18,8 +18,8 @@ pub record Begun (load : Workload) (es : List NodeEntry) (ns : List ℕ) : Type 
   pub run : RunOf load (es ++ rest) (ns ++ beside)
 
 -- the later list is the earlier one with more behind it
-abbrev pub GoesOn : KeptEntries → KeptEntries → Type 0
-GoesOn a b = (rest : List NodeEntry) × (beside : List ℕ) × (b.entries ≡ a.entries ++ rest) × (b.skipped ≡ a.skipped ++ beside)
+abbrev pub EntriesGoOn : KeptEntries → KeptEntries → Type 0
+EntriesGoOn a b = (rest : List NodeEntry) × (beside : List ℕ) × (b.entries ≡ a.entries ++ rest) × (b.skipped ≡ a.skipped ++ beside)
 
 -- A deadlock: such a journal, legal and not yet a run, which nothing carries on but entries that a journal leaves out.
 pub record Stuck (load : Workload) (layout : Layout) (es : List NodeEntry) (ns : List ℕ) : Type 0 where

@@ -31,8 +31,8 @@ abbrev pub refused_final : ℕ → NodeEntry
 refused_final main = entry main op.Final (reply.Mtapi ErrNodeInitialized)
 
 -- an entry that is refused so
-abbrev pub IsRefused : ℕ → NodeEntry → Type 0
-IsRefused main e = ((t : TaskHandle) × (last : Bool) × (e ≡ refused_look (op.TaskLook t last))) ⊎ (e ≡ refused_final main)
+abbrev pub IsProbeRefusal : ℕ → NodeEntry → Type 0
+IsProbeRefusal main e = ((t : TaskHandle) × (last : Bool) × (e ≡ refused_look (op.TaskLook t last))) ⊎ (e ≡ refused_final main)
 
 abbrev pub is_task_look : Op → Bool
 is_task_look (op.TaskLook t last) = true
@@ -48,7 +48,7 @@ WorkerHalts looks w = Contains looks (entry w op.Pick reply.Idle) ⊎ ((t : Task
 
 -- The statement that a caller has come to looks without a bound: it made so many calls before those of its statements, and these are
 -- the handles of the replies to which its calls came.
-pub record ComesTo (before : ℕ) (statements : List Statement) (handles : List ℕ) (waits : Bool) (ask : Bool → Op) : Type 0 where
+pub record ComesToLook (before : ℕ) (statements : List Statement) (handles : List ℕ) (waits : Bool) (ask : Bool → Op) : Type 0 where
   pub place : ℕ
   pub here : Statement
   pub is : slice_get statements place ≡ Some here
@@ -56,15 +56,15 @@ pub record ComesTo (before : ℕ) (statements : List Statement) (handles : List 
   pub call : call_of (drop before handles) here.deed ≡ Looking waits ask Infinite
 
 -- and such a look is among these
-abbrev pub LooksOn : List NodeEntry → ℕ → ℕ → List Statement → List ℕ → Type 0
-LooksOn looks who before statements handles =
-    (waits : Bool) × (ask : Bool → Op) × ComesTo before statements handles waits ask × Contains looks (entry who (ask false) reply.Pending)
+abbrev pub CallerLooksOn : List NodeEntry → ℕ → ℕ → List Statement → List ℕ → Type 0
+CallerLooksOn looks who before statements handles =
+    (waits : Bool) × (ask : Bool → Op) × ComesToLook before statements handles waits ask × Contains looks (entry who (ask false) reply.Pending)
 
 -- a further caller has made its statements, isn't let in, or looks
 pub data CallerHalts (looks : List NodeEntry) (who : ℕ) (statements : List Statement) (handles : List ℕ) : Type 0 where
   through : length handles ≡ suc (length statements) → CallerHalts looks who statements handles
   outside : handles ≡ [] → Contains looks (entry who op.Enter reply.Pending) → CallerHalts looks who statements handles
-  looks_on : LooksOn looks who 1 statements handles → CallerHalts looks who statements handles
+  looks_on : CallerLooksOn looks who 1 statements handles → CallerHalts looks who statements handles
 
 -- the handles of the replies to which the calls of a seat came, 0 where one has none
 abbrev pub reply_handles : ℕ → List NodeEntry → List ℕ
@@ -86,7 +86,7 @@ calls_ahead statements = length (main_head (has_begin statements))
 
 -- main looks, waits for the further callers to make their statements before it closes, or may not finalize
 pub data MainHalts (es looks refused : List NodeEntry) (main : ℕ) (statements : List Statement) (others : List Part) (handles : List ℕ) : Type 0 where
-  main_looks : LooksOn looks main (calls_ahead statements) statements handles → MainHalts es looks refused main statements others handles
+  main_looks : CallerLooksOn looks main (calls_ahead statements) statements handles → MainHalts es looks refused main statements others handles
   stays_open : length handles ≡ calls_ahead statements + length statements → SomeLacks es (suc main) others
       → MainHalts es looks refused main statements others handles
   stays_up : length handles ≡ suc (calls_ahead statements + length statements) → Contains refused (refused_final main)
@@ -99,7 +99,7 @@ PartsHalt es looks refused main (p ∷ ps) =
 
 -- no seat goes on: behind these entries, these looks and these refused entries tell so
 pub record Halts (load : Workload) (es looks refused : List NodeEntry) : Type 0 where
-  pub refused_each : All (IsRefused load.settings.workers) refused
+  pub refused_each : All (IsProbeRefusal load.settings.workers) refused
   pub looks_each : All (LeavesState refused) looks
   pub workers : (w : ℕ) → w < load.settings.workers → WorkerHalts looks w
   pub parts : PartsHalt es looks refused load.settings.workers load.parts

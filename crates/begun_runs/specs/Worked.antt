@@ -8,7 +8,7 @@ use Rattle.workload_file.specs.declared.workload.Workload.{Workload}
 use Rattle.mtapi_machine.specs.declared.ops.Op.TheVariants as op
 use Rattle.mtapi_machine.specs.declared.replies.Reply.TheVariants as reply
 use Rattle.mtapi_machine.specs.Legal.{NodeEntry, Legal}
-use Rattle.mtapi_machine.specs.Worked.{main, task, first_handle, every_core, add_task, picks_first, finishes_first, closed}
+use Rattle.mtapi_machine.specs.Worked.{main_entry, task_handle, worked_first_handle, every_core_mask, add_task, picks_first, finishes_first, closed}
 use Rattle.mtapi_values.specs.declared.kinds.Kind.TheVariants as kind
 use Rattle.run_report.specs.Report.{report, run_terms}
 use Rattle.run_report.specs.Worked.{lines, statement, using, workload, cancelled_load, cancelled_run}
@@ -23,13 +23,13 @@ none_skipped es = replicate (length es) 0
 -- a task of the workload `cancelled_load` may also complete before it is cancelled
 abbrev pub completed_run : List NodeEntry
 completed_run =
-    main op.Initialize reply.Ok
-    ∷ main op.Release reply.Ok
-    ∷ main (op.ActionCreate 1 kind.Add every_core) (reply.Handle first_handle)
-    ∷ main (add_task 0) (reply.Handle first_handle)
+    main_entry op.Initialize reply.Ok
+    ∷ main_entry op.Release reply.Ok
+    ∷ main_entry (op.ActionCreate 1 kind.Add every_core_mask) (reply.Handle worked_first_handle)
+    ∷ main_entry (add_task 0) (reply.Handle worked_first_handle)
     ∷ picks_first
     ∷ finishes_first
-    ∷ main (op.TaskCancel (task first_handle)) reply.Ok
+    ∷ main_entry (op.TaskCancel (task_handle worked_first_handle)) reply.Ok
     ∷ closed
 
 abbrev pub cancelled_text : List ℕ
@@ -47,10 +47,10 @@ stuck_load = workload 1024 stuck_statements
 
 abbrev pub stuck_history : List NodeEntry
 stuck_history =
-    main op.Initialize reply.Ok
-    ∷ main op.Release reply.Ok
-    ∷ main (op.SemCreate 1 1) (reply.Handle first_handle)
-    ∷ main (op.SemLook (record { 0 = first_handle }) false) reply.Ok
+    main_entry op.Initialize reply.Ok
+    ∷ main_entry op.Release reply.Ok
+    ∷ main_entry (op.SemCreate 1 1) (reply.Handle worked_first_handle)
+    ∷ main_entry (op.SemLook (record { 0 = worked_first_handle }) false) reply.Ok
     ∷ []
 
 -- beside it a further caller that may still enter
@@ -68,10 +68,10 @@ early_load = record stuck_load {
 }
 
 abbrev pub early_close : List NodeEntry
-early_close = main op.Initialize reply.Ok ∷ main op.Release reply.Ok ∷ main op.Close reply.Ok ∷ []
+early_close = main_entry op.Initialize reply.Ok ∷ main_entry op.Release reply.Ok ∷ main_entry op.Close reply.Ok ∷ []
 
 -- a legal journal of a run, with this report
-pub record RunsWith (load : Workload) (es : List NodeEntry) (text : List ℕ) : Type 0 where
+pub record RunsToReport (load : Workload) (es : List NodeEntry) (text : List ℕ) : Type 0 where
   pub legal : Legal (run_terms One load) es
   pub run : RunOf load es (none_skipped es)
   pub reads : report One load es ≡ text
@@ -79,8 +79,8 @@ pub record RunsWith (load : Workload) (es : List NodeEntry) (text : List ℕ) : 
 -- a list without one of the two reports isn't complete, whatever else it has; nor is one of deadlocks without the only one, nor one that has
 -- a shorter history in its place
 pub record WorkedComplete : Type 0 where
-  pub cancelled : RunsWith cancelled_load cancelled_run cancelled_text
-  pub completed : RunsWith cancelled_load completed_run completed_text
+  pub cancelled : RunsToReport cancelled_load cancelled_run cancelled_text
+  pub completed : RunsToReport cancelled_load completed_run completed_text
   pub lacks_completed : HasAllReports cancelled_load (cancelled_text ∷ []) → ⊥
   pub lacks_cancelled : HasAllReports cancelled_load (completed_text ∷ []) → ⊥
   pub deadlock : Stuck stuck_load One stuck_history (none_skipped stuck_history)
@@ -88,4 +88,4 @@ pub record WorkedComplete : Type 0 where
   pub goes_on : Stuck free_load One stuck_history (none_skipped stuck_history) → ⊥
   pub closes_early : Begun early_load early_close (none_skipped early_close) → ⊥
   pub lacks_deadlock : HasAllDeadlocks stuck_load [] → ⊥
-  pub too_early : HasAllDeadlocks stuck_load ((main op.Initialize reply.Ok ∷ []) ∷ []) → ⊥
+  pub too_early : HasAllDeadlocks stuck_load ((main_entry op.Initialize reply.Ok ∷ []) ∷ []) → ⊥

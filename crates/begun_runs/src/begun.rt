@@ -2,7 +2,7 @@
 
 ghost use Rattle.std.specs.Prelude.{◌≡◌, true, IfOk, OnOk, length};
 ghost use Rattle.workload_runs.specs.Whole.{HasSeats};
-ghost use Rattle.begun_runs.specs.Begun.{Begun, GoesOn};
+ghost use Rattle.begun_runs.specs.Begun.{Begun, EntriesGoOn};
 
 use crate::completing::{Added, completion_of};
 use node_journals::{EntryList, ShortList};
@@ -13,7 +13,7 @@ use workload_file::Workload;
 /// Puts entries behind others.
 #[tactic(auto, using(crate::proofs::GoesOn::goes_on_here, crate::proofs::GoesOn::goes_on_one))]
 fn add_all(list: &mut EntryList, rest: Vec<Added>) -> Result<(), AllocError>
-    ensures { OnOk result (GoesOn list.old list.new) }
+    ensures { OnOk result (EntriesGoOn list.old list.new) }
 {
     for added in rest {
         list.push(added.entry, added.skipped)?;

@@ -5,7 +5,11 @@
 
 mod begun;
 mod completing;
+mod halting;
 mod laws;
+mod probing;
 
 pub use begun::is_begun;
+pub use halting::{Probes, halts};
 pub use laws::{law_deadlock, law_fronts, law_halts, law_next, worked_asks, worked_complete};
+pub use probing::{add_waits, probes_of};

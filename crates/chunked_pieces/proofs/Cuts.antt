@@ -9,7 +9,8 @@ use Rattle.chunked_pieces.specs.Chunks.{items_of, AreJoined}
 
 -- what holds of each of some items and results holds of one pair more
 pub zip_more : {T D : Type 0} (R : T → D → Type 0) (xs rest : List T) (x : T) (ds : List D) (d : D)
-    → ((more : List D) → AllZip R (x ∷ rest) more → AllZip R xs (ds ++ more)) → R x d → (more : List D) → AllZip R rest more → AllZip R xs ((ds ++ d ∷ []) ++ more)
+    → ((more : List D) → AllZip R (x ∷ rest) more → AllZip R xs (ds ++ more)) → R x d → (more : List D) → AllZip R rest more
+    → AllZip R xs ((ds ++ d ∷ []) ++ more)
 zip_more R xs rest x ds d so r more all = subst (AllZip R xs) (sym (append_assoc ds (d ∷ []) more)) (so (d ∷ more) (r, all))
 
 pub zip_end : {T D : Type 0} (R : T → D → Type 0) (xs rest : List T) (ds : List D) → length rest ≡ 0

@@ -2,7 +2,7 @@
 
 ghost use Rattle.std.specs.Prelude.{◌≡◌, IfOk, replicate};
 ghost use Rattle.turn_cell.specs.Seats.{fresh_seats};
-ghost use Rattle.peek_board.specs.Seats.{fresh_seat};
+ghost use Rattle.peek_board.specs.Seats.{fresh_board_seat};
 
 use action_fn::{ActionSource, StandardActions};
 use mtapi_values::{Args, Kind, Mask, MtapiStatus, NodeAttr, TaskHandle};
@@ -51,7 +51,7 @@ fn deal<'a>(
 ) -> Crew<'a>
     requires workers { cell.now.terms.node.settings.workers ≡ 2 }
     requires seats { seats.items ≡ fresh_seats cell.now.terms cell.now.id 0 5 }
-    requires marks { marks.items ≡ replicate 3 (fresh_seat board.now.id) }
+    requires marks { marks.items ≡ replicate 3 (fresh_board_seat board.now.id) }
 {
     let mut seats = seats;
     let mut marks = marks;

@@ -3,7 +3,7 @@ use Rattle.std.proofs.lemmas.Bool.Decides.{nat_tests}
 use Rattle.generated_workload.proofs.Names.{◌≡◌, ℕ, ◌+◌, ◌^◌, ◌≤◌, ◌<◌, List, [], ◌∷◌, ◌++◌, length, true, Some, Ok, refl, sym, subst, ◌∙◌, arith, list_all, join_with_byte, is_ascii_digit, decimal, and_parts, and_from, le-leb, lt-ltb, digits_decimal, led, own, within_written, Reading, line_text, bind_ok, ok_is, IsRead, states, is_inner, is_word, words_again, line_printable, led_length, change_of}
 use Rattle.std.proofs.Common.{length-append}
 use Rattle.workload_file.specs.Reading.{with_change, line_adds, lines_add}
-use Rattle.workload_file.specs.Values.{number, number_within}
+use Rattle.workload_file.specs.Values.{number_in_32, number_from_to}
 use Rattle.workload_file.specs.Alike.{IsPlain}
 use Rattle.workload_file.specs.declared.table.Word.{Word}
 
@@ -22,8 +22,8 @@ decimal_inner n lt = digits_inner (decimal n) (digits_decimal own n lt)
 pub inner_word : (b : ℕ) (bs : List ℕ) → list_all is_inner (b ∷ bs) ≡ true → is_word (b ∷ bs) ≡ true
 inner_word b bs h = and_from _ _ (lt-ltb 0 (length (b ∷ bs)) (omega arith)) h
 
-pub within_decimal : (low high n : ℕ) → low ≤ n → n ≤ high → n ≤ 4294967295 → number_within low high (decimal n) ≡ Some n
-unfolding number_within number
+pub within_decimal : (low high n : ℕ) → low ≤ n → n ≤ high → n ≤ 4294967295 → number_from_to low high (decimal n) ≡ Some n
+unfolding number_from_to number_in_32
 within_decimal low high n a b c = rw (within_written 0 4294967295 n (omega arith) (omega arith) c, le-leb low n a, le-leb n high b) refl
 
 -- ---- lengths

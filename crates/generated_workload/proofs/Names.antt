@@ -1,6 +1,6 @@
 -- The names that several proof files cite, from one place.
-pub use Rattle.generated_workload.specs.Generated.{all_cores, binding, first_statements, generated_settings, last_statement, task_deed, task_name, task_statement}
-pub use Rattle.generated_workload.specs.Text.{first_lines, generated_text, last_line, node_words, start_words, task_words}
+pub use Rattle.generated_workload.specs.Generated.{all_cores, binding_at, first_statements, generated_settings, last_statement, task_deed, generated_task_name, task_statement}
+pub use Rattle.generated_workload.specs.Text.{first_lines, generated_text, final_line, node_words, start_words, task_words}
 pub use Rattle.number_text.proofs.Parsing.{own}
 pub use Rattle.number_text.proofs.Writing.{list_written, within_written}
 pub use Rattle.number_text.specs.Lists.{between, led, list_of, list_text}

@@ -12,8 +12,8 @@ use Rattle.workload_file.specs.declared.workload.Workload.{Workload}
 use Rattle.workload_file.specs.Changes.{usual_settings}
 
 -- a statement at this line that binds this name
-abbrev pub binding : ℕ → List ℕ → Deed → Statement
-binding line name deed = record { line = line; name = Some name; deed = deed }
+abbrev pub binding_at : ℕ → List ℕ → Deed → Statement
+binding_at line name deed = record { line = line; name = Some name; deed = deed }
 
 abbrev pub all_cores : Mask
 all_cores = record { 0 = 2 ^ 64 - 1 }
@@ -21,31 +21,31 @@ all_cores = record { 0 = 2 ^ 64 - 1 }
 -- an action that adds, one that gives triangle numbers, and a group
 abbrev pub first_statements : List Statement
 first_statements =
-    binding 2 (codes "a") (deed.Action 1 kind.Add all_cores)
-    ∷ binding 3 (codes "b") (deed.Action 2 kind.Triangle all_cores)
-    ∷ binding 4 (codes "g") deed.Group
+    binding_at 2 (codes "a") (deed.Action 1 kind.Add all_cores)
+    ∷ binding_at 3 (codes "b") (deed.Action 2 kind.Triangle all_cores)
+    ∷ binding_at 4 (codes "g") deed.Group
     ∷ []
 
 -- a task of this job in the group, which the third statement binds
-abbrev pub start : ℕ → List ℤ → Deed
-start job args = deed.Start job args 0 all_cores false (Some 2)
+abbrev pub start_deed : ℕ → List ℤ → Deed
+start_deed job args = deed.Start job args 0 all_cores false (Some 2)
 
 -- an even task adds its number and 7, and an odd one gives the triangle number of its number modulo 64
 abbrev pub task_deed : ℕ → Deed
-task_deed i = if i % 2 == 0 then start 1 (pos i ∷ pos 7 ∷ []) else start 2 (pos (i % 64) ∷ [])
+task_deed i = if i % 2 == 0 then start_deed 1 (pos i ∷ pos 7 ∷ []) else start_deed 2 (pos (i % 64) ∷ [])
 
 -- the name of a task: t and its number
-abbrev pub task_name : ℕ → List ℕ
-task_name i = 116 ∷ decimal i
+abbrev pub generated_task_name : ℕ → List ℕ
+generated_task_name i = 116 ∷ decimal i
 
 -- a task, by its number from 0; the first one stands at line 5
 abbrev pub task_statement : ℕ → Statement
-task_statement i = binding (i + 5) (task_name i) (task_deed i)
+task_statement i = binding_at (i + 5) (generated_task_name i) (task_deed i)
 
 -- the first n tasks
-unfoldable pub tasks : ℕ → List Statement
-tasks zero = []
-tasks (suc n) = tasks n ++ task_statement n ∷ []
+unfoldable pub generated_tasks : ℕ → List Statement
+generated_tasks zero = []
+generated_tasks (suc n) = generated_tasks n ++ task_statement n ∷ []
 
 -- the wait for all tasks, behind n of them
 abbrev pub last_statement : ℕ → Statement
@@ -60,5 +60,5 @@ unfoldable pub generated : ℕ → ℕ → Workload
 generated n w = record {
   node_line = 1;
   settings = generated_settings n w;
-  parts = record { line = 0; name = codes "main"; statements = first_statements ++ (tasks n ++ last_statement n ∷ []) } ∷ [];
+  parts = record { line = 0; name = codes "main"; statements = first_statements ++ (generated_tasks n ++ last_statement n ∷ []) } ∷ [];
 }

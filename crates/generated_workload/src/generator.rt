@@ -1,7 +1,7 @@
 //! The workload that is generated.
 ghost use Rattle.std.specs.Prelude.{◌≡◌, ◌≤◌, ◌<◌, ◌++◌, ◌∷◌, [], ℤ, List, pos, Some, None, OnOk, IfOk};
 ghost use Rattle.workload_file.specs.Formed.{WellFormed};
-ghost use Rattle.generated_workload.specs.Generated.{binding, all_cores, first_statements, start, task_deed, task_name, task_statement, tasks, last_statement, generated_settings, generated};
+ghost use Rattle.generated_workload.specs.Generated.{binding_at, all_cores, first_statements, start_deed, task_deed, generated_task_name, task_statement, generated_tasks, last_statement, generated_settings, generated};
 
 use mtapi_values::{Args, Kind, Mask, NodeAttr, Timeout};
 use number_text::push_number;
@@ -9,7 +9,7 @@ use std::alloc::{AllocError, Global};
 use workload_file::{Deed, Name, Part, PartList, Statement, StatementList, Workload};
 
 fn binding(line: u64, name: Name, deed: Deed) -> Statement
-    ensures { result ≡ binding line name deed }
+    ensures { result ≡ binding_at line name deed }
 {
     Statement {
         line,
@@ -22,7 +22,7 @@ fn binding(line: u64, name: Name, deed: Deed) -> Statement
 #[tactic(auto, using(crate::proofs::Formed::is_task_name))]
 fn task_name(alloc: Global, text: &mut Vec<u8>, i: u32) -> Result<Name, AllocError>
     requires { i < 19000 }
-    ensures { IfOk result (λ name. name ≡ task_name i) }
+    ensures { IfOk result (λ name. name ≡ generated_task_name i) }
 {
     text.clear();
     text.push(b't')?;
@@ -32,7 +32,7 @@ fn task_name(alloc: Global, text: &mut Vec<u8>, i: u32) -> Result<Name, AllocErr
 
 /// A task of this job in the group.
 fn start(job: u32, args: Args) -> Deed
-    ensures { result ≡ start job args }
+    ensures { result ≡ start_deed job args }
 {
     Deed::Start {
         job,
@@ -108,7 +108,7 @@ fn first_statements(alloc: Global) -> Result<StatementList, AllocError>
 #[tactic(auto, using(crate::proofs::Formed::one_more))]
 fn push_tasks(alloc: Global, list: &mut StatementList, n: u32) -> Result<(), AllocError>
     requires { n ≤ 19000 }
-    ensures { OnOk result (list.new ≡ list.old ++ tasks n) }
+    ensures { OnOk result (list.new ≡ list.old ++ generated_tasks n) }
 {
     let mut text = Vec::new(alloc);
     let mut i = 0u32;
@@ -122,7 +122,7 @@ fn push_tasks(alloc: Global, list: &mut StatementList, n: u32) -> Result<(), All
 /// The statements of main's part: the actions, the group, n tasks, and the wait for all of them.
 fn main_statements(alloc: Global, n: u32) -> Result<StatementList, AllocError>
     requires { n ≤ 19000 }
-    ensures { IfOk result (λ list. list ≡ first_statements ++ (tasks n ++ last_statement n ∷ [])) }
+    ensures { IfOk result (λ list. list ≡ first_statements ++ (generated_tasks n ++ last_statement n ∷ [])) }
 {
     let mut list = first_statements(alloc)?;
     push_tasks(alloc, &mut list, n)?;

@@ -7,7 +7,7 @@ use Rattle.std.proofs.lemmas.Option.{slice_get_within, slice_get_read}
 use Rattle.graph_search.specs.declared.found.Origin.{Origin}
 use Rattle.graph_search.specs.Paths.{Leads, Path}
 use Rattle.graph_search.specs.Visits.{Visited, LeadToVisited, IsFollowed, IsStop, AreStops, Reached, opening, further, LeadsTo}
-use Rattle.graph_search.specs.Visiting.{Visits, visits, visit_step, visit_steps, stops_after, Follows, IsSearched, IsSearchedUpTo}
+use Rattle.graph_search.specs.Visiting.{Visits, visits, visit_step, visit_steps, stops_after, FollowsState, IsSearched, IsSearchedUpTo}
 
 -- what stands at a place stays there as the list grows
 pub get_left : {X : Type 0} (xs ys : List X) (i : ℕ) (x : X) → slice_get xs i ≡ Some x → slice_get (xs ++ ys) i ≡ Some x
@@ -64,7 +64,8 @@ module _ {S L : Type 0} (eq : S → S → Bool) (from : ℕ) where
 
   pub steps_grow : (steps : List (L × S)) (v : Visits S L) → Grows v (visit_steps eq from steps v)
   steps_grow [] v = grows_same v
-  steps_grow (x ∷ steps) v = grows_on v (visit_steps eq from steps v) (visit_step eq from x (visit_steps eq from steps v)) (steps_grow steps v) (step_grows x (visit_steps eq from steps v))
+  steps_grow (x ∷ steps) v = grows_on v (visit_steps eq from steps v) (visit_step eq from x (visit_steps eq from steps v)) (steps_grow steps v)
+      (step_grows x (visit_steps eq from steps v))
 
 -- a visited state stays visited
 visited_more : {S : Type 0} (eq : S → S → Bool) (s : S) (states more : List S) → Visited eq states s → Visited eq (states ++ more) s
@@ -100,7 +101,8 @@ module _ {S L : Type 0} (has_steps : S → List (L × S) → Type 0) (opens : S 
       → Reached has_steps opens v.states v.origins → Reached has_steps opens (visit_step eq from x v).states (visit_step eq from x v).origins
   reached_step from s x v stands leads r =
       elim (list_any (eq x.1) v.states)
-      as (λ b. let w : Visits S L = if b then v else visits (v.states ++ x.1 ∷ []) (v.origins ++ record { from = from; label = x.0 } ∷ []) in Reached has_steps opens w.states w.origins)
+      as (λ b. let w : Visits S L = if b then v else visits (v.states ++ x.1 ∷ []) (v.origins ++ record { from = from; label = x.0 } ∷ []) in
+      Reached has_steps opens w.states w.origins)
       [ true ↦ r | false ↦ further (record { from = from; label = x.0 }) r stands leads ]
 
   reached_steps : (from : ℕ) (s : S) (whole : List (L × S)) → has_steps s whole → (steps : List (L × S))
@@ -161,7 +163,8 @@ module _ {S L : Type 0} (has_steps : S → List (L × S) → Type 0) (opens : S 
   }
 
   next_followed : (n : ℕ) (v : Visits S L) (stops : List ℕ) (state : S) (steps : List (L × S)) → has_steps state steps → (s : S) (states : List S)
-      → states ≡ (visit_steps eq n steps v).states → slice_get states n ≡ Some s → slice_get states n ≡ Some state → IsFollowed has_steps eq states (stops_after steps n stops) n s
+      → states ≡ (visit_steps eq n steps v).states → slice_get states n ≡ Some s → slice_get states n ≡ Some state
+      → IsFollowed has_steps eq states (stops_after steps n stops) n s
   next_followed n v stops state steps all s states is stands there = record {
     steps = steps;
     all = subst (λ t. has_steps t steps) (some_once (slice_get states n) state s there stands) all;
@@ -183,13 +186,14 @@ module _ {S L : Type 0} (has_steps : S → List (L × S) → Type 0) (opens : S 
       let P : ℕ → Type 0 = λ place. (s : S) → slice_get now.states place ≡ Some s → IsFollowed has_steps eq now.states new place s in
       let old : (place : ℕ) → place < n → P place = λ place below s stands.
       let before = get_back v.states g.0 place s (omega arith) (subst (λ states. slice_get states place ≡ Some s) g.1 stands) in
-      subst (λ states. IsFollowed has_steps eq states new place s) (sym g.1) (followed_more steps n v.states g.0 stops place s (a.followed place below s before)) in
+      subst (λ states. IsFollowed has_steps eq states new place s) (sym g.1)
+      (followed_more steps n v.states g.0 stops place s (a.followed place below s before)) in
       let this : P n = λ s stands. next_followed n v stops state steps all s now.states refl stands there in
       record { reached = reached; followed = below_more P n old this; stopped = stopped }
 
   -- after the next state is followed, one more is
   pub searched_on : (n : ℕ) (v w : Visits S L) (stops new_stops : List ℕ) → IsSearched has_steps opens eq n v stops
-      → Follows has_steps eq n v stops w new_stops → IsSearched has_steps opens eq (n + 1) w new_stops
+      → FollowsState has_steps eq n v stops w new_stops → IsSearched has_steps opens eq (n + 1) w new_stops
   searched_on n v w stops new_stops a f =
       subst (λ u. IsSearched has_steps opens eq (n + 1) u new_stops) (sym f.visited)
       (subst (IsSearched has_steps opens eq (n + 1) (visit_steps eq n f.steps v)) (sym f.told) (searched_to n v stops a f.state f.steps f.stands f.all))
@@ -329,9 +333,11 @@ module _ {S L : Type 0} (has_steps : S → List (L × S) → Type 0) (opens : S 
   from_earlier states origins r at o within more e =
       let b = reached_before states origins r (at - 1) o (origin_at states origins r at o within more e) in omega (arith, b.earlier)
 
-  pub leads_further : (states : List S) (origins : List (Origin L)) → Reached has_steps opens states origins → (at place : ℕ) (o : Origin L) (labels new : List L)
+  pub leads_further : (states : List S) (origins : List (Origin L)) → Reached has_steps opens states origins
+      → (at place : ℕ) (o : Origin L) (labels new : List L)
       → 0 < at → o ≡ get_or origins (at - 1) o → new ≡ labels ++ o.label ∷ [] → LeadsFrom states at place labels → LeadsFrom states o.from place new
   leads_further states origins r at place o labels new more e is f =
       let same : at ≡ suc (at - 1) = omega arith in
       subst (LeadsFrom states o.from place) (sym is)
-      (leads_back states origins r (at - 1) place o labels (origin_at states origins r at o f.within more e) (subst (λ n. LeadsFrom states n place labels) same f))
+      (leads_back states origins r (at - 1) place o labels (origin_at states origins r at o f.within more e)
+      (subst (λ n. LeadsFrom states n place labels) same f))

@@ -30,7 +30,7 @@ stops_after (step ∷ steps) place stops = stops
 
 module _ {S L : Type 0} (has_steps : S → List (L × S) → Type 0) where
   -- the state at this place was followed
-  pub record Follows (eq : S → S → Bool) (place : ℕ) (old : Visits S L) (stops : List ℕ) (new : Visits S L) (new_stops : List ℕ) : Type 0 where
+  pub record FollowsState (eq : S → S → Bool) (place : ℕ) (old : Visits S L) (stops : List ℕ) (new : Visits S L) (new_stops : List ℕ) : Type 0 where
     pub state : S
     pub steps : List (L × S)
     pub stands : slice_get old.states place ≡ Some state

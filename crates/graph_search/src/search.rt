@@ -1,7 +1,7 @@
 //! The search, breadth first.
 ghost use Rattle.std.specs.Prelude.{◌≡◌, ◌<◌, ◌≤◌, ◌↔◌, ◌++◌, ◌∷◌, [], false, length, IfOk, OnOk, IsTrue};
 ghost use Rattle.graph_search.specs.Visits.{Closed, AreStops, Reached};
-ghost use Rattle.graph_search.specs.Visiting.{visits, visit_step, visit_steps, IsSearched, IsSearchedUpTo, Follows};
+ghost use Rattle.graph_search.specs.Visiting.{visits, visit_step, visit_steps, IsSearched, IsSearchedUpTo, FollowsState};
 
 use crate::found::{Found, Origin};
 use crate::graph::Graph;
@@ -50,7 +50,7 @@ fn follow<G: Graph>(
     place: usize,
 ) -> Result<(), AllocError>
     requires within { place < length found.old.states.keys }
-    ensures { OnOk result (Follows (G.has_steps graph.now) G.State.eq place
+    ensures { OnOk result (FollowsState (G.has_steps graph.now) G.State.eq place
         (visits found.old.states.keys found.old.origins.items) found.old.stops.items
         (visits found.new.states.keys found.new.origins.items) found.new.stops.items) }
 {

@@ -1,6 +1,6 @@
 -- What each move of the slots and the lists is for the groups that they are seen as.
 use Rattle.std.proofs.Common.{arith}
-use Rattle.group_core.proofs.Names.{◌≡◌, ◌↔◌, ℕ, zero, suc, ◌<◌, ◌≤◌, Bool, true, false, List, [], ◌∷◌, ◌++◌, length, replicate, Option, Some, None, set, slice_get, refl, sym, ap, subst, ◌∙◌, inl, inr, IsTrue, IsSome, false≢true, Slot, Slots, slot_of, generation_of, used_slot, free_slot, slot_value, live_count, IsFull, Inserts, with_value, without, changed, HandleLists, list_at, stands_at, has_handle, without_handle, NowhereAt, with_list, list_at-set_same, list_at-set_other, stands-either, alone, Members, GroupTable, no_members, with_ended, rest_of, NoMemberAt, IsUnendedMember, LiveAreUsed, of_unended, and_ended, members_in, table_of, AreGroups}
+use Rattle.group_core.proofs.Names.{◌≡◌, ◌↔◌, ℕ, zero, suc, ◌<◌, ◌≤◌, Bool, true, false, List, [], ◌∷◌, ◌++◌, length, replicate, Option, Some, None, set, slice_get, refl, sym, ap, subst, ◌∙◌, inl, inr, IsTrue, IsSome, false≢true, Slot, Slots, slot_of, generation_of, used_slot, free_slot, slot_value, live_count, IsFull, Inserts, with_value, without, changed, HandleLists, list_at, stands_at, has_handle, without_handle, NowhereAt, with_list, list_at-set_same, list_at-set_other, stands-either, alone, Members, GroupTable, no_members, with_ended, rest_of, NoMemberAt, IsUnendedMember, LiveAreUsed, of_unended, and_ended, members_in, group_table_of, AreGroups}
 use Rattle.std.specs.Option.{option_map}
 use Rattle.std.proofs.lemmas.Bool.Decides.{eqb_tells, nat_tests}
 use Rattle.handle_pool.proofs.StandsLemmas.{used_at_live}
@@ -32,14 +32,14 @@ module _ (pool : Slots (Unit {0})) (unended ended : HandleLists) (g : ℕ) where
       by_value None = refl
       by_value (Some u) = refl
 
-  pub get-live : (old : GroupTable) → table_of pool unended ended ≡ old → slot_value pool g ≡ Some tt
+  pub get-live : (old : GroupTable) → group_table_of pool unended ended ≡ old → slot_value pool g ≡ Some tt
       → slot_value old.pool g ≡ Some (members_at unended ended g)
   get-live old is live = let P : GroupTable → Type 0 = λ o. slot_value o.pool g ≡ Some (members_at unended ended g) in subst P is (get-members ∙ rw live refl)
 
-  pub get-dead : (old : GroupTable) → table_of pool unended ended ≡ old → slot_value pool g ≡ None → slot_value old.pool g ≡ None
+  pub get-dead : (old : GroupTable) → group_table_of pool unended ended ≡ old → slot_value pool g ≡ None → slot_value old.pool g ≡ None
   get-dead old is dead = let P : GroupTable → Type 0 = λ o. slot_value o.pool g ≡ None in subst P is (get-members ∙ rw dead refl)
 
-  pub live_from : (old : GroupTable) → table_of pool unended ended ≡ old → IsSome (slot_value old.pool g) → slot_value pool g ≡ Some tt
+  pub live_from : (old : GroupTable) → group_table_of pool unended ended ≡ old → IsSome (slot_value old.pool g) → slot_value pool g ≡ Some tt
   live_from old is some = by_value (slot_value pool g) refl
     where
       by_value : (o : Option (Unit {0})) → slot_value pool g ≡ o → o ≡ Some tt
@@ -47,7 +47,7 @@ module _ (pool : Slots (Unit {0})) (unended ended : HandleLists) (g : ℕ) where
       by_value None found = absurd (false≢true (rw (get-dead old is found) at some))
 
   -- a member that hasn't ended is in the group's list
-  pub member_from : (old : GroupTable) (t : ℕ) → table_of pool unended ended ≡ old → IsUnendedMember t (slot_value old.pool g)
+  pub member_from : (old : GroupTable) (t : ℕ) → group_table_of pool unended ended ≡ old → IsUnendedMember t (slot_value old.pool g)
       → (slot_value pool g ≡ Some tt) × (has_handle t (list_at unended.lists (slot_of g)) ≡ true)
   member_from old t is member = by_value (slot_value pool g) refl
     where
@@ -95,14 +95,14 @@ module _ (pool : Slots (Unit {0})) (unended ended : HandleLists) (g : ℕ) where
         (of_unended tt (list_at unended.lists (slot_of g))) list get-first are.ended_beside
 
     -- the groups once the members of this one have changed
-    pub view_changed : (old : GroupTable) (after others : HandleLists) (f : Members → Members) → table_of pool unended ended ≡ old
+    pub view_changed : (old : GroupTable) (after others : HandleLists) (f : Members → Members) → group_table_of pool unended ended ≡ old
         → members_in pool after others ≡ with_value (members_in pool unended ended) g (f (members_at unended ended g)) → after.places ≡ unended.places
-        → table_of pool after others ≡ record old { pool = changed old.pool g f }
+        → group_table_of pool after others ≡ record old { pool = changed old.pool g f }
     view_changed old after others f is moved places =
         let found : slot_value (members_in pool unended ended) g ≡ Some (members_at unended ended g) = get-members ∙ rw live refl in
         let is_changed : changed (members_in pool unended ended) g f ≡ with_value (members_in pool unended ended) g (f (members_at unended ended g)) =
         rw found refl in
-        let P : GroupTable → Type 0 = λ o. table_of pool after others ≡ record o { pool = changed o.pool g f } in
+        let P : GroupTable → Type 0 = λ o. group_table_of pool after others ≡ record o { pool = changed o.pool g f } in
         subst P is (rw (moved, places, is_changed) refl)
 
     -- what a part of a list that has become the whole holds, stood there before
@@ -228,12 +228,12 @@ module _ (pool : Slots (Unit {0})) (unended ended : HandleLists) where
       (of_unended tt []) are.ended_beside (Inserts-beside of_unended pool new unended.lists g tt are.unended_beside inserts)
 
   -- a slot that no member has stands in no list
-  pub nowhere_unended : (old : GroupTable) (q : ℕ) → table_of pool unended ended ≡ old → AreGroups pool unended ended → NoMemberAt q old.pool
+  pub nowhere_unended : (old : GroupTable) (q : ℕ) → group_table_of pool unended ended ≡ old → AreGroups pool unended ended → NoMemberAt q old.pool
       → NowhereAt q unended.lists
   nowhere_unended old q is are none =
       NowhereAt-beside pool unended.lists q are.unended_beside (λ h v live. (none h (members_at unended ended h) (get-live pool unended ended h old is live)).0)
 
-  pub nowhere_ended : (old : GroupTable) (q : ℕ) → table_of pool unended ended ≡ old → AreGroups pool unended ended → NoMemberAt q old.pool
+  pub nowhere_ended : (old : GroupTable) (q : ℕ) → group_table_of pool unended ended ≡ old → AreGroups pool unended ended → NoMemberAt q old.pool
       → NowhereAt q ended.lists
   nowhere_ended old q is are none =
       NowhereAt-beside (pool_beside of_unended pool unended.lists) ended.lists q are.ended_beside

@@ -40,10 +40,10 @@ abbrev pub without_first : Members → Members
 without_first m = record { unended = m.unended; ended = rest_of m.ended }
 
 -- a create: refused exactly where there is no room
-abbrev pub Creates : GroupTable → Result GroupHandle MtapiStatus → GroupTable → Type 0
-Creates old (Ok g) new = (IsFull old.pool → ⊥) × Inserts old.pool new.pool g.0 no_members × (new.tasks ≡ old.tasks)
-Creates old (Err ErrGroupLimit) new = IsFull old.pool × (new ≡ old)
-Creates old (Err _) new = ⊥
+abbrev pub CreatesGroup : GroupTable → Result GroupHandle MtapiStatus → GroupTable → Type 0
+CreatesGroup old (Ok g) new = (IsFull old.pool → ⊥) × Inserts old.pool new.pool g.0 no_members × (new.tasks ≡ old.tasks)
+CreatesGroup old (Err ErrGroupLimit) new = IsFull old.pool × (new ≡ old)
+CreatesGroup old (Err _) new = ⊥
 
 -- a delete: refused exactly where the group isn't live
 abbrev pub delete_reply : Option Members → Result Unit MtapiStatus
@@ -102,8 +102,8 @@ abbrev pub members_in : Slots (Unit {0}) → HandleLists → HandleLists → Slo
 members_in pool unended ended = pool_beside and_ended (pool_beside of_unended pool unended.lists) ended.lists
 
 -- what the slots and the lists are seen as
-abbrev pub table_of : Slots (Unit {0}) → HandleLists → HandleLists → GroupTable
-table_of pool unended ended = record { pool = members_in pool unended ended; tasks = unended.places }
+abbrev pub group_table_of : Slots (Unit {0}) → HandleLists → HandleLists → GroupTable
+group_table_of pool unended ended = record { pool = members_in pool unended ended; tasks = unended.places }
 
 -- what the lists keep of the slots
 pub record AreGroups (pool : Slots (Unit {0})) (unended ended : HandleLists) : Type 0 where

@@ -6,7 +6,7 @@ mod worked;
 ghost use Rattle.std.specs.Prelude.{◌≡◌, ◌≤◌, ◌<◌, replicate, IfOk, IfNone, OnOk, OnErr, OnSome, IsSome};
 ghost use Rattle.std.specs.Option.{option_map};
 ghost use Rattle.handle_pool.specs.Slots.{slot_value, slot_of, free_slot, without, changed, live_count};
-ghost use Rattle.group_core.specs.Members.{with_member, with_ended, without_first, Creates, delete_reply, NoMemberAt, IsUnendedMember, LiveAreUsed, counts_of, first_ended, first_unended, without_first_unended};
+ghost use Rattle.group_core.specs.Members.{with_member, with_ended, without_first, CreatesGroup, delete_reply, NoMemberAt, IsUnendedMember, LiveAreUsed, counts_of, first_ended, first_unended, without_first_unended};
 
 use handle_pool::{Pool, slot_of};
 use linked_places::LinkedLists;
@@ -26,11 +26,11 @@ pub struct Groups {
 }
 
 impl Model for Groups {
-    ghost use Rattle.group_core.specs.Members.{GroupTable, table_of, AreGroups};
+    ghost use Rattle.group_core.specs.Members.{GroupTable, group_table_of, AreGroups};
 
     ghost Value = { GroupTable };
 
-    ghost view = { λ g. table_of g.pool g.unended g.ended };
+    ghost view = { λ g. group_table_of g.pool g.unended g.ended };
 
     ghost invariant = { λ g. AreGroups g.pool g.unended g.ended };
 }
@@ -63,7 +63,7 @@ impl Groups {
     ///
     /// - `ErrGroupLimit`: every place is in use or has retired.
     pub fn create(&mut self) -> Result<GroupHandle, MtapiStatus>
-        ensures { Creates self.old result self.new }
+        ensures { CreatesGroup self.old result self.new }
     {
         let Ok(handle) = self.pool.insert(()) else {
             return Err(MtapiStatus::ErrGroupLimit);

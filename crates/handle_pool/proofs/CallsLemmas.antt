@@ -1,19 +1,19 @@
 -- Any calls of a pool are moves of the list of issued objects.
 use Rattle.handle_pool.proofs.Names.{nat_tests, ◌≡◌, ◌≢◌, ℕ, ◌+◌, ◌≤◌, true, cond, List, [], ◌∷◌, refl, sym, ap, ◌∙◌, arith, length-set, eq-eqb, length-replicate, Slots, slot_of, generation_of, used_slot, slot_after, free_slot, max_of, Listed, listed, with_fields, gone, issue, update, retire, may_issue, Stands}
-use Rattle.handle_pool.specs.Calls.{Call, SlotsStep, SlotsRun, MayAnswer, list_after, list_after_all, ListRun, NeverGives, NoneTwice, new_slots, PoolLaw}
-use Rattle.handle_pool.specs.Calls.Call.{Inserted, Refused, Removed, NotThere, Wrote}
+use Rattle.handle_pool.specs.Calls.{PoolCall, SlotsStep, SlotsRun, MayAnswer, list_after, list_after_all, ListRun, NeverGives, NoneTwice, new_slots, PoolLaw}
+use Rattle.handle_pool.specs.Calls.PoolCall.{Inserted, Refused, Removed, NotThere, Wrote}
 use Rattle.handle_pool.proofs.ListedLemmas.{listed-issue, listed-change}
 use Rattle.handle_pool.proofs.StandsLemmas.{Stands-new, may_issue-insert, Stands-insert, Stands-update, Stands-remove, IsFull-limit, IsFull-room}
 
 module _ {T : Type 0} where
   -- one call: what it answers, and where it leads. The number of slots and the last generation stay
-  record Steps (max generations : ℕ) (l : List (Listed T)) (call : Call T) (new : Slots T) : Type 0 where
+  record Steps (max generations : ℕ) (l : List (Listed T)) (call : PoolCall T) (new : Slots T) : Type 0 where
     may : MayAnswer max generations l call
     stands : Stands new (list_after l call)
     max_is : max_of new ≡ max
     generations_are : new.generations ≡ generations
 
-  step : (old new : Slots T) (l : List (Listed T)) (call : Call T) → Stands old l → SlotsStep old call new → Steps (max_of old) old.generations l call new
+  step : (old new : Slots T) (l : List (Listed T)) (call : PoolCall T) → Stands old l → SlotsStep old call new → Steps (max_of old) old.generations l call new
   step old new l (Inserted value handle) stands took =
       record {
         may = (IsFull-room old l stands took.0, may_issue-insert old new l handle value stands took.1);
@@ -40,7 +40,7 @@ module _ {T : Type 0} where
         generations_are = rw took.1 refl;
       }
 
-  run : (max generations : ℕ) (old new : Slots T) (l : List (Listed T)) (calls : List (Call T)) → max_of old ≡ max → old.generations ≡ generations
+  run : (max generations : ℕ) (old new : Slots T) (l : List (Listed T)) (calls : List (PoolCall T)) → max_of old ≡ max → old.generations ≡ generations
       → Stands old l → SlotsRun old calls new → ListRun max generations l calls × Stands new (list_after_all l calls)
   run max generations old new l [] size last stands took = (tt, rw took stands)
   run max generations old new l (call ∷ calls) size last stands took =
@@ -54,7 +54,8 @@ module _ {T : Type 0} where
   unlisted last h l e1 = grind (arith, nat_tests)
 
   -- a listed handle is never given again
-  never : (max generations : ℕ) (l : List (Listed T)) (h : ℕ) (calls : List (Call T)) → 1 ≤ listed h l → ListRun max generations l calls → NeverGives h calls
+  never : (max generations : ℕ) (l : List (Listed T)) (h : ℕ) (calls : List (PoolCall T)) → 1 ≤ listed h l → ListRun max generations l calls
+      → NeverGives h calls
   never max generations l h [] some took = tt
   never max generations l h (Inserted value other ∷ calls) some took =
       let none = unlisted generations other l took.0.1 in
@@ -67,7 +68,7 @@ module _ {T : Type 0} where
   never max generations l h (Wrote other was now ∷ calls) some took =
       never max generations (update other (λ _. now) l) h calls (omega (arith, listed-change h other (with_fields (λ _. now)) (λ r. refl) l)) took.1
 
-  none_twice : (max generations : ℕ) (l : List (Listed T)) (calls : List (Call T)) → ListRun max generations l calls → NoneTwice calls
+  none_twice : (max generations : ℕ) (l : List (Listed T)) (calls : List (PoolCall T)) → ListRun max generations l calls → NoneTwice calls
   none_twice max generations l [] took = tt
   none_twice max generations l (Inserted value h ∷ calls) took =
       let new : listed h (issue h value l) ≡ listed h l + 1 = listed-issue h h value l ∙ ap (λ b. listed h l + cond b 1 0) (eq-eqb h h refl) in

@@ -5,19 +5,19 @@ use Rattle.handle_pool.specs.Issued.{Listed, live_object, issue, update, retire,
 use Rattle.handle_pool.specs.Stands.{Stands}
 
 -- what a call was given and what it answered
-pub data Call (T : Type 0) : Type 0 where
+pub data PoolCall (T : Type 0) : Type 0 where
   -- insert(value) gave the handle, or the value back
-  Inserted : (value : T) (handle : ℕ) → Call T
-  Refused : (value : T) → Call T
+  Inserted : (value : T) (handle : ℕ) → PoolCall T
+  Refused : (value : T) → PoolCall T
   -- remove(handle) gave the value, or nothing
-  Removed : (handle : ℕ) (value : T) → Call T
-  NotThere : (handle : ℕ) → Call T
+  Removed : (handle : ℕ) (value : T) → PoolCall T
+  NotThere : (handle : ℕ) → PoolCall T
   -- get_mut(handle) gave the one value, and left the other
-  Wrote : (handle : ℕ) (old new : T) → Call T
+  Wrote : (handle : ℕ) (old new : T) → PoolCall T
 
 module _ {T : Type 0} where
   -- what the contract of the call says of the slots
-  abbrev pub SlotsStep : Slots T → Call T → Slots T → Type 0
+  abbrev pub SlotsStep : Slots T → PoolCall T → Slots T → Type 0
   SlotsStep old (Inserted value handle) new = (IsFull old → ⊥) × Inserts old new handle value
   SlotsStep old (Refused value) new = IsFull old × (new ≡ old)
   SlotsStep old (Removed handle value) new = (slot_value old handle ≡ Some value) × (new ≡ without old handle)
@@ -25,12 +25,12 @@ module _ {T : Type 0} where
   SlotsStep old (Wrote handle was now) new = (slot_value old handle ≡ Some was) × (new ≡ with_value old handle now)
 
   -- these calls lead from the one pool to the other
-  abbrev pub SlotsRun : Slots T → List (Call T) → Slots T → Type 0
+  abbrev pub SlotsRun : Slots T → List (PoolCall T) → Slots T → Type 0
   SlotsRun old [] new = new ≡ old
   SlotsRun old (call ∷ calls) new = (mid : Slots T) × SlotsStep old call mid × SlotsRun mid calls new
 
   -- what the list of issued objects allows
-  abbrev pub MayAnswer : ℕ → ℕ → List (Listed T) → Call T → Type 0
+  abbrev pub MayAnswer : ℕ → ℕ → List (Listed T) → PoolCall T → Type 0
   MayAnswer max generations l (Inserted value handle) = (is_full generations max l ≡ false) × (may_issue generations handle l ≡ true)
   MayAnswer max generations l (Refused value) = is_full generations max l ≡ true
   MayAnswer max generations l (Removed handle value) = live_object l handle ≡ Some value
@@ -38,7 +38,7 @@ module _ {T : Type 0} where
   MayAnswer max generations l (Wrote handle was now) = live_object l handle ≡ Some was
 
   -- the list after a call
-  abbrev pub list_after : List (Listed T) → Call T → List (Listed T)
+  abbrev pub list_after : List (Listed T) → PoolCall T → List (Listed T)
   list_after l (Inserted value handle) = issue handle value l
   list_after l (Refused value) = l
   list_after l (Removed handle value) = retire handle l
@@ -46,17 +46,17 @@ module _ {T : Type 0} where
   list_after l (Wrote handle was now) = update handle (λ _. now) l
 
   -- the list after these calls
-  abbrev pub list_after_all : List (Listed T) → List (Call T) → List (Listed T)
+  abbrev pub list_after_all : List (Listed T) → List (PoolCall T) → List (Listed T)
   list_after_all l [] = l
   list_after_all l (call ∷ calls) = list_after_all (list_after l call) calls
 
   -- each answer is one that the list as it then is allows
-  abbrev pub ListRun : ℕ → ℕ → List (Listed T) → List (Call T) → Type 0
+  abbrev pub ListRun : ℕ → ℕ → List (Listed T) → List (PoolCall T) → Type 0
   ListRun max generations l [] = Unit {0}
   ListRun max generations l (call ∷ calls) = MayAnswer max generations l call × ListRun max generations (list_after l call) calls
 
   -- no call gives this handle
-  abbrev pub NeverGives : ℕ → List (Call T) → Type 0
+  abbrev pub NeverGives : ℕ → List (PoolCall T) → Type 0
   NeverGives handle [] = Unit {0}
   NeverGives handle (Inserted value other ∷ calls) = (other ≢ handle) × NeverGives handle calls
   NeverGives handle (Refused value ∷ calls) = NeverGives handle calls
@@ -65,7 +65,7 @@ module _ {T : Type 0} where
   NeverGives handle (Wrote other was now ∷ calls) = NeverGives handle calls
 
   -- no handle is given twice
-  abbrev pub NoneTwice : List (Call T) → Type 0
+  abbrev pub NoneTwice : List (PoolCall T) → Type 0
   NoneTwice [] = Unit {0}
   NoneTwice (Inserted value handle ∷ calls) = NeverGives handle calls × NoneTwice calls
   NoneTwice (Refused value ∷ calls) = NoneTwice calls
@@ -74,7 +74,7 @@ module _ {T : Type 0} where
   NoneTwice (Wrote handle was now ∷ calls) = NoneTwice calls
 
   -- what holds after any calls
-  pub record KeepsHandles (max generations : ℕ) (calls : List (Call T)) (last : Slots T) : Type 0 where
+  pub record KeepsHandles (max generations : ℕ) (calls : List (PoolCall T)) (last : Slots T) : Type 0 where
     -- each answer is one that the list allows: a refusal exactly where the live and the retired ones are max
     pub run : ListRun max generations [] calls
     -- `get` gives the value exactly of the live handles
@@ -89,5 +89,5 @@ module _ {T : Type 0} where
 
 -- over any calls of a new pool
 abbrev pub PoolLaw : Type 0 → Type 0
-PoolLaw T = (max generations : ℕ) (calls : List (Call T)) (last : Slots T) → max ≤ 65536 → 1 ≤ generations → SlotsRun (new_slots max generations) calls last
+PoolLaw T = (max generations : ℕ) (calls : List (PoolCall T)) (last : Slots T) → max ≤ 65536 → 1 ≤ generations → SlotsRun (new_slots max generations) calls last
     → KeepsHandles max generations calls last

@@ -18,8 +18,8 @@ chunk = ghosts.dealloc_token (record { memory = record { seal = tt } })
 
 module _ (X : RattleType) where
   -- so many items fit into one block
-  abbrev pub Fits : ℕ → Type 0
-  Fits n = n * type_size X < 2 ^ 63
+  abbrev pub FitsBlock : ℕ → Type 0
+  FitsBlock n = n * type_size X < 2 ^ 63
 
   -- so many items are no more than the block has room for, and that fits
   abbrev pub bounds : ℕ → List X.Denot → Fml

@@ -3,7 +3,7 @@ ghost use Rattle.std.specs.Prelude.{◌≡◌, ℕ, ◌+◌, ◌<◌, List, [], 
 ghost use Rattle.std.specs.Mem.{type_size};
 ghost use prog.Memory.{capped};
 ghost use Rattle.std.specs.Borrow.{sem};
-ghost use Rattle.handle_pool.specs.RowOwns.{row_owns, row_lent, Fits};
+ghost use Rattle.handle_pool.specs.RowOwns.{row_owns, row_lent, FitsBlock};
 
 use std::alloc::{AllocError, Allocator, Global};
 use std::marker::{Model, Send, Sync};
@@ -37,7 +37,7 @@ fn item_size<X>() -> usize
 /// Whether so many items fit into one block.
 pub(crate) fn fits<X>(room: usize) -> bool
     requires { 0 < room }
-    ensures { IsTrue result → Fits X.row room }
+    ensures { IsTrue result → FitsBlock X.row room }
 {
     item_size::<X>() <= 0x7fff_ffff_ffff_ffff / room
 }
@@ -47,7 +47,7 @@ impl<X> Row<X> {
 
     // A block for `room` items, none of them written. Refuses only when out of memory.
     pub(crate) fn allocate(alloc: &Global, room: usize) -> Result<Row<X>, AllocError>
-        requires { Fits X.row room × (0 < room) }
+        requires { FitsBlock X.row room × (0 < room) }
         ensures { IfOk result (λ r. (r.items ≡ []) × (r.room ≡ room)) }
     {
         match alloc.allocate(room * size_of::<X>(), align_of::<X>()) {

@@ -1,5 +1,5 @@
 -- What an Ok `enter` and an Ok `final` stand behind.
-use Rattle.history_law.proofs.Names.{◌≡◌, ℕ, zero, suc, ◌<◌, Bool, true, false, List, [], ◌∷◌, ◌++◌, refl, ◌∙◌, ap, arith, ◌==◌, ◌&&◌, not, MatchBool, true_from_ne_false, nat_tests, marked, all_marked, entry, Terms, Op, Reply, Ok, Pending, Mtapi, State, opening, workers, is_past_open, Move, stops, apply, Allows, after_row, row, IsMade, is_pick, NodeEntry, IsNext, next, LegalFrom, Legal, after_from, after, Legal-front, fst_true, snd_true, rest_keeps, some_entry, is_release, says_ok, says_stop, is_released, is_stop_of}
+use Rattle.history_law.proofs.Names.{◌≡◌, ℕ, zero, suc, ◌<◌, Bool, true, false, List, [], ◌∷◌, ◌++◌, refl, ◌∙◌, ap, arith, ◌==◌, ◌&&◌, not, MatchBool, true_from_ne_false, nat_tests, marked, all_marked, entry, Terms, Op, Reply, Ok, Pending, Mtapi, State, opening, workers, is_past_open, Move, stops, apply, Allows, after_row, row, IsMade, is_pick, NodeEntry, IsNext, next, LegalFrom, Legal, after_from, after, Legal-front, fst_true, snd_true, rest_keeps, some_entry, is_release_op, says_ok, says_stop, is_released, is_stop_of}
 use Rattle.history_law.proofs.Others.{release_move}
 use Rattle.history_law.proofs.lists.Slots.{set_apart, read_replicate}
 use Rattle.mtapi_values.specs.declared.statuses.MtapiStatus.TheVariants as m
@@ -15,12 +15,12 @@ use Rattle.history_law.proofs.lists.Objects.{cut_from}
 enter_reads : (a b : Bool) (X : Type 0) → MatchBool a (Ok ≡ Mtapi m.ErrNodeNotinit) (MatchBool (not b) (Ok ≡ Pending) X) → b ≡ true
 enter_reads a b X e1 = grind (arith, nat_tests)
 
-row_release : (s : State) (who : ℕ) (o : Op) (r : Reply) → is_release o ≡ true → says_ok r ≡ false → Allows (row s who o r) r
+row_release : (s : State) (who : ℕ) (o : Op) (r : Reply) → is_release_op o ≡ true → says_ok r ≡ false → Allows (row s who o r) r
     → (after_row s (row s who o r)).released ≡ s.released
 row_release s who o r e1 e2 e3 = grind (arith, nat_tests)
 
 next_released : (s : State) (e : NodeEntry) → IsNext s e → is_released e ≡ false → (next s e).released ≡ s.released
-next_released s e n i = on_test (λ b. (b && says_ok e.reply) ≡ false → (next s e).released ≡ s.released) (is_release e.op)
+next_released s e n i = on_test (λ b. (b && says_ok e.reply) ≡ false → (next s e).released ≡ s.released) (is_release_op e.op)
     (λ j k. row_release s e.who e.op e.reply j k n.allowed)
     (λ j k. by_moves (λ t. t.released ≡ s.released) s e n (λ t x y z. release_move e.who e.op j s t x y z) refl) i
 

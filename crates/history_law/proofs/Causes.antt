@@ -1,7 +1,7 @@
 -- A task that has ended was ended by an entry that may end it.
 use Rattle.history_law.proofs.Names.{arith, nat_tests, ◌≡◌, ℕ, Bool, true, false, cond, List, [], ◌∷◌, Option, Some, None, refl, sym, ◌∙◌, ap, subst, ◌==◌, ◌&&◌, ◌||◌, not, nat_lt, eqb-true, TaskEnd, Cancelled, Failed, is_shut_in, is_in, TaskHandle, Listed, live_of, live_object, change, with_fields, gone, Action, with_enabled, has_worker, Task, NewTask, scheduled, is_unstarted, added, fits, Op, Reply, State, Terms, opening, workers, Move, withdraws, starts_task, runs_task, ends_task, ends_waiting, apply, after_moves, NodeEntry, next, LegalFrom, Legal, after_from, end_in, end_at, after_grows, some_same, fst_true, snd_true, not_true, task_at, TallyEnd, Answers, tally_verdict, answered}
 use Rattle.mtapi_machine.specs.Answers as is
-use Rattle.history_law.specs.Causes.{IsLeft, Cause, by_cancel, by_disabled_queue, by_close, by_deleted_queue, by_deleted_action, by_disabled_action, by_answer, by_watch, by_failed_tally, by_sum, by_tally, HasCause, EndHasItsCause}
+use Rattle.history_law.specs.Causes.{IsLeft, Cause, by_cancel, by_disabled_queue, by_close, by_deleted_queue, by_deleted_action, by_disabled_action, by_answer, by_watch, by_failed_tally, by_sum, by_tally, HasEndCause, EndHasItsCause}
 use Rattle.history_law.proofs.Answered.{none_some, on_test, second_false}
 use Rattle.history_law.proofs.Ends.{grows_end}
 use Rattle.history_law.proofs.TaskSteps as step
@@ -136,12 +136,13 @@ module _ (h : ℕ) where
 -- The entry that ended it
 
 has_cause : (s : State) (es : List NodeEntry) (h : ℕ) (e : TaskEnd) → LegalFrom s es → end_at s.tasks h ≡ None → end_at (after_from s es).tasks h ≡ Some e
-    → HasCause s es h e
+    → HasEndCause s es h e
 unfolding LegalFrom after_from
 has_cause s [] h e l n i = none_some (sym n ∙ i)
 has_cause s (x ∷ xs) h e l n i = by_end (end_at (next s x).tasks h) refl (λ z. has_cause (next s x) xs h e l.1 z i)
   where
-    by_end : (o : Option TaskEnd) → end_at (next s x).tasks h ≡ o → (end_at (next s x).tasks h ≡ None → HasCause (next s x) xs h e) → HasCause s (x ∷ xs) h e
+    by_end : (o : Option TaskEnd) → end_at (next s x).tasks h ≡ o → (end_at (next s x).tasks h ≡ None → HasEndCause (next s x) xs h e)
+        → HasEndCause s (x ∷ xs) h e
     by_end None z f = let r = f z in record {
       before = x ∷ r.before;
       by = r.by;

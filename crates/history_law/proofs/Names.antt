@@ -17,21 +17,21 @@ pub use Rattle.history.specs.Histories.{entry}
 pub use Rattle.history_law.specs.Accepted.{EndsOnce, TasksEndOnce, accepted, accepted_by}
 pub use Rattle.history_law.specs.Affinity.{ObeysMasks, action_mask, task_mask}
 pub use Rattle.history_law.specs.Ends.{EndsAfterClose}
-pub use Rattle.history_law.specs.Exclusion.{HasMutex, HoldsByLooks, HoldsByTally, HoldsMutex, MadeWith, MutexesKeepTo, OneWriter, ReadersAlone, RwlsKeepTo, SemsKeepTo, by_seat, ends_tally, gets_mutex, gets_rwl, gets_sem, gives_mutex, gives_rwl, gives_sem, is_tally_end, limit_of, looks_at_mutex, looks_at_rwl, looks_at_sem, says_end, says_number, tally_got, unlocks_mutex, unlocks_rwl, unlocks_sem}
+pub use Rattle.history_law.specs.Exclusion.{HasMutex, HoldsByLooks, HoldsByTally, HoldsMutex, MadeWith, MutexesKeepTo, OneWriter, ReadersAlone, RwlsKeepTo, SemsKeepTo, by_seat, ends_tally, gets_mutex, gets_rwl, gets_sem, gives_mutex, gives_rwl, gives_sem, is_tally_end, limit_in_op, looks_at_mutex, looks_at_rwl, looks_at_sem, says_end, says_number, tally_got, unlocks_mutex, unlocks_rwl, unlocks_sem}
 pub use Rattle.history_law.specs.Order.{EndedBefore, GivenInOrder, is_given, looks_for_any}
-pub use Rattle.history_law.specs.Ordered.{RunsInOrder, asks_ordered, is_picked, makes_ordered, puts, puts_into}
-pub use Rattle.history_law.specs.Quiet.{AreQuiet, EndsPlainly, HasPure, IsPlain, QuietTasksEndPlainly, is_quiet}
-pub use Rattle.history_law.specs.Refused.{LawsRefuse, again, both_hold, both_own, caller_gets, cancelled_first, completed_then, final_first, gets_none, given_twice, gives_anothers, gives_back_unread, gives_unlocked, makes_rwl, makes_sem, on_another_core, one_for_two, one_reads_twice, picks_second, puts_one, reads_beside, reads_none, second_core, three_read, two_ends}
-pub use Rattle.history_law.specs.RefusedRuns.{RunLawsRefuse, a_task, adding, by_no_seat, closes_it, ends, ends_late, enters_first, finishes_it, has_got_both, has_looked, has_no_marks, has_stopped, listed_once, looks_last, opens, releases, takes, waits, was_cancelled, with_tasks}
+pub use Rattle.history_law.specs.Ordered.{RunsInOrder, asks_ordered, is_picked, makes_ordered, puts_task, puts_this_into}
+pub use Rattle.history_law.specs.Quiet.{AreQuiet, EndsPlainly, HasPure, IsPlainEnd, QuietTasksEndPlainly, is_quiet}
+pub use Rattle.history_law.specs.Refused.{LawsRefuse, again, both_hold, both_own, caller_gets, cancelled_first, completed_then, final_first, gets_none, given_twice, gives_anothers, gives_back_unread, gives_unlocked, makes_rwl, makes_sem, on_another_core, one_for_two, one_reads_twice, picks_second, puts_one, reads_beside, reads_none, second_core_mask, three_read, two_ends}
+pub use Rattle.history_law.specs.RefusedRuns.{RunLawsRefuse, a_task, adding, by_no_seat, closes_it, ends_entries, ends_late, enters_first, finishes_it, has_got_both, has_looked, has_no_marks, has_stopped, listed_once, looks_last, opens_entries, releases, takes, waits_entries, was_cancelled, state_with_tasks}
 pub use Rattle.history_law.specs.Reuse.{NeverAgain, NotInBoth}
-pub use Rattle.history_law.specs.Seats.{AreUntouched, BySeats, EndsInTime, EntersBehindRelease, FinalsBehindStops, Free, HasMarks, Holds, IsUntouched, IsWaiter, KeepsEarly, KeepsOnce, KeepsPhase, KeepsRelease, KeepsStops, KeepsWaiter, NoClose, NoPhase, NoRelease, OnceListed, Others, RunsWith, Waits, Work, WorkerKeeps, closes, is_late_end, is_release, is_released, is_stop_of, moves_phase, says_ok, says_stop}
-pub use Rattle.history_law.specs.Served.{AsksOf, IsServed, Serves}
+pub use Rattle.history_law.specs.Seats.{AreUntouched, BySeats, EndsInTime, EntersBehindRelease, FinalsBehindStops, Free, HasMarks, HoldsTask, IsUntouched, IsWaiter, KeepsEarly, KeepsOnce, KeepsPhase, KeepsRelease, KeepsStops, KeepsWaiter, NoClose, NoPhase, NoRelease, OnceListed, Others, RunsWith, WaitsFor, Work, WorkerKeeps, closes, is_late_end, is_release_op, is_released, is_stop_of, moves_phase, says_ok, says_stop}
+pub use Rattle.history_law.specs.Served.{AsksOf, IsStepServed, ServesOp}
 pub use Rattle.history_law.specs.Tally.{HoldsTheSum, NamesOneMutex, adds_to, completed_in, is_completed, mutex_in, number_added, sum_of, writes_to}
 pub use Rattle.history_law.specs.TallyHolds.{IsAttached, TalliesHold, got_both}
 pub use Rattle.history_law.specs.Told.{TellsItsEnd, told_by}
-pub use Rattle.history_law.specs.Words.{entries_that, is_handle, is_live, issues, some_entry, times}
+pub use Rattle.history_law.specs.Words.{entries_that, is_this_handle, is_live_object, issues, some_entry, times}
 pub use Rattle.history_law.specs.Worked.{OneTaskEnds}
-pub use Rattle.history_law.specs.WorkedSum.{TalliesAddUp, begins, gets_both, two_workers}
+pub use Rattle.history_law.specs.WorkedSum.{TalliesAddUp, tallies_begin, gets_both, two_workers}
 pub use Rattle.mtapi_machine.proofs.Answered.{answered}
 pub use Rattle.mtapi_machine.proofs.Changes.{at-update, some_same}
 pub use Rattle.mtapi_machine.proofs.EachKind.{at_opening, own_kind}
@@ -44,17 +44,17 @@ pub use Rattle.mtapi_machine.proofs.Replays.{legal_if}
 pub use Rattle.mtapi_machine.proofs.Worked.{one_task-legal}
 pub use Rattle.mtapi_machine.specs.Ends.{end_in}
 pub use Rattle.mtapi_machine.specs.KeyedRows.{alters_one, deletes, looks_one, mrapi, mrapi_open, mrapi_unless}
-pub use Rattle.mtapi_machine.specs.Laws.{AltersObject, AreMade, DropsToSame, EndsTask, Grows, IsMade, MakesAction, RemovesObject, StartsTask, WithdrawsAction, all_live, ends_many, is_pick, leads_to, makes_of_sort, may}
+pub use Rattle.mtapi_machine.specs.Laws.{AltersObject, AreMade, DropsToSame, EndsTask, Grows, IsMade, MakesAction, RemovesObject, StartsTask, WithdrawsAction, all_live, ends_many, is_pick, leads_to, makes_of_sort, may_move}
 pub use Rattle.mtapi_machine.specs.Legal.{IsHonest, IsNext, Legal, NodeEntry, after, next, row_of}
 pub use Rattle.mtapi_machine.specs.Moves.{Fields, Groups, Move, Mutexes, Queues, Rwls, Segments, Sems, Sort, after_moves, all_of, alters, apply, enables, ends_task, ends_waiting, frees_members, is_fresh, is_served, leaves, lets_members_go, makes, makes_action, notes, phase_is, released, removes, runs_task, starts_task, stops, withdraws}
 pub use Rattle.mtapi_machine.specs.QueueRows.{new_queue}
 pub use Rattle.mtapi_machine.specs.Row.{Allows, Row, after_row, gives, live, moves_of, never, only, says, unless}
 pub use Rattle.mtapi_machine.specs.Rows.{row}
-pub use Rattle.mtapi_machine.specs.State.{FieldsOf, Objects, State, changed, is_new, is_open, is_past_open, objects_of, opening, seats, tasks, workers}
+pub use Rattle.mtapi_machine.specs.State.{FieldsOf, Objects, State, object_changed, is_new, is_open, is_past_open, objects_of, opening, seats, tasks, workers}
 pub use Rattle.mtapi_machine.specs.Tables.{h1}
 pub use Rattle.mtapi_machine.specs.TaskRows.{asked_for, asked_of}
 pub use Rattle.mtapi_machine.specs.WorkRows.{task_end}
-pub use Rattle.mtapi_machine.specs.Worked.{add_task, every_core, finishes_first, first_handle, main, next_handle, picks_first, task, the_action, usual, worker}
+pub use Rattle.mtapi_machine.specs.Worked.{add_task, every_core_mask, finishes_first, worked_first_handle, main_entry, next_handle, picks_first, task_handle, the_action, usual, worker}
 pub use Rattle.mtapi_machine.specs.declared.ops.Op.{Op}
 pub use Rattle.mtapi_machine.specs.declared.ops.Op.TheVariants.{Close, Final, Initialize, TallyEnd}
 pub use Rattle.mtapi_machine.specs.declared.replies.Reply.{Reply}

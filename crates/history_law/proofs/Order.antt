@@ -2,7 +2,7 @@
 use Rattle.history_law.proofs.Names.{◌≡◌, ℕ, ◌≤◌, true, List, [], ◌∷◌, ◌++◌, Option, Some, None, refl, sym, ◌∙◌, ap, subst, arith, nat_lt, is_some, eqb-true, cond_both, nat_tests, TaskEnd, Failed, Listed, live_of, live_object, listed, change, with_fields, gone, Task, Notes, TaskState, Scheduled, Running, Ended, end_of, with_notes, ended, is_member, Ending, insert, insert_ended, endings, in_no_group, Terms, Op, Reply, State, opening, Move, ends_task, ends_waiting, withdraws, notes, leaves, apply, after_moves, moves_of, row, NodeEntry, IsNext, next, LegalFrom, Legal, after_from, after, Grows, Legal-front, Legal-rest, after-append, fst_true, snd_true, rest_keeps, after_grows, looks_for_any, is_given, number_at, EndedBefore, GivenInOrder, some_same, Answers, answered}
 use Rattle.history_law.proofs.lists.Every.{Each}
 use Rattle.mtapi_values.specs.declared.handles.ObjectKind.TheVariants as kind
-use Rattle.history_law.specs.Order.{gives as gives_task, number_in}
+use Rattle.history_law.specs.Order.{gives_task, number_of_end}
 use Rattle.history_law.proofs.Moves.{once_from}
 use Rattle.history_law.proofs.lists.Handles.{OnceIn, once_same, listed_change}
 use Rattle.history_law.proofs.lists.Records.{read_found}
@@ -143,12 +143,12 @@ from_at g n (r ∷ rs) h t a e m p q = grind (arith, nat_tests, from_at g n rs h
 
 -- The numbers in the records
 
-number_found : (l : List (Listed Task)) (h : ℕ) (t : Task) → OnceIn l → live_object l h ≡ Some t → number_at l h ≡ number_in t.state
+number_found : (l : List (Listed Task)) (h : ℕ) (t : Task) → OnceIn l → live_object l h ≡ Some t → number_at l h ≡ number_of_end t.state
 unfolding number_at
-number_found l h t o e = read_found h (λ m. number_at m h) (λ (x : Task). number_in x.state) (λ r rs. refl) l t o e
+number_found l h t o e = read_found h (λ m. number_at m h) (λ (x : Task). number_of_end x.state) (λ r rs. refl) l t o e
 
-number_stays : (x y : TaskState) (n : ℕ) → ((e : TaskEnd) (k : ℕ) → end_of x ≡ Some (e, k) → end_of y ≡ Some (e, k)) → number_in x ≡ Some n
-    → number_in y ≡ Some n
+number_stays : (x y : TaskState) (n : ℕ) → ((e : TaskEnd) (k : ℕ) → end_of x ≡ Some (e, k) → end_of y ≡ Some (e, k)) → number_of_end x ≡ Some n
+    → number_of_end y ≡ Some n
 unfolding number_told
 number_stays Scheduled y n k i = absurd (cc)
 number_stays (Running w j) y n k i = absurd (cc)
@@ -156,10 +156,10 @@ number_stays (Ended z a) y n k i = grind (arith, nat_tests, k z a refl)
 
 grows_number : (h n : ℕ) (l k : List (Listed Task)) → Grows l k → number_at l h ≡ Some n → number_at k h ≡ Some n
 unfolding number_at
-grows_number h n (r ∷ rs) (q ∷ qs) g i = grind (arith, nat_tests, grows_number h n rs qs g.1, number_at, number_in, number_stays)
+grows_number h n (r ∷ rs) (q ∷ qs) g i = grind (arith, nat_tests, grows_number h n rs qs g.1, number_at, number_of_end, number_stays)
 grows_number h n _ _ g i = grind (arith, nat_tests)
 
-own_bit : (n : ℕ) (x : TaskState) → number_in x ≡ Some n → bit (is_number n x) ≡ 1
+own_bit : (n : ℕ) (x : TaskState) → number_of_end x ≡ Some n → bit (is_number n x) ≡ 1
 own_bit n x e1 = grind (arith, nat_tests)
 
 number_counts : (l : List (Listed Task)) (h n : ℕ) → number_at l h ≡ Some n → 1 ≤ has_number n l
@@ -192,11 +192,11 @@ gave_gone s g h ms o v =
 gave_number : (s : State) (g h : ℕ) (ms : List Move) (L : List NodeEntry) → OnceIn s.tasks → (v : Gave s g h ms)
     → number_at (after_from s L).tasks h ≡ Some v.number
 gave_number s g h ms L o v = grows_number h v.number s.tasks (after_from s L).tasks (after_grows s L) (number_found s.tasks h v.task o v.found
-    ∙ ap number_in v.over)
+    ∙ ap number_of_end v.over)
 
 gave_below : (s : State) (g h : ℕ) (ms : List Move) → OnceIn s.tasks → Numbered s → (v : Gave s g h ms) → v.number ≤ s.ends
 gave_below s g h ms o u v =
-    grind (arith, nat_tests, u.above v.number, number_counts s.tasks h v.number (number_found s.tasks h v.task o v.found ∙ ap number_in v.over))
+    grind (arith, nat_tests, u.above v.number, number_counts s.tasks h v.number (number_found s.tasks h v.task o v.found ∙ ap number_of_end v.over))
 
 -- a task that is given later ended later
 later : (s u : State) (g a b : ℕ) (ms ns : List Move) → (v : Gave s g a ms) → (w : Gave u g b ns) → Left g v.number u → v.number ≤ w.number

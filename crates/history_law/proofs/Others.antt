@@ -1,5 +1,5 @@
 -- What the entries of other seats leave to a seat.
-use Rattle.history_law.proofs.Names.{◌≡◌, ◌≢◌, ℕ, zero, suc, Bool, true, false, List, [], ◌∷◌, Some, None, refl, sym, ◌∙◌, ap, subst, arith, ◌==◌, ◌&&◌, not, slice_set, nat_tests, TaskEnd, marked, holds, Op, Reply, Terms, Listed, live_object, count_listed, with_fields, gone, is_member, in_no_group, let_go, Task, Notes, with_notes, TaskState, Scheduled, Running, Ended, runner, runs_on, is_unstarted, is_unended, State, opening, NodeEntry, next, LegalFrom, Legal, after_from, after, end_at, moves_phase, is_release, is_late_end, IsWaiter, Waits, OnceListed, Work, RunsWith, IsUntouched, Others, WorkerKeeps, NoPhase, NoRelease, Move, phase_is, released, stops, runs_task, ends_task, notes, leaves, apply, after_moves, fst_true, snd_true, not_true, rest_keeps, some_same, eq-eqb, Answers, IsNext}
+use Rattle.history_law.proofs.Names.{◌≡◌, ◌≢◌, ℕ, zero, suc, Bool, true, false, List, [], ◌∷◌, Some, None, refl, sym, ◌∙◌, ap, subst, arith, ◌==◌, ◌&&◌, not, slice_set, nat_tests, TaskEnd, marked, holds, Op, Reply, Terms, Listed, live_object, count_listed, with_fields, gone, is_member, in_no_group, let_go, Task, Notes, with_notes, TaskState, Scheduled, Running, Ended, runner, runs_on, is_unstarted, is_unended, State, opening, NodeEntry, next, LegalFrom, Legal, after_from, after, end_at, moves_phase, is_release_op, is_late_end, IsWaiter, WaitsFor, OnceListed, Work, RunsWith, IsUntouched, Others, WorkerKeeps, NoPhase, NoRelease, Move, phase_is, released, stops, runs_task, ends_task, notes, leaves, apply, after_moves, fst_true, snd_true, not_true, rest_keeps, some_same, eq-eqb, Answers, IsNext}
 use Rattle.history_law.proofs.Reuse.{terms_next}
 use Rattle.history_law.proofs.SeatMoves.{Noted, May, MayEnd, is_any_look, by_moves, answer, kept_along}
 pub use Rattle.history_law.proofs.TaskMoves.{same_found}
@@ -90,8 +90,8 @@ other_head : (w : ℕ) (e : NodeEntry) (es : List NodeEntry) → Others w (e ∷
 other_head w e es e1 = grind (arith, nat_tests)
 
 -- a member that leaves its group and goes isn't the task of a waiter
-left_apart : (w h : ℕ) (s : State) (g j : ℕ) (x : Task) → live_object s.tasks j ≡ Some x → is_member g x ≡ true → Waits s w h
-    → Waits (after_moves (notes j in_no_group ∷ leaves j ∷ []) s) w h
+left_apart : (w h : ℕ) (s : State) (g j : ℕ) (x : Task) → live_object s.tasks j ≡ Some x → is_member g x ≡ true → WaitsFor s w h
+    → WaitsFor (after_moves (notes j in_no_group ∷ leaves j ∷ []) s) w h
 left_apart w h s g j x e m v =
     let u = found_changed (IsWaiter w) j h (with_fields (with_notes in_no_group)) (λ r. refl) s.tasks v.0 v.1 v.2 (λ r i a f. absurd (apart i)) in
     found_changed (IsWaiter w) j h gone (λ r. refl) _ u.0 u.1 u.2 (λ r i a f. absurd (apart i))
@@ -100,8 +100,8 @@ left_apart w h s g j x e m v =
     apart i = true_false m (no_member g x (ap (λ (t : Task). t.notes.group) (same_found s j h i x v.0 e v.1) ∙ v.2.alone))
 
 -- a look at a group gives a member, and no seat waits for one
-any_by : (w h : ℕ) (s : State) (who : ℕ) (o : Op) (r : Reply) (ms : List Move) → is_any_look o ≡ true → OnceListed s → Waits s w h → Answers s who o r ms
-    → Waits (after_moves ms s) w h
+any_by : (w h : ℕ) (s : State) (who : ℕ) (o : Op) (r : Reply) (ms : List Move) → is_any_look o ≡ true → OnceListed s → WaitsFor s w h → Answers s who o r ms
+    → WaitsFor (after_moves ms s) w h
 any_by w h s who _ _ _ b o v (is.refuses p x e) = v
 any_by w h s who _ _ _ b o v (is.refuses_caller p x e) = v
 any_by w h s who _ _ _ b o v (is.any_early g x e d) = v
@@ -127,13 +127,13 @@ once_then : (s : State) (e : NodeEntry) → OnceListed s → OnceListed (next s 
 unfolding after_from
 once_then s e o = once_stays s (e ∷ []) o
 
-pub waiter_stays : (s : State) (L : List NodeEntry) (w h : ℕ) → OnceListed s → LegalFrom s L → Others w L → Waits s w h → Waits (after_from s L) w h
+pub waiter_stays : (s : State) (L : List NodeEntry) (w h : ℕ) → OnceListed s → LegalFrom s L → Others w L → WaitsFor s w h → WaitsFor (after_from s L) w h
 waiter_stays s L w h n l o v =
-    (by_others w (λ t. OnceListed t × Waits t w h)
+    (by_others w (λ t. OnceListed t × WaitsFor t w h)
     (λ t e i a x. (
       once_then t e x.0,
       whether (is_any_look e.op) (λ b. any_by w h t e.who e.op e.reply _ b x.0 x.1 (answer t e i))
-          (λ b. by_moves (λ u. Waits u w h) t e i (found_moved (IsWaiter w) e.who h e.op (waits_stay w h e.who e.op a b)) x.1),
+          (λ b. by_moves (λ u. WaitsFor u w h) t e i (found_moved (IsWaiter w) e.who h e.op (waits_stay w h e.who e.op a b)) x.1),
     )) s L l o (n, v)).1
 
 count_stays : (s : State) (L : List NodeEntry) (w : ℕ) → LegalFrom s L → Others w L
@@ -169,7 +169,7 @@ unfolding LegalFrom after_from
 phase_stays s [] l n = refl
 phase_stays s (e ∷ es) l n = phase_stays (next s e) es l.1 n.1 ∙ by_moves (λ t. t.phase ≡ s.phase) s e l.0 (phase_move e.who e.op n.0 s) refl
 
-pub release_move : (who : ℕ) (o : Op) → is_release o ≡ false → (s t : State) (x : Move) → May t who o x → t.released ≡ s.released
+pub release_move : (who : ℕ) (o : Op) → is_release_op o ≡ false → (s t : State) (x : Move) → May t who o x → t.released ≡ s.released
     → (apply x t).released ≡ s.released
 release_move who o n s t released k v = true_false k n
 release_move who o n s t x k v = rest_keeps (λ u. u.released ≡ s.released) (λ t g q m c r y p. p) x t v

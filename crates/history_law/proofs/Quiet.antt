@@ -1,5 +1,5 @@
 -- In a quiet history a task ends as the kind of an action of its job answers.
-use Rattle.history_law.proofs.Names.{nat_tests, arith, ◌≡◌, ℕ, Bool, true, false, List, [], ◌∷◌, Some, refl, ◌∙◌, ap, int_eq, pointwise, eqb-true, Decides-int_eq, slice_eq-Decides, Kind, TaskEnd, Cancelled, is_pure, answer_of, Answered, IsAnswered, Listed, live_object, issue, change, with_fields, gone, Action, with_enabled, is_eligible, Task, TaskState, Scheduled, Running, Ended, runs_as, kind_number, Queue, is_shut_in, Op, Reply, Terms, State, opening, workers, Move, Queues, makes_action, enables, withdraws, runs_task, ends_task, ends_waiting, makes, alters, removes, apply, after_moves, task_end, NodeEntry, IsNext, IsHonest, next, LegalFrom, after_from, IsMade, MakesAction, WithdrawsAction, EndsTask, AltersObject, is_pick, ends_many, makes_of_sort, end_in, some_same, snd_true, by_moves, is_quiet, AreQuiet, HasPure, task_at, IsPlain, QuietTasksEndPlainly, ℤ, Answers, not, not_false}
+use Rattle.history_law.proofs.Names.{nat_tests, arith, ◌≡◌, ℕ, Bool, true, false, List, [], ◌∷◌, Some, refl, ◌∙◌, ap, int_eq, pointwise, eqb-true, Decides-int_eq, slice_eq-Decides, Kind, TaskEnd, Cancelled, is_pure, answer_of, Answered, IsAnswered, Listed, live_object, issue, change, with_fields, gone, Action, with_enabled, is_eligible, Task, TaskState, Scheduled, Running, Ended, runs_as, kind_number, Queue, is_shut_in, Op, Reply, Terms, State, opening, workers, Move, Queues, makes_action, enables, withdraws, runs_task, ends_task, ends_waiting, makes, alters, removes, apply, after_moves, task_end, NodeEntry, IsNext, IsHonest, next, LegalFrom, after_from, IsMade, MakesAction, WithdrawsAction, EndsTask, AltersObject, is_pick, ends_many, makes_of_sort, end_in, some_same, snd_true, by_moves, is_quiet, AreQuiet, HasPure, task_at, IsPlainEnd, QuietTasksEndPlainly, ℤ, Answers, not, not_false}
 use Rattle.mtapi_values.specs.declared.kinds.Kind.TheVariants as kind
 use Rattle.mtapi_machine.specs.declared.ops.Op.TheVariants as op
 use Rattle.history_law.proofs.Answered.{true_false, whether}
@@ -17,7 +17,7 @@ use Rattle.history_law.proofs.lists.KindNumbers.{same_kind}
 abbrev pub GoesIn : List (Listed Action) → ℕ → List ℤ → TaskState → Type 0
 GoesIn actions job args Scheduled = Unit {0}
 GoesIn actions job args (Running w k) = HasPure actions job k
-GoesIn actions job args (Ended e n) = IsPlain actions job args e
+GoesIn actions job args (Ended e n) = IsPlainEnd actions job args e
 
 abbrev pub Goes : List (Listed Action) → Task → Type 0
 Goes actions t = GoesIn actions t.job t.args t.state
@@ -184,7 +184,7 @@ every_task P [] h t v e = absurd (cc)
 every_task P (r ∷ rs) h t v e = grind (arith, nat_tests, every_task P rs h t v.1, task_at, some_same)
 
 plain_end : (actions : List (Listed Action)) (job : ℕ) (args : List ℤ) (x : TaskState) (e : TaskEnd) → GoesIn actions job args x → end_in x ≡ Some e
-    → IsPlain actions job args e
+    → IsPlainEnd actions job args e
 plain_end actions job args x e e1 e2 = grind (arith, nat_tests)
 
 pub quiet_tasks_end_plainly : QuietTasksEndPlainly

@@ -1,5 +1,5 @@
 -- What is no cause of an end: what each cause needs, and that it isn't so.
-use Rattle.history_law.proofs.Names.{◌≡◌, ℕ, true, false, List, [], ◌∷◌, ◌++◌, ◌==◌, ◌⊎◌, inl, inr, refl, arith, pos, ℤ, TaskEnd, Completed, Cancelled, live_of, change, has_worker, gone, with_fields, Op, Task, NodeEntry, State, first_handle, next_handle, nat_tests}
+use Rattle.history_law.proofs.Names.{◌≡◌, ℕ, true, false, List, [], ◌∷◌, ◌++◌, ◌==◌, ◌⊎◌, inl, inr, refl, arith, pos, ℤ, TaskEnd, Completed, Cancelled, live_of, change, has_worker, gone, with_fields, Op, Task, NodeEntry, State, worked_first_handle, next_handle, nat_tests}
 use Rattle.mtapi_values.specs.declared.statuses.MtapiStatus.{MtapiStatus}
 use Rattle.mtapi_values.specs.declared.statuses.MtapiStatus.TheVariants as status
 use Rattle.mtapi_values.specs.declared.ends.TaskEnd.TheVariants.{Failed}
@@ -70,21 +70,21 @@ three_two e = cc
 nine_eight : Completed (pos 9 ∷ []) ≡ Completed (pos 8 ∷ []) → ⊥
 nine_eight e = cc
 
-next_first : next_handle ≡ first_handle → ⊥
+next_first : next_handle ≡ worked_first_handle → ⊥
 next_first e = omega arith
 
 false_true : false ≡ true → ⊥
 false_true e = cc
 
-cause : {s : State} {t : Task} {o : Op} {e : TaskEnd} → Cause s first_handle t o e → Needs s first_handle t o e
+cause : {s : State} {t : Task} {o : Op} {e : TaskEnd} → Cause s worked_first_handle t o e → Needs s worked_first_handle t o e
 cause c = needs _ _ _ _ _ c
 
 -- two actions serve the task: without the first one the other is left
-deleted_served : has_worker 1 1 1 (live_of (change first_handle gone two_actions.actions)) ≡ true
+deleted_served : has_worker 1 1 1 (live_of (change worked_first_handle gone two_actions.actions)) ≡ true
 unfolding has_worker live_of change
 deleted_served = refl
 
-disabled_served : has_worker 1 1 1 (live_of (change first_handle (with_fields (with_enabled false)) two_actions.actions)) ≡ true
+disabled_served : has_worker 1 1 1 (live_of (change worked_first_handle (with_fields (with_enabled false)) two_actions.actions)) ≡ true
 unfolding has_worker live_of change
 disabled_served = refl
 

@@ -1,30 +1,30 @@
 -- What the fields of laws refuse, by computing.
-use Rattle.history_law.proofs.Names.{◌≡◌, ℕ, zero, suc, ◌++◌, refl, arith, live_of, count_listed, issue, change, listed, issued_at, retired, is_full, may_issue, has_worker, runs_on, is_ready, can_take, has_better, after_from, after, usual, first_handle, next_handle, Holds, started, takes, some_same, nat_tests}
+use Rattle.history_law.proofs.Names.{◌≡◌, ℕ, zero, suc, ◌++◌, refl, arith, live_of, count_listed, issue, change, listed, issued_at, retired, is_full, may_issue, has_worker, runs_on, is_ready, can_take, has_better, after_from, after, usual, worked_first_handle, next_handle, HoldsTask, started, takes, some_same, nat_tests}
 use Rattle.std.specs.Prelude.{[], ◌∷◌, ℤ}
 use Rattle.mtapi_values.specs.declared.kinds.Kind.TheVariants as kind
 use Rattle.mtapi_objects.specs.Tasks.{Running}
 use Rattle.history_law.specs.Seats.{Free, Work}
-use Rattle.history_law.specs.RefusedFields.{FieldsRefuse, one_runs, two_run, has_left, watched, watching}
+use Rattle.history_law.specs.RefusedFields.{FieldsRefuse, one_runs, two_run, has_left, watched, watching_task}
 use Rattle.history_law.proofs.Refused.{not_some}
 use Rattle.history_law.proofs.RefusedRuns.{not_one}
 
-has : Holds one_runs 0 first_handle watched
+has : HoldsTask one_runs 0 worked_first_handle watched
 unfolding live_of
-has = record { task = watching; found = refl; runs = record { state = refl; arguments = refl; looked = refl; reported = refl; did = refl }; alone = refl }
+has = record { task = watching_task; found = refl; runs = record { state = refl; arguments = refl; looked = refl; reported = refl; did = refl }; alone = refl }
 
 -- the task of the handle is the watch
-is_watch : {w : ℕ} {x : Work} (k : Holds one_runs w first_handle x) → watching ≡ k.task
+is_watch : {w : ℕ} {x : Work} (k : HoldsTask one_runs w worked_first_handle x) → watching_task ≡ k.task
 unfolding live_of
 is_watch k = some_same k.found
 
-two_are : Holds two_run 0 first_handle watched → ⊥
+two_are : HoldsTask two_run 0 worked_first_handle watched → ⊥
 two_are k = let e : suc (suc zero) ≡ suc zero = k.alone in omega arith
 
-not_found : Holds one_runs 0 next_handle watched → ⊥
+not_found : HoldsTask one_runs 0 next_handle watched → ⊥
 unfolding live_of
 not_found k = not_some k.found
 
-not_live : Holds has_left 0 first_handle watched → ⊥
+not_live : HoldsTask has_left 0 worked_first_handle watched → ⊥
 unfolding live_of
 not_live k = not_some k.found
 

@@ -1,5 +1,5 @@
 -- No handle is used again, and in layout two none names objects of two kinds.
-use Rattle.history_law.proofs.Names.{nat_tests, ◌≡◌, ℕ, ◌+◌, ◌≤◌, Bool, true, false, cond, List, [], ◌∷◌, ◌++◌, refl, sym, ◌∙◌, ap, subst, arith, ◌==◌, eqb-true, eq-eqb, false_from_ne_true, true_from_ne_false, ObjectKind, Layout, Two, object_number, named_kind, names_kind, Terms, Op, Reply, Handle, Listed, listed, may_issue, issue, Objects, FieldsOf, objects_of, State, opening, Move, is_fresh, apply, Allows, live, after_row, row, NodeEntry, IsNext, next, LegalFrom, Legal, after_from, after, IsMade, Legal-front, Legal-rest, after-append, fst_true, snd_true, own_kind, at_opening, along, by_moves, rest_keeps, some_entry, times, is_live, is_handle, issues, NeverAgain, NotInBoth, released, Answers, after_moves, answered}
+use Rattle.history_law.proofs.Names.{nat_tests, ◌≡◌, ℕ, ◌+◌, ◌≤◌, Bool, true, false, cond, List, [], ◌∷◌, ◌++◌, refl, sym, ◌∙◌, ap, subst, arith, ◌==◌, eqb-true, eq-eqb, false_from_ne_true, true_from_ne_false, ObjectKind, Layout, Two, object_number, named_kind, names_kind, Terms, Op, Reply, Handle, Listed, listed, may_issue, issue, Objects, FieldsOf, objects_of, State, opening, Move, is_fresh, apply, Allows, live, after_row, row, NodeEntry, IsNext, next, LegalFrom, Legal, after_from, after, IsMade, Legal-front, Legal-rest, after-append, fst_true, snd_true, own_kind, at_opening, along, by_moves, rest_keeps, some_entry, times, is_live_object, is_this_handle, issues, NeverAgain, NotInBoth, released, Answers, after_moves, answered}
 use Rattle.mtapi_values.specs.declared.handles.ObjectKind.TheVariants as kind
 use Rattle.history_law.specs.Words.{makes_object}
 use Rattle.mtapi_machine.specs.Answers as is
@@ -100,7 +100,7 @@ listed_same k h s e z =
     (λ t m y w. kind_move k t e.op (λ l. listed h l ≡ times k h s) (λ j x b i u. true_false b z) (λ l a u. listed_ages (SameFields k) h _ l a ∙ u) m y w) refl
 
 -- nor does one that answers with another handle, or with none
-beside_issue : (k : ObjectKind) (h : ℕ) (s : State) (who : ℕ) (o : Op) (r : Reply) (ms : List Move) → makes_object k o ≡ true → is_handle h r ≡ false
+beside_issue : (k : ObjectKind) (h : ℕ) (s : State) (who : ℕ) (o : Op) (r : Reply) (ms : List Move) → makes_object k o ≡ true → is_this_handle h r ≡ false
     → Answers s who o r ms → times k h (after_moves ms s) ≡ times k h s
 beside_issue kind.Action h s who _ _ _ e n (is.creates_action job x cores j f) = listed_new h j _ s.actions n
 beside_issue kind.Task h s who _ _ _ e n (is.starts job args priority cores detached group j f) = listed_new h j _ s.tasks n
@@ -146,7 +146,7 @@ never_again terms es k h legal P M N R cut live dead =
     let still : 1 ≤ times k h (after_from (after terms P) M) = along (Listed1 k h) (λ o t m e. listed_move k h t o m e) (after terms P) M old in
     let some : 1 ≤ times k h (after terms (P ++ M)) = subst (λ (t : State). 1 ≤ times k h t) (sym (after-append (opening terms) P M)) still in
     let gone = stays_gone k h (after terms (P ++ M)) N (Legal-front _ N R behind) (record { some = some; dead = none_dead h _ dead }) in record {
-      dead = ap (λ (t : State). is_live k h t) (after-append (opening terms) (P ++ M) N) ∙ dead_none h _ gone.0.dead;
+      dead = ap (λ (t : State). is_live_object k h t) (after-append (opening terms) (P ++ M) N) ∙ dead_none h _ gone.0.dead;
       none = gone.1;
     }
 

@@ -1,5 +1,5 @@
 -- What the seat and the op of an entry had to know, for each move that they make. A law on what seats leave to one another is shown for each move once.
-use Rattle.history_law.proofs.Names.{nat_tests, arith, ◌≡◌, ℕ, ◌+◌, Bool, true, false, cond, List, [], ◌∷◌, Option, Some, None, ◌⊎◌, inl, inr, refl, ◌∙◌, ap, ◌==◌, ◌&&◌, is_none, ℤ, eq-eqb, Kind, MtapiStatus, Completed, Failed, is_other, is_pure, answer_of, Answered, IsAnswered, Reply, Op, live_object, any_listed, holds, Task, Notes, TallyNotes, TaskState, end_of, runner, runs_as, runs_on, kind_number, is_unstarted, is_unended, with_notes, with_waiter, asked_once, watch_end, tally_args, cell_in, added, with_tally, tally_failed, tally_has, tally_read, tally_written, in_no_group, Mutex, Segment, cell_of, State, Move, Mutexes, Segments, phase_is, released, stops, withdraws, runs_task, ends_task, ends_waiting, notes, leaves, makes, alters, apply, after_moves, moves_of, is_ready, task_end, NodeEntry, IsNext, IsHonest, row_of, next, IsMade, AreMade, fst_true, row_made, at-update, moves_phase, is_release, is_late_end, is_tally_end, cond_both, Answers, gives_up_with, LegalFrom, after_from, some_entry, answered}
+use Rattle.history_law.proofs.Names.{nat_tests, arith, ◌≡◌, ℕ, ◌+◌, Bool, true, false, cond, List, [], ◌∷◌, Option, Some, None, ◌⊎◌, inl, inr, refl, ◌∙◌, ap, ◌==◌, ◌&&◌, is_none, ℤ, eq-eqb, Kind, MtapiStatus, Completed, Failed, is_other, is_pure, answer_of, Answered, IsAnswered, Reply, Op, live_object, any_listed, holds, Task, Notes, TallyNotes, TaskState, end_of, runner, runs_as, runs_on, kind_number, is_unstarted, is_unended, with_notes, with_waiter, asked_once, watch_end, tally_args, cell_in, added, with_tally, tally_failed, tally_has, tally_read, tally_written, in_no_group, Mutex, Segment, cell_of, State, Move, Mutexes, Segments, phase_is, released, stops, withdraws, runs_task, ends_task, ends_waiting, notes, leaves, makes, alters, apply, after_moves, moves_of, is_ready, task_end, NodeEntry, IsNext, IsHonest, row_of, next, IsMade, AreMade, fst_true, row_made, at-update, moves_phase, is_release_op, is_late_end, is_tally_end, cond_both, Answers, gives_up_with, LegalFrom, after_from, some_entry, answered}
 use Rattle.mtapi_values.specs.declared.kinds.Kind.TheVariants as kind
 use Rattle.mtapi_values.specs.declared.statuses.MtapiStatus.TheVariants as m
 use Rattle.mtapi_machine.specs.declared.ops.Op.TheVariants as op
@@ -62,7 +62,7 @@ is_any_look _ = false
 -- what is known where the seat `who` makes a move by the op
 abbrev pub May : State → ℕ → Op → Move → Type 0
 May s who o (phase_is p) = moves_phase o ≡ true
-May s who o released = is_release o ≡ true
+May s who o released = is_release_op o ≡ true
 May s who o (stops w) = w ≡ who
 May s who o (withdraws h f c) = is_late_end (Failed c) ≡ false
 May s who o (runs_task h w k) = (t : Task) × (live_object s.tasks h ≡ Some t) × (is_unstarted t ≡ true) × (w ≡ who) × (any_listed (runs_on who) s.tasks ≡ false)

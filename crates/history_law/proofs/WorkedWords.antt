@@ -3,7 +3,7 @@ use Rattle.history_law.proofs.Names.{arith, nat_tests}
 use Rattle.history_law.specs.Order.{number_at}
 use Rattle.history_law.specs.Quiet.{task_at}
 use Rattle.history_law.specs.Tally.{record_of}
-use Rattle.history_law.specs.WorkedWords.{WorkedOps, WorkedHandled, WorkedReplies, WorkedEntries, WorkedLists, WorkedWords}
+use Rattle.history_law.specs.WorkedWords.{WorkedOps, WorkedHandled, WorkedWordReplies, WorkedEntries, WorkedLists, WorkedWords}
 
 ops : WorkedOps
 ops = grind (arith, nat_tests)
@@ -11,7 +11,7 @@ ops = grind (arith, nat_tests)
 handled : WorkedHandled
 handled = grind (arith, nat_tests)
 
-replies : WorkedReplies
+replies : WorkedWordReplies
 replies = grind (arith, nat_tests)
 
 entries : WorkedEntries

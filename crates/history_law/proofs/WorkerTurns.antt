@@ -1,5 +1,5 @@
 -- What a worker's pick and finish do to its task.
-use Rattle.history_law.proofs.Names.{row, ◌≡◌, ℕ, ◌<◌, Bool, true, false, cond, List, Some, refl, sym, ◌∙◌, ap, subst, arith, ◌==◌, ◌&&◌, int_eq, pointwise, entry, holds, Kind, TaskEnd, Answered, eq-eqb, Decides-int_eq, slice_eq-Decides, Reply, Ok, Picked, Idle, Stop, live_object, count_listed, any_listed, change, with_fields, Task, TaskState, Running, runner, runs_on, runs_as, kind_number, is_unstarted, with_state, no_tally, ended, State, workers, tasks, changed, Allows, task_end, IsNext, next, at-update, Work, RunsWith, Holds, Free, IsUntouched, ℤ, Answers, Move, Op, after_moves, moves_of, nat_tests, row, Row, unless, says, live, Mtapi, not, nat_lt, Option}
+use Rattle.history_law.proofs.Names.{row, ◌≡◌, ℕ, ◌<◌, Bool, true, false, cond, List, Some, refl, sym, ◌∙◌, ap, subst, arith, ◌==◌, ◌&&◌, int_eq, pointwise, entry, holds, Kind, TaskEnd, Answered, eq-eqb, Decides-int_eq, slice_eq-Decides, Reply, Ok, Picked, Idle, Stop, live_object, count_listed, any_listed, change, with_fields, Task, TaskState, Running, runner, runs_on, runs_as, kind_number, is_unstarted, with_state, no_tally, ended, State, workers, tasks, object_changed, Allows, task_end, IsNext, next, at-update, Work, RunsWith, HoldsTask, Free, IsUntouched, ℤ, Answers, Move, Op, after_moves, moves_of, nat_tests, row, Row, unless, says, live, Mtapi, not, nat_lt, Option}
 use Rattle.history_law.proofs.Others.{runs_scheduled}
 use Rattle.mtapi_machine.specs.declared.ops.Op.TheVariants as op
 use Rattle.history_law.proofs.lists.Found.{count_changed, count_none}
@@ -18,14 +18,14 @@ work_of k args = record { kind = k; args = args; looks = 0; seen = false; tally 
 
 -- what a pick of a worker without a task may answer, and what it leaves
 abbrev pub PickedAs : State → ℕ → Reply → State → Type 0
-PickedAs s w (Picked t a k args) u = Holds u w t.0 (work_of k args)
+PickedAs s w (Picked t a k args) u = HoldsTask u w t.0 (work_of k args)
 PickedAs s w Idle u = u ≡ s
 PickedAs s w Stop u = Unit {0}
 PickedAs s w _ u = ⊥
 
 -- a task that begins is the only one of its worker
 begins : (s : State) (w h : ℕ) (t : Task) (k : Kind) (args : List ℤ) → Untouched s → Free s w → live_object s.tasks h ≡ Some t → is_unstarted t ≡ true
-    → args ≡ t.args → Holds (changed tasks h (with_state (Running w k)) s) w h (work_of k args)
+    → args ≡ t.args → HoldsTask (object_changed tasks h (with_state (Running w k)) s) w h (work_of k args)
 begins s w h t k args clean free a u e =
     let z = clean h t a u in
     let n = count_changed (runs_on w) h (with_fields (with_state (Running w k))) true s.tasks t a (λ r l i j. l j && (eq-eqb w w refl) j) in
@@ -68,7 +68,7 @@ pub runs_on_its : (w : ℕ) (x : Work) (t : Task) → RunsWith w x t → runs_on
 runs_on_its w x t h = ap (λ (y : TaskState). holds (λ r. r.0 == w) (runner y)) h.state ∙ eq-eqb w w refl
 
 -- a task that ends leaves its worker free
-pub ends_free : (s : State) (w h : ℕ) (x : Work) (v : Holds s w h x) (e : TaskEnd) (n : ℕ) → count_listed (runs_on w) (change h (ended e n) s.tasks) ≡ 0
+pub ends_free : (s : State) (w h : ℕ) (x : Work) (v : HoldsTask s w h x) (e : TaskEnd) (n : ℕ) → count_listed (runs_on w) (change h (ended e n) s.tasks) ≡ 0
 ends_free s w h x v e n = grind (arith, nat_tests, count_changed (runs_on w) h (ended e n) false s.tasks v.task v.found, runs_on_its w x v.task v.runs)
 
 pub same_list : (xs ys : List ℤ) → ys ≡ xs → pointwise int_eq xs ys ≡ true
@@ -79,7 +79,7 @@ found_goes : (s : State) (x : Option Task) (t : Task) (i : Row) (r : Reply) (f :
 found_goes s x t i r f e1 e2 = grind (arith, nat_tests, nat_tests)
 
 -- the row's ways to the live task that the worker has
-pub own_goes : (s : State) (w h : ℕ) (x : Work) (v : Holds s w h x) (r : Reply) (f : Task → Row) → w < workers s
+pub own_goes : (s : State) (w h : ℕ) (x : Work) (v : HoldsTask s w h x) (r : Reply) (f : Task → Row) → w < workers s
     → Allows (unless (not (nat_lt w (workers s))) (Mtapi m.ErrParameter) (live (live_object s.tasks h) (says tasks.invalid) f)) r
     → Goes s (unless (not (nat_lt w (workers s))) (Mtapi m.ErrParameter) (live (live_object s.tasks h) (says tasks.invalid) f)) r (f v.task)
 own_goes s w h x v r f l a = grind (arith, nat_tests, small_not w (workers s) l, goes_then s)
@@ -94,11 +94,12 @@ pub finish_said : (s : State) (w h : ℕ) (done : Answered) (t : Task) (r : Repl
     → Allows (row s w (op.Finish (record { 0 = h }) done) r) r → r ≡ Ok
 finish_said s w h done t r e1 e2 e3 e4 e5 = grind (arith, nat_tests)
 
-ends_by : (s : State) (w h : ℕ) (x : Work) (v : Holds s w h x) (done : Answered) (ms : List Move) → Answers s w (op.Finish (record { 0 = h }) done) Ok ms
+ends_by : (s : State) (w h : ℕ) (x : Work) (v : HoldsTask s w h x) (done : Answered) (ms : List Move) → Answers s w (op.Finish (record { 0 = h }) done) Ok ms
     → Free (after_moves ms s) w
 ends_by s w _ x v _ _ (is.finishes t done y k u) = ends_free s w t.0 x v (task_end done.end) s.ends
 
-pub finished_as : (s : State) (w h : ℕ) (x : Work) (v : Holds s w h x) (done : Answered) (r : Reply) → w < workers s → done.kind ≡ x.kind → done.args ≡ x.args
+pub finished_as : (s : State) (w h : ℕ) (x : Work) (v : HoldsTask s w h x) (done : Answered) (r : Reply) → w < workers s → done.kind ≡ x.kind
+    → done.args ≡ x.args
     → IsNext s (entry w (op.Finish (record { 0 = h }) done) r)
     → Finished r w (next s (entry w (op.Finish (record { 0 = h }) done) r))
 finished_as s w h x v done r l k e n =

@@ -29,7 +29,7 @@ pub data Cause (s : State) (h : ℕ) (t : Task) : Op → TaskEnd → Type 0 wher
   by_tally : (x : TaskHandle) → x.0 ≡ h → (t.notes.tally.stage == 2) ≡ false → Cause s h t (TallyEnd x) (Completed (added t ∷ []))
 
 -- an entry of the list, which goes on from this state, ended the task of this handle so, and why
-pub record HasCause (s : State) (es : List NodeEntry) (h : ℕ) (e : TaskEnd) : Type 0 where
+pub record HasEndCause (s : State) (es : List NodeEntry) (h : ℕ) (e : TaskEnd) : Type 0 where
   pub before : List NodeEntry
   pub by : NodeEntry
   pub behind : List NodeEntry
@@ -40,4 +40,4 @@ pub record HasCause (s : State) (es : List NodeEntry) (h : ℕ) (e : TaskEnd) : 
 
 -- where the task has ended, its end has a cause
 abbrev pub EndHasItsCause : Terms → List NodeEntry → ℕ → Type 0
-EndHasItsCause terms es h = (e : TaskEnd) → end_at (after terms es).tasks h ≡ Some e → HasCause (opening terms) es h e
+EndHasItsCause terms es h = (e : TaskEnd) → end_at (after terms es).tasks h ≡ Some e → HasEndCause (opening terms) es h e

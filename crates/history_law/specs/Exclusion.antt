@@ -100,10 +100,10 @@ abbrev pub gives_sem : ℕ → NodeEntry → Bool
 gives_sem h e = unlocks_sem h e.op && says_ok e.reply
 
 -- the limit with which an op makes a semaphore or a reader-writer lock
-abbrev pub limit_of : Op → Option ℕ
-limit_of (SemCreate id limit) = Some limit
-limit_of (RwlCreate id limit) = Some limit
-limit_of _ = None
+abbrev pub limit_in_op : Op → Option ℕ
+limit_in_op (SemCreate id limit) = Some limit
+limit_in_op (RwlCreate id limit) = Some limit
+limit_in_op _ = None
 
 -- one of these entries makes the object of this kind and handle, with this limit
 pub record MadeWith (k : ObjectKind) (L : List NodeEntry) (h limit : ℕ) : Type 0 where
@@ -112,7 +112,7 @@ pub record MadeWith (k : ObjectKind) (L : List NodeEntry) (h limit : ℕ) : Type
   pub behind : List NodeEntry
   pub cut : L ≡ before ++ by ∷ behind
   pub issued : issues k h by ≡ true
-  pub limited : limit_of by.op ≡ Some limit
+  pub limited : limit_in_op by.op ≡ Some limit
 
 -- after these entries: no seat gave the semaphore back more often than its looks got it; where none of them made it no look got it, and
 -- those that hold it are at most as many as the limit with which it was made

@@ -8,7 +8,7 @@ pub use Rattle.mtapi_machine.specs.Legal.{IsNext, Legal, LegalFrom, NodeEntry, a
 pub use Rattle.mtapi_machine.specs.State.{State, is_past_open, objects_of, opening, seats, workers}
 pub use Rattle.mtapi_machine.specs.Tables.{action, action_of, group, h1, h2, mutex, node_of, picked, queue, rwl, segment, sem, start}
 pub use Rattle.mtapi_machine.specs.WorkRows.{task_end}
-pub use Rattle.mtapi_machine.specs.Worked.{add_task, every_core, finishes_first, first_handle, main, next_handle, one_task, picks_first, the_action, usual, worker}
+pub use Rattle.mtapi_machine.specs.Worked.{add_task, every_core_mask, finishes_first, worked_first_handle, main_entry, next_handle, one_task, picks_first, the_action, usual, worker}
 pub use Rattle.mtapi_machine.specs.declared.ops.Op.{Op}
 pub use Rattle.mtapi_machine.specs.declared.ops.Op.TheVariants.{ActionCreate, ActionDelete, ActionDisable, ActionEnable, AnyLook, Close, Enter, Final, Finish, GroupCreate, GroupDelete, Initialize, MutexCreate, MutexLook, MutexUnlock, Pick, QueueCreate, QueueDelete, QueueDisable, QueueEnable, Release, RwlCreate, RwlLook, RwlUnlock, SemCreate, SemLook, SemUnlock, ShmemCreate, ShmemWrite, TallyEnd, TallyLock, TallyRead, TallyWrite, TaskCancel, TaskEnqueue, TaskLook, TaskStart, WatchEnd}
 pub use Rattle.mtapi_machine.specs.declared.replies.Reply.{Reply}

@@ -13,19 +13,19 @@ is_given h (Given t e) = t.0 == h
 is_given h _ = false
 
 -- the entry gives this task of this group
-abbrev pub gives : ℕ → ℕ → NodeEntry → Bool
-gives g h e = looks_for_any g e.op && is_given h e.reply
+abbrev pub gives_task : ℕ → ℕ → NodeEntry → Bool
+gives_task g h e = looks_for_any g e.op && is_given h e.reply
 
 -- the number of the end of a task in this state: ends are numbered in the order in which they come
-abbrev pub number_in : TaskState → Option ℕ
-number_in Scheduled = None
-number_in (Running w k) = None
-number_in (Ended e n) = Some n
+abbrev pub number_of_end : TaskState → Option ℕ
+number_of_end Scheduled = None
+number_of_end (Running w k) = None
+number_of_end (Ended e n) = Some n
 
 -- the number of its end in the record of this handle's task, live or not
 unfoldable pub number_at : List (Listed Task) → ℕ → Option ℕ
 number_at [] h = None
-number_at (r ∷ rs) h = if r.handle == h then number_in r.fields.state else number_at rs h
+number_at (r ∷ rs) h = if r.handle == h then number_of_end r.fields.state else number_at rs h
 
 -- both tasks have ended, the first one before the other
 pub record EndedBefore (s : State) (a b : ℕ) : Type 0 where
@@ -38,5 +38,5 @@ pub record EndedBefore (s : State) (a b : ℕ) : Type 0 where
 -- of two tasks that the group gave, the one given first ended first; so no task is given twice
 abbrev pub GivenInOrder : Terms → List NodeEntry → ℕ → Type 0
 GivenInOrder terms es g =
-    (A B C : List NodeEntry) (x y : NodeEntry) (a b : ℕ) → es ≡ A ++ x ∷ (B ++ y ∷ C) → gives g a x ≡ true → gives g b y ≡ true
+    (A B C : List NodeEntry) (x y : NodeEntry) (a b : ℕ) → es ≡ A ++ x ∷ (B ++ y ∷ C) → gives_task g a x ≡ true → gives_task g b y ≡ true
     → EndedBefore (after terms es) a b

@@ -18,8 +18,8 @@ abbrev pub times : ObjectKind → ℕ → State → ℕ
 times k h s = listed h ((objects_of k).list s)
 
 -- the handle is that of a live object of the kind
-abbrev pub is_live : ObjectKind → ℕ → State → Bool
-is_live k h s = is_some (live_object ((objects_of k).list s) h)
+abbrev pub is_live_object : ObjectKind → ℕ → State → Bool
+is_live_object k h s = is_some (live_object ((objects_of k).list s) h)
 
 -- the op makes an object of the kind
 abbrev pub makes_object : ObjectKind → Op → Bool
@@ -35,10 +35,10 @@ makes_object kind.Shmem (ShmemCreate id cells) = true
 makes_object _ _ = false
 
 -- the reply is this handle
-abbrev pub is_handle : ℕ → Reply → Bool
-is_handle h (Handle g) = g == h
-is_handle h _ = false
+abbrev pub is_this_handle : ℕ → Reply → Bool
+is_this_handle h (Handle g) = g == h
+is_this_handle h _ = false
 
 -- the entry issues the handle to an object of the kind
 abbrev pub issues : ObjectKind → ℕ → NodeEntry → Bool
-issues k h e = makes_object k e.op && is_handle h e.reply
+issues k h e = makes_object k e.op && is_this_handle h e.reply

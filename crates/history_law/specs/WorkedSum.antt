@@ -13,8 +13,8 @@ abbrev pub two_workers : Terms
 two_workers = node_of 2 4 2
 
 -- an entry of main
-abbrev pub asks : Op → Reply → NodeEntry
-asks o r = entry 2 o r
+abbrev pub asks_of_main : Op → Reply → NodeEntry
+asks_of_main o r = entry 2 o r
 
 -- the arguments: the mutex 1, the segment 2, the cell 0, and a number
 abbrev pub adds_number : ℤ → List ℤ
@@ -30,14 +30,14 @@ adds_up w h before then =
     ∷ entry w (op.TallyEnd (task h)) (reply.Ended (Completed (then ∷ []))) ∷ []
 
 -- the node opens, both tallies are started, and each worker takes one
-abbrev pub begins : List NodeEntry
-begins =
-    asks op.Initialize reply.Ok
-    ∷ asks (action_of kind.Tally) (reply.Handle h1)
-    ∷ asks (op.MutexCreate 1 false) (reply.Handle h1)
-    ∷ asks (op.ShmemCreate 2 1) (reply.Handle h1)
-    ∷ asks (start (adds_number (pos 5))) (reply.Handle h1)
-    ∷ asks (start (adds_number (pos 7))) (reply.Handle h2)
+abbrev pub tallies_begin : List NodeEntry
+tallies_begin =
+    asks_of_main op.Initialize reply.Ok
+    ∷ asks_of_main (action_of kind.Tally) (reply.Handle h1)
+    ∷ asks_of_main (op.MutexCreate 1 false) (reply.Handle h1)
+    ∷ asks_of_main (op.ShmemCreate 2 1) (reply.Handle h1)
+    ∷ asks_of_main (start (adds_number (pos 5))) (reply.Handle h1)
+    ∷ asks_of_main (start (adds_number (pos 7))) (reply.Handle h2)
     ∷ entry 0 op.Pick (picked h1 kind.Tally (adds_number (pos 5)))
     ∷ entry 1 op.Pick (picked h2 kind.Tally (adds_number (pos 7)))
     ∷ []
@@ -48,11 +48,12 @@ waits_between = entry 1 (op.TallyLock (task h2)) reply.Pending ∷ adds_up 0 h1 
 
 -- main closes the node, and both workers stop
 abbrev pub closes : List NodeEntry
-closes = asks op.Close reply.Ok ∷ entry 0 op.Pick reply.Stop ∷ entry 1 op.Pick reply.Stop ∷ []
+closes = asks_of_main op.Close reply.Ok ∷ entry 0 op.Pick reply.Stop ∷ entry 1 op.Pick reply.Stop ∷ []
 
 -- the whole history: then the second tally adds 7
 unfoldable pub two_tallies : List NodeEntry
-two_tallies = begins ++ gets_both 0 h1 ∷ (waits_between ++ gets_both 1 h2 ∷ (adds_up 1 h2 (pos 5) (pos 12) ++ (closes ++ asks op.Final reply.Ok ∷ [])))
+two_tallies = tallies_begin ++ gets_both 0 h1
+    ∷ (waits_between ++ gets_both 1 h2 ∷ (adds_up 1 h2 (pos 5) (pos 12) ++ (closes ++ asks_of_main op.Final reply.Ok ∷ [])))
 
 -- it is legal and has what the law of tallies asks for; so the cell holds 12, the sum of both
 pub record TalliesAddUp : Type 0 where

@@ -1,5 +1,5 @@
 -- How a cover grows with each place of the walk.
-use Rattle.job_table.proofs.Names.{◌≡◌, ℕ, ◌+◌, Bool, true, false, bit_or, List, length, Some, slice_get, refl, sym, ap, ◌∙◌, arith, nat_tests, false≢true, ◌==◌, Slots, slot_value, max_of, SomeLive, NoneLive, HandleLists, list_at, has_handle, has-index, Action, has_job, has_enabled_job, Passes, runs_job_on, Covers, mask_of, cover_with, NoneBefore, IsUnionBefore, CoversBefore, list_of, AreListed, and_from, and_parts, eqb-true}
+use Rattle.job_table.proofs.Names.{◌≡◌, ℕ, ◌+◌, Bool, true, false, bit_or, List, length, Some, slice_get, refl, sym, ap, ◌∙◌, arith, nat_tests, false≢true, ◌==◌, Slots, slot_value, max_of, SomeLive, NoneLive, HandleLists, list_at, has_handle, has-index, Action, has_job, has_enabled_job, Passes, runs_job_on, Covers, mask_of, cover_with, NoneBefore, IsUnionBefore, CoversBefore, list_of_job, AreListed, and_from, and_parts, eqb-true}
 use Rattle.std.proofs.lemmas.Option.{slice_get_within}
 use Rattle.std.proofs.lemmas.Nat.Bits.{bit_at_or, bit_at-lt, bit_at-zero}
 use Rattle.mtapi_values.specs.Masks.{in_mask}
@@ -31,12 +31,12 @@ NoneBefore-one p hs index handle a P at live fails before i h b less is found ho
 
 -- what no action of the job's list passes, no live action passes that has the job
 pub none-of : (p : Slots Action) (jobs : HandleLists) (job : ℕ) → AreListed p jobs → (q : Action → Bool) → ((a : Action) → q a ≡ true → has_job job a ≡ true)
-    → NoneBefore p (list_at jobs.lists (list_of (max_of p) job)) (length (list_at jobs.lists (list_of (max_of p) job))) (Passes q)
+    → NoneBefore p (list_at jobs.lists (list_of_job (max_of p) job)) (length (list_at jobs.lists (list_of_job (max_of p) job))) (Passes q)
     → NoneLive (slot_value p) (Passes q)
 none-of p jobs job l q has none h a found passes =
     let same : a.job ≡ job = eqb-true a.job job (has a passes) in
-    let hs = list_at jobs.lists (list_of (max_of p) job) in
-    let there = ap (λ (k : ℕ). has_handle h (list_at jobs.lists (list_of (max_of p) k))) (sym same) ∙ l.listed h a found in
+    let hs = list_at jobs.lists (list_of_job (max_of p) job) in
+    let there = ap (λ (k : ℕ). has_handle h (list_at jobs.lists (list_of_job (max_of p) k))) (sym same) ∙ l.listed h a found in
     let i = has-index h hs there in
     none i.0 h a (slice_get_within hs i.0 h i.1) i.1 found passes
 
@@ -111,7 +111,7 @@ module _ (p : Slots Action) (hs : List ℕ) (index job handle : ℕ) (a : Action
       by_enabled false off = disabled_covers cover off h
 
 pub Covers-all : (p : Slots Action) (jobs : HandleLists) (job : ℕ) (cover : Cover) → AreListed p jobs
-    → CoversBefore p (list_at jobs.lists (list_of (max_of p) job)) (length (list_at jobs.lists (list_of (max_of p) job))) job cover → Covers p job cover
+    → CoversBefore p (list_at jobs.lists (list_of_job (max_of p) job)) (length (list_at jobs.lists (list_of_job (max_of p) job))) job cover → Covers p job cover
 Covers-all p jobs job NoAction l h = none-of p jobs job l (has_job job) (λ a r. r) h
 Covers-all p jobs job AllDisabled l h = (h.0, none-of p jobs job l (has_enabled_job job) (enabled_has_job job) h.1)
 Covers-all p jobs job (Cores mask) l h = (

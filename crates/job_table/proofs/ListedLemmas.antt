@@ -1,5 +1,5 @@
 -- The lists of actions by their jobs, and what each move keeps of them.
-use Rattle.job_table.proofs.Names.{◌≡◌, ◌≢◌, ◌≤◌, ◌<◌, ℕ, zero, suc, Bool, true, false, List, [], ◌∷◌, ◌++◌, length, length-set, replicate, Option, Some, None, slice_get, refl, sym, ap, subst, ◌∙◌, inl, inr, arith, ◌==◌, ◌||◌, IsSome, false≢true, cases_eq, cases_Bool, nat_tests, Slot, Slots, slot_of, generation_of, free_slot, used_slot, slot_after, value_at, slot_value, max_of, Inserts, without, changed, put, with_value, HandleLists, list_at, has_handle, without_handle, stands_at, NowhereAt, with_list, index-has, Action, with_enabled, AreListed, list_of, eq-eqb, none-some, or_right, same_Some}
+use Rattle.job_table.proofs.Names.{◌≡◌, ◌≢◌, ◌≤◌, ◌<◌, ℕ, zero, suc, Bool, true, false, List, [], ◌∷◌, ◌++◌, length, length-set, replicate, Option, Some, None, slice_get, refl, sym, ap, subst, ◌∙◌, inl, inr, arith, ◌==◌, ◌||◌, IsSome, false≢true, cases_eq, cases_Bool, nat_tests, Slot, Slots, slot_of, generation_of, free_slot, used_slot, slot_after, value_at, slot_value, max_of, Inserts, without, changed, put, with_value, HandleLists, list_at, has_handle, without_handle, stands_at, NowhereAt, with_list, index-has, Action, with_enabled, AreListed, list_of_job, eq-eqb, none-some, or_right, same_Some}
 use Rattle.std.specs.Option.{option_map}
 use Rattle.std.proofs.lemmas.List.{length-replicate}
 use Rattle.handle_pool.proofs.StandsLemmas.{get-fresh, value_at-none}
@@ -51,7 +51,7 @@ listed-new p jobs max some few slots places lists = record {
     free h = ap (λ (l : List (Slot Action)). value_at (slice_get l (slot_of h)) (generation_of h)) slots ∙ get-fresh max (slot_of h) (generation_of h)
 
 -- the list of a job is one of them
-pub list-below : (p : Slots Action) (jobs : HandleLists) (job : ℕ) → AreListed p jobs → list_of (max_of p) job < length jobs.lists
+pub list-below : (p : Slots Action) (jobs : HandleLists) (job : ℕ) → AreListed p jobs → list_of_job (max_of p) job < length jobs.lists
 list-below p jobs job l = grind (arith, nat_tests)
 
 pub nowhere : (p q : Slots Action) (jobs : HandleLists) (h : ℕ) (a : Action) → AreListed p jobs → Inserts p q h a → NowhereAt (slot_of h) jobs.lists
@@ -79,13 +79,13 @@ module _ (p q : Slots Action) (old jobs : HandleLists) (h n : ℕ) (a : Action) 
   other_list : (list : List ℕ) (m : ℕ) → jobs ≡ with_list old n list → m ≢ n → list_at jobs.lists m ≡ list_at old.lists m
   other_list list m is d = ap (λ (x : HandleLists). list_at x.lists m) is ∙ list_at-set_other old.lists n m list d
 
-  pub listed-insert : Inserts p q h a → n ≡ list_of (max_of p) a.job → jobs ≡ with_list old n (list_at old.lists n ++ h ∷ []) → AreListed q jobs
+  pub listed-insert : Inserts p q h a → n ≡ list_of_job (max_of p) a.job → jobs ≡ with_list old n (list_at old.lists n ++ h ∷ []) → AreListed q jobs
   listed-insert i at is = record {
     some = subst (λ (k : ℕ). 1 ≤ k) (sym max) l.some;
     few = subst (λ (k : ℕ). k ≤ 65536) (sym max) l.few;
     places = ap (λ (x : HandleLists). x.places) is ∙ l.places ∙ sym max;
     lists = ap (λ (x : HandleLists). length x.lists) is ∙ length-set old.lists n _ ∙ l.lists ∙ sym max;
-    listed = λ k b e. subst (λ (m : ℕ). has_handle k (list_at jobs.lists (list_of m b.job)) ≡ true) (sym max) (listed k b e);
+    listed = λ k b e. subst (λ (m : ℕ). has_handle k (list_at jobs.lists (list_of_job m b.job)) ≡ true) (sym max) (listed k b e);
     live = λ m k e. grind (arith, nat_tests, get-insert_same p q h a i, l.live m k, was m k, get-insert_other p q h k a i);
   }
     where
@@ -101,16 +101,16 @@ module _ (p q : Slots Action) (old jobs : HandleLists) (h n : ℕ) (a : Action) 
       was : (m k : ℕ) → k ≢ h → has_handle k (list_at jobs.lists m) ≡ true → has_handle k (list_at old.lists m) ≡ true
       was m k d e = grind (arith, nat_tests, in_list k, other_list _ m is)
 
-      listed : (k : ℕ) (b : Action) → slot_value q k ≡ Some b → has_handle k (list_at jobs.lists (list_of (max_of p) b.job)) ≡ true
+      listed : (k : ℕ) (b : Action) → slot_value q k ≡ Some b → has_handle k (list_at jobs.lists (list_of_job (max_of p) b.job)) ≡ true
       listed k b e = elim (cases_eq k h) [
         | inl here ↦
             let same : a ≡ b = same_Some _ _ (sym (get-insert_same p q h a i) ∙ ap (slot_value q) (sym here) ∙ e) in
-            ap (λ (m : ℕ). has_handle k (list_at jobs.lists m)) (ap (λ (x : Action). list_of (max_of p) x.job) (sym same) ∙ sym at)
+            ap (λ (m : ℕ). has_handle k (list_at jobs.lists m)) (ap (λ (x : Action). list_of_job (max_of p) x.job) (sym same) ∙ sym at)
             ∙ in_list k ∙ or_right (has_handle k (list_at old.lists n)) _ (or-left (h == k) false (ap (λ (z : ℕ). h == z) here ∙ eq-eqb h h refl))
         | inr away ↦ keeps _ k (l.listed k b (sym (get-insert_other p q h k a i away) ∙ e))
       ]
 
-  pub listed-without : slot_value p h ≡ Some a → n ≡ list_of (max_of p) a.job → q ≡ without p h
+  pub listed-without : slot_value p h ≡ Some a → n ≡ list_of_job (max_of p) a.job → q ≡ without p h
       → jobs ≡ with_list old n (without_handle h (list_at old.lists n)) → NowhereAt (slot_of h) jobs.lists → AreListed q jobs
   listed-without g at pool is gone = subst (λ (z : Slots Action). AreListed z jobs) (sym pool) (record {
     some = subst (λ (k : ℕ). 1 ≤ k) (sym max) l.some;
@@ -140,11 +140,11 @@ listed-changed p jobs h on l = by_found (slot_value p h) refl
       few = subst (λ (k : ℕ). k ≤ 65536) (sym max) l.few;
       places = l.places ∙ sym max;
       lists = l.lists ∙ sym max;
-      listed = λ k b e. subst (λ (m : ℕ). has_handle k (list_at jobs.lists (list_of m b.job)) ≡ true) (sym max) (elim (cases_eq k h) [
+      listed = λ k b e. subst (λ (m : ℕ). has_handle k (list_at jobs.lists (list_of_job m b.job)) ≡ true) (sym max) (elim (cases_eq k h) [
         | inl here ↦
             let same : with_enabled on a ≡ b = same_Some _ _ (sym (get-with_value_same p h a (with_enabled on a) g)
             ∙ ap (slot_value (with_value p h (with_enabled on a))) (sym here) ∙ e) in
-            ap (λ (x : Action). has_handle k (list_at jobs.lists (list_of (max_of p) x.job))) (sym same) ∙ l.listed k a (ap (slot_value p) here ∙ g)
+            ap (λ (x : Action). has_handle k (list_at jobs.lists (list_of_job (max_of p) x.job))) (sym same) ∙ l.listed k a (ap (slot_value p) here ∙ g)
         | inr away ↦ l.listed k b (sym (get-with_value_other p h k a (with_enabled on a) g away) ∙ e)
       ]);
       live = λ n k e. elim (cases_eq k h) [

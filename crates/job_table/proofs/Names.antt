@@ -6,7 +6,7 @@ pub use Rattle.std.specs.Prelude.{IsSome, ◌==◌, ◌||◌}
 pub use Rattle.handle_pool.specs.Slots.{Inserts, Slot, Slots, changed, free_slot, generation_of, max_of, put, slot_after, slot_of, slot_value, used_slot, value_at, with_value, without}
 pub use Rattle.handle_pool.specs.Walks.{NoneLive, SomeLive}
 pub use Rattle.job_table.specs.Answers.{Covers, Passes, runs_job_on}
-pub use Rattle.job_table.specs.Cover.{AreListed, CoversBefore, IsUnionBefore, NoneBefore, cover_with, list_of, mask_of}
+pub use Rattle.job_table.specs.Cover.{AreListed, CoversBefore, IsUnionBefore, NoneBefore, cover_with, list_of_job, mask_of}
 pub use Rattle.linked_places.proofs.NextLemmas.{has-index, index-has}
 pub use Rattle.linked_places.specs.Lists.{HandleLists, NowhereAt, has_handle, list_at, stands_at, with_list, without_handle}
 pub use Rattle.mtapi_objects.specs.Actions.{Action, has_enabled_job, has_job, with_enabled}

@@ -17,10 +17,10 @@ abbrev pub Passes : {T : Type 0} → (T → Bool) → T → Type 0
 Passes p x = p x ≡ true
 
 -- a create: a number that is no job first, then a full pool; else a new action under a handle
-abbrev pub Creates : Slots Action → ℕ → Kind → ℕ → Result ActionHandle MtapiStatus → Slots Action → Type 0
-Creates old job kind cores (Ok a) new = (first (action_create_refusals job) ≡ None) × (IsFull old → ⊥) × Inserts old new a.0 (new_action job kind cores)
-Creates old job kind cores (Err ErrActionLimit) new = (first (action_create_refusals job) ≡ None) × IsFull old × (new ≡ old)
-Creates old job kind cores (Err status) new = (first (action_create_refusals job) ≡ Some status) × (new ≡ old)
+abbrev pub CreatesAction : Slots Action → ℕ → Kind → ℕ → Result ActionHandle MtapiStatus → Slots Action → Type 0
+CreatesAction old job kind cores (Ok a) new = (first (action_create_refusals job) ≡ None) × (IsFull old → ⊥) × Inserts old new a.0 (new_action job kind cores)
+CreatesAction old job kind cores (Err ErrActionLimit) new = (first (action_create_refusals job) ≡ None) × IsFull old × (new ≡ old)
+CreatesAction old job kind cores (Err status) new = (first (action_create_refusals job) ≡ Some status) × (new ≡ old)
 
 -- the job of a live action
 abbrev pub job_of : Option Action → Result ℕ MtapiStatus

@@ -41,8 +41,8 @@ CoversBefore p hs index job AllDisabled = SomeLive (slot_value p) (Passes (has_j
 CoversBefore p hs index job (Cores mask) = SomeLive (slot_value p) (Passes (has_enabled_job job)) × IsUnionBefore p hs index job mask.0
 
 -- the number of the list of a job, of so many
-abbrev pub list_of : ℕ → ℕ → ℕ
-list_of lists job = job % lists
+abbrev pub list_of_job : ℕ → ℕ → ℕ
+list_of_job lists job = job % lists
 
 -- there are as many lists as places; a live action stands in the list of its job, and what stands in a list is live
 pub record AreListed (p : Slots Action) (jobs : HandleLists) : Type 0 where
@@ -50,5 +50,5 @@ pub record AreListed (p : Slots Action) (jobs : HandleLists) : Type 0 where
   pub few : max_of p ≤ 65536
   pub places : jobs.places ≡ max_of p
   pub lists : length jobs.lists ≡ max_of p
-  pub listed : (h : ℕ) (a : Action) → slot_value p h ≡ Some a → has_handle h (list_at jobs.lists (list_of (max_of p) a.job)) ≡ true
+  pub listed : (h : ℕ) (a : Action) → slot_value p h ≡ Some a → has_handle h (list_at jobs.lists (list_of_job (max_of p) a.job)) ≡ true
   pub live : (n h : ℕ) → has_handle h (list_at jobs.lists n) ≡ true → (a : Action) × (slot_value p h ≡ Some a)

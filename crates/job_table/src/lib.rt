@@ -8,7 +8,7 @@ ghost use Rattle.std.specs.Prelude.{◌≡◌, ◌+◌, ◌≤◌, ◌<◌, ℕ,
 ghost use Rattle.handle_pool.specs.Slots.{slot_value, free_slot, without, changed, live_count};
 ghost use Rattle.mtapi_objects.specs.Actions.{Action, with_enabled, action_create_refusals};
 ghost use Rattle.mtapi_values.specs.Conditions.{first};
-ghost use Rattle.job_table.specs.Answers.{Creates, Covers, Chooses, job_of, runs_job_on};
+ghost use Rattle.job_table.specs.Answers.{CreatesAction, Covers, Chooses, job_of, runs_job_on};
 ghost use Rattle.job_table.specs.Cover.{CoversBefore};
 
 use action::StoredAction;
@@ -64,7 +64,7 @@ impl Actions {
     /// - `ErrJobInvalid`: the job isn't 1 to 65,535.
     /// - `ErrActionLimit`: every place is in use or has retired.
     pub fn create(&mut self, job: u32, kind: Kind, cores: Mask) -> Result<ActionHandle, MtapiStatus>
-        ensures { Creates self.old job kind cores.0 result self.new }
+        ensures { CreatesAction self.old job kind cores.0 result self.new }
     {
         if let Some(status) = Actions::create_refusal(job) {
             return Err(status);

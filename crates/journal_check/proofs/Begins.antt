@@ -1,5 +1,5 @@
 -- A follower before the first entry; and what an entry needs beside that its row allows its reply.
-use Rattle.journal_check.proofs.Names.{◌≡◌, ℕ, ◌+◌, ◌≤◌, ◌<◌, Bool, false, List, [], refl, sym, ◌∙◌, ap, subst, arith, ObjectKind, slot_of, issued_at, Terms, opening, seats, NodeEntry, IsHonest, after_from, after, PoolNode, Stands, seat_count, OtherHandles, Renaming, nothing, terms_in, renamed, Follows, made_in, made_at, lasts_in, lasts_of, taken_in, renaming_of, Following, Made, count_in, last_handles, made_count, gone_count, freed_count, of_kind, Laws, room_of, HasFollowed, Judges, JudgesNext, nat_tests, eqb-true, eq-eqb}
+use Rattle.journal_check.proofs.Names.{◌≡◌, ℕ, ◌+◌, ◌≤◌, ◌<◌, Bool, false, List, [], refl, sym, ◌∙◌, ap, subst, arith, ObjectKind, slot_of, issued_at, Terms, opening, seats, NodeEntry, IsHonest, after_from, after, PoolNode, PoolNodeStands, seat_count, OtherHandles, Renaming, renames_nothing, terms_in, renamed, Follows, made_in, made_at, lasts_in, lasts_of, taken_in, renaming_of, Following, Made, made_in_slot, last_handles, made_count, gone_count, freed_count, of_kind, Laws, room_of, HasFollowed, JudgesEntry, JudgesNext, nat_tests, eqb-true, eq-eqb}
 use Rattle.mtapi_machine.proofs.EachKind.{at_opening}
 use Rattle.mtapi_values.specs.declared.handles.ObjectKind.TheVariants as kind
 use Rattle.node_steps.specs.Stands.{terms_of}
@@ -25,9 +25,9 @@ none_in kind.Shmem terms = refl
 none_yet : (k : ObjectKind) (terms : Terms) → made_in k (opening terms) ≤ 0
 none_yet k terms = grind (arith, nat_tests, none_in k terms)
 
-pub begun : (w : Laws) (terms : Terms) (n : PoolNode) (names : OtherHandles) (made : Made) → Stands n [] → terms_of n ≡ terms_in (room_of terms) terms
-    → renaming_of names ≡ nothing →
-    ((k : ObjectKind) (slot : ℕ) → count_in (of_kind made k) slot ≡ 0) → ((k : ObjectKind) → last_handles (of_kind made k) ≡ [])
+pub begun : (w : Laws) (terms : Terms) (n : PoolNode) (names : OtherHandles) (made : Made) → PoolNodeStands n [] → terms_of n ≡ terms_in (room_of terms) terms
+    → renaming_of names ≡ renames_nothing →
+    ((k : ObjectKind) (slot : ℕ) → made_in_slot (of_kind made k) slot ≡ 0) → ((k : ObjectKind) → last_handles (of_kind made k) ≡ [])
     → ((k : ObjectKind) → made_count (of_kind made k) ≡ 0) →
     ((k : ObjectKind) → gone_count (of_kind made k) ≡ 0) → ((k : ObjectKind) → freed_count (of_kind made k) ≡ 0)
     → HasFollowed (record { terms = terms; node = n; names = names; made = made }) []
@@ -57,7 +57,7 @@ module _ (w : Laws) (f : Following) (e : NodeEntry) where
   same_seats : (L : List NodeEntry) → HasFollowed f L → seats (after f.terms L) ≡ seat_count (terms_of f.node)
   same_seats L h = ap (λ (t : Terms). t.settings.workers + t.callers) (w.terms f.terms L) ∙ sym (ap seat_count h.terms)
 
-  pub judged_next : (b : Bool) (g : Following) → e.who < seat_count (terms_of f.node) → IsHonest e.op → Judges f e b g → JudgesNext f e b g
+  pub judged_next : (b : Bool) (g : Following) → e.who < seat_count (terms_of f.node) → IsHonest e.op → JudgesEntry f e b g → JudgesNext f e b g
   judged_next b g seat honest j = record {
     terms = j.terms;
     exact = λ L h short. (

@@ -1,8 +1,8 @@
 -- An entry that ends the object that it names.
-use Rattle.journal_check.proofs.Names.{◌≡◌, ℕ, ◌+◌, ◌≤◌, true, false, cond, List, [], ◌∷◌, ◌++◌, sym, ◌∙◌, ap, subst, ◌==◌, ObjectKind, generation_of, Terms, State, opening, NodeEntry, next, after, after-one, is_live_of, made_in, gone_in, taken_in, AreGone, Following, Made, gone_count, freed_count, of_kind, EndsOne, Laws, HasFollowed, Judges, nat_tests, arith, eqb-true, eq-eqb}
+use Rattle.journal_check.proofs.Names.{◌≡◌, ℕ, ◌+◌, ◌≤◌, true, false, cond, List, [], ◌∷◌, ◌++◌, sym, ◌∙◌, ap, subst, ◌==◌, ObjectKind, generation_of, Terms, State, opening, NodeEntry, next, after, after-one, is_live_of, made_in, gone_in, taken_in, AreGone, Following, Made, gone_count, freed_count, of_kind, EndsOne, Laws, HasFollowed, JudgesEntry, nat_tests, arith, eqb-true, eq-eqb}
 use Rattle.journal_check.proofs.Ends.{gone_more, freed_more, told_more}
 
-module _ (w : Laws) (f g : Following) (e : NodeEntry) (k : ObjectKind) (h last : ℕ) (made : Made) (judges : Judges f e true g) (same : g.made
+module _ (w : Laws) (f g : Following) (e : NodeEntry) (k : ObjectKind) (h last : ℕ) (made : Made) (judges : JudgesEntry f e true g) (same : g.made
     ≡ f.made) (is_last : last ≡ f.terms.settings.generations)
     (was : (L : List NodeEntry) → HasFollowed f L → is_live_of k (after f.terms L) h ≡ true)
     (isnt : (L : List NodeEntry) → HasFollowed g L → is_live_of k (after g.terms L) h ≡ false)
@@ -19,7 +19,7 @@ module _ (w : Laws) (f g : Following) (e : NodeEntry) (k : ObjectKind) (h last :
       (subst (λ (n : ℕ). AreGone (after f.terms L) (next (after f.terms L) e) k (cond (generation_of h == n) 1 0) (cond (generation_of h == n) 0 1))
       (sym is_last) one)
 
-  pub judged_ended : Judges f e true (record g { made = made })
+  pub judged_ended : JudgesEntry f e true (record g { made = made })
   judged_ended = record {
     terms = judges.terms;
     exact = judges.exact;

@@ -1,5 +1,5 @@
 -- What was noted of objects that aren't live any more, over an entry and where more is known of them.
-use Rattle.journal_check.proofs.Names.{◌≡◌, ℕ, ◌+◌, ◌≤◌, refl, sym, ◌∙◌, ap, subst, arith, ObjectKind, slot_of, State, made_in, gone_in, taken_in, AreGone, Made, MadeOfKind, count_in, last_handles, made_count, gone_count, freed_count, with_ended, of_kind, Ends, Tells, nat_tests, eqb-true, eq-eqb}
+use Rattle.journal_check.proofs.Names.{◌≡◌, ℕ, ◌+◌, ◌≤◌, refl, sym, ◌∙◌, ap, subst, arith, ObjectKind, slot_of, State, made_in, gone_in, taken_in, AreGone, Made, MadeOfKind, made_in_slot, last_handles, made_count, gone_count, freed_count, with_gone, of_kind, EndsObjects, TellsState, nat_tests, eqb-true, eq-eqb}
 use Rattle.journal_check.proofs.EachKind.{by_kind}
 
 -- in the next state no fewer are gone, and so many more
@@ -18,14 +18,14 @@ module _ {s t : State} {k : ObjectKind} (gone : AreGone s t k 0 0) where
   freed_on n less = let a : made_in k s + taken_in k t + 0 ≤ made_in k t + taken_in k s = gone.other in omega (arith, a, less)
 
 -- nothing else changes where other numbers are noted
-module _ {k : ObjectKind} {gone freed : ℕ} {m n : Made} (ends : Ends k gone freed m n) where
-  same_of : {A : Type 0} (read : MadeOfKind → A) → ((x : MadeOfKind) → read (with_ended gone freed x) ≡ read x) → (i : ObjectKind)
+module _ {k : ObjectKind} {gone freed : ℕ} {m n : Made} (ends : EndsObjects k gone freed m n) where
+  same_of : {A : Type 0} (read : MadeOfKind → A) → ((x : MadeOfKind) → read (with_gone gone freed x) ≡ read x) → (i : ObjectKind)
       → read (of_kind n i) ≡ read (of_kind m i)
   same_of read same = by_kind (λ (i : ObjectKind). read (of_kind n i)
       ≡ read (of_kind m i)) k (ap read ends.one ∙ same (of_kind m k)) (λ i ne. ap read (ends.others i ne))
 
-  pub same_counts : (i : ObjectKind) (slot : ℕ) → count_in (of_kind n i) slot ≡ count_in (of_kind m i) slot
-  same_counts i slot = same_of (λ x. count_in x slot) (λ x. refl) i
+  pub same_counts : (i : ObjectKind) (slot : ℕ) → made_in_slot (of_kind n i) slot ≡ made_in_slot (of_kind m i) slot
+  same_counts i slot = same_of (λ x. made_in_slot x slot) (λ x. refl) i
 
   pub same_lasts : (i : ObjectKind) → last_handles (of_kind n i) ≡ last_handles (of_kind m i)
   same_lasts i = same_of last_handles (λ x. refl) i
@@ -34,7 +34,7 @@ module _ {k : ObjectKind} {gone freed : ℕ} {m n : Made} (ends : Ends k gone fr
   same_made i = same_of made_count (λ x. refl) i
 
   -- what is so of the state may be noted
-  pub told_more : (s : State) → gone ≤ gone_in k s → freed + taken_in k s ≤ made_in k s → Tells m s → Tells n s
+  pub told_more : (s : State) → gone ≤ gone_in k s → freed + taken_in k s ≤ made_in k s → TellsState m s → TellsState n s
   told_more s enough free t = record {
     counts = λ i h. same_counts i (slot_of h) ∙ t.counts i h;
     lasts = λ i. same_lasts i ∙ t.lasts i;
@@ -47,7 +47,7 @@ module _ {k : ObjectKind} {gone freed : ℕ} {m n : Made} (ends : Ends k gone fr
   }
 
   -- and what was noted before, where it was no more
-  pub told_less : (s : State) → gone_count (of_kind m k) ≤ gone → freed_count (of_kind m k) ≤ freed → Tells n s → Tells m s
+  pub told_less : (s : State) → gone_count (of_kind m k) ≤ gone → freed_count (of_kind m k) ≤ freed → TellsState n s → TellsState m s
   told_less s less few t = record {
     counts = λ i h. sym (same_counts i (slot_of h)) ∙ t.counts i h;
     lasts = λ i. sym (same_lasts i) ∙ t.lasts i;

@@ -1,5 +1,5 @@
 -- An entry whose op makes nothing.
-use Rattle.journal_check.proofs.Names.{◌≡◌, ℕ, ◌≤◌, Bool, true, false, List, [], ◌∷◌, ◌++◌, Option, None, length, refl, sym, ◌∙◌, subst, arith, Decides, ObjectKind, entry, Op, Reply, Picked, State, Allows, after_row, row, NodeEntry, row_of, next, after, PoolNode, Stands, Renaming, renamed, renamed_op, renamed_answer, renamed_reply, made_kind, takes_task, StepRenames, made_in, MakesNone, AreGone, renaming_of, Following, gone_count, freed_count, of_kind, Tells, Laws, room_of, HasFollowed, Judges, nat_tests, eqb-true, eq-eqb}
+use Rattle.journal_check.proofs.Names.{◌≡◌, ℕ, ◌≤◌, Bool, true, false, List, [], ◌∷◌, ◌++◌, Option, None, length, refl, sym, ◌∙◌, subst, arith, Decides, ObjectKind, entry, Op, Reply, Picked, State, Allows, after_row, row, NodeEntry, row_of, next, after, PoolNode, PoolNodeStands, Renaming, renamed, renamed_op, renamed_answer, renamed_reply, made_kind, takes_task, StepRenames, made_in, MakesNone, AreGone, renaming_of, Following, gone_count, freed_count, of_kind, TellsState, Laws, room_of, HasFollowed, JudgesEntry, nat_tests, eqb-true, eq-eqb}
 use Rattle.mtapi_machine.specs.declared.ops.Op.TheVariants.{Pick}
 use Rattle.node_steps.specs.Stands.{terms_of}
 use Rattle.journal_check.proofs.Goes.{node_allows, mirrors_on, followed_on}
@@ -19,8 +19,8 @@ takes w s who o given r e i j = grind (arith, nat_tests, w.picks s who)
 
 -- what was made stays told where nothing is made
 pub tells_none : (w : Laws) (f : Following) (s : State) (who : ℕ) (o : Op) (r : Reply) → made_kind o ≡ None
-    → ((k : ObjectKind) → AreGone s (after_row s (row s who o r)) k 0 0) → Tells f.made s →
-    Tells f.made (after_row s (row s who o r))
+    → ((k : ObjectKind) → AreGone s (after_row s (row s who o r)) k 0 0) → TellsState f.made s →
+    TellsState f.made (after_row s (row s who o r))
 tells_none w f s who o r idle gone t =
     let none : MakesNone s (after_row s (row s who o r)) = w.none s who o r idle in
     record {
@@ -42,8 +42,8 @@ module _ (w : Laws) (f : Following) (e : NodeEntry) (m : PoolNode) (given : Repl
   told = renamed_reply g e.op e.reply
 
   module _ (terms : terms_of m ≡ terms_of f.node)
-      (stands : (L : List NodeEntry) → Stands f.node L → Stands m (L ++ entry e.who asked given ∷ []))
-      (toward : (L : List NodeEntry) → Stands f.node L → takes_task asked told ≡ true → Allows (row (after (terms_of f.node) L) e.who asked told) told
+      (stands : (L : List NodeEntry) → PoolNodeStands f.node L → PoolNodeStands m (L ++ entry e.who asked given ∷ []))
+      (toward : (L : List NodeEntry) → PoolNodeStands f.node L → takes_task asked told ≡ true → Allows (row (after (terms_of f.node) L) e.who asked told) told
       → given ≡ told) where
     module _ (L : List NodeEntry) (h : HasFollowed f L) where
       abbrev s : State
@@ -88,7 +88,7 @@ module _ (w : Laws) (f : Following) (e : NodeEntry) (m : PoolNode) (given : Repl
           (terms ∙ h.terms) (step.follows a) (tells_none w f s e.who e.op e.reply idle (λ k. w.gone_stay f.terms L e k) h.made)
           (λ k. let c : made_in k (next s e) ≡ made_in k s = none.counts k in let d : made_in k s ≤ length L = h.few k in omega (arith, c, d))
 
-    pub executed : (b : Bool) → Decides b (told ≡ given) → Judges f e b (record f { node = m })
+    pub executed : (b : Bool) → Decides b (told ≡ given) → JudgesEntry f e b (record f { node = m })
     executed b d = record {
       terms = refl;
       exact = λ L h short. (λ p. allowed L h (d.0 p), λ i. d.1 (same L h i));

@@ -5,10 +5,10 @@ pub use Rattle.std.specs.Prelude.{nat_le, not, ◌&&◌, ◌-◌, ◌==◌}
 pub use Rattle.handle_pool.specs.Issued.{Listed, how_many}
 pub use Rattle.handle_pool.specs.Slots.{generation_of, slot_of}
 pub use Rattle.history.specs.Histories.{entry}
-pub use Rattle.journal_check.specs.Follow.{HasFollowed, Judges, JudgesNext, Mirrors, Same, last_generation, room_of}
+pub use Rattle.journal_check.specs.Follow.{HasFollowed, JudgesEntry, JudgesNext, Mirrors, Same, last_generation, room_of}
 pub use Rattle.journal_check.specs.Laws.{Laws}
-pub use Rattle.journal_check.specs.Made.{Ends, EndsOne, Notes, Tells, count_in, freed_count, gone_count, last_handles, made_count, of_kind, with_ended}
-pub use Rattle.journal_check.specs.Verdicts.{IsFirstIllegal, IsLegal, IsRun, IsVerdict}
+pub use Rattle.journal_check.specs.Made.{EndsObjects, EndsOne, NotesObject, TellsState, made_in_slot, freed_count, gone_count, last_handles, made_count, of_kind, with_gone}
+pub use Rattle.journal_check.specs.Verdicts.{IsFirstIllegal, IsLegal, IsJournalRun, IsVerdict}
 pub use Rattle.journal_check.specs.declared.following.Following.{Following}
 pub use Rattle.journal_check.specs.declared.made.Made.{Made}
 pub use Rattle.journal_check.specs.declared.made.MadeOfKind.{MadeOfKind}
@@ -25,17 +25,17 @@ pub use Rattle.mtapi_renaming.specs.Counts.{MakesNone, MakesOne, is_next_of, mad
 pub use Rattle.mtapi_renaming.specs.Follows.{Follows}
 pub use Rattle.mtapi_renaming.specs.Gone.{AreGone, gone_in, taken_in}
 pub use Rattle.mtapi_renaming.specs.Kinds.{CanBe, is_fresh_of, is_full_of, is_handle, is_live_of, limit_of, live_in, made_kind, takes_task}
-pub use Rattle.mtapi_renaming.specs.Lasts.{MakesLast, gone_of, lasts_of, with_last}
+pub use Rattle.mtapi_renaming.specs.Lasts.{MakesLast, gone_of, lasts_of, with_last_handle}
 pub use Rattle.mtapi_renaming.specs.Laws.{CreateRenames, StepRenames}
 pub use Rattle.mtapi_renaming.specs.Maps.{renaming_of}
 pub use Rattle.mtapi_renaming.specs.Ops.{renamed_answer, renamed_op, renamed_reply}
 pub use Rattle.mtapi_renaming.specs.Refusals.{CanAnswer, refusal_of}
 pub use Rattle.mtapi_renaming.specs.Renamed.{Room, renamed, terms_in}
-pub use Rattle.mtapi_renaming.specs.Renaming.{Renaming, nothing, with_pair}
+pub use Rattle.mtapi_renaming.specs.Renaming.{Renaming, renames_nothing, with_pair}
 pub use Rattle.mtapi_renaming.specs.declared.maps.OtherHandles.{OtherHandles}
 pub use Rattle.mtapi_values.specs.Layouts.{names_kind, object_number}
 pub use Rattle.mtapi_values.specs.declared.handles.ObjectKind.{ObjectKind}
-pub use Rattle.node_steps.specs.Stands.{Stands, seat_count}
+pub use Rattle.node_steps.specs.Stands.{PoolNodeStands, seat_count}
 pub use Rattle.node_steps.specs.declared.node.PoolNode.{PoolNode}
 unfoldable pub use Rattle.handle_pool.specs.Issued.{issued_at}
 unfoldable pub use Rattle.mtapi_machine.specs.Legal.{LegalFrom, after_from}

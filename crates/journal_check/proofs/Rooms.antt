@@ -1,12 +1,12 @@
 -- How many of a kind are live, and how many of its last handles aren't, as the node tells it.
-use Rattle.journal_check.proofs.Names.{◌≡◌, ℕ, ◌+◌, ◌≤◌, ◌<◌, Bool, true, false, cond, List, length, refl, sym, ◌∙◌, ap, arith, ◌==◌, ◌-◌, not, take, get_or, nat_tests, ObjectKind, Terms, State, NodeEntry, after, PoolNode, Stands, Renaming, renamed, Follows, live_in, is_live_of, is_full_of, made_in, most_of, lasts_of, gone_of, gone_in, taken_in, renaming_of, Following, Made, of_kind, last_handles, made_count, gone_count, freed_count, Ends, Laws, room_of, Mirrors, HasFollowed, Same, eqb-true, eq-eqb}
+use Rattle.journal_check.proofs.Names.{◌≡◌, ℕ, ◌+◌, ◌≤◌, ◌<◌, Bool, true, false, cond, List, length, refl, sym, ◌∙◌, ap, arith, ◌==◌, ◌-◌, not, take, get_or, nat_tests, ObjectKind, Terms, State, NodeEntry, after, PoolNode, PoolNodeStands, Renaming, renamed, Follows, live_in, is_live_of, is_full_of, made_in, most_of, lasts_of, gone_of, gone_in, taken_in, renaming_of, Following, Made, of_kind, last_handles, made_count, gone_count, freed_count, EndsObjects, Laws, room_of, Mirrors, HasFollowed, Same, eqb-true, eq-eqb}
 use Rattle.node_steps.specs.Stands.{terms_of}
 use Rattle.journal_check.proofs.Lists.{how_many-next}
 use Rattle.journal_check.proofs.Ends.{told_more, told_less}
 
 -- a handle names a live object where its other one does
 pub live_here : (w : Laws) (n : PoolNode) (g : Renaming) (k : ObjectKind) (h : ℕ) (b : Bool)
-    → ((L : List NodeEntry) → Stands n L → is_live_of k (after (terms_of n) L) (g k h) ≡ b) →
+    → ((L : List NodeEntry) → PoolNodeStands n L → is_live_of k (after (terms_of n) L) (g k h) ≡ b) →
     (terms : Terms) (s : State) (count : ℕ) → Mirrors n g terms s count → Follows g s → is_live_of k s h ≡ b
 live_here w n g k h b told terms s count m f =
     let a : is_live_of k (after (terms_of n) m.own) (g k h) ≡ b = told m.own m.stands in
@@ -34,7 +34,7 @@ module _ (w : Laws) (f : Following) (k : ObjectKind) (most : ℕ) (mosts : (s : 
   all_taken alive live all = grind (arith, nat_tests, w.room f.terms L k, h.made.gone k, w.kept f.terms L k, most_of_it)
 
 module _ (w : Laws) (f : Following) (k : ObjectKind) (alive most : ℕ)
-    (lives : (L : List NodeEntry) → Stands f.node L → live_in k (after (terms_of f.node) L) ≡ alive)
+    (lives : (L : List NodeEntry) → PoolNodeStands f.node L → live_in k (after (terms_of f.node) L) ≡ alive)
     (mosts : (s : State) → s.terms.settings ≡ f.terms.settings → most_of k s ≡ most) where
   module _ (L : List NodeEntry) (h : HasFollowed f L) where
     abbrev s : State
@@ -66,7 +66,7 @@ module _ (w : Laws) (f : Following) (k : ObjectKind) (alive most : ℕ)
     all_made L h = omega (arith, gone_here L h, alive_here L h, h.made.made k, (w.gone f.terms L k).made)
 
     -- they may be kept, and what was kept before was no more
-    pub same_gone : (L : List NodeEntry) → HasFollowed f L → (made : Made) → Ends k gone (made_count (of_kind f.made k) - alive - gone) f.made made
+    pub same_gone : (L : List NodeEntry) → HasFollowed f L → (made : Made) → EndsObjects k gone (made_count (of_kind f.made k) - alive - gone) f.made made
         → Same f (record f { made = made })
     same_gone K i made ends = record {
       terms = refl;

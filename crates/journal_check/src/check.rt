@@ -5,7 +5,7 @@ ghost use Rattle.workload_file.specs.Formed.{WellFormed};
 ghost use Rattle.workload_runs.specs.RunOf.{RunOf};
 ghost use Rattle.workload_runs.specs.Whole.{HasSeats};
 ghost use Rattle.journal_check.specs.Judged.{IsLegalOr};
-ghost use Rattle.journal_check.specs.Verdicts.{IsRun, IsVerdict, terms_of};
+ghost use Rattle.journal_check.specs.Verdicts.{IsJournalRun, IsVerdict, terms_of_journal};
 
 use crate::judged::first_illegal;
 use crate::verdicts::Verdict;
@@ -31,7 +31,7 @@ fn same_settings(a: &NodeAttr, b: &NodeAttr) -> bool
 
 // The first entry of a journal that isn't legal, as `first_illegal` says it.
 fn first_illegal_in(alloc: Global, journal: &Journal) -> Result<Option<u64>, AllocError>
-    ensures { IfOk result (IsLegalOr (terms_of journal.now) journal.now.entries.entries) }
+    ensures { IfOk result (IsLegalOr (terms_of_journal journal.now) journal.now.entries.entries) }
 {
     first_illegal(
         alloc,
@@ -54,7 +54,7 @@ fn is_run_in(alloc: Global, load: &Workload, journal: &Journal) -> Result<bool, 
 // Whether the journal has the workload's settings and callers, and is a run of it.
 fn runs(alloc: Global, load: &Workload, journal: &Journal) -> Result<bool, AllocError>
     requires formed { WellFormed load.now }
-    ensures { IfOk result (λ b. IsTrue b ↔ IsRun load.now journal.now) }
+    ensures { IfOk result (λ b. IsTrue b ↔ IsJournalRun load.now journal.now) }
 {
     if !same_settings(&load.settings, &journal.settings) {
         return Ok(false);

@@ -9,8 +9,8 @@ ghost use Rattle.mtapi_machine.specs.Row.{Allows};
 ghost use Rattle.mtapi_machine.specs.Rows.{row};
 ghost use Rattle.mtapi_renaming.specs.Kinds.{made_kind, is_full_of, takes_task};
 ghost use Rattle.mtapi_renaming.specs.Refusals.{refusal_of};
-ghost use Rattle.node_steps.specs.Stands.{Stands, terms_of, seat_count};
-ghost use Rattle.journal_check.specs.Follow.{HasFollowed, Judges, JudgesNext};
+ghost use Rattle.node_steps.specs.Stands.{PoolNodeStands, terms_of, seat_count};
+ghost use Rattle.journal_check.specs.Follow.{HasFollowed, JudgesEntry, JudgesNext};
 
 use crate::laws::laws;
 use crate::made::Made;
@@ -83,10 +83,10 @@ fn is_honest(op: &Op)
 // some task, it takes this one if it may.
 fn answer(node: &mut PoolNode, who: u32, op: Op, wanted: &Reply) -> Reply
     requires seat { who < seat_count (terms_of node.old) }
-    requires room { (L : List NodeEntry) × Stands node.old L × (length L < 4294967295) }
+    requires room { (L : List NodeEntry) × PoolNodeStands node.old L × (length L < 4294967295) }
     ensures terms { terms_of node.new ≡ terms_of node.old }
-    ensures stands { (L : List NodeEntry) → Stands node.old L → Stands node.new (L ++ entry who op result ∷ []) }
-    ensures toward { (L : List NodeEntry) → Stands node.old L → takes_task op wanted.now ≡ true
+    ensures stands { (L : List NodeEntry) → PoolNodeStands node.old L → PoolNodeStands node.new (L ++ entry who op result ∷ []) }
+    ensures toward { (L : List NodeEntry) → PoolNodeStands node.old L → takes_task op wanted.now ≡ true
         → Allows (row (after (terms_of node.old) L) who op wanted.now) wanted.now → result ≡ wanted.now }
 {
     match (&op, wanted) {
@@ -129,7 +129,7 @@ impl Following {
         requires seat { entry.now.who < seat_count (terms_of self.old.node) }
         requires idle { made_kind entry.now.op ≡ None }
         requires room { (L : List NodeEntry) × HasFollowed self.old L × (length L < 4294967295) }
-        ensures judges { Judges self.old entry.now result self.new }
+        ensures judges { JudgesEntry self.old entry.now result self.new }
         ensures made { self.new.made ≡ self.old.made }
     {
         laws();
@@ -145,7 +145,7 @@ impl Following {
         requires seat { entry.now.who < seat_count (terms_of self.old.node) }
         requires idle { made_kind entry.now.op ≡ None }
         requires room { (L : List NodeEntry) × HasFollowed self.old L × (length L < 4294967295) }
-        ensures { Judges self.old entry.now result self.new }
+        ensures { JudgesEntry self.old entry.now result self.new }
     {
         laws();
         let Some((kind, handle)) = named_object(entry) else {
@@ -175,7 +175,7 @@ impl Following {
             → refusal_of (after self.old.terms L) entry.now.who entry.now.op ≡ None }
         requires more { (L : List NodeEntry) → HasFollowed self.old L
             → is_full_of kind (after self.old.terms L) ≡ false }
-        ensures { IfOk result (λ passes. Judges self.old entry.now passes self.new) }
+        ensures { IfOk result (λ passes. JudgesEntry self.old entry.now passes self.new) }
     {
         laws();
         let Reply::Handle(handle) = entry.reply else {
@@ -201,7 +201,7 @@ impl Following {
         requires room { (L : List NodeEntry) × HasFollowed self.old L × (length L < 4294967295) }
         requires accepted { (L : List NodeEntry) → HasFollowed self.old L
             → refusal_of (after self.old.terms L) entry.now.who entry.now.op ≡ None }
-        ensures { IfOk result (λ passes. Judges self.old entry.now passes self.new) }
+        ensures { IfOk result (λ passes. JudgesEntry self.old entry.now passes self.new) }
     {
         laws();
         if self.is_full(kind) {
@@ -215,7 +215,7 @@ impl Following {
         requires seat { entry.now.who < seat_count (terms_of self.old.node) }
         requires makes { made_kind entry.now.op ≡ Some kind }
         requires room { (L : List NodeEntry) × HasFollowed self.old L × (length L < 4294967295) }
-        ensures { IfOk result (λ passes. Judges self.old entry.now passes self.new) }
+        ensures { IfOk result (λ passes. JudgesEntry self.old entry.now passes self.new) }
     {
         laws();
         let op = renamed_op(&self.names, entry.op.again());

@@ -4,7 +4,7 @@
 ghost use Rattle.std.specs.Prelude.{◌≡◌, ◌<◌, ◌≤◌, [], ℕ, IfOk};
 ghost use Rattle.mtapi_values.specs.declared.handles.ObjectKind.{ObjectKind};
 ghost use Rattle.handle_pool.specs.Slots.{slot_of, generation_of};
-ghost use Rattle.journal_check.specs.Made.{count_in, last_handles, made_count, gone_count, freed_count, with_ended, of_kind, NotesOne, Notes, Ends, EndsOne};
+ghost use Rattle.journal_check.specs.Made.{made_in_slot, last_handles, made_count, gone_count, freed_count, with_gone, of_kind, NotesOne, NotesObject, EndsObjects, EndsOne};
 
 use mtapi_values::ObjectKind;
 use std::alloc::{AllocError, Global};
@@ -53,7 +53,7 @@ pub(crate) fn generation_of(handle: u64) -> u64
 
 impl MadeOfKind {
     fn new(alloc: Global) -> MadeOfKind
-        ensures counts { (slot : ℕ) → count_in result slot ≡ 0 }
+        ensures counts { (slot : ℕ) → made_in_slot result slot ≡ 0 }
         ensures lasts { last_handles result ≡ [] }
         ensures made { made_count result ≡ 0 }
         ensures gone { gone_count result ≡ 0 }
@@ -70,7 +70,7 @@ impl MadeOfKind {
 
     /// How many were made in the slot of a handle.
     pub(crate) fn count(&self, handle: u64) -> u64
-        ensures { result ≡ count_in self.now (slot_of handle) }
+        ensures { result ≡ made_in_slot self.now (slot_of handle) }
     {
         match self.counts.get(&slot_of(handle)) {
             Some(count) => *count,
@@ -108,7 +108,7 @@ impl MadeOfKind {
 
     // At least so many aren't live any more.
     fn end(&mut self, gone: u64, freed: u64)
-        ensures { self.new ≡ with_ended gone freed self.old }
+        ensures { self.new ≡ with_gone gone freed self.old }
     {
         self.gone = gone;
         self.freed = freed;
@@ -131,7 +131,7 @@ impl MadeOfKind {
 impl Made {
     /// Nothing was made.
     pub(crate) fn new(alloc: Global) -> Made
-        ensures counts { (k : ObjectKind) (slot : ℕ) → count_in (of_kind result k) slot ≡ 0 }
+        ensures counts { (k : ObjectKind) (slot : ℕ) → made_in_slot (of_kind result k) slot ≡ 0 }
         ensures lasts { (k : ObjectKind) → last_handles (of_kind result k) ≡ [] }
         ensures made { (k : ObjectKind) → made_count (of_kind result k) ≡ 0 }
         ensures gone { (k : ObjectKind) → gone_count (of_kind result k) ≡ 0 }
@@ -173,7 +173,7 @@ impl Made {
         handle: u64,
     ) -> Result<(), AllocError>
         requires few { made_count (of_kind self.old kind) < 4294967295 }
-        ensures { IfOk result (λ _. Notes kind last handle self.old self.new) }
+        ensures { IfOk result (λ _. NotesObject kind last handle self.old self.new) }
     {
         match kind {
             ObjectKind::Action => self.actions.note(last, handle),
@@ -189,7 +189,7 @@ impl Made {
 
     /// At least so many of a kind aren't live any more, of the last generation and of the others.
     pub(crate) fn end(&mut self, kind: ObjectKind, gone: u64, freed: u64)
-        ensures { Ends kind gone freed self.old self.new }
+        ensures { EndsObjects kind gone freed self.old self.new }
     {
         match kind {
             ObjectKind::Action => self.actions.end(gone, freed),

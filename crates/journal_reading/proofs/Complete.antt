@@ -9,10 +9,10 @@ use Rattle.journal_reading.specs.declared.reading.KeptRun.{KeptRun}
 use Rattle.journal_reading.specs.declared.ends.ShowEnd.{ShowEnd}
 use Rattle.journal_reading.specs.declared.ends.ShowEnd.TheVariants as end
 use Rattle.journal_reading.specs.declared.ends.RunView.{RunView}
-use Rattle.journal_reading.specs.Ends.{Shows, HasInput, IsInput, IsFront, IsWorkload, IsJournal, InputFails, IsRefused, FrontFails, RestFails}
+use Rattle.journal_reading.specs.Ends.{ShowsInput, HasInput, IsJournalInput, IsFront, IsFrontWorkload, IsJournal, InputFails, IsTextRefused, FrontFails, RestFails}
 
 -- a part is a workload or none
-workload_once : (front : List ℕ) (e : ShowEnd) → FrontFails front e → IsWorkload front → (e ≡ end.Memory)
+workload_once : (front : List ℕ) (e : ShowEnd) → FrontFails front e → IsFrontWorkload front → (e ≡ end.Memory)
 workload_once front end.Memory fails load = refl
 workload_once front (end.Refused line cause) fails load = absurd (let both = sym fails.1 ∙ load.2 in cc)
 workload_once front end.WorkloadTooLong fails load = absurd (omega (arith, fails, load.0))
@@ -26,17 +26,17 @@ journal_once rest end.CutShort fails journal = absurd (let both = sym fails ∙ 
 journal_once rest _ fails journal = absurd fails
 
 -- so is what stands before a journal
-front_once : (view : RunView) (front : List ℕ) (e : ShowEnd) → IsRefused view front e → IsFront view front → (e ≡ end.Memory)
+front_once : (view : RunView) (front : List ℕ) (e : ShowEnd) → IsTextRefused view front e → IsFront view front → (e ≡ end.Memory)
 front_once RunView.Picture front e fails may = fails
 front_once RunView.Trace front e fails may = workload_once front e fails may
 
-fails_else : (view : RunView) (front rest : List ℕ) (e : ShowEnd) → IsRefused view front e ⊎ (IsFront view front × RestFails rest e)
+fails_else : (view : RunView) (front rest : List ℕ) (e : ShowEnd) → IsTextRefused view front e ⊎ (IsFront view front × RestFails rest e)
     → IsFront view front × IsJournal rest → (e ≡ end.Memory)
 fails_else view front rest e (inl fails) is = front_once view front e fails is.0
 fails_else view front rest e (inr fails) is = journal_once rest e fails.1 is.1
 
 -- an input has one first part and one rest
-input_once : (view : RunView) (bytes : List ℕ) (e : ShowEnd) → InputFails view bytes e → IsInput view bytes → (e ≡ end.Memory)
+input_once : (view : RunView) (bytes : List ℕ) (e : ShowEnd) → InputFails view bytes e → IsJournalInput view bytes → (e ≡ end.Memory)
 input_once view bytes e none some =
     let same = same_split bytes none.front none.rest some.front some.rest none.split some.split in
     let there = subst (λ (xs : List ℕ). IsFront view none.front
@@ -44,7 +44,7 @@ input_once view bytes e none some =
     fails_else view none.front none.rest e none.holds there
 
 ends_well : (IsShown : KeptRun → List ℕ → Type 0) (view : RunView) (a b : Option (List ℕ)) (bytes : List ℕ) (r : ShowEnd) (read read' written written' : ℕ)
-    → Shows IsShown view a b bytes r
+    → ShowsInput IsShown view a b bytes r
     → (r ≡ end.ReadFault → Rose read read') → (r ≡ end.WriteFault → Rose written written')
     → (Rose read read' → ⊥) → (Rose written written' → ⊥) → HasInput view bytes → (r ≡ end.Done) ⊎ (r ≡ end.Memory)
 ends_well IsShown view a b bytes end.Done _ _ _ _ d reads writes calm dry h = inl refl
@@ -55,7 +55,7 @@ ends_well IsShown view a b bytes end.TooLong _ _ _ _ d reads writes calm dry h =
 ends_well IsShown view a b bytes _ _ _ _ _ d reads writes calm dry h = inr (input_once view bytes _ d.1 h.1)
 
 pub completes : (IsShown : KeptRun → List ℕ → Type 0) (view : RunView) (left a b : Option (List ℕ)) (r : ShowEnd) (read read' written written' : ℕ)
-    → IfSome left (λ bytes. Shows IsShown view a b bytes r)
+    → IfSome left (λ bytes. ShowsInput IsShown view a b bytes r)
     → (r ≡ end.ReadFault → Rose read read') → (r ≡ end.WriteFault → Rose written written')
     → (Rose read read' → ⊥) → (Rose written written' → ⊥) → IfSome left (λ bytes. HasInput view bytes → (r ≡ end.Done) ⊎ (r ≡ end.Memory))
 completes IsShown view None a b r _ _ _ _ d reads writes calm dry = tt
@@ -67,4 +67,4 @@ pub refused_else : (view : RunView) (left left' : Option (List ℕ)) (r : Result
     → IfSome left (λ bytes. HasInput view bytes → (e ≡ end.Done) ⊎ (e ≡ end.Memory))
 refused_else view None left' r v now e whole read same fails = tt
 refused_else view (Some bytes) left' r v now e whole read same fails =
-    λ h. inr (input_once view now e fails (subst (IsInput view) (sym (same ∙ (subst (ReadsWhole 67108864 bytes left') read whole).0)) h.1))
+    λ h. inr (input_once view now e fails (subst (IsJournalInput view) (sym (same ∙ (subst (ReadsWhole 67108864 bytes left') read whole).0)) h.1))

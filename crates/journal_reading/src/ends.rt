@@ -1,6 +1,6 @@
 //! How a program that shows a run ends, and how that is told.
 ghost use Rattle.std.specs.Prelude.{◌≡◌, ◌⊎◌, true, false, IfOk, string_bytes};
-ghost use Rattle.journal_reading.specs.Ends.{IsTold, status_of, usage, message, has_line};
+ghost use Rattle.journal_reading.specs.Ends.{IsShowTold, show_status, usage, show_message, shows_line};
 
 use byte_io::{Sink, say};
 use std::alloc::{AllocError, Global};
@@ -42,7 +42,7 @@ pub enum ShowEnd {
 
 /// The status of an end.
 fn status_of(end: ShowEnd) -> u8
-    ensures { result ≡ status_of end }
+    ensures { result ≡ show_status end }
 {
     match end {
         ShowEnd::Done => 0,
@@ -66,10 +66,10 @@ fn usage(view: RunView) -> &'static [u8]
 }
 
 /// The message of an end that names no line.
-#[tactic(auto, unfolding(crate::specs::Ends::message))]
+#[tactic(auto, unfolding(crate::specs::Ends::show_message))]
 fn plain_text(view: RunView, end: ShowEnd) -> &'static [u8]
-    requires { has_line end ≡ false }
-    ensures { result.now ≡ message view end }
+    requires { shows_line end ≡ false }
+    ensures { result.now ≡ show_message view end }
 {
     match end {
         ShowEnd::Done | ShowEnd::Refused(..) | ShowEnd::BadLine(_) => b"",
@@ -84,10 +84,10 @@ fn plain_text(view: RunView, end: ShowEnd) -> &'static [u8]
 }
 
 /// The message of an end that names a line.
-#[tactic(auto, unfolding(crate::specs::Ends::message))]
+#[tactic(auto, unfolding(crate::specs::Ends::show_message))]
 fn line_text(alloc: Global, view: RunView, end: ShowEnd) -> Result<String, AllocError>
-    requires { has_line end ≡ true }
-    ensures { IfOk result (λ text. string_bytes text ≡ message view end) }
+    requires { shows_line end ≡ true }
+    ensures { IfOk result (λ text. string_bytes text ≡ show_message view end) }
 {
     match end {
         ShowEnd::Refused(line, cause) => {
@@ -101,7 +101,7 @@ fn line_text(alloc: Global, view: RunView, end: ShowEnd) -> Result<String, Alloc
 
 /// Whether the message of an end names a line.
 fn has_line(end: ShowEnd) -> bool
-    ensures { result ≡ has_line end }
+    ensures { result ≡ shows_line end }
 {
     matches!(end, ShowEnd::Refused(..) | ShowEnd::BadLine(_))
 }
@@ -109,9 +109,9 @@ fn has_line(end: ShowEnd) -> bool
 /// Says on `err` how a program ended, and answers the status. Where there is no memory for a message that names a line, that is said
 /// instead, and the status is 6. A fault of `err` changes nothing else.
 pub fn tell<E: Sink>(alloc: Global, view: RunView, end: ShowEnd, err: &mut E) -> u8
-    ensures told { IsTold view end (E.faults err.old) (E.faults err.new) (E.held err.old) (E.held err.new) result
-        ⊎ ((has_line end ≡ true)
-        × IsTold view ShowEnd.Memory (E.faults err.old) (E.faults err.new) (E.held err.old) (E.held err.new) result) }
+    ensures told { IsShowTold view end (E.faults err.old) (E.faults err.new) (E.held err.old) (E.held err.new) result
+        ⊎ ((shows_line end ≡ true)
+        × IsShowTold view ShowEnd.Memory (E.faults err.old) (E.faults err.new) (E.held err.old) (E.held err.new) result) }
 {
     if !has_line(end) {
         say(err, plain_text(view, end));

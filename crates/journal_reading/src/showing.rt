@@ -1,7 +1,7 @@
 //! A run is read, and what shows it is written.
 ghost use Rattle.std.specs.Prelude.{◌≡◌, ◌⊎◌, ℕ, List, false, IfOk, IfSome, string_bytes};
 ghost use Rattle.byte_io.specs.Causes.{Rose};
-ghost use Rattle.journal_reading.specs.Ends.{HasInput, Shows, writes};
+ghost use Rattle.journal_reading.specs.Ends.{HasInput, ShowsInput, show_writes};
 ghost use Rattle.journal_reading.specs.declared.reading.KeptRun.{KeptRun};
 ghost use Rattle.journal_reading.specs.declared.ends.ShowEnd.TheVariants as end;
 
@@ -32,8 +32,8 @@ pub fn show<S: Source, W: Sink, T: RunText>(
     src: &mut S,
     out: &mut W,
 ) -> ShowEnd
-    ensures shown { IfSome (S.left src.old) (λ bytes. Shows T.shows view (W.held out.old) (W.held out.new) bytes result) }
-    ensures silent { writes result ≡ false → (W.held out.new ≡ W.held out.old) × (W.faults out.new ≡ W.faults out.old) }
+    ensures shown { IfSome (S.left src.old) (λ bytes. ShowsInput T.shows view (W.held out.old) (W.held out.new) bytes result) }
+    ensures silent { show_writes result ≡ false → (W.held out.new ≡ W.held out.old) × (W.faults out.new ≡ W.faults out.old) }
     ensures read { result ≡ end.ReadFault → Rose (S.faults src.old) (S.faults src.new) }
     ensures written { result ≡ end.WriteFault → Rose (W.faults out.old) (W.faults out.new) }
     ensures complete { (Rose (S.faults src.old) (S.faults src.new) → ⊥)

@@ -11,8 +11,8 @@ use Rattle.journal_text.specs.Splits.{IsSplit}
 use Rattle.journal_reading.specs.Ends.{RestFails}
 use Rattle.journal_reading.specs.declared.ends.ShowEnd.{ShowEnd}
 use Rattle.journal_reading.specs.declared.ends.ShowEnd.TheVariants as end
-use Rattle.journal_reasons.specs.Judged.{IsJudged, place_of}
-use Rattle.journal_reasons.specs.Pages.{IsPage, HasNone, Writes, Judges, page_text}
+use Rattle.journal_reasons.specs.Judged.{IsJudgement, place_judged}
+use Rattle.journal_reasons.specs.Pages.{IsPage, HasNoJournal, Writes, JudgesInput, judged_page_text}
 use Rattle.journal_reasons.specs.declared.judging.Judgement.{Judgement}
 use Rattle.journal_reasons.specs.declared.reading.JudgeEnd.TheVariants.{Legal, Illegal, Refused}
 
@@ -22,8 +22,8 @@ short_front bytes front rest split few =
     omega (arith, length-append front rest, both)
 
 pub page_on : (bytes front rest : List ℕ) (j : Journal) (v : Judgement) (legal : Bool) (page : List ℕ) → IsSplit bytes front rest
-    → journal_of rest ≡ Ok j → IsJudged j v → legal ≡ is_none (place_of v)
-    → page ≡ page_text front rest j v → IsPage bytes legal page
+    → journal_of rest ≡ Ok j → IsJudgement j v → legal ≡ is_none (place_judged v)
+    → page ≡ judged_page_text front rest j v → IsPage bytes legal page
 page_on bytes front rest j v legal page split read judged same text = record {
   front = front;
   rest = rest;
@@ -36,22 +36,22 @@ page_on bytes front rest j v legal page split read judged same text = record {
   text = text;
 }
 
-pub none_in : (bytes front rest : List ℕ) (e : ShowEnd) → IsSplit bytes front rest → RestFails rest e → HasNone bytes e
+pub none_in : (bytes front rest : List ℕ) (e : ShowEnd) → IsSplit bytes front rest → RestFails rest e → HasNoJournal bytes e
 none_in bytes front rest e split fails = record { front = front; rest = rest; split = split; holds = fails }
 
-refuses : (bytes : List ℕ) (old new : Option (List ℕ)) (e : ShowEnd) → length bytes ≤ 67108864 → HasNone bytes e → Judges bytes old new (Refused e)
+refuses : (bytes : List ℕ) (old new : Option (List ℕ)) (e : ShowEnd) → length bytes ≤ 67108864 → HasNoJournal bytes e → JudgesInput bytes old new (Refused e)
 refuses bytes old new end.Memory few none = tt
 refuses bytes old new (end.BadLine line) few none = (few, none)
 refuses bytes old new end.CutShort few none = (few, none)
 refuses bytes old new _ few none = absurd none.holds
 
 pub refuses_input : (left left' old new : Option (List ℕ)) (r : Result (Vec ℕ) ReadAllError) (v : Vec ℕ) (now : List ℕ) (e : ShowEnd)
-    → IfSome left (λ bytes. ReadsWhole 67108864 bytes left' r) → r ≡ Ok v → now ≡ v.items → HasNone now e
-    → IfSome left (λ bytes. Judges bytes old new (Refused e))
+    → IfSome left (λ bytes. ReadsWhole 67108864 bytes left' r) → r ≡ Ok v → now ≡ v.items → HasNoJournal now e
+    → IfSome left (λ bytes. JudgesInput bytes old new (Refused e))
 refuses_input None left' old new r v now e whole read same none = tt
 refuses_input (Some bytes) left' old new r v now e whole read same none =
     let it = subst (ReadsWhole 67108864 bytes left') read whole in
-    refuses bytes old new e it.1 (subst (λ (xs : List ℕ). HasNone xs e) (same ∙ it.0) none)
+    refuses bytes old new e it.1 (subst (λ (xs : List ℕ). HasNoJournal xs e) (same ∙ it.0) none)
 
 -- what is written of what was read is written of the input
 writes_input : (left left' : Option (List ℕ)) (r : Result (Vec ℕ) ReadAllError) (v : Vec ℕ) (now page : List ℕ) (legal : Bool) (P : List ℕ → Type 0)
@@ -64,23 +64,23 @@ writes_input (Some bytes) left' r v now page legal P whole read same is holds =
 
 pub writes_legal : (left left' old new : Option (List ℕ)) (r : Result (Vec ℕ) ReadAllError) (v : Vec ℕ) (now page : List ℕ) (legal : Bool)
     → IfSome left (λ bytes. ReadsWhole 67108864 bytes left' r) → r ≡ Ok v → now ≡ v.items → IsPage now legal page → Appends old new page
-    → legal ≡ true → IfSome left (λ bytes. Judges bytes old new Legal)
+    → legal ≡ true → IfSome left (λ bytes. JudgesInput bytes old new Legal)
 writes_legal left left' old new r v now page legal whole read same is holds so =
     writes_input left left' r v now page true (λ p. Appends old new p) whole read same (subst (λ (b : Bool). IsPage now b page) so is) holds
 
 pub writes_illegal : (left left' old new : Option (List ℕ)) (r : Result (Vec ℕ) ReadAllError) (v : Vec ℕ) (now page : List ℕ) (legal : Bool)
     → IfSome left (λ bytes. ReadsWhole 67108864 bytes left' r) → r ≡ Ok v → now ≡ v.items → IsPage now legal page → Appends old new page
-    → legal ≡ false → IfSome left (λ bytes. Judges bytes old new Illegal)
+    → legal ≡ false → IfSome left (λ bytes. JudgesInput bytes old new Illegal)
 writes_illegal left left' old new r v now page legal whole read same is holds so =
     writes_input left left' r v now page false (λ p. Appends old new p) whole read same (subst (λ (b : Bool). IsPage now b page) so is) holds
 
 cut_so : (left old new : Option (List ℕ)) (legal : Bool) → IfSome left (λ bytes. Writes legal bytes (λ page. AppendsFront old new page))
-    → IfSome left (λ bytes. Judges bytes old new (Refused end.WriteFault))
+    → IfSome left (λ bytes. JudgesInput bytes old new (Refused end.WriteFault))
 cut_so None old new legal cut = tt
 cut_so (Some bytes) old new legal cut = (legal, cut)
 
 pub writes_part : (left left' old new : Option (List ℕ)) (r : Result (Vec ℕ) ReadAllError) (v : Vec ℕ) (now page : List ℕ) (legal : Bool)
     → IfSome left (λ bytes. ReadsWhole 67108864 bytes left' r) → r ≡ Ok v → now ≡ v.items → IsPage now legal page → AppendsFront old new page
-    → IfSome left (λ bytes. Judges bytes old new (Refused end.WriteFault))
+    → IfSome left (λ bytes. JudgesInput bytes old new (Refused end.WriteFault))
 writes_part left left' old new r v now page legal whole read same is cut =
     cut_so left old new legal (writes_input left left' r v now page legal (λ p. AppendsFront old new p) whole read same is cut)

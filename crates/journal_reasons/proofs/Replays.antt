@@ -2,13 +2,14 @@
 use Rattle.std.proofs.Common.{ℕ, ◌+◌, ◌<◌, ◌^◌, List, [], ◌∷◌, ◌++◌, length, arith, length-append}
 use Rattle.mtapi_machine.specs.Legal.{NodeEntry}
 use Rattle.node_steps.specs.declared.node.PoolNode.{PoolNode}
-use Rattle.node_steps.specs.Stands.{Stands}
+use Rattle.node_steps.specs.Stands.{PoolNodeStands}
 use Rattle.journal_reasons.specs.Replays.{StandsForSome}
 
-pub has_room : (n : PoolNode) (most : ℕ) → StandsForSome n most → most < 2 ^ 62 → (L : List NodeEntry) × Stands n L × (length L < 2 ^ 62 + 16)
+pub has_room : (n : PoolNode) (most : ℕ) → StandsForSome n most → most < 2 ^ 62 → (L : List NodeEntry) × PoolNodeStands n L × (length L < 2 ^ 62 + 16)
 has_room n most s few = (s.entries, s.stands, omega (arith, s.few, few))
 
-pub after_one : (n m : PoolNode) (most : ℕ) (e : NodeEntry) → StandsForSome n most → ((L : List NodeEntry) → Stands n L → Stands m (L ++ e ∷ []))
+pub after_one : (n m : PoolNode) (most : ℕ) (e : NodeEntry) → StandsForSome n most
+    → ((L : List NodeEntry) → PoolNodeStands n L → PoolNodeStands m (L ++ e ∷ []))
     → StandsForSome m (most + 1)
 after_one n m most e s steps = record {
   entries = s.entries ++ e ∷ [];
@@ -16,5 +17,5 @@ after_one n m most e s steps = record {
   few = omega (arith, s.few, length-append s.entries (e ∷ []));
 }
 
-pub before_all : (n : PoolNode) → Stands n [] → StandsForSome n 0
+pub before_all : (n : PoolNode) → PoolNodeStands n [] → StandsForSome n 0
 before_all n s = record { entries = []; stands = s; few = omega arith }

@@ -6,14 +6,14 @@ use Rattle.mtapi_machine.specs.declared.replies.Reply.{Reply}
 use Rattle.mtapi_machine.specs.declared.terms.Terms.{Terms}
 use Rattle.mtapi_machine.specs.Legal.{NodeEntry, Legal as IsLegalList}
 use Rattle.node_journals.specs.declared.entries.Journal.{Journal}
-use Rattle.journal_check.specs.Verdicts.{IsLegal, IsFirstIllegal, terms_of}
+use Rattle.journal_check.specs.Verdicts.{IsLegal, IsFirstIllegal, terms_of_journal}
 use Rattle.journal_reasons.specs.declared.judging.Judgement.{Judgement}
 use Rattle.journal_reasons.specs.declared.judging.Judgement.TheVariants.{Legal, Illegal}
 
 -- the number, from 1, of the first entry that isn't allowed, if there is one
-abbrev pub place_of : Judgement → Option ℕ
-place_of Legal = None
-place_of (Illegal n instead why) = Some n
+abbrev pub place_judged : Judgement → Option ℕ
+place_judged Legal = None
+place_judged (Illegal n instead why) = Some n
 
 -- the entries that are named as allowed in its place
 abbrev pub instead_of : Judgement → List NodeEntry
@@ -32,7 +32,7 @@ AreInstead terms L n es = AllByRecursion (IsInstead terms L n) es
 
 -- the journal is legal where no place is named, and only there; a place that is named is the first that isn't allowed, and each entry
 -- that is named in its place is allowed there
-pub record IsJudged (j : Journal) (v : Judgement) : Type 0 where
-  pub legal : (place_of v ≡ None) ↔ IsLegal j
-  pub refused : (n : ℕ) → (place_of v ≡ Some n) ↔ IsFirstIllegal (terms_of j) j.entries.entries n
-  pub instead : IfSome (place_of v) (λ n. AreInstead (terms_of j) j.entries.entries n (instead_of v))
+pub record IsJudgement (j : Journal) (v : Judgement) : Type 0 where
+  pub legal : (place_judged v ≡ None) ↔ IsLegal j
+  pub refused : (n : ℕ) → (place_judged v ≡ Some n) ↔ IsFirstIllegal (terms_of_journal j) j.entries.entries n
+  pub instead : IfSome (place_judged v) (λ n. AreInstead (terms_of_journal j) j.entries.entries n (instead_of v))

@@ -4,7 +4,7 @@ ghost use Rattle.workload_file.specs.Formed.{WellFormed};
 ghost use Rattle.mtapi_machine.specs.Legal.{Legal};
 ghost use Rattle.node_journals.specs.Shorts.{entry_of};
 ghost use Rattle.journal_check.specs.Judged.{IsLegalOr};
-ghost use Rattle.journal_check.specs.Verdicts.{terms_of};
+ghost use Rattle.journal_check.specs.Verdicts.{terms_of_journal};
 ghost use Rattle.journal_reasons.specs.Judged.{AreInstead};
 
 use journal_check::{Verdict, check_run};
@@ -21,7 +21,7 @@ pub(crate) fn first_illegal(
     journal: &Journal,
 ) -> Result<Option<u64>, AllocError>
     requires { WellFormed load.now }
-    ensures { IfOk result (IsLegalOr (terms_of journal.now) journal.now.entries.entries) }
+    ensures { IfOk result (IsLegalOr (terms_of_journal journal.now) journal.now.entries.entries) }
 {
     match check_run(alloc, load, journal)? {
         Verdict::Yes => Ok(None),
@@ -68,7 +68,7 @@ fn journal_with(
     before: &[ShortEntry],
     last: &Entry,
 ) -> Result<Journal, AllocError>
-    ensures terms { IfOk result (λ j. terms_of j ≡ terms_of journal.now) }
+    ensures terms { IfOk result (λ j. terms_of_journal j ≡ terms_of_journal journal.now) }
     ensures entries { IfOk result (λ j. j.entries.entries ≡ map entry_of before.now ++ last.now ∷ []) }
 {
     let mut entries = list_of(alloc, before)?;
@@ -90,7 +90,7 @@ fn is_allowed(
     last: &Entry,
 ) -> Result<bool, AllocError>
     requires { WellFormed load.now }
-    ensures { IfOk result (λ b. b ≡ true → Legal (terms_of journal.now) (map entry_of before.now ++ last.now ∷ [])) }
+    ensures { IfOk result (λ b. b ≡ true → Legal (terms_of_journal journal.now) (map entry_of before.now ++ last.now ∷ [])) }
 {
     let tried = journal_with(alloc, journal, before, last)?;
     match first_illegal(alloc, load, &tried)? {
@@ -121,8 +121,8 @@ fn add_allowed(
     allowed: &mut Vec<Entry>,
 ) -> Result<(), AllocError>
     requires formed { WellFormed load.now }
-    requires so_far { AreInstead (terms_of journal.now) journal.now.entries.entries number allowed.old.items }
-    ensures { OnOk result (AreInstead (terms_of journal.now) journal.now.entries.entries number allowed.new.items) }
+    requires so_far { AreInstead (terms_of_journal journal.now) journal.now.entries.entries number allowed.old.items }
+    ensures { OnOk result (AreInstead (terms_of_journal journal.now) journal.now.entries.entries number allowed.new.items) }
 {
     let Some((before, given)) = cut_before(journal.entries.shorts(), number) else {
         return Ok(());
@@ -143,7 +143,7 @@ pub(crate) fn allowed_among(
     replies: &[Reply],
 ) -> Result<Vec<Entry>, AllocError>
     requires { WellFormed load.now }
-    ensures { IfOk result (λ entries. AreInstead (terms_of journal.now) journal.now.entries.entries number entries.items) }
+    ensures { IfOk result (λ entries. AreInstead (terms_of_journal journal.now) journal.now.entries.entries number entries.items) }
 {
     let mut allowed = Vec::new(alloc);
     for reply in replies {

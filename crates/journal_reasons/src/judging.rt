@@ -1,9 +1,10 @@
 //! A journal is judged by itself.
 ghost use Rattle.std.specs.Prelude.{IfOk};
 ghost use Rattle.workload_file.specs.Formed.{WellFormed};
-ghost use Rattle.journal_reasons.specs.Judged.{IsJudged};
+ghost use Rattle.journal_reasons.specs.Judged.{IsJudgement};
 
 use crate::instead::{allowed_among, first_illegal};
+use crate::naming::with_names;
 use crate::proposing::{Proposal, proposal_of};
 use journal_text::InputPart;
 use mtapi_machine::Entry;
@@ -38,10 +39,17 @@ fn some_workload(alloc: Global) -> Result<Workload, AllocError>
     }
 }
 
-/// Judges a journal by itself, whose entries stand behind so many lines of an input. It fails for want of memory alone.
+/// Judges a journal by itself, whose entries stand behind so many lines of an input. The comments of `front` and of `names` that name
+/// objects are those of a picture: a name stands behind its handle in the reason. It fails for want of memory alone.
 #[tactic(auto, using(crate::proofs::Judgements::judged_legal))]
-pub fn judge(alloc: Global, journal: &Journal, lines: u64) -> Result<Judgement, AllocError>
-    ensures judged { IfOk result (λ judgement. IsJudged journal.now judgement) }
+pub fn judge(
+    alloc: Global,
+    journal: &Journal,
+    lines: u64,
+    front: &[u8],
+    names: &[u8],
+) -> Result<Judgement, AllocError>
+    ensures judged { IfOk result (λ judgement. IsJudgement journal.now judgement) }
 {
     law_prefix();
     let load = some_workload(alloc)?;
@@ -50,9 +58,10 @@ pub fn judge(alloc: Global, journal: &Journal, lines: u64) -> Result<Judgement, 
     };
     let Proposal { replies, why } = proposal_of(alloc, journal, entry, lines)?;
     let instead = allowed_among(alloc, &load, journal, entry, &replies)?;
+    let named = with_names(alloc, front, names, why)?;
     Ok(Judgement::Illegal {
         entry,
         instead,
-        why,
+        why: named,
     })
 }

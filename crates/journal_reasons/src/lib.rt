@@ -8,6 +8,7 @@ mod free_slots;
 mod handles;
 mod instead;
 mod judging;
+mod naming;
 mod page;
 mod picks;
 mod proposing;

@@ -1,7 +1,7 @@
 //! What is written of a journal that was judged.
 ghost use Rattle.std.specs.Prelude.{◌≡◌, ◌+◌, ◌≤◌, ◌<◌, ◌^◌, ◌++◌, ◌∷◌, [], Some, codes, length, IfOk, OnOk};
 ghost use Rattle.number_text.specs.Lists.{between};
-ghost use Rattle.journal_reasons.specs.Pages.{first_line, nth_line, instead_lines, page_text};
+ghost use Rattle.journal_reasons.specs.Pages.{first_line, nth_line, instead_lines, judged_page_text};
 
 use crate::judging::Judgement;
 use journal_text::write_journal;
@@ -127,7 +127,7 @@ pub fn page_of(
     judgement: &Judgement,
 ) -> Result<Vec<u8>, AllocError>
     requires { length front.now < 2 ^ 62 }
-    ensures { IfOk result (λ page. page.items ≡ page_text front.now rest.now journal.now judgement.now) }
+    ensures { IfOk result (λ page. page.items ≡ judged_page_text front.now rest.now journal.now judgement.now) }
 {
     match judgement {
         Judgement::Legal => Vec::from_slice(alloc, b"legal\n"),

@@ -3,8 +3,8 @@ ghost use Rattle.std.specs.Prelude.{◌≡◌, ◌≤◌, false, length, is_none
 ghost use Rattle.byte_io.specs.Causes.{Rose};
 ghost use Rattle.journal_reading.specs.Ends.{RestGives};
 ghost use Rattle.journal_reading.specs.declared.ends.ShowEnd.TheVariants as end;
-ghost use Rattle.journal_reasons.specs.Judged.{place_of};
-ghost use Rattle.journal_reasons.specs.Pages.{IsPage, HasNone, Judges, Tells, usage, writes};
+ghost use Rattle.journal_reasons.specs.Judged.{place_judged};
+ghost use Rattle.journal_reasons.specs.Pages.{IsPage, HasNoJournal, JudgesInput, IsEndTold, judge_usage, judge_writes};
 ghost use Rattle.journal_reasons.specs.declared.reading.JudgeEnd.TheVariants.{Refused};
 
 use crate::judging::{Judgement, judge};
@@ -22,7 +22,7 @@ pub enum JudgeEnd {
     Legal,
     /// It is none, and the first entry that isn't allowed was written.
     Illegal,
-    /// There were words, and it takes none.
+    /// The words are none that it takes.
     Usage,
     /// There is no answer, for this cause.
     Refused(ShowEnd),
@@ -46,7 +46,7 @@ fn journal_in(alloc: Global, rest: &[u8]) -> Result<Journal, ShowEnd>
 }
 
 fn is_legal(judgement: &Judgement) -> bool
-    ensures { result ≡ is_none (place_of judgement.now) }
+    ensures { result ≡ is_none (place_judged judgement.now) }
 {
     match judgement {
         Judgement::Legal => true,
@@ -56,14 +56,14 @@ fn is_legal(judgement: &Judgement) -> bool
 
 // The page on the journal in an input, and whether that is legal; or how the program ends where there is none.
 #[tactic(auto, using(crate::proofs::Inputs::short_front, crate::proofs::Inputs::page_on, crate::proofs::Inputs::none_in))]
-fn page_in(alloc: Global, bytes: &[u8]) -> Result<(bool, Vec<u8>), ShowEnd>
+fn page_in(alloc: Global, bytes: &[u8], names: &[u8]) -> Result<(bool, Vec<u8>), ShowEnd>
     requires { length bytes.now ≤ 67108864 }
     ensures some { IfOk result (λ page. IsPage bytes.now page.0 page.1.items) }
-    ensures none { IfErr result (λ e. HasNone bytes.now e) }
+    ensures none { IfErr result (λ e. HasNoJournal bytes.now e) }
 {
     let (front, rest) = parts_of(bytes);
     let journal = journal_in(alloc, rest)?;
-    let Ok(judgement) = judge(alloc, &journal, count_lines(front)) else {
+    let Ok(judgement) = judge(alloc, &journal, count_lines(front), front, names) else {
         return Err(ShowEnd::Memory);
     };
     match page_of(alloc, front, rest, &journal, &judgement) {
@@ -72,11 +72,17 @@ fn page_in(alloc: Global, bytes: &[u8]) -> Result<(bool, Vec<u8>), ShowEnd>
     }
 }
 
-/// Judges the journal in an input, of which what stands before the journal is passed over, and writes what it is.
+/// Judges the journal in an input, and writes what it is. Of what stands before the journal the comments `# HANDLE NAME` alone are
+/// read, as those of `names`: in the reason the names stand behind the handles.
 #[tactic(auto, using(crate::proofs::Inputs::refuses_input, crate::proofs::Inputs::writes_legal, crate::proofs::Inputs::writes_illegal, crate::proofs::Inputs::writes_part))]
-pub fn judge_input<S: Source, W: Sink>(alloc: Global, src: &mut S, out: &mut W) -> JudgeEnd
-    ensures judged { IfSome (S.left src.old) (λ bytes. Judges bytes (W.held out.old) (W.held out.new) result) }
-    ensures silent { writes result ≡ false → (W.held out.new ≡ W.held out.old) × (W.faults out.new ≡ W.faults out.old) }
+pub fn judge_input<S: Source, W: Sink>(
+    alloc: Global,
+    src: &mut S,
+    names: &[u8],
+    out: &mut W,
+) -> JudgeEnd
+    ensures judged { IfSome (S.left src.old) (λ bytes. JudgesInput bytes (W.held out.old) (W.held out.new) result) }
+    ensures silent { judge_writes result ≡ false → (W.held out.new ≡ W.held out.old) × (W.faults out.new ≡ W.faults out.old) }
     ensures read { result ≡ Refused end.ReadFault → Rose (S.faults src.old) (S.faults src.new) }
     ensures written { result ≡ Refused end.WriteFault → Rose (W.faults out.old) (W.faults out.new) }
 {
@@ -86,7 +92,7 @@ pub fn judge_input<S: Source, W: Sink>(alloc: Global, src: &mut S, out: &mut W) 
         Err(ReadAllError::Read) => return JudgeEnd::Refused(ShowEnd::ReadFault),
         Err(ReadAllError::TooLong) => return JudgeEnd::Refused(ShowEnd::TooLong),
     };
-    let (legal, page) = match page_in(alloc, &bytes) {
+    let (legal, page) = match page_in(alloc, &bytes, names) {
         Ok(page) => page,
         Err(end) => return JudgeEnd::Refused(end),
     };
@@ -103,9 +109,9 @@ pub fn judge_input<S: Source, W: Sink>(alloc: Global, src: &mut S, out: &mut W) 
 }
 
 /// Says on `err` how the program ended, and answers the status. A fault of `err` changes nothing else.
-#[tactic(auto, unfolding(crate::specs::Pages::usage))]
+#[tactic(auto, unfolding(crate::specs::Pages::judge_usage))]
 pub fn tell<E: Sink>(alloc: Global, end: JudgeEnd, err: &mut E) -> u8
-    ensures told { Tells end (E.faults err.old) (E.faults err.new) (E.held err.old) (E.held err.new) result }
+    ensures told { IsEndTold end (E.faults err.old) (E.faults err.new) (E.held err.old) (E.held err.new) result }
 {
     match end {
         JudgeEnd::Legal => {

@@ -1,9 +1,9 @@
 -- A handle that was written is read as the same.
 use Rattle.std.proofs.lemmas.Bool.Decides.{nat_tests}
-use Rattle.journal_text.proofs.Names.{◌≡◌, ℕ, ◌+◌, ◌*◌, ◌/◌, ◌%◌, ◌<◌, ◌≤◌, ◌^◌, List, [], ◌∷◌, ◌++◌, length, drop, Bool, true, false, eqb, Option, Some, None, refl, ap, ◌∙◌, arith, codes, nat_lt, find, before_first, after_first, position_or_len, list_all, is_ascii_digit, nat_le, decimal, leb-true, eqb-true, ne_eqb, and_parts, digits_decimal, ObjectKind, Layout, object_number, named_kind, number, number_within, own, number_written, within_written, kind_letter, kind_lettered, kind_numbered, object_kinds, handle_led, handle_of, handle_named, handle_text, named_text, generation, slot, length_push, cond_both, subst, sym, append_assoc, drop-append_seam, take-append_seam}
+use Rattle.journal_text.proofs.Names.{◌≡◌, ℕ, ◌+◌, ◌*◌, ◌/◌, ◌%◌, ◌<◌, ◌≤◌, ◌^◌, List, [], ◌∷◌, ◌++◌, length, drop, Bool, true, false, eqb, Option, Some, None, refl, ap, ◌∙◌, arith, codes, nat_lt, find, before_first, after_first, position_or_len, list_all, is_ascii_digit, nat_le, decimal, leb-true, eqb-true, ne_eqb, and_parts, digits_decimal, ObjectKind, Layout, object_number, named_kind, number, number_within, own, number_written, within_written, kind_letter, kind_lettered, kind_numbered, object_kinds, handle_led, handle_of_word, handle_named, handle_text, named_text, generation, slot, length_push, cond_both, subst, sym, append_assoc, drop-append_seam, take-append_seam}
 
-pub dash_no_handle : handle_of (codes "-") ≡ None
-unfolding handle_of number
+pub dash_no_handle : handle_of_word (codes "-") ≡ None
+unfolding handle_of_word number
 dash_no_handle = refl
 
 -- ---- decimal numbers
@@ -11,11 +11,11 @@ dash_no_handle = refl
 pub digit_high : (b : ℕ) → is_ascii_digit b ≡ true → 48 ≤ b
 digit_high b h = leb-true 48 b (and_parts (nat_le 48 b) (nat_le b 57) h).0
 
-digits_number : (text : List ℕ) → list_all is_ascii_digit text ≡ true → handle_of text ≡ number text
-unfolding handle_of number
+digits_number : (text : List ℕ) → list_all is_ascii_digit text ≡ true → handle_of_word text ≡ number text
+unfolding handle_of_word number
 digits_number text e1 = grind (arith, nat_tests)
 
-decimal_again : (h : ℕ) → h < 2 ^ 64 → handle_of (decimal h) ≡ Some h
+decimal_again : (h : ℕ) → h < 2 ^ 64 → handle_of_word (decimal h) ≡ Some h
 decimal_again h f = digits_number (decimal h) (digits_decimal own h f) ∙ number_written h f
 
 -- ---- handles behind a letter
@@ -82,10 +82,10 @@ found_passes : {X : Type 0} (p : X → Bool) (all : List X) (x : X) → find p a
 found_passes p [] x e = absurd cc
 found_passes p (y ∷ ys) x e = cond_both (p y) (Some y) (find p ys) (λ o. o ≡ Some x → p x ≡ true) (λ is f. cc) (λ is f. found_passes p ys x f) e
 
-kind_again : (h : ℕ) (o : Option ObjectKind) → h < 2 ^ 64 → kind_numbered (named_kind h) ≡ o → handle_of (named_text o h) ≡ Some h
-unfolding handle_of
+kind_again : (h : ℕ) (o : Option ObjectKind) → h < 2 ^ 64 → kind_numbered (named_kind h) ≡ o → handle_of_word (named_text o h) ≡ Some h
+unfolding handle_of_word
 kind_again h o e1 e2 = grind (arith, nat_tests, decimal_again, eqb-true, found_passes, letter_again, named_again)
 
-pub handle_again : (l : Layout) (h : ℕ) → h < 2 ^ 64 → handle_of (handle_text l h) ≡ Some h
+pub handle_again : (l : Layout) (h : ℕ) → h < 2 ^ 64 → handle_of_word (handle_text l h) ≡ Some h
 unfolding handle_text
 handle_again l h e1 = grind (arith, nat_tests, decimal_again, nat_lt, kind_again, kind_numbered, named_kind)

@@ -1,6 +1,6 @@
 -- A journal that was written is read as the same.
 use Rattle.std.proofs.lemmas.Bool.Decides.{nat_tests}
-use Rattle.journal_text.proofs.Names.{◌≡◌, ℕ, ◌+◌, List, [], ◌∷◌, ◌++◌, Result, Ok, refl, sym, ap, ◌∙◌, append_assoc, length, arith, Vec, IfOk, AllByRecursion, AreNodeSettings, append-nil, NodeEntry, KeptEntries, Journal, between, Head, head_text, entry_text, head_for, entry_lines, lines_text, journal_text, in_line, with_kept, line_adds, entries_from, no_entries, journal_from, journal_of, ◌>>=◌, HeadFits, EntryFits, EntriesFit, AllPartsFit, HasPlace, JournalFits, IsWritable}
+use Rattle.journal_text.proofs.Names.{◌≡◌, ℕ, ◌+◌, List, [], ◌∷◌, ◌++◌, Result, Ok, refl, sym, ap, ◌∙◌, append_assoc, length, arith, Vec, IfOk, AllByRecursion, AreNodeSettings, append-nil, NodeEntry, KeptEntries, Journal, between, Head, head_text, entry_text, head_for, entry_lines, lines_text, journal_text, in_line, with_kept, line_adds_entry, entries_from, no_entries, journal_from, journal_of, ◌>>=◌, HeadFits, EntryFits, EntriesFit, AllPartsFit, HasPlace, JournalFits, IsWritable}
 use Rattle.journal_text.proofs.Reading.{with_entries}
 use Rattle.journal_text.proofs.Steps.{step_is, lines_are}
 use Rattle.journal_text.proofs.Plain.{between_line}
@@ -16,8 +16,8 @@ ended_some [] = ([], [], refl)
 ended_some (l ∷ ls) = (l, ls ++ [] ∷ [], refl)
 
 adds_again : (head : Head) (line : ℕ) (kept : KeptEntries) (e : NodeEntry) (n : ℕ) → HeadFits head → EntryFits head e n
-    → line_adds head line kept (entry_text head e n) ≡ Ok (with_kept kept (e, n))
-unfolding line_adds
+    → line_adds_entry head line kept (entry_text head e n) ≡ Ok (with_kept kept (e, n))
+unfolding line_adds_entry
 adds_again head line kept e n g f = ap (λ o. in_line line o >>= λ x. Ok (with_kept kept x)) (entry_again head e n g f)
 
 first_again : (head : Head) (line : ℕ) (kept : KeptEntries) (e : NodeEntry) (n : ℕ) (lines : List (List ℕ)) → HeadFits head → EntryFits head e n

@@ -1,6 +1,6 @@
 -- A line that was written is read as the same entry.
 use Rattle.std.proofs.lemmas.Bool.Decides.{nat_tests}
-use Rattle.journal_text.proofs.Names.{◌≡◌, ℕ, ◌+◌, ◌-◌, ◌<◌, ◌^◌, List, [], ◌∷◌, ◌++◌, true, cond, eqb, Some, refl, ap, ◌∙◌, arith, inl, inr, codes, nat_lt, drop, AllByRecursion, list_all, join_with_byte, bytes_eq, decimal, and_from, cases_Bool, lt-ltb, ltb-false, bytes_eq-Decides, Layout, NodeEntry, IsHonest, Op, Reply, number_within, number_written, within_written, Head, values_words, values_onto, op_row, op_spelled, op_of, reply_row, reply_spelled, reply_of, seat_text, op_texts, reply_texts, skipped_texts, entry_texts, entry_text, seat_of, op_from, reply_from, skipped_from, entry_by, entry_from, has_words, is_seated, if_spelled, entry_of, ValueFits, EntryFits, HeadFits}
+use Rattle.journal_text.proofs.Names.{◌≡◌, ℕ, ◌+◌, ◌-◌, ◌<◌, ◌^◌, List, [], ◌∷◌, ◌++◌, true, cond, eqb, Some, refl, ap, ◌∙◌, arith, inl, inr, codes, nat_lt, drop, AllByRecursion, list_all, join_with_byte, bytes_eq, decimal, and_from, cases_Bool, lt-ltb, ltb-false, bytes_eq-Decides, Layout, NodeEntry, IsHonest, Op, Reply, number_within, number_written, within_written, Head, values_words, values_onto, op_row, op_spelled, op_of, reply_row, reply_spelled, reply_of, seat_text, op_texts, reply_texts, skipped_texts, entry_texts, entry_text, seat_of, op_from, reply_from, skipped_from, entry_by, entry_from, has_words, is_seated, if_spelled, entry_of_line, ValueFits, EntryFits, HeadFits}
 use Rattle.number_text.specs.Lists.{◌>>=◌}
 use Rattle.journal_text.proofs.OpsAgain.{op_word_again, op_shapes, op_again, reply_word_again, reply_shapes, reply_again}
 use Rattle.journal_text.proofs.ValuesAgain.{values_again}
@@ -66,8 +66,8 @@ if_spelled_again : (head : Head) (line : List ℕ) (e : NodeEntry) (n : ℕ) →
     → if_spelled head line (e, n) ≡ Some (e, n)
 if_spelled_again head line e n a b same = rw (a, b, same, bytes_same line) refl
 
-pub entry_again : (head : Head) (e : NodeEntry) (n : ℕ) → HeadFits head → EntryFits head e n → entry_of head (entry_text head e n) ≡ Some (e, n)
-unfolding entry_of entry_text
+pub entry_again : (head : Head) (e : NodeEntry) (n : ℕ) → HeadFits head → EntryFits head e n → entry_of_line head (entry_text head e n) ≡ Some (e, n)
+unfolding entry_of_line entry_text
 entry_again head e n g f =
     let seat = seat_text head.settings.workers e.who in
     let ws = entry_texts head.layout e n in

@@ -3,8 +3,8 @@ pub use Rattle.action_fn.specs.Answers.{Answered, IsAnswered}
 pub use Rattle.byte_io.specs.{Causes.ReadsWhole, declared.whole.ReadAllError.TheVariants.TooLong}
 pub use Rattle.journal_text.specs.Fits.{AllPartsFit, AreArgs, EntriesFit, EntryFits, HasPlace, HeadFits, IsWritable, JournalFits, ValueFits}
 pub use Rattle.journal_text.specs.Handles.{generation, handle_led, kind_letter, kind_lettered, kind_numbered, named_text, object_kinds, slot}
-pub use Rattle.journal_text.specs.Heads.{first_texts, has_callers, last_texts, or_else, setting_text, usual_settings, version}
-pub use Rattle.journal_text.specs.Journals.{FailsAs, ReadsClean, at_end, entry_lines, head_for, in_line, lines_text, no_entries, no_line, with_kept, ◌>>=◌}
+pub use Rattle.journal_text.specs.Heads.{first_texts, has_callers, last_texts, or_else, setting_text, usual_head_settings, version}
+pub use Rattle.journal_text.specs.Journals.{FailsAs, ReadsJournalClean, at_end, entry_lines, head_for, in_line, lines_text, no_entries, no_line, with_kept, ◌>>=◌}
 pub use Rattle.journal_text.specs.Lines.{entry_texts, has_words, if_spelled, is_seated, op_texts, reply_texts, seat_text, skipped_texts}
 pub use Rattle.journal_text.specs.declared.heads.Head.{Head}
 pub use Rattle.journal_text.specs.{Ops.finished_of, Ops.or_op, declared.op_words.OpWord.OpWord, declared.values.Status.Status, declared.values.Value.Value}
@@ -29,16 +29,16 @@ pub use Rattle.std.proofs.{lemmas.Fmt.digits_decimal, lemmas.List.append-nil, le
 pub use Rattle.std.specs.List.{AllByRecursion, after_first, before_first, flat_map, join_with_byte, list_all, onto_first, position_or_len}
 pub use Rattle.std.specs.Prelude.{FitsSigned, IfOk, IfSome, OnOk, codes, find, nat_le, nat_lt, option_map, unwrap_or}
 pub use Rattle.std.specs.{Char.is_ascii_digit, Fmt.decimal, Fmt.signed_decimal, Global.Vec, Int.w64, Io.KnownBytes.IsAtEnd, Str.bytes_eq}
-unfoldable pub use Rattle.journal_text.specs.Handles.{handle_named, handle_of, handle_text}
+unfoldable pub use Rattle.journal_text.specs.Handles.{handle_named, handle_of_word, handle_text}
 unfoldable pub use Rattle.journal_text.specs.Heads.{head_from, head_in, head_of, head_text, number_behind, numbers_behind, settings_from, with_setting}
-unfoldable pub use Rattle.journal_text.specs.Journals.{entries_from, journal_from, journal_of, journal_text, line_adds}
-unfoldable pub use Rattle.journal_text.specs.Lines.{entry_by, entry_from, entry_of, entry_text, op_from, reply_from, seat_of, skipped_from}
+unfoldable pub use Rattle.journal_text.specs.Journals.{entries_from, journal_from, journal_of, journal_text, line_adds_entry}
+unfoldable pub use Rattle.journal_text.specs.Lines.{entry_by, entry_from, entry_of_line, entry_text, op_from, reply_from, seat_of, skipped_from}
 unfoldable pub use Rattle.journal_text.specs.Ops.{lock_op, node_op, op_of, op_row, op_spelled, op_word_of, queue_op, segment_op, task_op, work_op}
 unfoldable pub use Rattle.journal_text.specs.Replies.{reply_of, reply_row, reply_spelled, reply_word_of}
-unfoldable pub use Rattle.journal_text.specs.Values.{args_of, completed_of, end_of, failed_of, group_of, mrapi_of}
-unfoldable pub use Rattle.journal_text.specs.Values.{mtapi_of, status_of, value_of, value_words, values_onto, word_value}
+unfoldable pub use Rattle.journal_text.specs.Values.{args_of, completed_of, end_of_words, failed_of, group_of, mrapi_of}
+unfoldable pub use Rattle.journal_text.specs.Values.{mtapi_of, status_of_word, value_of_words, value_words, values_onto, word_value}
 unfoldable pub use Rattle.mtapi_values.specs.Kinds.{kind_named}
-unfoldable pub use Rattle.number_text.specs.{Lists.list_of, Numbers.number, Numbers.number_within, Numbers.whole}
+unfoldable pub use Rattle.number_text.specs.{Lists.list_of, Numbers.number, Numbers.number_within, Numbers.whole_number}
 pub use Rattle.number_text.proofs.Pieces.{left_len}
 pub use Rattle.number_text.proofs.Names.{named_exact, unnamed_exact}
 pub use Rattle.std.proofs.lemmas.List.{length_push}

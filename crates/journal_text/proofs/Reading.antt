@@ -1,6 +1,6 @@
 -- A text that is read is the text of the journal that it gives.
 use Rattle.std.proofs.lemmas.Bool.Decides.{nat_tests}
-use Rattle.journal_text.proofs.Names.{◌≡◌, ℕ, ◌+◌, List, [], ◌∷◌, ◌++◌, length, true, ◌&&◌, Option, Some, Result, Ok, refl, sym, ap, ◌∙◌, arith, append_assoc, join_with_byte, bytes_eq, and_parts, cond_some, append-nil, join_with_byte-slice_split, bytes_eq-Decides, Layout, NodeEntry, KeptEntries, Journal, between, bind_some, Head, TextError, head_text, head_of, head_in, head_from, numbers_behind, has_callers, or_else, entry_text, entry_of, entry_from, if_spelled, has_words, is_seated, entry_lines, lines_text, journal_text, in_line, with_kept, line_adds, at_end, entries_from, no_entries, journal_from, journal_of, ◌>>=◌}
+use Rattle.journal_text.proofs.Names.{◌≡◌, ℕ, ◌+◌, List, [], ◌∷◌, ◌++◌, length, true, ◌&&◌, Option, Some, Result, Ok, refl, sym, ap, ◌∙◌, arith, append_assoc, join_with_byte, bytes_eq, and_parts, cond_some, append-nil, join_with_byte-slice_split, bytes_eq-Decides, Layout, NodeEntry, KeptEntries, Journal, between, bind_some, Head, TextError, head_text, head_of, head_in, head_from, numbers_behind, has_callers, or_else, entry_text, entry_of_line, entry_from, if_spelled, has_words, is_seated, entry_lines, lines_text, journal_text, in_line, with_kept, line_adds_entry, at_end, entries_from, no_entries, journal_from, journal_of, ◌>>=◌}
 
 -- ---- steps that may fail
 
@@ -16,8 +16,8 @@ in_line_some line o x e1 = grind (arith, nat_tests)
 -- ---- lines
 
 -- what was read as an entry is the entry's line
-pub entry_spelled : (head : Head) (line : List ℕ) (x : NodeEntry × ℕ) → entry_of head line ≡ Some x → entry_text head x.0 x.1 ≡ line
-unfolding entry_of
+pub entry_spelled : (head : Head) (line : List ℕ) (x : NodeEntry × ℕ) → entry_of_line head line ≡ Some x → entry_text head x.0 x.1 ≡ line
+unfolding entry_of_line
 entry_spelled head line x h =
     let p = bind_some (entry_from head (between 32 line)) (if_spelled head line) x h in
     let c = cond_some (has_words head.layout p.0.0 && is_seated head p.0.0 && bytes_eq (entry_text head p.0.0 p.0.1) line) p.0 x p.2 in
@@ -75,14 +75,14 @@ at_end_is x y last e1 = grind (arith, nat_tests)
 -- the entries that were read are those whose lines these are
 pub entries_spelled : (head : Head) (line : ℕ) (kept k : KeptEntries) (text : List ℕ) (texts : List (List ℕ)) → IsBeside kept
     → entries_from head line kept (text ∷ texts) ≡ Ok k → kept_text head k ≡ kept_text head kept ++ join_with_byte 10 (text ∷ texts)
-unfolding entries_from line_adds
+unfolding entries_from line_adds_entry
 entries_spelled head line kept k text [] b h =
     let p = at_end_is kept k text h in
     rw (← p.0, p.1) (sym (append-nil (kept_text head kept)))
 entries_spelled head line kept k text (next ∷ texts) b h =
-    let p = ok_parts (line_adds head line kept text) (λ more. entries_from head (line + 1) more (next ∷ texts)) k h in
-    let q = ok_parts (in_line line (entry_of head text)) (λ x. Ok (with_kept kept x)) p.0 p.1 in
-    let spelled = entry_spelled head text q.0 (in_line_some line (entry_of head text) q.0 q.1) in
+    let p = ok_parts (line_adds_entry head line kept text) (λ more. entries_from head (line + 1) more (next ∷ texts)) k h in
+    let q = ok_parts (in_line line (entry_of_line head text)) (λ x. Ok (with_kept kept x)) p.0 p.1 in
+    let spelled = entry_spelled head text q.0 (in_line_some line (entry_of_line head text) q.0 q.1) in
     let same : with_kept kept q.0 ≡ p.0 = cc in
     let rest = entries_spelled head (line + 1) (with_kept kept q.0) k next texts (kept_beside kept q.0 b) (rw (← same) at p.2) in
     let first = rw spelled at (kept_more head kept q.0 b) in

@@ -1,6 +1,6 @@
 -- A journal's lines, read one after the other.
 use Rattle.std.proofs.lemmas.Bool.Decides.{nat_tests}
-use Rattle.journal_text.proofs.Names.{arith, ◌≡◌, ℕ, ◌+◌, List, [], ◌∷◌, eqb, Result, Ok, Err, refl, sym, ap, ◌∙◌, inl, inr, onto_first, cases_Bool, KeptEntries, between, Head, TextError, head_of, in_line, line_adds, at_end, entries_from, no_entries, no_line, journal_from, journal_of, FailsAs, ◌>>=◌}
+use Rattle.journal_text.proofs.Names.{arith, ◌≡◌, ℕ, ◌+◌, List, [], ◌∷◌, eqb, Result, Ok, Err, refl, sym, ap, ◌∙◌, inl, inr, onto_first, cases_Bool, KeptEntries, between, Head, TextError, head_of, in_line, line_adds_entry, at_end, entries_from, no_entries, no_line, journal_from, journal_of, FailsAs, ◌>>=◌}
 use Rattle.journal_text.proofs.Reading.{with_entries}
 
 onto_some : (x : ℕ) (parts : List (List ℕ)) → (n : List ℕ) × (ns : List (List ℕ)) × (onto_first x parts ≡ n ∷ ns)
@@ -19,12 +19,13 @@ parts_some (x ∷ xs) =
 -- ---- entries
 
 pub step_is : (head : Head) (line : ℕ) (kept : KeptEntries) (text next : List ℕ) (texts : List (List ℕ)) (r : Result KeptEntries TextError)
-    → line_adds head line kept text ≡ r → entries_from head line kept (text ∷ next ∷ texts) ≡ (r >>= λ more. entries_from head (line + 1) more (next ∷ texts))
+    → line_adds_entry head line kept text ≡ r
+    → entries_from head line kept (text ∷ next ∷ texts) ≡ (r >>= λ more. entries_from head (line + 1) more (next ∷ texts))
 unfolding entries_from
 step_is head line kept text next texts r a = ap (λ (s : Result KeptEntries TextError). s >>= λ more. entries_from head (line + 1) more (next ∷ texts)) a
 
 first_is : (head : Head) (line : ℕ) (kept : KeptEntries) (lines : List (List ℕ)) (text rest : List ℕ) (r : Result KeptEntries TextError)
-    → lines ≡ text ∷ between 10 rest → line_adds head line kept text ≡ r
+    → lines ≡ text ∷ between 10 rest → line_adds_entry head line kept text ≡ r
     → entries_from head line kept lines ≡ (r >>= λ more. entries_from head (line + 1) more (between 10 rest))
 first_is head line kept lines text rest r e a =
     let o = parts_some rest in
@@ -32,7 +33,7 @@ first_is head line kept lines text rest r e a =
     ∙ ap (λ l. r >>= λ more. entries_from head (line + 1) more l) (sym o.2)
 
 pub entries_more : (head : Head) (line : ℕ) (kept more : KeptEntries) (lines : List (List ℕ)) (text rest : List ℕ) (total : Result KeptEntries TextError)
-    → entries_from head line kept lines ≡ total → lines ≡ text ∷ between 10 rest → line_adds head line kept text ≡ Ok more
+    → entries_from head line kept lines ≡ total → lines ≡ text ∷ between 10 rest → line_adds_entry head line kept text ≡ Ok more
     → entries_from head (line + 1) more (between 10 rest) ≡ total
 entries_more head line kept more lines text rest total h e a = sym (first_is head line kept lines text rest (Ok more) e a) ∙ h
 
@@ -42,9 +43,9 @@ fails_on e a b e1 e2 = grind (arith, nat_tests)
 
 pub entries_fail : (error : TextError) (head : Head) (line : ℕ) (kept : KeptEntries) (lines : List (List ℕ)) (text rest : List ℕ)
     (total : Result KeptEntries TextError) → entries_from head line kept lines ≡ total → lines ≡ text ∷ between 10 rest
-    → FailsAs error (line_adds head line kept text) → FailsAs error total
+    → FailsAs error (line_adds_entry head line kept text) → FailsAs error total
 entries_fail error head line kept lines text rest total h e f =
-    fails_on error (line_adds head line kept text) total (λ x a. sym h ∙ first_is head line kept lines text rest (Err x) e a) f
+    fails_on error (line_adds_entry head line kept text) total (λ x a. sym h ∙ first_is head line kept lines text rest (Err x) e a) f
 
 pub entries_end : (head : Head) (line : ℕ) (kept : KeptEntries) (lines : List (List ℕ)) (text : List ℕ) (total : Result KeptEntries TextError)
     → entries_from head line kept lines ≡ total → lines ≡ text ∷ [] → total ≡ at_end kept text

@@ -1,6 +1,6 @@
 -- A value that was written is read as the same.
 use Rattle.std.proofs.lemmas.Bool.Decides.{nat_tests}
-use Rattle.journal_text.proofs.Names.{◌≡◌, ℕ, ℤ, ◌<◌, ◌^◌, List, [], ◌∷◌, ◌++◌, map, true, false, Option, Some, None, refl, sym, ap, ◌∙◌, arith, append_assoc, codes, option_map, AllByRecursion, bytes_eq, append-nil, TaskEnd, Layout, MrapiStatus, kind_named, mtapi_name, mrapi_name, kind_finds_each, mtapi_finds_each, mrapi_finds_each, whole, list_of, list_text, number_written, within_written, whole_written, list_written, Status, Shape, Value, handle_text, handle_of, value_words, values_words, args_text, args_of, group_of, status_of, status_from, mtapi_of, mrapi_of, completed_of, failed_of, end_of, end_value, word_value, value_of, values_onto, one, ValueFits, AreArgs}
+use Rattle.journal_text.proofs.Names.{◌≡◌, ℕ, ℤ, ◌<◌, ◌^◌, List, [], ◌∷◌, ◌++◌, map, true, false, Option, Some, None, refl, sym, ap, ◌∙◌, arith, append_assoc, codes, option_map, AllByRecursion, bytes_eq, append-nil, TaskEnd, Layout, MrapiStatus, kind_named, mtapi_name, mrapi_name, kind_finds_each, mtapi_finds_each, mrapi_finds_each, whole_number, list_of, list_text, number_written, within_written, whole_written, list_written, Status, Shape, Value, handle_text, handle_of_word, value_words, values_words, args_text, args_of, group_of, status_of_word, status_from, mtapi_of, mrapi_of, completed_of, failed_of, end_of_words, end_value, word_value, value_of_words, values_onto, one, ValueFits, AreArgs}
 use Rattle.number_text.specs.Lists.{◌>>=◌}
 use Rattle.number_text.specs.Lists as lists
 use Rattle.journal_text.proofs.HandlesAgain.{handle_again, dash_no_handle}
@@ -20,7 +20,7 @@ shape_of (Value.End e) = Shape.End
 shape_of (Value.Status s) = Shape.Status
 
 dash_no_list : list_of (codes "-") ≡ None
-unfolding list_of lists.wholes whole
+unfolding list_of lists.wholes whole_number
 dash_no_list = refl
 
 pub args_again : (zs : List ℤ) → AreArgs zs → args_of (args_text zs) ≡ Some zs
@@ -29,21 +29,21 @@ args_again zs e1 = grind (arith, nat_tests, list_written, bytes_eq, list_text, b
 
 group_again : (l : Layout) (h : ℕ) → h < 2 ^ 64 → group_of (handle_text l h) ≡ Some (Some h)
 unfolding group_of
-group_again l h e1 = grind (arith, nat_tests, handle_again, bytes_eq, handle_text, bytes_are, handle_of, dash_no_handle)
+group_again l h e1 = grind (arith, nat_tests, handle_again, bytes_eq, handle_text, bytes_are, handle_of_word, dash_no_handle)
 
 no_mtapi : (s : MrapiStatus) → mtapi_of (mrapi_name s) ≡ None
 unfolding mtapi_of
 no_mtapi s = grind (arith, nat_tests)
 
-status_again : (s : _) → status_of (mrapi_name s) ≡ Some (Status.Mrapi s)
-unfolding status_of mrapi_of
+status_again : (s : _) → status_of_word (mrapi_name s) ≡ Some (Status.Mrapi s)
+unfolding status_of_word mrapi_of
 status_again s = ap (λ o. status_from o (mrapi_of (mrapi_name s))) (no_mtapi s) ∙ ap (option_map Status.Mrapi) (mrapi_finds_each.own s)
 
 abbrev alone : List (List ℕ) → Option Value → Option (Value × List (List ℕ))
 alone ws o = one (λ v. v) ws o
 
-pub value_again : (l : Layout) (v : Value) (ws : List (List ℕ)) → ValueFits v → value_of (shape_of v) (value_words l v ++ ws) ≡ Some (v, ws)
-unfolding value_of value_words word_value end_of completed_of failed_of status_of mtapi_of group_of kind_named
+pub value_again : (l : Layout) (v : Value) (ws : List (List ℕ)) → ValueFits v → value_of_words (shape_of v) (value_words l v ++ ws) ≡ Some (v, ws)
+unfolding value_of_words value_words word_value end_of_words completed_of failed_of status_of_word mtapi_of group_of kind_named
 value_again l (Value.Number n) ws f = ap (λ o. alone ws (option_map Value.Number o)) (within_written 0 4294967295 n (omega arith) (omega arith) (omega arith))
 value_again l (Value.Whole z) ws f = ap (λ o. alone ws (option_map Value.Whole o)) (whole_written z f)
 value_again l (Value.Flag true) ws f = refl
@@ -66,7 +66,7 @@ first_again : (l : Layout) (prefix : List Value) (v : Value) (vs : List Value) (
     → values_onto prefix (shape_of v ∷ map shape_of vs) (values_words l (v ∷ vs) ++ ws)
     ≡ values_onto (prefix ++ v ∷ []) (map shape_of vs) (values_words l vs ++ ws)
 unfolding values_onto
-first_again l prefix v vs ws e1 = grind (arith, nat_tests, append_assoc, value_words, values_words, value_of, values_onto, value_again)
+first_again l prefix v vs ws e1 = grind (arith, nat_tests, append_assoc, value_words, values_words, value_of_words, values_onto, value_again)
 
 pub values_again : (l : Layout) (prefix vs : List Value) (ws : List (List ℕ)) → AllByRecursion ValueFits vs
     → values_onto prefix (map shape_of vs) (values_words l vs ++ ws) ≡ Some (prefix ++ vs, ws)

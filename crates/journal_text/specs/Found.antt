@@ -11,11 +11,11 @@ left_texts None = None
 left_texts (Some x) = Some (x.0, pieces_of 32 x.1)
 
 -- what stands for a failure, where it isn't when out of memory
-abbrev pub Fails : {B : Type 0} → LineError → Option B → Type 0
-Fails Memory read = Unit {0}
-Fails Outside read = read ≡ None
+abbrev pub FailsToRead : {B : Type 0} → LineError → Option B → Type 0
+FailsToRead Memory read = Unit {0}
+FailsToRead Outside read = read ≡ None
 
 -- what was returned, seen by view, is what reading gives, unless memory ran out
-abbrev pub Gives : {A B : Type 0} → (A → B) → Result A LineError → Option B → Type 0
-Gives view (Ok x) read = read ≡ Some (view x)
-Gives view (Err e) read = Fails e read
+abbrev pub GivesRead : {A B : Type 0} → (A → B) → Result A LineError → Option B → Type 0
+GivesRead view (Ok x) read = read ≡ Some (view x)
+GivesRead view (Err e) read = FailsToRead e read

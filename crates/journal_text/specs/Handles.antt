@@ -62,6 +62,6 @@ handle_led (Some k) rest text = handle_named k rest
 handle_led None rest text = number text
 
 -- the handle that a word may be
-unfoldable pub handle_of : List ℕ → Option ℕ
-handle_of [] = None
-handle_of (b ∷ bs) = handle_led (kind_lettered b) bs (b ∷ bs)
+unfoldable pub handle_of_word : List ℕ → Option ℕ
+handle_of_word [] = None
+handle_of_word (b ∷ bs) = handle_led (kind_lettered b) bs (b ∷ bs)

@@ -54,8 +54,8 @@ numbers_behind line = map number_behind (between 32 line)
 unfoldable pub with_setting : ℕ → ℕ → NodeSettings → NodeSettings
 with_setting number value settings = after_set node_attributes number value settings
 
-abbrev pub usual_settings : NodeSettings
-usual_settings = record { workers = 1; tasks = 1024; actions = 64; groups = 128; queues = 16; objects = 16; priorities = 4; generations = 4294967295 }
+abbrev pub usual_head_settings : NodeSettings
+usual_head_settings = record { workers = 1; tasks = 1024; actions = 64; groups = 128; queues = 16; objects = 16; priorities = 4; generations = 4294967295 }
 
 -- the settings that the numbers behind the words give
 unfoldable pub settings_from : List ℕ → NodeSettings
@@ -67,7 +67,7 @@ settings_from ns =
     (with_setting 4 (slice_index_or ns 6 0)
     (with_setting 3 (slice_index_or ns 5 0)
     (with_setting 2 (slice_index_or ns 4 0)
-    (with_setting 1 (slice_index_or ns 2 0) usual_settings)))))))
+    (with_setting 1 (slice_index_or ns 2 0) usual_head_settings)))))))
 
 -- the head of this layout that a line may be
 unfoldable pub head_from : Layout → List ℕ → Head

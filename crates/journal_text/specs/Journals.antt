@@ -5,7 +5,7 @@ use Rattle.mtapi_machine.specs.Legal.{NodeEntry}
 use Rattle.node_journals.specs.{Journals.KeptEntries, declared.entries.Journal.Journal}
 use Rattle.number_text.specs.Lists.{between}
 use Rattle.journal_text.specs.{declared.heads.Head.Head, declared.faults.TextError.TextError, declared.faults.JournalError.JournalError}
-use Rattle.journal_text.specs.{Heads.head_text, Heads.head_of, Lines.entry_text, Lines.entry_of}
+use Rattle.journal_text.specs.{Heads.head_text, Heads.head_of, Lines.entry_text, Lines.entry_of_line}
 
 -- ---- written
 
@@ -46,9 +46,9 @@ abbrev pub with_kept : KeptEntries → NodeEntry × ℕ → KeptEntries
 with_kept kept x = record { entries = kept.entries ++ x.0 ∷ []; skipped = kept.skipped ++ x.1 ∷ [] }
 
 -- the entries with that of a line
-unfoldable pub line_adds : Head → ℕ → KeptEntries → List ℕ → Result KeptEntries TextError
-line_adds head line kept text = do
-  x ← in_line line (entry_of head text)
+unfoldable pub line_adds_entry : Head → ℕ → KeptEntries → List ℕ → Result KeptEntries TextError
+line_adds_entry head line kept text = do
+  x ← in_line line (entry_of_line head text)
   Ok (with_kept kept x)
 
 -- nothing stands behind the last line feed
@@ -61,7 +61,7 @@ unfoldable pub entries_from : Head → ℕ → KeptEntries → List (List ℕ) �
 entries_from head line kept [] = Ok kept
 entries_from head line kept (last ∷ []) = at_end kept last
 entries_from head line kept (text ∷ next ∷ texts) = do
-  more ← line_adds head line kept text
+  more ← line_adds_entry head line kept text
   entries_from head (line + 1) more (next ∷ texts)
 
 abbrev pub no_entries : KeptEntries
@@ -99,24 +99,24 @@ ReadsAs (Err e) read = FailsAs e read
 
 -- For the bytes of a source, and those left behind: the journal that they are, or why they are none.
 -- The source is read to its end, or to one byte past the limit.
-abbrev pub Loads : List ℕ → Option (List ℕ) → Result Journal JournalError → Type 0
-Loads bytes left (Ok j) = (length bytes ≤ 67108864) × (journal_of bytes ≡ Ok j) × IsAtEnd left
-Loads bytes left (Err (JournalError.BadLine line)) = (length bytes ≤ 67108864) × (journal_of bytes ≡ Err (TextError.BadLine line)) × IsAtEnd left
-Loads bytes left (Err JournalError.PartialEnd) = (length bytes ≤ 67108864) × (journal_of bytes ≡ Err TextError.PartialEnd) × IsAtEnd left
-Loads bytes left (Err JournalError.TooLong) = (67108864 < length bytes) × IfSome left (λ rest. rest ≡ drop 67108865 bytes)
-Loads bytes left (Err JournalError.Memory) = Unit {0}
-Loads bytes left (Err JournalError.Read) = Unit {0}
+abbrev pub LoadsJournal : List ℕ → Option (List ℕ) → Result Journal JournalError → Type 0
+LoadsJournal bytes left (Ok j) = (length bytes ≤ 67108864) × (journal_of bytes ≡ Ok j) × IsAtEnd left
+LoadsJournal bytes left (Err (JournalError.BadLine line)) = (length bytes ≤ 67108864) × (journal_of bytes ≡ Err (TextError.BadLine line)) × IsAtEnd left
+LoadsJournal bytes left (Err JournalError.PartialEnd) = (length bytes ≤ 67108864) × (journal_of bytes ≡ Err TextError.PartialEnd) × IsAtEnd left
+LoadsJournal bytes left (Err JournalError.TooLong) = (67108864 < length bytes) × IfSome left (λ rest. rest ≡ drop 67108865 bytes)
+LoadsJournal bytes left (Err JournalError.Memory) = Unit {0}
+LoadsJournal bytes left (Err JournalError.Read) = Unit {0}
 
 -- the source counted no fault, and gave at most one byte past the limit, where it tells its bytes
-pub record ReadsClean (before now : ℕ) (old new : Option (List ℕ)) : Type 0 where
+pub record ReadsJournalClean (before now : ℕ) (old new : Option (List ℕ)) : Type 0 where
   pub faults : now ≡ before
   pub taken : IfSome old (λ bytes. IfSome new (λ rest. rest ≡ drop 67108865 bytes))
 
 -- this holds with each answer but a failed read and `out of memory`
-abbrev pub HoldsBut : Type 0 → Result Journal JournalError → Type 0
-HoldsBut P (Ok j) = P
-HoldsBut P (Err (JournalError.BadLine line)) = P
-HoldsBut P (Err JournalError.PartialEnd) = P
-HoldsBut P (Err JournalError.TooLong) = P
-HoldsBut P (Err JournalError.Memory) = Unit {0}
-HoldsBut P (Err JournalError.Read) = Unit {0}
+abbrev pub HoldsButFaults : Type 0 → Result Journal JournalError → Type 0
+HoldsButFaults P (Ok j) = P
+HoldsButFaults P (Err (JournalError.BadLine line)) = P
+HoldsButFaults P (Err JournalError.PartialEnd) = P
+HoldsButFaults P (Err JournalError.TooLong) = P
+HoldsButFaults P (Err JournalError.Memory) = Unit {0}
+HoldsButFaults P (Err JournalError.Read) = Unit {0}

@@ -105,5 +105,5 @@ is_seated head e = nat_lt e.who (head.settings.workers + head.callers)
 abbrev pub if_spelled : Head → List ℕ → NodeEntry × ℕ → Option (NodeEntry × ℕ)
 if_spelled head line x = if has_words head.layout x.0 && is_seated head x.0 && bytes_eq (entry_text head x.0 x.1) line then Some x else None
 
-unfoldable pub entry_of : Head → List ℕ → Option (NodeEntry × ℕ)
-entry_of head line = entry_from head (between 32 line) >>= if_spelled head line
+unfoldable pub entry_of_line : Head → List ℕ → Option (NodeEntry × ℕ)
+entry_of_line head line = entry_from head (between 32 line) >>= if_spelled head line

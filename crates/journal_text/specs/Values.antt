@@ -6,9 +6,9 @@ use Rattle.mtapi_values.specs.{declared.handles.Layout.Layout, declared.statuses
 use Rattle.mtapi_values.specs.{declared.statuses.MrapiStatus.MrapiStatus, declared.ends.TaskEnd.TaskEnd, Kinds.kind_word, Kinds.kind_named}
 use Rattle.mtapi_values.specs.Statuses.{mtapi_name, mrapi_name, mtapi_all, mrapi_all}
 use Rattle.number_text.specs.Lists.{list_of, list_text, ◌>>=◌}
-use Rattle.number_text.specs.Numbers.{number, number_within, whole}
+use Rattle.number_text.specs.Numbers.{number, number_within, whole_number}
 use Rattle.journal_text.specs.{declared.values.Status.Status, declared.values.Shape.Shape, declared.values.Value.Value}
-use Rattle.journal_text.specs.Handles.{handle_text, handle_of}
+use Rattle.journal_text.specs.Handles.{handle_text, handle_of_word}
 
 -- ---- written
 
@@ -69,8 +69,8 @@ abbrev pub status_from : Option MtapiStatus → Option MrapiStatus → Option St
 status_from (Some s) other = Some (Status.Mtapi s)
 status_from None other = option_map Status.Mrapi other
 
-unfoldable pub status_of : List ℕ → Option Status
-status_of text = status_from (mtapi_of text) (mrapi_of text)
+unfoldable pub status_of_word : List ℕ → Option Status
+status_of_word text = status_from (mtapi_of text) (mrapi_of text)
 
 -- the list that a word may be
 unfoldable pub args_of : List ℕ → Option (List ℤ)
@@ -78,7 +78,7 @@ args_of text = if bytes_eq text (codes "-") then Some [] else list_of text
 
 -- the handle that a word may be, or none
 unfoldable pub group_of : List ℕ → Option (Option ℕ)
-group_of text = if bytes_eq text (codes "-") then Some None else option_map Some (handle_of text)
+group_of text = if bytes_eq text (codes "-") then Some None else option_map Some (handle_of_word text)
 
 -- a value, and the words behind it
 abbrev pub Found : Type 0 → Type 0
@@ -99,8 +99,8 @@ failed_of [] = None
 failed_of (w ∷ ws) = one TaskEnd.Failed ws (mtapi_of w)
 
 -- the end that words may be
-unfoldable pub end_of : List ℕ → List (List ℕ) → Found TaskEnd
-end_of w ws =
+unfoldable pub end_of_words : List ℕ → List (List ℕ) → Found TaskEnd
+end_of_words w ws =
     if bytes_eq w (codes "completed") then completed_of ws
     else (if bytes_eq w (codes "error") then failed_of ws
     else Some (TaskEnd.Cancelled, ws))
@@ -113,26 +113,26 @@ end_value (Some x) = Some (Value.End x.0, x.1)
 -- the value of this shape that one word may be
 unfoldable pub word_value : Shape → List ℕ → Option Value
 word_value Shape.Number w = option_map Value.Number (number_within 0 4294967295 w)
-word_value Shape.Whole w = option_map Value.Whole (whole w)
+word_value Shape.Whole w = option_map Value.Whole (whole_number w)
 word_value Shape.Flag w = Some (Value.Flag (bytes_eq w (codes "1")))
 word_value Shape.Kind w = option_map Value.Kind (kind_named w)
 word_value Shape.Cores w = option_map (λ n. Value.Cores (record { 0 = n })) (number w)
 word_value Shape.Args w = option_map Value.Args (args_of w)
-word_value Shape.Handle w = option_map Value.Handle (handle_of w)
+word_value Shape.Handle w = option_map Value.Handle (handle_of_word w)
 word_value Shape.Group w = option_map Value.Group (group_of w)
 word_value Shape.End w = None
-word_value Shape.Status w = option_map Value.Status (status_of w)
+word_value Shape.Status w = option_map Value.Status (status_of_word w)
 
 -- the value of this shape that words may begin with
 abbrev pub value_from : Shape → List ℕ → List (List ℕ) → Found Value
-value_from Shape.End w ws = end_value (end_of w ws)
+value_from Shape.End w ws = end_value (end_of_words w ws)
 value_from s w ws = one (λ v. v) ws (word_value s w)
 
-unfoldable pub value_of : Shape → List (List ℕ) → Found Value
-value_of s [] = None
-value_of s (w ∷ ws) = value_from s w ws
+unfoldable pub value_of_words : Shape → List (List ℕ) → Found Value
+value_of_words s [] = None
+value_of_words s (w ∷ ws) = value_from s w ws
 
 -- values of these shapes, behind those in front
 unfoldable pub values_onto : List Value → List Shape → List (List ℕ) → Found (List Value)
 values_onto prefix [] ws = Some (prefix, ws)
-values_onto prefix (s ∷ ss) ws = value_of s ws >>= λ x. values_onto (prefix ++ x.0 ∷ []) ss x.1
+values_onto prefix (s ∷ ss) ws = value_of_words s ws >>= λ x. values_onto (prefix ++ x.0 ∷ []) ss x.1

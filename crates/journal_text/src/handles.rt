@@ -1,6 +1,6 @@
 //! Handles as words.
 ghost use Rattle.std.specs.Prelude.{◌≡◌, ◌++◌, ◌<◌, OnOk, IfSome};
-ghost use Rattle.journal_text.specs.Handles.{kind_letter, kind_numbered, kind_lettered, object_kinds, generation, slot, named_text, handle_text, handle_named, handle_led, handle_of};
+ghost use Rattle.journal_text.specs.Handles.{kind_letter, kind_numbered, kind_lettered, object_kinds, generation, slot, named_text, handle_text, handle_named, handle_led, handle_of_word};
 ghost use Rattle.mtapi_values.specs.Layouts.{object_number, named_kind};
 
 use mtapi_values::{Layout, ObjectKind};
@@ -111,9 +111,9 @@ fn handle_named(kind: ObjectKind, text: &[u8]) -> Option<u64>
 }
 
 /// The handle that a word may be: what is written, and more.
-#[tactic(auto, unfolding(crate::specs::Handles::handle_of))]
+#[tactic(auto, unfolding(crate::specs::Handles::handle_of_word))]
 pub fn handle_of(text: &[u8]) -> Option<u64>
-    ensures { result ≡ handle_of text.now }
+    ensures { result ≡ handle_of_word text.now }
 {
     match text {
         [] => None,

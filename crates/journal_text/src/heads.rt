@@ -3,7 +3,7 @@ ghost use Rattle.std.specs.Prelude.{◌≡◌, ◌≤◌, ◌++◌, ◌∷◌, [
 ghost use Rattle.std.specs.{List.slice_index_or, Fmt.decimal};
 ghost use Rattle.number_text.specs.Lists.{led};
 ghost use Rattle.journal_text.specs.Heads.{version, setting_text, first_texts, last_texts, head_text, number_behind, numbers_behind, with_setting, settings_from, head_from, has_callers, head_in, or_else, head_of};
-ghost use Rattle.journal_text.specs.Found.{Gives};
+ghost use Rattle.journal_text.specs.Found.{GivesRead};
 
 use crate::faults::LineError;
 use crate::texts::push_word;
@@ -163,7 +163,7 @@ fn head_in(alloc: Global, layout: Layout, line: &[u8]) -> Result<Option<Head>, A
 /// The head whose line this is.
 #[tactic(auto, unfolding(crate::specs::Heads::head_of))]
 pub fn head_of(alloc: Global, line: &[u8]) -> Result<Head, LineError>
-    ensures value { Gives (λ h. h) result (head_of line.now) }
+    ensures value { GivesRead (λ h. h) result (head_of line.now) }
     ensures callers { IfOk result (λ h. h.callers ≤ 9) }
 {
     if let Some(head) = head_in(alloc, Layout::One, line)? {

@@ -2,7 +2,7 @@
 ghost use Rattle.std.specs.Prelude.{◌≡◌, ◌<◌, ◌≤◌, ◌^◌, ◌++◌, ◌∷◌, [], Ok, Err, length, map, OnOk, IfOk, IfSome, IsErrOf};
 ghost use Rattle.number_text.specs.Lists.{between};
 ghost use Rattle.byte_io.specs.Causes.{Rose, TakesAtMost};
-ghost use Rattle.journal_text.specs.Journals.{head_for, entry_lines, lines_text, journal_text, in_line, line_adds, at_end, entries_from, no_entries, no_line, journal_of, ReadsAs, Loads, ReadsClean, HoldsBut};
+ghost use Rattle.journal_text.specs.Journals.{head_for, entry_lines, lines_text, journal_text, in_line, line_adds_entry, at_end, entries_from, no_entries, no_line, journal_of, ReadsAs, LoadsJournal, ReadsJournalClean, HoldsButFaults};
 ghost use Rattle.journal_text.specs.{Heads.head_of, Fits.PartsFit, Fits.AllPartsFit, Fits.IsWritable, Lines.entry_text};
 ghost use Rattle.mtapi_values.specs.Attributes.{AreNodeSettings};
 ghost use Rattle.node_journals.specs.Shorts.{entry_of};
@@ -98,7 +98,7 @@ pub fn write_journal(alloc: Global, journal: &Journal) -> Result<Vec<u8>, AllocE
 // ---- read
 
 /// The entries with that of a line.
-#[tactic(auto, unfolding(crate::specs::Journals::line_adds))]
+#[tactic(auto, unfolding(crate::specs::Journals::line_adds_entry))]
 fn add_line(
     alloc: Global,
     head: &Head,
@@ -107,7 +107,7 @@ fn add_line(
     text: &[u8],
 ) -> Result<ShortList, TextError>
     requires { head.now.callers ≤ 9 }
-    ensures { ReadsAs result (line_adds head.now line kept text.now) }
+    ensures { ReadsAs result (line_adds_entry head.now line kept text.now) }
 {
     let mut kept = kept;
     match entry_of(alloc, head, text) {
@@ -212,9 +212,9 @@ fn journal_of(alloc: Global, bytes: &[u8]) -> Result<Journal, TextError>
 /// - `PartialEnd` where there is no such line and the last byte isn't a line feed.
 #[tactic(auto, using(crate::proofs::Taken::long_clean, crate::proofs::Taken::text_same))]
 pub fn read_journal<S: Source>(alloc: Global, src: &mut S) -> Result<Journal, JournalError>
-    ensures exact { IfSome (S.left src.old) (λ bytes. Loads bytes (S.left src.new) result) }
+    ensures exact { IfSome (S.left src.old) (λ bytes. LoadsJournal bytes (S.left src.new) result) }
     ensures same { IfSome (S.left src.old) (λ bytes. IfOk result (λ j. journal_text j ≡ bytes)) }
-    ensures clean { HoldsBut (ReadsClean (S.faults src.old) (S.faults src.new) (S.left src.old) (S.left src.new)) result }
+    ensures clean { HoldsButFaults (ReadsJournalClean (S.faults src.old) (S.faults src.new) (S.left src.old) (S.left src.new)) result }
     // Whatever the answer is, at most one byte past the limit is taken; and only a failed read is a fault.
     ensures taken { TakesAtMost 67108865 (S.left src.old) (S.left src.new) }
     ensures faultless { (IsErrOf result JournalError.Read → ⊥) → S.faults src.new ≡ S.faults src.old }

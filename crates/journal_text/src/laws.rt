@@ -3,7 +3,7 @@ ghost use Rattle.std.specs.Prelude.{◌≡◌, List, ℕ, Ok, Some};
 ghost use Rattle.mtapi_machine.specs.{Legal.IsHonest, Legal.NodeEntry, declared.ops.Op.Op, declared.replies.Reply.Reply};
 ghost use Rattle.node_journals.specs.declared.entries.Journal.{Journal};
 ghost use Rattle.journal_text.specs.{Fits.HeadFits, Fits.EntryFits, Fits.JournalFits, Journals.journal_text, Journals.journal_of};
-ghost use Rattle.journal_text.specs.{Ops.op_spelled, Ops.op_of, Replies.reply_spelled, Replies.reply_of, Lines.entry_text, Lines.entry_of};
+ghost use Rattle.journal_text.specs.{Ops.op_spelled, Ops.op_of, Replies.reply_spelled, Replies.reply_of, Lines.entry_text, Lines.entry_of_line};
 ghost use Rattle.journal_text.specs.declared.heads.Head.{Head};
 ghost use Rattle.journal_text.specs.Worked.{WorkedJournals};
 
@@ -23,7 +23,7 @@ pub fn law_written()
 #[tactic(auto, using(crate::proofs::LinesAgain::entry_again))]
 pub fn law_lines()
     ensures { (head : Head) (e : NodeEntry) (n : ℕ) → HeadFits head → EntryFits head e n
-        → entry_of head (entry_text head e n) ≡ Some (e, n) }
+        → entry_of_line head (entry_text head e n) ≡ Some (e, n) }
 {}
 
 /// The word and the values by which an op or a reply is written give the same one back.

@@ -3,8 +3,8 @@ ghost use Rattle.std.specs.Prelude.{◌≡◌, ◌≤◌, ◌+◌, ◌++◌, ◌
 ghost use Rattle.std.specs.List.{AllByRecursion};
 ghost use Rattle.number_text.specs.Lists.{led, pieces_of, between};
 ghost use Rattle.mtapi_machine.specs.Legal.{IsHonest};
-ghost use Rattle.journal_text.specs.Lines.{seat_text, op_texts, reply_texts, skipped_texts, entry_texts, entry_text, seat_of, op_from, reply_from, skipped_from, entry_by, entry_from, is_tally_op, is_tally_reply, has_words, is_seated, if_spelled, entry_of};
-ghost use Rattle.journal_text.specs.{Ops.op_spelled, Replies.reply_spelled, Fits.ValueFits, Fits.PartsFit, Found.Gives, Found.left_texts};
+ghost use Rattle.journal_text.specs.Lines.{seat_text, op_texts, reply_texts, skipped_texts, entry_texts, entry_text, seat_of, op_from, reply_from, skipped_from, entry_by, entry_from, is_tally_op, is_tally_reply, has_words, is_seated, if_spelled, entry_of_line};
+ghost use Rattle.journal_text.specs.{Ops.op_spelled, Replies.reply_spelled, Fits.ValueFits, Fits.PartsFit, Found.GivesRead, Found.left_texts};
 
 use crate::faults::LineError;
 use crate::fits::{is_honest, values_fit};
@@ -125,7 +125,7 @@ fn seat_of(head: &Head, word: &[u8]) -> Option<u32>
 
 #[tactic(auto, unfolding(crate::specs::Lines::op_from))]
 fn op_from(alloc: Global, left: Option<&[u8]>) -> Result<(Op, Option<&[u8]>), LineError>
-    ensures { Gives (λ x. (x.0, pieces_of 32 x.1)) result (op_from (pieces_of 32 left.entry)) }
+    ensures { GivesRead (λ x. (x.0, pieces_of 32 x.1)) result (op_from (pieces_of 32 left.entry)) }
 {
     let Some((text, left)) = next_word(left) else {
         return Err(LineError::Outside);
@@ -142,7 +142,7 @@ fn op_from(alloc: Global, left: Option<&[u8]>) -> Result<(Op, Option<&[u8]>), Li
 
 #[tactic(auto, unfolding(crate::specs::Lines::reply_from))]
 fn reply_from(alloc: Global, left: Option<&[u8]>) -> Result<(Reply, Option<&[u8]>), LineError>
-    ensures { Gives (λ x. (x.0, pieces_of 32 x.1)) result (reply_from (pieces_of 32 left.entry)) }
+    ensures { GivesRead (λ x. (x.0, pieces_of 32 x.1)) result (reply_from (pieces_of 32 left.entry)) }
 {
     let Some((text, left)) = next_word(left) else {
         return Err(LineError::Outside);
@@ -175,7 +175,7 @@ fn without_word(left: Option<&[u8]>) -> Option<&[u8]>
 
 #[tactic(auto, unfolding(crate::specs::Lines::entry_by))]
 fn entry_by(alloc: Global, who: u32, left: Option<&[u8]>) -> Result<(Entry, u64), LineError>
-    ensures { Gives (λ x. x) result (entry_by who (pieces_of 32 left.entry)) }
+    ensures { GivesRead (λ x. x) result (entry_by who (pieces_of 32 left.entry)) }
 {
     let (op, left) = op_from(alloc, left)?;
     let (reply, left) = reply_from(alloc, without_word(left))?;
@@ -188,7 +188,7 @@ fn entry_by(alloc: Global, who: u32, left: Option<&[u8]>) -> Result<(Entry, u64)
 /// The entry that a line may be, and the number beside it: what is written, and more.
 #[tactic(auto, unfolding(crate::specs::Lines::entry_from))]
 fn entry_from(alloc: Global, head: &Head, line: &[u8]) -> Result<(Entry, u64), LineError>
-    ensures { Gives (λ x. x) result (entry_from head.now (between 32 line.now)) }
+    ensures { GivesRead (λ x. x) result (entry_from head.now (between 32 line.now)) }
 {
     let Some((seat, left)) = next_word(Some(line)) else {
         return Err(LineError::Outside);
@@ -242,10 +242,10 @@ fn is_seated(head: &Head, entry: &Entry) -> bool
 }
 
 /// The entry whose line this is, and the number beside it: what the line may be is written again and compared.
-#[tactic(auto, unfolding(crate::specs::Lines::entry_of))]
+#[tactic(auto, unfolding(crate::specs::Lines::entry_of_line))]
 pub fn entry_of(alloc: Global, head: &Head, line: &[u8]) -> Result<(Entry, u64), LineError>
     requires { head.now.callers ≤ 9 }
-    ensures { Gives (λ x. x) result (entry_of head.now line.now) }
+    ensures { GivesRead (λ x. x) result (entry_of_line head.now line.now) }
 {
     let (entry, skipped) = entry_from(alloc, head, line)?;
     if !has_words(head.layout, &entry) || !is_seated(head, &entry) {

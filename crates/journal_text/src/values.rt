@@ -1,8 +1,8 @@
 //! The values of fields as words.
 ghost use Rattle.std.specs.Prelude.{◌≡◌, ◌++◌, OnOk, IfOk, Some, None, option_map};
 ghost use Rattle.number_text.specs.{Numbers.number_within, Lists.led, Lists.pieces_of};
-ghost use Rattle.journal_text.specs.Values.{flag_text, args_text, group_text, end_words, status_name, value_words, values_words, mtapi_of, mrapi_of, status_of, status_from, args_of, group_of, completed_of, failed_of, end_of, word_value, value_of, values_onto};
-ghost use Rattle.journal_text.specs.Found.{left_texts, Gives};
+ghost use Rattle.journal_text.specs.Values.{flag_text, args_text, group_text, end_words, status_name, value_words, values_words, mtapi_of, mrapi_of, status_of_word, status_from, args_of, group_of, completed_of, failed_of, end_of_words, word_value, value_of_words, values_onto};
+ghost use Rattle.journal_text.specs.Found.{left_texts, GivesRead};
 
 use crate::faults::LineError;
 use crate::handles::{handle_of, push_handle};
@@ -195,9 +195,9 @@ fn mrapi_of(text: &[u8]) -> Option<MrapiStatus>
     }
 }
 
-#[tactic(auto, unfolding(crate::specs::Values::status_of))]
+#[tactic(auto, unfolding(crate::specs::Values::status_of_word))]
 fn status_of(text: &[u8]) -> Option<Status>
-    ensures { result ≡ status_of text.now }
+    ensures { result ≡ status_of_word text.now }
 {
     match mtapi_of(text) {
         Some(status) => Some(Status::Mtapi(status)),
@@ -241,9 +241,9 @@ fn failed_of(left: Option<&[u8]>) -> Option<(TaskEnd, Option<&[u8]>)>
     Some((TaskEnd::Failed(mtapi_of(word)?), left))
 }
 
-#[tactic(auto, unfolding(crate::specs::Values::end_of))]
+#[tactic(auto, unfolding(crate::specs::Values::end_of_words))]
 fn end_of<'a>(word: &[u8], left: Option<&'a [u8]>) -> Option<(TaskEnd, Option<&'a [u8]>)>
-    ensures { left_texts result ≡ end_of word.now (pieces_of 32 left.entry) }
+    ensures { left_texts result ≡ end_of_words word.now (pieces_of 32 left.entry) }
 {
     if word == b"completed".as_slice() {
         return completed_of(left);
@@ -281,9 +281,9 @@ fn word_value(shape: Shape, word: &[u8]) -> Option<Value>
 }
 
 /// The value of this shape that words may begin with: what is written, and more.
-#[tactic(auto, unfolding(crate::specs::Values::value_of))]
+#[tactic(auto, unfolding(crate::specs::Values::value_of_words))]
 fn value_of(shape: Shape, left: Option<&[u8]>) -> Option<(Value, Option<&[u8]>)>
-    ensures { left_texts result ≡ value_of shape (pieces_of 32 left.entry) }
+    ensures { left_texts result ≡ value_of_words shape (pieces_of 32 left.entry) }
 {
     let (word, left) = next_word(left)?;
     match shape {
@@ -302,7 +302,7 @@ pub fn values_onto<'a>(
     shapes: &[Shape],
     left: Option<&'a [u8]>,
 ) -> Result<(Vec<Value>, Option<&'a [u8]>), LineError>
-    ensures { Gives (λ x. (
+    ensures { GivesRead (λ x. (
       x.0.items,
       pieces_of 32 x.1,
     )) result (values_onto prefix.items shapes.now (pieces_of 32 left.entry)) }

@@ -42,7 +42,8 @@ found terms L (op.TaskEnqueue q args cores detached group) l v f = (
 found terms L (op.AllLook g last) l v f = absurd (no_limit_told g.0 _ v f)
 found terms L _ l v f = absurd f
 
-next_of : (terms : Terms) (L : List NodeEntry) (e : NodeEntry) → LegalFrom (opening terms) (L ++ e ∷ []) → LegalFrom (opening terms) L × IsNext (after terms L) e
+next_of : (terms : Terms) (L : List NodeEntry) (e : NodeEntry) → LegalFrom (opening terms) (L ++ e ∷ [])
+    → LegalFrom (opening terms) L × IsNext (after terms L) e
 unfolding LegalFrom
 next_of terms L e l = (Legal-front (opening terms) L (e ∷ []) l, (Legal-rest (opening terms) L (e ∷ []) l).0)
 

@@ -1,5 +1,5 @@
 -- Links and ends that stand for lists, and what each move leaves of that.
-use Rattle.linked_places.proofs.Names.{nat_tests, ◌≡◌, ◌≢◌, ◌⊎◌, ℕ, zero, suc, ◌<◌, ◌≤◌, true, false, List, [], ◌∷◌, ◌++◌, length, map, replicate, Option, Some, None, is_none, set, slice_get, get_or, refl, sym, ap, subst, ◌∙◌, inl, inr, arith, length-set, length-append, if◌then◌else◌, option_or, false≢true, cases_eq, length-replicate, length-map, slice_get_within, slice_get_read, slot_of, slice_get-set_other, HandleLists, list_at, stands_at, has_handle, without_handle, NowhereAt, with_list, link_of, handles_of, first_of, last_of, IsRun, AreApart, IsList, IsLinked, links_followed, links_with, ends_with, links_without, ends_without, IsBelow, Link, Ends, append-nil}
+use Rattle.linked_places.proofs.Names.{nat_tests, ◌≡◌, ◌≢◌, ◌⊎◌, ℕ, zero, suc, ◌<◌, ◌≤◌, true, false, List, [], ◌∷◌, ◌++◌, length, map, replicate, Option, Some, None, is_none, set, slice_get, get_or, refl, sym, ap, subst, ◌∙◌, inl, inr, arith, length-set, length-append, if◌then◌else◌, option_or, false≢true, cases_eq, length-replicate, length-map, slice_get_within, slice_get_read, slot_of, slice_get-set_other, HandleLists, list_at, stands_at, has_handle, without_handle, NowhereAt, with_list, link_of, linked_handles, first_of, last_of, IsChain, AreApart, IsList, IsLinked, links_followed, links_with, ends_with, links_without, ends_without, IsBelow, Link, Ends, append-nil}
 use Rattle.linked_places.proofs.HandleLemmas.{list_at-set_same, list_at-set_other, absent-append, stands-left, stands-right, stands-head, stands-tail, stands-either, Split, split, AreApart-right, AreApart-across, AreApart-push, AreApart-without, length-apart}
 use Rattle.linked_places.proofs.RunLemmas.{slice_get-set_in, last, Avoids, StandsIn, last_of-append, first_of-stands, last_of-stands, IsRun-within, IsRun-set, IsRun-followed, IsRun-following, length-followed, length-following, IsRun-push, IsRun-remove, IsRun-link, walk-run}
 
@@ -11,25 +11,25 @@ pub IsList-empty : (links : List Link) → IsList links no_ends []
 IsList-empty links = record { first = refl; last = refl; count = refl; run = tt; apart = tt }
 
 -- what the ends of a list walk to
-pub handles_of-list : (links : List Link) (e : Ends) (hs : List ℕ) → IsList links e hs → handles_of links e ≡ hs
+pub handles_of-list : (links : List Link) (e : Ends) (hs : List ℕ) → IsList links e hs → linked_handles links e ≡ hs
 handles_of-list links e hs list = rw (list.count, list.first) (walk-run links None hs None list.run)
 
 same_lists : (links : List Link) (ends : List Ends) (lists : List (List ℕ)) → length lists ≡ length ends
-    → ((number : ℕ) (e : Ends) → slice_get ends number ≡ Some e → IsList links e (list_at lists number)) → map (handles_of links) ends ≡ lists
+    → ((number : ℕ) (e : Ends) → slice_get ends number ≡ Some e → IsList links e (list_at lists number)) → map (linked_handles links) ends ≡ lists
 same_lists links [] [] size each = refl
 same_lists links [] (l ∷ ls) size each = absurd (omega (arith, size))
 same_lists links (e ∷ es) [] size each = absurd (omega (arith, size))
 same_lists links (e ∷ es) (l ∷ ls) size each =
-    let head : handles_of links e ≡ l = handles_of-list links e l (each 0 e refl) in
-    let tail : map (handles_of links) es ≡ ls = same_lists links es ls (omega (arith, size)) (λ number f at. each (suc number) f at) in
+    let head : linked_handles links e ≡ l = handles_of-list links e l (each 0 e refl) in
+    let tail : map (linked_handles links) es ≡ ls = same_lists links es ls (omega (arith, size)) (λ number f at. each (suc number) f at) in
     rw (head, tail) refl
 
 -- the lists that the links and the ends stand for are those that they are seen as
-pub lists-view : (links : List Link) (ends : List Ends) (lists : List (List ℕ)) → IsLinked links ends lists → map (handles_of links) ends ≡ lists
+pub lists-view : (links : List Link) (ends : List Ends) (lists : List (List ℕ)) → IsLinked links ends lists → map (linked_handles links) ends ≡ lists
 lists-view links ends lists linked = same_lists links ends lists linked.size linked.each
 
 pub IsLinked-view : (links : List Link) (ends : List Ends) (lists : List (List ℕ)) → IsLinked links ends lists
-    → IsLinked links ends (map (handles_of links) ends)
+    → IsLinked links ends (map (linked_handles links) ends)
 IsLinked-view links ends lists linked = grind (arith, nat_tests, lists-view links ends lists linked)
 
 -- one list becomes another, whose places stood in it before or stood in none
@@ -97,7 +97,7 @@ avoids_other : (lists : List (List ℕ)) (number other : ℕ) (place : Option �
 avoids_other lists number other None apart differs stands = tt
 avoids_other lists number other (Some q) apart differs stands = grind (arith, nat_tests, apart number other q stands)
 
-place_within : (links : List Link) (hs : List ℕ) (place : Option ℕ) → IsRun links None hs None → StandsIn place hs → IsBelow (length links) place
+place_within : (links : List Link) (hs : List ℕ) (place : Option ℕ) → IsChain links None hs None → StandsIn place hs → IsBelow (length links) place
 place_within links hs None run stands = tt
 place_within links hs (Some q) run stands = IsRun-within links None hs None q run stands
 
@@ -115,7 +115,7 @@ first_of-push hs h = grind (arith, nat_tests)
 pub IsList-push : (links : List Link) (e : Ends) (hs : List ℕ) (h : ℕ) → IsList links e hs → stands_at (slot_of h) hs ≡ false → slot_of h < length links
     → IsList (links_with links e.last h) (ends_with e (slot_of h)) (hs ++ h ∷ [])
 IsList-push links e hs h list absent within =
-    let P : Option ℕ → Type 0 = λ place. IsRun (links_with links place h) None (hs ++ h ∷ []) None in
+    let P : Option ℕ → Type 0 = λ place. IsChain (links_with links place h) None (hs ++ h ∷ []) None in
     record {
       first = rw list.first (first_of-push hs h);
       last = sym (last_of-append None hs (h ∷ []));
@@ -299,7 +299,7 @@ replicate-read zero number x y found = absurd (cc)
 replicate-read (suc count) zero x y found = cc
 replicate-read (suc count) (suc number) x y found = replicate-read count number x y found
 
-pub list_at-past : (links : List Link) (ends : List Ends) (number : ℕ) → slice_get ends number ≡ None → list_at (map (handles_of links) ends) number ≡ []
+pub list_at-past : (links : List Link) (ends : List Ends) (number : ℕ) → slice_get ends number ≡ None → list_at (map (linked_handles links) ends) number ≡ []
 list_at-past links [] number past = refl
 list_at-past links (e ∷ es) zero past = absurd (cc)
 list_at-past links (e ∷ es) (suc number) past = list_at-past links es number past
@@ -315,59 +315,59 @@ IsLinked-new links count few = record {
 
 -- what links and ends are seen as
 abbrev pub view_of : List Link → List Ends → HandleLists
-view_of links ends = record { places = length links; lists = map (handles_of links) ends }
+view_of links ends = record { places = length links; lists = map (linked_handles links) ends }
 
 -- the same once one list has become another
 pub view-with_list : (links after : List Link) (ends es : List Ends) (old : HandleLists) (number : ℕ) (f : HandleLists → List ℕ) → view_of links ends ≡ old
-    → length after ≡ length links → IsLinked after es (set (map (handles_of links) ends) number (f (view_of links ends)))
+    → length after ≡ length links → IsLinked after es (set (map (linked_handles links) ends) number (f (view_of links ends)))
     → view_of after es ≡ with_list old number (f old)
 view-with_list links after ends es old number f is size linked =
     let P : HandleLists → Type 0 = λ o. view_of after es ≡ with_list o number (f o) in
-    subst P is (rw (size, lists-view after es (set (map (handles_of links) ends) number (f (view_of links ends))) linked) refl)
+    subst P is (rw (size, lists-view after es (set (map (linked_handles links) ends) number (f (view_of links ends))) linked) refl)
 
 -- the ends that were read
 pub read_ends : (links : List Link) (ends : List Ends) (old : HandleLists) (number : ℕ) (e : Ends) → view_of links ends ≡ old → number < length old.lists
     → e ≡ get_or ends number e → slice_get ends number ≡ Some e
 read_ends links ends old number e is within read =
     let P : HandleLists → Type 0 = λ o. number < length o.lists in
-    slice_get_read ends (length ends) number e refl (rw (← (length-map ends (handles_of links))) (subst P (sym is) within)) read
+    slice_get_read ends (length ends) number e refl (rw (← (length-map ends (linked_handles links))) (subst P (sym is) within)) read
 
 -- a push, by what was required of it
 pub pushed : (links : List Link) (ends : List Ends) (old : HandleLists) (number : ℕ) (e : Ends) (h : ℕ) → view_of links ends ≡ old
-    → IsLinked links ends (map (handles_of links) ends) → slice_get ends number ≡ Some e → slot_of h < old.places → NowhereAt (slot_of h) old.lists
+    → IsLinked links ends (map (linked_handles links) ends) → slice_get ends number ≡ Some e → slot_of h < old.places → NowhereAt (slot_of h) old.lists
     → IsLinked (links_with links e.last h) (set ends number (ends_with e (slot_of h)))
-    (set (map (handles_of links) ends) number (list_at (map (handles_of links) ends) number ++ h ∷ []))
+    (set (map (linked_handles links) ends) number (list_at (map (linked_handles links) ends) number ++ h ∷ []))
 pushed links ends old number e h is linked at within nowhere =
     let P : HandleLists → Type 0 = λ o. slot_of h < o.places in
     let Q : HandleLists → Type 0 = λ o. NowhereAt (slot_of h) o.lists in
-    IsLinked-push links ends (map (handles_of links) ends) number e h linked at (subst P (sym is) within) (subst Q (sym is) nowhere)
+    IsLinked-push links ends (map (linked_handles links) ends) number e h linked at (subst P (sym is) within) (subst Q (sym is) nowhere)
 
 -- a removal, by what was required of it
 pub removed : (links : List Link) (ends : List Ends) (old : HandleLists) (number : ℕ) (h : ℕ) → view_of links ends ≡ old
-    → IsLinked links ends (map (handles_of links) ends) → has_handle h (list_at old.lists number) ≡ true
-    → (e : Ends) × (slice_get ends number ≡ Some e) × Removal links ends (map (handles_of links) ends) number e h
+    → IsLinked links ends (map (linked_handles links) ends) → has_handle h (list_at old.lists number) ≡ true
+    → (e : Ends) × (slice_get ends number ≡ Some e) × Removal links ends (map (linked_handles links) ends) number e h
 removed links ends old number h is linked has = by_ends (slice_get ends number) refl
   where
-    there : has_handle h (list_at (map (handles_of links) ends) number) ≡ true
+    there : has_handle h (list_at (map (linked_handles links) ends) number) ≡ true
     there = let P : HandleLists → Type 0 = λ o. has_handle h (list_at o.lists number) ≡ true in subst P (sym is) has
 
     by_ends : (o : Option Ends) → slice_get ends number ≡ o
-        → (e : Ends) × (slice_get ends number ≡ Some e) × Removal links ends (map (handles_of links) ends) number e h
-    by_ends (Some e) at = (e, at, removal links ends (map (handles_of links) ends) number e h linked at there)
+        → (e : Ends) × (slice_get ends number ≡ Some e) × Removal links ends (map (linked_handles links) ends) number e h
+    by_ends (Some e) at = (e, at, removal links ends (map (linked_handles links) ends) number e h linked at there)
     by_ends None past = grind (arith, nat_tests, list_at-past links ends number past, there)
 
 -- a handle that has left its list stands in no list
 pub removed_gone : (links : List Link) (ends : List Ends) (old : HandleLists) (number : ℕ) (h : ℕ) → view_of links ends ≡ old
-    → IsLinked links ends (map (handles_of links) ends) → has_handle h (list_at old.lists number) ≡ true
+    → IsLinked links ends (map (linked_handles links) ends) → has_handle h (list_at old.lists number) ≡ true
     → NowhereAt (slot_of h) (with_list old number (without_handle h (list_at old.lists number))).lists
 removed_gone links ends old number h is linked has =
     let found = removed links ends old number h is linked has in
     let P : HandleLists → Type 0 = λ o. NowhereAt (slot_of h) (with_list o number (without_handle h (list_at o.lists number))).lists in
     let Q : HandleLists → Type 0 = λ o. has_handle h (list_at o.lists number) ≡ true in
-    subst P is (gone found.0 found.1 (split h (list_at (map (handles_of links) ends) number) (subst Q (sym is) has)))
+    subst P is (gone found.0 found.1 (split h (list_at (map (linked_handles links) ends) number) (subst Q (sym is) has)))
   where
     lists : List (List ℕ)
-    lists = map (handles_of links) ends
+    lists = map (linked_handles links) ends
 
     absent_before : (xs ys : List ℕ) → AreApart (xs ++ h ∷ ys) → stands_at (slot_of h) xs ≡ false
     absent_before xs ys apart = grind (arith, nat_tests, AreApart-across (slot_of h) xs (h ∷ ys) apart, stands-head h ys)

@@ -8,7 +8,7 @@ pub use Rattle.std.specs.Option.{option_map, option_or}
 pub use Rattle.std.specs.Prelude.{if◌then◌else◌, ◌==◌, ◌||◌}
 pub use Rattle.handle_pool.proofs.ListReads.{set-set, slice_get-set_cases, slice_get-set_other, slice_get-set_same}
 pub use Rattle.handle_pool.specs.Slots.{Inserts, IsFull, Slot, Slots, free_slot, generation_of, is_live, is_retired, slot_after, slot_of, slot_value, used_at, used_slot, value_at, with_value, without}
-pub use Rattle.linked_places.specs.Links.{AreApart, IsBelow, IsLinked, IsList, IsRun, ends_with, ends_without, first_of, followed_at, following_at, handles_of, last_of, link_of, links_followed, links_following, links_with, links_without, walk}
+pub use Rattle.linked_places.specs.Links.{AreApart, IsBelow, IsLinked, IsList, IsChain, ends_with, ends_without, first_of, followed_at, following_at, linked_handles, last_of, link_of, links_followed, links_following, links_with, links_without, walk}
 pub use Rattle.linked_places.specs.Lists.{HandleLists, NowhereAt, has_handle, list_at, stands_at, with_list, without_handle}
 pub use Rattle.linked_places.specs.declared.Ends.{Ends}
 pub use Rattle.linked_places.specs.declared.Link.{Link}

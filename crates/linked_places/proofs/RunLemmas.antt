@@ -1,5 +1,5 @@
 -- Runs of links, and what writes leave of them.
-use Rattle.linked_places.proofs.Names.{nat_tests, ◌≡◌, ◌≢◌, ℕ, zero, suc, ◌<◌, true, false, List, [], ◌∷◌, ◌++◌, length, Option, Some, None, set, slice_get, refl, sym, ap, subst, ◌∙◌, arith, length-set, false≢true, slice_get_within, slot_of, slice_get-set_same, slice_get-set_other, stands_at, link_of, walk, first_of, last_of, IsRun, AreApart, followed_at, links_followed, following_at, links_following, links_with, links_without, Link}
+use Rattle.linked_places.proofs.Names.{nat_tests, ◌≡◌, ◌≢◌, ℕ, zero, suc, ◌<◌, true, false, List, [], ◌∷◌, ◌++◌, length, Option, Some, None, set, slice_get, refl, sym, ap, subst, ◌∙◌, arith, length-set, false≢true, slice_get_within, slot_of, slice_get-set_same, slice_get-set_other, stands_at, link_of, walk, first_of, last_of, IsChain, AreApart, followed_at, links_followed, following_at, links_following, links_with, links_without, Link}
 use Rattle.linked_places.proofs.HandleLemmas.{absent-head, absent-tail, stands-head, stands-tail, AreApart-left, AreApart-right, AreApart-across}
 
 pub slice_get-set_in : {X : Type 0} (xs : List X) (i : ℕ) (y : X) → i < length xs → slice_get (set xs i y) i ≡ Some y
@@ -42,8 +42,8 @@ pub last_of-stands : (xs : List ℕ) → StandsIn (last_of None xs) xs
 last_of-stands [] = tt
 last_of-stands (x ∷ xs) = let end = last None x xs in rw end.is end.stands
 
-pub IsRun-append : (links : List Link) (previous : Option ℕ) (xs ys : List ℕ) (next : Option ℕ) → IsRun links previous xs (first_of ys next)
-    → IsRun links (last_of previous xs) ys next → IsRun links previous (xs ++ ys) next
+pub IsRun-append : (links : List Link) (previous : Option ℕ) (xs ys : List ℕ) (next : Option ℕ) → IsChain links previous xs (first_of ys next)
+    → IsChain links (last_of previous xs) ys next → IsChain links previous (xs ++ ys) next
 IsRun-append links previous [] ys next left right = right
 IsRun-append links previous (x ∷ xs) ys next left right = (
   left.0 ∙ ap (λ (after : Option ℕ). Some (link_of x previous after)) (sym (first_of-append xs ys next)),
@@ -51,18 +51,18 @@ IsRun-append links previous (x ∷ xs) ys next left right = (
       (Some (slot_of x)) xs ys next left.1 right,
 )
 
-pub IsRun-left : (links : List Link) (previous : Option ℕ) (xs ys : List ℕ) (next : Option ℕ) → IsRun links previous (xs ++ ys) next
-    → IsRun links previous xs (first_of ys next)
+pub IsRun-left : (links : List Link) (previous : Option ℕ) (xs ys : List ℕ) (next : Option ℕ) → IsChain links previous (xs ++ ys) next
+    → IsChain links previous xs (first_of ys next)
 IsRun-left links previous [] ys next run = tt
 IsRun-left links previous (x ∷ xs) ys next run = grind (arith, nat_tests, first_of-append xs ys next, IsRun-left links (Some (slot_of x)) xs ys next run.1)
 
-pub IsRun-right : (links : List Link) (previous : Option ℕ) (xs ys : List ℕ) (next : Option ℕ) → IsRun links previous (xs ++ ys) next
-    → IsRun links (last_of previous xs) ys next
+pub IsRun-right : (links : List Link) (previous : Option ℕ) (xs ys : List ℕ) (next : Option ℕ) → IsChain links previous (xs ++ ys) next
+    → IsChain links (last_of previous xs) ys next
 IsRun-right links previous [] ys next run = run
 IsRun-right links previous (x ∷ xs) ys next run = IsRun-right links (Some (slot_of x)) xs ys next run.1
 
 -- the places of a run are within the links
-pub IsRun-within : (links : List Link) (previous : Option ℕ) (hs : List ℕ) (next : Option ℕ) (place : ℕ) → IsRun links previous hs next
+pub IsRun-within : (links : List Link) (previous : Option ℕ) (hs : List ℕ) (next : Option ℕ) (place : ℕ) → IsChain links previous hs next
     → stands_at place hs ≡ true → place < length links
 IsRun-within links previous [] next place run stands = absurd (false≢true stands)
 IsRun-within links previous (h ∷ hs) next place run stands =
@@ -71,28 +71,28 @@ IsRun-within links previous (h ∷ hs) next place run stands =
 
 -- a write elsewhere leaves a run
 pub IsRun-set : (links : List Link) (place : ℕ) (link : Link) (previous : Option ℕ) (hs : List ℕ) (next : Option ℕ) → stands_at place hs ≡ false
-    → IsRun links previous hs next → IsRun (set links place link) previous hs next
+    → IsChain links previous hs next → IsChain (set links place link) previous hs next
 IsRun-set links place link previous [] next absent run = tt
 IsRun-set links place link previous (h ∷ hs) next absent run =
     let apart = absent-head place h hs absent in
     let rest = IsRun-set links place link (Some (slot_of h)) hs next (absent-tail place h hs absent) run.1 in
     (slice_get-set_other links place (slot_of h) link apart ∙ run.0, rest)
 
-pub IsRun-followed : (links : List Link) (place after previous : Option ℕ) (hs : List ℕ) (next : Option ℕ) → Avoids place hs → IsRun links previous hs next
-    → IsRun (links_followed links place after) previous hs next
+pub IsRun-followed : (links : List Link) (place after previous : Option ℕ) (hs : List ℕ) (next : Option ℕ) → Avoids place hs → IsChain links previous hs next
+    → IsChain (links_followed links place after) previous hs next
 IsRun-followed links None after previous hs next avoids run = run
 IsRun-followed links (Some place) after previous hs next avoids run = by_link (slice_get links place)
   where
-    by_link : (o : Option Link) → IsRun (followed_at links place after o) previous hs next
+    by_link : (o : Option Link) → IsChain (followed_at links place after o) previous hs next
     by_link None = run
     by_link (Some link) = IsRun-set links place (record link { next = after }) previous hs next avoids run
 
-pub IsRun-following : (links : List Link) (place before previous : Option ℕ) (hs : List ℕ) (next : Option ℕ) → Avoids place hs → IsRun links previous hs next
-    → IsRun (links_following links place before) previous hs next
+pub IsRun-following : (links : List Link) (place before previous : Option ℕ) (hs : List ℕ) (next : Option ℕ) → Avoids place hs → IsChain links previous hs next
+    → IsChain (links_following links place before) previous hs next
 IsRun-following links None before previous hs next avoids run = run
 IsRun-following links (Some place) before previous hs next avoids run = by_link (slice_get links place)
   where
-    by_link : (o : Option Link) → IsRun (following_at links place before o) previous hs next
+    by_link : (o : Option Link) → IsChain (following_at links place before o) previous hs next
     by_link None = run
     by_link (Some link) = IsRun-set links place (record link { previous = before }) previous hs next avoids run
 
@@ -105,8 +105,8 @@ length-following links None before = refl
 length-following links (Some place) before = grind (arith, nat_tests, length-set {A = Link})
 
 -- a run with another place after it
-pub IsRun-followed_last : (links : List Link) (previous : Option ℕ) (xs : List ℕ) (next after : Option ℕ) → AreApart xs → IsRun links previous xs next
-    → IsRun (links_followed links (last_of previous xs) after) previous xs after
+pub IsRun-followed_last : (links : List Link) (previous : Option ℕ) (xs : List ℕ) (next after : Option ℕ) → AreApart xs → IsChain links previous xs next
+    → IsChain (links_followed links (last_of previous xs) after) previous xs after
 IsRun-followed_last links previous [] next after apart run = tt
 IsRun-followed_last links previous (x ∷ []) next after apart run =
     (rw run.0 (slice_get-set_same links (slot_of x) (link_of x previous after) (link_of x previous next) run.0), tt)
@@ -129,13 +129,13 @@ IsRun-followed_last links previous (x ∷ y ∷ ys) next after apart run =
     head end = rw end.is (kept end.place (λ same. false≢true (sym apart.0 ∙ moved end same)) ∙ run.0)
 
 -- a run with another place before it
-pub IsRun-following_first : (links : List Link) (previous before : Option ℕ) (xs : List ℕ) (next : Option ℕ) → AreApart xs → IsRun links previous xs next
-    → IsRun (links_following links (first_of xs None) before) before xs next
+pub IsRun-following_first : (links : List Link) (previous before : Option ℕ) (xs : List ℕ) (next : Option ℕ) → AreApart xs → IsChain links previous xs next
+    → IsChain (links_following links (first_of xs None) before) before xs next
 IsRun-following_first links previous before [] next apart run = tt
 IsRun-following_first links previous before (x ∷ xs) next apart run =
     let link = link_of x before (first_of xs next) in
     let is : links_following links (Some (slot_of x)) before ≡ set links (slot_of x) link = rw run.0 refl in
-    let P : List Link → Type 0 = λ ls. IsRun ls before (x ∷ xs) next in
+    let P : List Link → Type 0 = λ ls. IsChain ls before (x ∷ xs) next in
     subst P (sym is) (
       slice_get-set_same links (slot_of x) link (link_of x previous (first_of xs next)) run.0,
       IsRun-set links (slot_of x) link
@@ -153,7 +153,7 @@ avoids_left (Some place) xs ys apart stands = grind (arith, nat_tests, AreApart-
 
 -- a handle at the end of a run
 pub IsRun-push : (links : List Link) (hs : List ℕ) (h : ℕ) → AreApart hs → stands_at (slot_of h) hs ≡ false → slot_of h < length links
-    → IsRun links None hs None → IsRun (links_with links (last_of None hs) h) None (hs ++ h ∷ []) None
+    → IsChain links None hs None → IsChain (links_with links (last_of None hs) h) None (hs ++ h ∷ []) None
 IsRun-push links hs h apart absent within run =
     let before = IsRun-followed_last links None hs None (Some (slot_of h)) apart run in
     let size = length-followed links (last_of None hs) (Some (slot_of h)) in
@@ -161,7 +161,7 @@ IsRun-push links hs h apart absent within run =
 
 -- a run without one of its handles
 pub IsRun-remove : (links : List Link) (xs : List ℕ) (h : ℕ) (ys : List ℕ) → AreApart (xs ++ h ∷ ys) → AreApart (xs ++ ys)
-    → IsRun links None (xs ++ h ∷ ys) None → IsRun (links_without links (last_of None xs) (first_of ys None)) None (xs ++ ys) None
+    → IsChain links None (xs ++ h ∷ ys) None → IsChain (links_without links (last_of None xs) (first_of ys None)) None (xs ++ ys) None
 IsRun-remove links xs h ys whole rest run =
     let left = IsRun-left links None xs (h ∷ ys) None run in
     let right = IsRun-right links None xs (h ∷ ys) None run in
@@ -175,12 +175,12 @@ IsRun-remove links xs h ys whole rest run =
     (IsRun-following_first followed (Some (slot_of h)) (last_of None xs) ys None (AreApart-right xs ys rest) right_followed)
 
 -- the link of a handle in a run
-pub IsRun-link : (links : List Link) (xs : List ℕ) (h : ℕ) (ys : List ℕ) → IsRun links None (xs ++ h ∷ ys) None
+pub IsRun-link : (links : List Link) (xs : List ℕ) (h : ℕ) (ys : List ℕ) → IsChain links None (xs ++ h ∷ ys) None
     → slice_get links (slot_of h) ≡ Some (link_of h (last_of None xs) (first_of ys None))
 IsRun-link links xs h ys run = (IsRun-right links None xs (h ∷ ys) None run).0
 
 -- a walk along a run finds its handles
-pub walk-run : (links : List Link) (previous : Option ℕ) (hs : List ℕ) (next : Option ℕ) → IsRun links previous hs next
+pub walk-run : (links : List Link) (previous : Option ℕ) (hs : List ℕ) (next : Option ℕ) → IsChain links previous hs next
     → walk links (length hs) (first_of hs next) ≡ hs
 walk-run links previous [] next run = refl
 walk-run links previous (h ∷ hs) next run = rw run.0 (ap (λ (ys : List ℕ). h ∷ ys) (walk-run links (Some (slot_of h)) hs next run.1))

@@ -22,8 +22,8 @@ walk links (suc count) None = []
 walk links (suc count) (Some place) = walk_at (walk links count) (slice_get links place)
 
 -- the handles of a list
-abbrev pub handles_of : List Link → Ends → List ℕ
-handles_of links ends = walk links ends.count ends.first
+abbrev pub linked_handles : List Link → Ends → List ℕ
+linked_handles links ends = walk links ends.count ends.first
 
 -- the first place of a list, or what comes after it
 abbrev pub first_of : List ℕ → Option ℕ → Option ℕ
@@ -36,9 +36,9 @@ last_of previous [] = previous
 last_of previous (h ∷ hs) = last_of (Some (slot_of h)) hs
 
 -- each handle stands at its place, between the places of those beside it
-abbrev pub IsRun : List Link → Option ℕ → List ℕ → Option ℕ → Type 0
-IsRun links previous [] next = Unit {0}
-IsRun links previous (h ∷ hs) next = (slice_get links (slot_of h) ≡ Some (link_of h previous (first_of hs next))) × IsRun links (Some (slot_of h)) hs next
+abbrev pub IsChain : List Link → Option ℕ → List ℕ → Option ℕ → Type 0
+IsChain links previous [] next = Unit {0}
+IsChain links previous (h ∷ hs) next = (slice_get links (slot_of h) ≡ Some (link_of h previous (first_of hs next))) × IsChain links (Some (slot_of h)) hs next
 
 -- no two handles of the list have one place
 abbrev pub AreApart : List ℕ → Type 0
@@ -50,7 +50,7 @@ pub record IsList (links : List Link) (ends : Ends) (hs : List ℕ) : Type 0 whe
   pub first : ends.first ≡ first_of hs None
   pub last : ends.last ≡ last_of None hs
   pub count : ends.count ≡ length hs
-  pub run : IsRun links None hs None
+  pub run : IsChain links None hs None
   pub apart : AreApart hs
 
 -- the links and the ends are those of these lists, and no place is in two lists

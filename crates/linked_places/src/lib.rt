@@ -39,14 +39,14 @@ impl Model for LinkedLists {
 
     ghost Value = { HandleLists };
 
-    ghost use Rattle.linked_places.specs.Links.{handles_of, IsLinked};
+    ghost use Rattle.linked_places.specs.Links.{linked_handles, IsLinked};
 
     ghost view = { λ l. record {
       places = length l.links.items;
-      lists = map (handles_of l.links.items) l.ends.items;
+      lists = map (linked_handles l.links.items) l.ends.items;
     } };
 
-    ghost invariant = { λ l. IsLinked l.links.items l.ends.items (map (handles_of l.links.items) l.ends.items) };
+    ghost invariant = { λ l. IsLinked l.links.items l.ends.items (map (linked_handles l.links.items) l.ends.items) };
 }
 
 const NO_LINK: Link = Link {

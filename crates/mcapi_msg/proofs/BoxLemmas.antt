@@ -1,5 +1,5 @@
 -- What is kept of the live endpoints and the rings in reserve, after each change.
-use Rattle.mcapi_msg.proofs.Names.{nat_tests, Bool, cond, ◌≡◌, ℕ, ◌<◌, ◌≤◌, List, [], ◌∷◌, ◌++◌, length, Some, None, replicate, sym, ap, subst, ◌∙◌, inl, inr, arith, length-append, cases_eq, Slots, slot_of, generation_of, free_slot, slot_value, Inserts, with_value, without, IsFull, NoneLive, get-fresh, live_count-new, max_of-new, live_count-insert, max_of-insert, live_count-with_value, max_of-with_value, live_count-without, max_of-without, Mailbox, Waiting, RingTable, empty_rings, with_last, without_front, AreEmpty, HasFree, IsKept, same_Some}
+use Rattle.mcapi_msg.proofs.Names.{nat_tests, Bool, cond, ◌≡◌, ℕ, ◌<◌, ◌≤◌, List, [], ◌∷◌, ◌++◌, length, Some, None, replicate, sym, ap, subst, ◌∙◌, inl, inr, arith, length-append, cases_eq, Slots, slot_of, generation_of, free_slot, slot_value, Inserts, with_value, without, IsFull, NoneLive, get-fresh, live_count-new, max_of-new, live_count-insert, max_of-insert, live_count-with_value, max_of-with_value, live_count-without, max_of-without, Mailbox, Waiting, RingTable, empty_rings, with_last_message, without_front, AreEmpty, HasFree, IsRingKept, same_Some}
 use Rattle.handle_pool.proofs.GetLemmas.{get-insert_same, get-insert_other, get-with_value_same, get-with_value_other, get-without_same, get-without_other}
 use Rattle.handle_pool.proofs.OneEachLemmas.{OneEach-new, OneEach-insert, OneEach-with_value, OneEach-without}
 
@@ -12,7 +12,7 @@ empty_joined limit [] ys e f = f
 empty_joined limit (x ∷ xs) ys e f = (e.0, empty_joined limit xs ys e.1 f)
 
 pub kept-new : (limit max capacity : ℕ) (p : Slots Mailbox) (spare : List RingTable) → limit ≤ 256 → p.slots ≡ replicate max (free_slot 1) → length spare ≡ max
-    → AreEmpty limit spare → max ≤ capacity → IsKept limit p spare capacity
+    → AreEmpty limit spare → max ≤ capacity → IsRingKept limit p spare capacity
 kept-new limit max capacity p spare few fresh count empty room = record {
   few = few;
   ports = OneEach-new (λ m. m.port) p max fresh;
@@ -22,8 +22,8 @@ kept-new limit max capacity p spare few fresh count empty room = record {
   room = omega (arith, max_of-new p max fresh);
 }
 
-pub kept-insert : (limit capacity h : ℕ) (p q : Slots Mailbox) (m : Mailbox) (r : RingTable) (spare rest : List RingTable) → IsKept limit p spare capacity
-    → spare ≡ rest ++ r ∷ [] → m.rings ≡ r → NoneLive (slot_value p) (λ v. v.port ≡ m.port) → Inserts p q h m → IsKept limit q rest capacity
+pub kept-insert : (limit capacity h : ℕ) (p q : Slots Mailbox) (m : Mailbox) (r : RingTable) (spare rest : List RingTable) → IsRingKept limit p spare capacity
+    → spare ≡ rest ++ r ∷ [] → m.rings ≡ r → NoneLive (slot_value p) (λ v. v.port ≡ m.port) → Inserts p q h m → IsRingKept limit q rest capacity
 kept-insert limit capacity h p q m r spare rest kept was own new inserts =
     let empty : AreEmpty limit (rest ++ r ∷ []) = subst (AreEmpty limit) was kept.empty in
     let parts = empty_split limit rest (r ∷ []) empty in
@@ -49,8 +49,8 @@ kept-insert limit capacity h p q m r spare rest kept was own new inserts =
       room = omega (arith, kept.room, max_of-insert p q h m inserts);
     }
 
-pub kept-with_value : (limit capacity h : ℕ) (p : Slots Mailbox) (old new : Mailbox) (spare : List RingTable) → IsKept limit p spare capacity
-    → slot_value p h ≡ Some old → new.port ≡ old.port → new.rings.limit ≡ old.rings.limit → IsKept limit (with_value p h new) spare capacity
+pub kept-with_value : (limit capacity h : ℕ) (p : Slots Mailbox) (old new : Mailbox) (spare : List RingTable) → IsRingKept limit p spare capacity
+    → slot_value p h ≡ Some old → new.port ≡ old.port → new.rings.limit ≡ old.rings.limit → IsRingKept limit (with_value p h new) spare capacity
 kept-with_value limit capacity h p old new spare kept found port same = record {
   few = kept.few;
   ports = OneEach-with_value (λ m. m.port) p h old new kept.ports found port;
@@ -65,8 +65,8 @@ kept-with_value limit capacity h p old new spare kept found port same = record {
   room = omega (arith, kept.room, max_of-with_value p h new);
 }
 
-pub kept-without : (limit capacity h : ℕ) (p : Slots Mailbox) (old : Mailbox) (spare after : List RingTable) (r : RingTable) → IsKept limit p spare capacity
-    → slot_value p h ≡ Some old → r ≡ empty_rings old.rings.limit → after ≡ spare ++ r ∷ [] → IsKept limit (without p h) after capacity
+pub kept-without : (limit capacity h : ℕ) (p : Slots Mailbox) (old : Mailbox) (spare after : List RingTable) (r : RingTable) → IsRingKept limit p spare capacity
+    → slot_value p h ≡ Some old → r ≡ empty_rings old.rings.limit → after ≡ spare ++ r ∷ [] → IsRingKept limit (without p h) after capacity
 kept-without limit capacity h p old spare after r kept found cleared is = record {
   few = kept.few;
   ports = OneEach-without (λ m. m.port) p h old kept.ports found;
@@ -88,26 +88,26 @@ kept-without limit capacity h p old spare after r kept found cleared is = record
 }
 
 -- while a slot is in use, the reserve has room for its rings
-pub reserve_fits : (limit capacity h : ℕ) (p : Slots Mailbox) (old : Mailbox) (spare : List RingTable) → IsKept limit p spare capacity
+pub reserve_fits : (limit capacity h : ℕ) (p : Slots Mailbox) (old : Mailbox) (spare : List RingTable) → IsRingKept limit p spare capacity
     → slot_value p h ≡ Some old → length spare < capacity
 reserve_fits limit capacity h p old spare kept found = omega (arith, kept.count, kept.room, live_count-without p h old found)
 
 -- where a slot is free, there are rings for it
-pub reserve_has : (limit capacity : ℕ) (p : Slots Mailbox) (spare : List RingTable) → IsKept limit p spare capacity → HasFree p → 0 < length spare
+pub reserve_has : (limit capacity : ℕ) (p : Slots Mailbox) (spare : List RingTable) → IsRingKept limit p spare capacity → HasFree p → 0 < length spare
 reserve_has limit capacity p spare kept room = omega (arith, kept.count)
 
 -- the limit stays
 either : (b : Bool) (x y : RingTable) (n : ℕ) → x.limit ≡ n → y.limit ≡ n → (cond b x y).limit ≡ n
 either b x y n e1 e2 = grind (arith, nat_tests)
 
-pub with_last-limit : (w : Waiting) (r : RingTable) → (with_last w r).limit ≡ r.limit
+pub with_last-limit : (w : Waiting) (r : RingTable) → (with_last_message w r).limit ≡ r.limit
 with_last-limit w r = grind (arith, nat_tests)
 
 pub without_front-limit : (r : RingTable) → (without_front r).limit ≡ r.limit
 without_front-limit r = grind (arith, nat_tests)
 
 -- rings from the reserve are empty
-pub popped_empty : (limit capacity : ℕ) (p : Slots Mailbox) (r : RingTable) (spare rest : List RingTable) → IsKept limit p spare capacity
+pub popped_empty : (limit capacity : ℕ) (p : Slots Mailbox) (r : RingTable) (spare rest : List RingTable) → IsRingKept limit p spare capacity
     → spare ≡ rest ++ r ∷ [] → r ≡ empty_rings limit
 popped_empty limit capacity p r spare rest kept was =
     let empty : AreEmpty limit (rest ++ r ∷ []) = subst (AreEmpty limit) was kept.empty in

@@ -1,11 +1,11 @@
 -- What waits at an endpoint of one sender with one priority is what was sent and not yet received.
-use Rattle.mcapi_msg.proofs.Names.{nat_tests, ◌≡◌, ℕ, ◌+◌, Bool, true, false, cond, ◌&&◌, List, [], ◌∷◌, ◌++◌, Some, None, refl, sym, ap, subst, ◌∙◌, arith, append_assoc, ◌==◌, append-nil, eqb-true, StartsWith, Listed, how_many, lookup, live_object, first_handle, update, retire, with_fields, EndpointHandle, Waiting, MsgOp, MsgReply, PostTerms, last_generation, Endpoint, new_endpoint, has_port, message, next_of, without_first, of_priority, with_message, with_first_gone, State, opening, Move, apply, after_moves, gives, handle_of, opens, row, names, nothing, MsgEntry, IsNext, row_of, next, Legal}
+use Rattle.mcapi_msg.proofs.Names.{nat_tests, ◌≡◌, ℕ, ◌+◌, Bool, true, false, cond, ◌&&◌, List, [], ◌∷◌, ◌++◌, Some, None, refl, sym, ap, subst, ◌∙◌, arith, append_assoc, ◌==◌, append-nil, eqb-true, StartsWith, Listed, how_many, lookup, live_object, first_handle, update, retire, with_fields, EndpointHandle, Waiting, MsgOp, MsgReply, PostTerms, last_endpoint_generation, Endpoint, new_endpoint, has_port, message_of_seat, next_of, without_message, of_priority, with_message, with_first_gone, MsgState, opening_post, MsgMove, apply_msg_move, after_each_move, gives, msg_handle_of, opens, msg_row, names, no_message, MsgEntry, MsgIsNext, msg_row_of, msg_next, MsgLegal}
 use Rattle.handle_pool.specs.Issued.{live_of, listed, may_issue, issue}
 use Rattle.handle_pool.specs.Stands.{Distinct}
 use Rattle.handle_pool.proofs.ListedLemmas.{at-issue, at-update, at-retire, Distinct-issue, Distinct-update, Distinct-retire, listed-issue, listed-change}
 use Rattle.history.proofs.Row.{AllDeeds, deeds, on_live, on_only}
 use Rattle.mcapi_msg.specs.declared.ops.MsgOp.TheVariants as op
-use Rattle.mcapi_msg.specs.Legal.{LegalFrom}
+use Rattle.mcapi_msg.specs.Legal.{MsgLegalFrom}
 use Rattle.mcapi_msg.specs.Fifo.{put_by, got_by, sent_to, received_at}
 use Rattle.mcapi_msg.proofs.RingLemmas.{IsFirst, first-is, of-more, of-without}
 
@@ -33,12 +33,12 @@ abbrev flow : ℕ → ℕ → List Waiting → List (List ℕ)
 flow sender priority ws = from sender (of_priority priority ws)
 
 flow-more : (sender priority who p : ℕ) (msg : List ℕ) (ws : List Waiting)
-    → flow sender priority (ws ++ message who p msg ∷ []) ≡ flow sender priority ws ++ cond ((who == sender) && (p == priority)) (msg ∷ []) []
+    → flow sender priority (ws ++ message_of_seat who p msg ∷ []) ≡ flow sender priority ws ++ cond ((who == sender) && (p == priority)) (msg ∷ []) []
 flow-more sender priority who p msg ws = grind (arith, nat_tests, of-more, from-more, of_priority, append-nil)
 
 flow-first : (sender priority : ℕ) (w : Waiting) (ws : List Waiting) → IsFirst w ws
-    → flow sender priority ws ≡ cond ((w.sender == sender) && (w.priority == priority)) (w.msg ∷ []) [] ++ flow sender priority (without_first w.priority ws)
-flow-first sender priority w ws e1 = grind (arith, nat_tests, without_first, of_priority, of-without, eqb-true)
+    → flow sender priority ws ≡ cond ((w.sender == sender) && (w.priority == priority)) (w.msg ∷ []) [] ++ flow sender priority (without_message w.priority ws)
+flow-first sender priority w ws e1 = grind (arith, nat_tests, without_message, of_priority, of-without, eqb-true)
 
 -- a handle that was never issued isn't live
 unlisted : (h : ℕ) (l : List (Listed Endpoint)) → listed h l ≡ 0 → live_object l h ≡ None
@@ -87,21 +87,21 @@ module _ (endpoint : EndpointHandle) (sender priority : ℕ) where
       → (listed endpoint.0 m ≡ 0 → listed endpoint.0 l ≡ 0) → Flows m sent got
   flows-gone l m sent got e1 e2 e3 e4 = grind (arith, nat_tests)
 
-  flows-issue : (l : List (Listed Endpoint)) (sent got : List (List ℕ)) (h port who : ℕ) → Flows l sent got → may_issue last_generation h l ≡ true
+  flows-issue : (l : List (Listed Endpoint)) (sent got : List (List ℕ)) (h port who : ℕ) → Flows l sent got → may_issue last_endpoint_generation h l ≡ true
       → Flows (issue h (new_endpoint port who) l) sent got
   flows-issue l sent got h port who f may = pick (h == endpoint.0) refl
     where
       new : listed h l ≡ 0
-      new = issued_new last_generation h l may
+      new = issued_new last_endpoint_generation h l may
 
       off : live_object l h ≡ None
-      off = unlisted h l (issued_new last_generation h l may)
+      off = unlisted h l (issued_new last_endpoint_generation h l may)
 
       now : live_object (issue h (new_endpoint port who) l) endpoint.0 ≡ cond (h == endpoint.0) (Some (new_endpoint port who)) (live_object l endpoint.0)
-      now = at-issue h endpoint.0 (new_endpoint port who) l (unlisted h l (issued_new last_generation h l may))
+      now = at-issue h endpoint.0 (new_endpoint port who) l (unlisted h l (issued_new last_endpoint_generation h l may))
 
       distinct : Distinct (live_of (issue h (new_endpoint port who) l))
-      distinct = Distinct-issue h (new_endpoint port who) l f.distinct (unlisted h l (issued_new last_generation h l may))
+      distinct = Distinct-issue h (new_endpoint port who) l f.distinct (unlisted h l (issued_new last_endpoint_generation h l may))
 
       pick : (b : Bool) → (h == endpoint.0) ≡ b → Flows (issue h (new_endpoint port who) l) sent got
       pick true e =
@@ -121,27 +121,28 @@ module _ (endpoint : EndpointHandle) (sender priority : ℕ) where
   here l k e is same = ap (live_object l) (sym (eqb-true k endpoint.0 same)) ∙ is
 
   flows-put : (l : List (Listed Endpoint)) (sent got : List (List ℕ)) (k who p : ℕ) (msg : List ℕ) (e : Endpoint) → Flows l sent got → live_object l k ≡ Some e
-      → Flows (update k (with_message (message who p msg)) l) (sent ++ cond ((k == endpoint.0) && ((who == sender) && (p == priority))) (msg ∷ []) []) (got
+      → Flows (update k (with_message (message_of_seat who p msg)) l) (sent
+      ++ cond ((k == endpoint.0) && ((who == sender) && (p == priority))) (msg ∷ []) []) (got
       ++ [])
   flows-put l sent got k who p msg e f is = pick (k == endpoint.0) refl
     where
       put : List (List ℕ)
       put = cond ((who == sender) && (p == priority)) (msg ∷ []) []
 
-      distinct : Distinct (live_of (update k (with_message (message who p msg)) l))
-      distinct = Distinct-update k (with_message (message who p msg)) l f.distinct
+      distinct : Distinct (live_of (update k (with_message (message_of_seat who p msg)) l))
+      distinct = Distinct-update k (with_message (message_of_seat who p msg)) l f.distinct
 
       pick : (b : Bool) → (k == endpoint.0) ≡ b
-          → Flows (update k (with_message (message who p msg)) l) (sent ++ cond (b && ((who == sender) && (p == priority))) (msg ∷ []) []) (got ++ [])
+          → Flows (update k (with_message (message_of_seat who p msg)) l) (sent ++ cond (b && ((who == sender) && (p == priority))) (msg ∷ []) []) (got ++ [])
       pick true same =
-          flows-live _ _ _ (with_message (message who p msg) e) distinct (now_updated l k (with_message (message who p msg)) e true is same)
+          flows-live _ _ _ (with_message (message_of_seat who p msg) e) distinct (now_updated l k (with_message (message_of_seat who p msg)) e true is same)
           (ap (λ (x : List (List ℕ)). x ++ cond ((who == sender) && (p == priority)) (msg ∷ []) []) (f.live e (here l k e is same))
           ∙ (append_assoc got (flow sender priority e.waiting) (cond ((who == sender) && (p == priority)) (msg ∷ []) [])
           ∙ (ap (λ (x : List (List ℕ)). got ++ x) (sym (flow-more sender priority who p msg e.waiting))
-          ∙ ap (λ (x : List (List ℕ)). x ++ flow sender priority (e.waiting ++ message who p msg ∷ [])) (sym (append-nil got)))))
+          ∙ ap (λ (x : List (List ℕ)). x ++ flow sender priority (e.waiting ++ message_of_seat who p msg ∷ [])) (sym (append-nil got)))))
       pick false same =
-          stays _ sent got (flows-other l _ sent got f distinct (now_updated l k (with_message (message who p msg)) e false is same)
-          (λ n. sym (listed-change endpoint.0 k (with_fields (with_message (message who p msg))) (λ r. refl) l) ∙ n))
+          stays _ sent got (flows-other l _ sent got f distinct (now_updated l k (with_message (message_of_seat who p msg)) e false is same)
+          (λ n. sym (listed-change endpoint.0 k (with_fields (with_message (message_of_seat who p msg))) (λ r. refl) l) ∙ n))
 
   flows-take : (l : List (Listed Endpoint)) (sent got : List (List ℕ)) (k : ℕ) (w : Waiting) (e : Endpoint) → Flows l sent got → live_object l k ≡ Some e
       → next_of e.waiting ≡ Some w
@@ -160,7 +161,7 @@ module _ (endpoint : EndpointHandle) (sender priority : ℕ) where
           ∙ (f.live e (here l k e is same)
           ∙ (ap (λ (x : List (List ℕ)). got ++ x) (flow-first sender priority w e.waiting (first-is e.waiting w first))
           ∙ sym (append_assoc got (cond ((w.sender == sender) && (w.priority == priority)) (w.msg ∷ []) [])
-          (flow sender priority (without_first w.priority e.waiting))))))
+          (flow sender priority (without_message w.priority e.waiting))))))
       pick false same =
           stays _ sent got (flows-other l _ sent got f distinct (now_updated l k (with_first_gone w.priority) e false is same)
           (λ n. sym (listed-change endpoint.0 k (with_fields (with_first_gone w.priority)) (λ r. refl) l) ∙ n))
@@ -169,23 +170,23 @@ module _ (endpoint : EndpointHandle) (sender priority : ℕ) where
   flows-shut l sent got k e1 = grind (arith, nat_tests, listed-change, flows-gone, Distinct-retire, at-retire, live_object, flows-other)
 
   -- what an entry with this reply and these moves leaves
-  abbrev After : State → ℕ → MsgOp → List (List ℕ) → List (List ℕ) → MsgReply → List Move → Type 0
-  After s who o sent got r ms = Flows (after_moves apply ms s).endpoints (sent ++ put_by endpoint sender priority who o r) (got
+  abbrev After : MsgState → ℕ → MsgOp → List (List ℕ) → List (List ℕ) → MsgReply → List MsgMove → Type 0
+  After s who o sent got r ms = Flows (after_each_move apply_msg_move ms s).endpoints (sent ++ put_by endpoint sender priority who o r) (got
       ++ got_by endpoint sender priority o r)
 
-  looked : (last : Bool) (s : State) (who : ℕ) (h : EndpointHandle) (sent got : List (List ℕ)) → Flows s.endpoints sent got
-      → After s who (op.Recv h last) sent got (nothing last) []
+  looked : (last : Bool) (s : MsgState) (who : ℕ) (h : EndpointHandle) (sent got : List (List ℕ)) → Flows s.endpoints sent got
+      → After s who (op.Recv h last) sent got (no_message last) []
   looked last s who h sent got e1 = grind (arith, nat_tests, stays)
 
-  row_flows : (s : State) (who : ℕ) (o : MsgOp) (r : MsgReply) (sent got : List (List ℕ)) → Flows s.endpoints sent got
-      → AllDeeds (After s who o sent got) (row s who o r)
+  row_flows : (s : MsgState) (who : ℕ) (o : MsgOp) (r : MsgReply) (sent got : List (List ℕ)) → Flows s.endpoints sent got
+      → AllDeeds (After s who o sent got) (msg_row s who o r)
   row_flows s who (op.Open port) r sent got f = (
     stays _ sent got f,
     (
       stays _ sent got f,
-      on_only (After s who (op.Open port) sent got) (may_issue last_generation (handle_of r) s.endpoints)
-          (gives (names (handle_of r)) (opens (handle_of r) (new_endpoint port who) ∷ []))
-          (λ may. stays _ sent got (flows-issue s.endpoints sent got (handle_of r) port who f may)),
+      on_only (After s who (op.Open port) sent got) (may_issue last_endpoint_generation (msg_handle_of r) s.endpoints)
+          (gives (names (msg_handle_of r)) (opens (msg_handle_of r) (new_endpoint port who) ∷ []))
+          (λ may. stays _ sent got (flows-issue s.endpoints sent got (msg_handle_of r) port who f may)),
     ),
   )
   row_flows s who (op.Find port) r sent got f =
@@ -204,16 +205,16 @@ module _ (endpoint : EndpointHandle) (sender priority : ℕ) where
       on_live (After s who (op.Shut h) sent got) (live_object s.endpoints h.0) _ _ (stays _ sent got f)
       (λ e is. (stays _ sent got f, stays _ sent got (flows-shut s.endpoints sent got h.0 f)))
 
-  step : (s : State) (e : MsgEntry) (sent got : List (List ℕ)) → IsNext s e → Flows s.endpoints sent got
-      → Flows (next s e).endpoints (sent ++ put_by endpoint sender priority e.who e.op e.reply) (got ++ got_by endpoint sender priority e.op e.reply)
-  step s e sent got n f = deeds (After s e.who e.op sent got) (row_of s e) e.reply (row_flows s e.who e.op e.reply sent got f) n.allowed
+  step : (s : MsgState) (e : MsgEntry) (sent got : List (List ℕ)) → MsgIsNext s e → Flows s.endpoints sent got
+      → Flows (msg_next s e).endpoints (sent ++ put_by endpoint sender priority e.who e.op e.reply) (got ++ got_by endpoint sender priority e.op e.reply)
+  step s e sent got n f = deeds (After s e.who e.op sent got) (msg_row_of s e) e.reply (row_flows s e.who e.op e.reply sent got f) n.allowed
 
-  along : (s : State) (L : List MsgEntry) (sent got : List (List ℕ)) → LegalFrom s L → Flows s.endpoints sent got
+  along : (s : MsgState) (L : List MsgEntry) (sent got : List (List ℕ)) → MsgLegalFrom s L → Flows s.endpoints sent got
       → StartsWith (sent ++ sent_to endpoint sender priority L) (got ++ received_at endpoint sender priority L)
-  unfolding LegalFrom sent_to received_at
+  unfolding MsgLegalFrom sent_to received_at
   along s [] sent got h f = (f.begins.0, append-nil sent ∙ (f.begins.1 ∙ ap (λ (x : List (List ℕ)). x ++ f.begins.0) (sym (append-nil got))))
   along s (e ∷ L) sent got h f =
-      let more = along (next s e) L (sent ++ put_by endpoint sender priority e.who e.op e.reply) (got
+      let more = along (msg_next s e) L (sent ++ put_by endpoint sender priority e.who e.op e.reply) (got
       ++ got_by endpoint sender priority e.op e.reply) h.1 (step s e sent got h.0 f) in (
         more.0,
         sym (append_assoc sent (put_by endpoint sender priority e.who e.op e.reply) (sent_to endpoint sender priority L))
@@ -222,9 +223,9 @@ module _ (endpoint : EndpointHandle) (sender priority : ℕ) where
       )
 
   -- the law
-  pub in_order : (t : PostTerms) (L : List MsgEntry) → Legal t L → StartsWith (sent_to endpoint sender priority L) (received_at endpoint sender priority L)
+  pub in_order : (t : PostTerms) (L : List MsgEntry) → MsgLegal t L → StartsWith (sent_to endpoint sender priority L) (received_at endpoint sender priority L)
   unfolding live_of listed
-  in_order t L h = along (opening t) L [] [] h.from (record {
+  in_order t L h = along (opening_post t) L [] [] h.from (record {
     distinct = tt;
     live = λ e k. absurd (cc);
     begins = ([], refl);

@@ -5,15 +5,15 @@ pub use Rattle.handle_pool.specs.Issued.{Listed, any_listed, any_live, first_han
 pub use Rattle.handle_pool.specs.Slots.{Inserts, IsFull, Slots, free_slot, generation_of, max_of, slot_of, slot_value, with_value, without}
 pub use Rattle.handle_pool.specs.Walks.{HasLive, NoneBelow, NoneLive, OneEach}
 pub use Rattle.history.specs.Histories.{StartsWith, entry}
-pub use Rattle.history.specs.Row.{after_moves}
-pub use Rattle.mcapi_msg.specs.Answers.{AnsweredBy, Called, Done, Hands, IsAnswer, Looks, Names, RanOut, Received, Seat, TimedOut, is_spent, look_for, state_at}
-pub use Rattle.mcapi_msg.specs.Boxes.{AreEmpty, BoxTable, HasFree, HasPort, HasSpace, IsKept, new_mailbox, owner_refusal, with_rings}
-pub use Rattle.mcapi_msg.specs.Endpoints.{Endpoint, has_port, last_generation, message, new_endpoint, next_of, of_priority, sooner, with_first_gone, with_message, without_first}
-pub use Rattle.mcapi_msg.specs.Legal.{Fits, IsNext, Legal, MsgEntry, after, next, post, row_of}
-pub use Rattle.mcapi_msg.specs.Rings.{RingTable, count_in, empty_rings, first_in, with_last, without_front}
-pub use Rattle.mcapi_msg.specs.Row.{Allows, Move, Row, State, apply, gives, handle_of, live, moves_of, only, opening, opens, says, unless}
-pub use Rattle.mcapi_msg.specs.Rows.{names, nothing, row}
-pub use Rattle.mcapi_msg.specs.Stands.{AreInRange, Holds, InRange, Stands, Steps, kept_as, rings_of, state_of, terms_of}
+pub use Rattle.history.specs.Row.{after_each_move}
+pub use Rattle.mcapi_msg.specs.Answers.{MsgAnsweredBy, MsgCalled, Done, Hands, IsAnswer, MsgLooks, NamesEndpoint, RanOut, Received, PostSeat, TimedOut, is_spent, look_for, state_at}
+pub use Rattle.mcapi_msg.specs.Boxes.{AreEmpty, BoxTable, HasFree, HasPort, HasSpace, IsRingKept, new_mailbox, owner_refusal, with_rings}
+pub use Rattle.mcapi_msg.specs.Endpoints.{Endpoint, has_port, last_endpoint_generation, message_of_seat, new_endpoint, next_of, of_priority, sooner, with_first_gone, with_message, without_message}
+pub use Rattle.mcapi_msg.specs.Legal.{FitsPost, MsgIsNext, MsgLegal, MsgEntry, msg_after, msg_next, post, msg_row_of}
+pub use Rattle.mcapi_msg.specs.Rings.{RingTable, messages_in, empty_rings, first_in, with_last_message, without_front}
+pub use Rattle.mcapi_msg.specs.Row.{Allows, MsgMove, MsgRow, MsgState, apply_msg_move, gives, msg_handle_of, live, moves_of, only, opening_post, opens, says, unless}
+pub use Rattle.mcapi_msg.specs.Rows.{names, no_message, msg_row}
+pub use Rattle.mcapi_msg.specs.Stands.{AreInRange, HoldsEndpoints, HavePriorities, PostStands, PostSteps, kept_as, rings_of, post_state_of, post_terms_of}
 pub use Rattle.mcapi_msg.specs.declared.boxes.Mailbox.{Mailbox}
 pub use Rattle.mcapi_msg.specs.declared.messages.EndpointHandle.{EndpointHandle}
 pub use Rattle.mcapi_msg.specs.declared.messages.Waiting.{Waiting}

@@ -1,5 +1,5 @@
 -- What the rings of an endpoint say of the messages that wait there.
-use Rattle.mcapi_msg.proofs.Names.{◌≡◌, ℕ, zero, suc, ◌+◌, ◌<◌, ◌≤◌, Bool, true, false, cond, List, [], ◌∷◌, ◌++◌, length, Option, Some, None, refl, sym, ap, subst, ◌∙◌, arith, ◌==◌, nat_lt, eq-eqb, nat_tests, Waiting, sooner, next_of, without_first, of_priority, RingTable, count_in, with_last, first_in, without_front, rings_of, InRange, same_Some}
+use Rattle.mcapi_msg.proofs.Names.{◌≡◌, ℕ, zero, suc, ◌+◌, ◌<◌, ◌≤◌, Bool, true, false, cond, List, [], ◌∷◌, ◌++◌, length, Option, Some, None, refl, sym, ap, subst, ◌∙◌, arith, ◌==◌, nat_lt, eq-eqb, nat_tests, Waiting, sooner, next_of, without_message, of_priority, RingTable, messages_in, with_last_message, first_in, without_front, rings_of, HavePriorities, same_Some}
 
 -- a message more at the end, and at the front
 abbrev with_behind : Bool → Waiting → List Waiting → List Waiting
@@ -21,11 +21,11 @@ of-more p w (x ∷ ws) = pick (x.priority == p) (w.priority == p) (of-more p w w
     pick false true e = e
     pick false false e = e
 
-pub rings-more : (limit : ℕ) (w : Waiting) (ws : List Waiting) → w.priority < 4 → rings_of limit (ws ++ w ∷ []) ≡ with_last w (rings_of limit ws)
+pub rings-more : (limit : ℕ) (w : Waiting) (ws : List Waiting) → w.priority < 4 → rings_of limit (ws ++ w ∷ []) ≡ with_last_message w (rings_of limit ws)
 rings-more limit w ws e1 = grind (arith, nat_tests, of-more, of_priority, rings_of)
 
 -- how many wait
-pub count-rings : (limit : ℕ) (ws : List Waiting) → InRange ws → count_in (rings_of limit ws) ≡ length ws
+pub count-rings : (limit : ℕ) (ws : List Waiting) → HavePriorities ws → messages_in (rings_of limit ws) ≡ length ws
 count-rings limit [] r = refl
 count-rings limit (w ∷ ws) r = pick (w.priority == 0) (w.priority == 1) (w.priority == 2) (w.priority == 3) refl refl refl refl (count-rings limit ws r.1)
   where
@@ -36,7 +36,7 @@ count-rings limit (w ∷ ws) r = pick (w.priority == 0) (w.priority == 1) (w.pri
     two n p q e f g = grind (arith, nat_tests)
 
     pick : (a b c d : Bool) → (w.priority == 0) ≡ a → (w.priority == 1) ≡ b → (w.priority == 2) ≡ c → (w.priority == 3) ≡ d
-        → count_in (rings_of limit ws) ≡ length ws →
+        → messages_in (rings_of limit ws) ≡ length ws →
         length (with_ahead a w (of_priority 0 ws)) + length (with_ahead b w (of_priority 1 ws)) + length (with_ahead c w (of_priority 2 ws))
         + length (with_ahead d w (of_priority 3 ws)) ≡ length (w ∷ ws)
     pick true false false false e f g h k = omega arith
@@ -52,15 +52,15 @@ count-rings limit (w ∷ ws) r = pick (w.priority == 0) (w.priority == 1) (w.pri
     pick false false true true e f g h k = absurd (two w.priority 2 3 g h refl)
 
 -- in range
-pub range-more : (w : Waiting) (ws : List Waiting) → InRange ws → w.priority < 4 → InRange (ws ++ w ∷ [])
+pub range-more : (w : Waiting) (ws : List Waiting) → HavePriorities ws → w.priority < 4 → HavePriorities (ws ++ w ∷ [])
 range-more w [] r s = (s, tt)
 range-more w (x ∷ ws) r s = (r.0, range-more w ws r.1 s)
 
-pub range-without : (p : ℕ) (ws : List Waiting) → InRange ws → InRange (without_first p ws)
+pub range-without : (p : ℕ) (ws : List Waiting) → HavePriorities ws → HavePriorities (without_message p ws)
 range-without p [] r = tt
 range-without p (w ∷ ws) r = pick (w.priority == p) (range-without p ws r.1)
   where
-    pick : (b : Bool) → InRange (without_first p ws) → InRange (cond b ws (w ∷ without_first p ws))
+    pick : (b : Bool) → HavePriorities (without_message p ws) → HavePriorities (cond b ws (w ∷ without_message p ws))
     pick true k = r.1
     pick false k = (r.0, k)
 
@@ -69,7 +69,7 @@ abbrev pub dropped : Bool → List Waiting → List Waiting
 dropped b [] = []
 dropped b (w ∷ ws) = cond b ws (w ∷ ws)
 
-pub of-without : (p q : ℕ) (ws : List Waiting) → of_priority q (without_first p ws) ≡ dropped (p == q) (of_priority q ws)
+pub of-without : (p q : ℕ) (ws : List Waiting) → of_priority q (without_message p ws) ≡ dropped (p == q) (of_priority q ws)
 of-without p q [] = refl
 of-without p q (w ∷ ws) = pick (w.priority == p) (w.priority == q) (p == q) refl refl refl (of-without p q ws)
   where
@@ -86,16 +86,16 @@ of-without p q (w ∷ ws) = pick (w.priority == p) (w.priority == q) (p == q) re
     kept [] = refl
     kept (x ∷ l) = refl
 
-    pick : (b c d : Bool) → (w.priority == p) ≡ b → (w.priority == q) ≡ c → (p == q) ≡ d → of_priority q (without_first p ws) ≡ dropped d (of_priority q ws)
-        → of_priority q (cond b ws (w ∷ without_first p ws)) ≡ dropped d (cond c (w ∷ of_priority q ws) (of_priority q ws))
+    pick : (b c d : Bool) → (w.priority == p) ≡ b → (w.priority == q) ≡ c → (p == q) ≡ d → of_priority q (without_message p ws) ≡ dropped d (of_priority q ws)
+        → of_priority q (cond b ws (w ∷ without_message p ws)) ≡ dropped d (cond c (w ∷ of_priority q ws) (of_priority q ws))
     pick true true true e f g k = refl
     pick true true false e f g k = absurd (clash w.priority p q e f g)
     pick true false true e f g k = absurd (differ w.priority p q e f g)
     pick true false false e f g k = kept (of_priority q ws)
     pick false true true e f g k = absurd (other w.priority p q e f g)
-    pick false true false e f g k = ap (λ b. cond b (w ∷ of_priority q (without_first p ws)) (of_priority q (without_first p ws))) f
+    pick false true false e f g k = ap (λ b. cond b (w ∷ of_priority q (without_message p ws)) (of_priority q (without_message p ws))) f
         ∙ ap (λ (l : List Waiting). w ∷ l) (k ∙ sym (kept (of_priority q ws)))
-    pick false false d e f g k = ap (λ b. cond b (w ∷ of_priority q (without_first p ws)) (of_priority q (without_first p ws))) f ∙ k
+    pick false false d e f g k = ap (λ b. cond b (w ∷ of_priority q (without_message p ws)) (of_priority q (without_message p ws))) f ∙ k
 
 -- the message that is received first is the first of its priority, and no message has a smaller one
 pub record IsFirst (w : Waiting) (ws : List Waiting) : Type 0 where
@@ -170,7 +170,7 @@ take-none limit [] e = (refl, refl)
 take-none limit (w ∷ ws) e = absurd (cc)
 
 -- the priority of the message that is received first is below 4
-pub range-first : (ws : List Waiting) (w : Waiting) → InRange ws → next_of ws ≡ Some w → w.priority < 4
+pub range-first : (ws : List Waiting) (w : Waiting) → HavePriorities ws → next_of ws ≡ Some w → w.priority < 4
 range-first [] w r e = absurd (cc)
 range-first (x ∷ ws) w r e = pick (next_of ws) refl e (λ y is. range-first ws y r.1 is)
   where
@@ -192,7 +192,7 @@ abbrev table_without : ℕ → ℕ → List Waiting → List Waiting → List Wa
 table_without limit p a b c d = table limit (dropped (p == 0) a) (dropped (p == 1) b) (dropped (p == 2) c) (dropped (p == 3) d)
 
 table-without : (limit p : ℕ) (ws : List Waiting)
-    → rings_of limit (without_first p ws) ≡ table_without limit p (of_priority 0 ws) (of_priority 1 ws) (of_priority 2 ws) (of_priority 3 ws)
+    → rings_of limit (without_message p ws) ≡ table_without limit p (of_priority 0 ws) (of_priority 1 ws) (of_priority 2 ws) (of_priority 3 ws)
 table-without limit p ws i = table limit (of-without p 0 ws i) (of-without p 1 ws i) (of-without p 2 ws i) (of-without p 3 ws i)
 
 -- what a take of these rings gives and leaves
@@ -215,8 +215,8 @@ takes_fourth : (limit : ℕ) (w : Waiting) (rest a b c d : List Waiting) → a �
 takes_fourth limit w rest a b c d e1 e2 e3 e4 = grind (arith, nat_tests)
 
 -- a take gives the message that is received first, and leaves the others
-pub rings-take : (limit : ℕ) (ws : List Waiting) (w : Waiting) → InRange ws → next_of ws ≡ Some w
-    → TakesOf limit w (rings_of limit ws) (rings_of limit (without_first w.priority ws))
+pub rings-take : (limit : ℕ) (ws : List Waiting) (w : Waiting) → HavePriorities ws → next_of ws ≡ Some w
+    → TakesOf limit w (rings_of limit ws) (rings_of limit (without_message w.priority ws))
 rings-take limit ws w r e =
     subst (TakesOf limit w (rings_of limit ws)) (sym (table-without limit w.priority ws))
     (at w.priority refl (range-first ws w r e) (first-is ws w e))

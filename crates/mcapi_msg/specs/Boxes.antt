@@ -5,7 +5,7 @@ use Rattle.handle_pool.specs.Walks.{OneEach}
 use Rattle.mcapi_msg.specs.declared.statuses.MsgStatus.{MsgStatus}
 use Rattle.mcapi_msg.specs.declared.statuses.MsgStatus.TheVariants.{EndpointInvalid, NotOwner}
 use Rattle.mcapi_msg.specs.declared.boxes.Mailbox.{Mailbox}
-use Rattle.mcapi_msg.specs.Rings.{RingTable, empty_rings, count_in}
+use Rattle.mcapi_msg.specs.Rings.{RingTable, empty_rings, messages_in}
 
 -- how many messages may wait at each, and the slots
 pub record BoxTable : Type 0 where
@@ -26,7 +26,7 @@ with_rings f m = record m { rings = f m.rings }
 -- there is an endpoint, and it has room for one message more
 abbrev pub HasSpace : Option Mailbox → Type 0
 HasSpace None = ⊥
-HasSpace (Some m) = count_in m.rings < m.rings.limit
+HasSpace (Some m) = messages_in m.rings < m.rings.limit
 
 -- why an op that only the owner may ask for is refused
 abbrev pub owner_refusal : ℕ → Option Mailbox → Option MsgStatus
@@ -43,7 +43,7 @@ AreEmpty limit [] = Unit {0}
 AreEmpty limit (r ∷ rs) = (r ≡ empty_rings limit) × AreEmpty limit rs
 
 -- what is kept of the live endpoints and the rings in reserve
-pub record IsKept (limit : ℕ) (pool : Slots Mailbox) (spare : List RingTable) (capacity : ℕ) : Type 0 where
+pub record IsRingKept (limit : ℕ) (pool : Slots Mailbox) (spare : List RingTable) (capacity : ℕ) : Type 0 where
   pub few : limit ≤ 256
   -- no two live endpoints have one port, and each has the limit
   pub ports : OneEach (λ m. m.port) pool

@@ -3,8 +3,8 @@ use Rattle.std.specs.Prelude.{ℕ, Bool, ◌==◌, nat_lt, List, [], ◌∷◌, 
 use Rattle.mcapi_msg.specs.declared.messages.Waiting.{Waiting}
 
 -- the last generation of an endpoint's handle
-abbrev pub last_generation : ℕ
-last_generation = 4294967295
+abbrev pub last_endpoint_generation : ℕ
+last_endpoint_generation = 4294967295
 
 -- its port, the seat that opened it, and the messages that wait there, in the order of their sends
 pub record Endpoint : Type 0 where
@@ -20,8 +20,8 @@ abbrev pub has_port : ℕ → Endpoint → Bool
 has_port port e = e.port == port
 
 -- a message of this seat, with this priority and these bytes
-abbrev pub message : ℕ → ℕ → List ℕ → Waiting
-message sender priority msg = record { sender = sender; priority = priority; msg = msg }
+abbrev pub message_of_seat : ℕ → ℕ → List ℕ → Waiting
+message_of_seat sender priority msg = record { sender = sender; priority = priority; msg = msg }
 
 -- of a message and one that may have been sent later, the one that is received first: the later one only where its priority is less
 abbrev pub sooner : Waiting → Option Waiting → Waiting
@@ -34,9 +34,9 @@ next_of [] = None
 next_of (w ∷ ws) = Some (sooner w (next_of ws))
 
 -- the messages without the first one of this priority
-abbrev pub without_first : ℕ → List Waiting → List Waiting
-without_first priority [] = []
-without_first priority (w ∷ ws) = if w.priority == priority then ws else w ∷ without_first priority ws
+abbrev pub without_message : ℕ → List Waiting → List Waiting
+without_message priority [] = []
+without_message priority (w ∷ ws) = if w.priority == priority then ws else w ∷ without_message priority ws
 
 -- the messages of this priority, in the order of their sends
 abbrev pub of_priority : ℕ → List Waiting → List Waiting
@@ -48,4 +48,4 @@ abbrev pub with_message : Waiting → Endpoint → Endpoint
 with_message w e = record e { waiting = e.waiting ++ w ∷ [] }
 
 abbrev pub with_first_gone : ℕ → Endpoint → Endpoint
-with_first_gone priority e = record e { waiting = without_first priority e.waiting }
+with_first_gone priority e = record e { waiting = without_message priority e.waiting }

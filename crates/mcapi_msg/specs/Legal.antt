@@ -7,41 +7,41 @@ use Rattle.history.proofs.Legal.{Legal-front}
 use Rattle.mcapi_msg.specs.declared.ops.MsgOp.{MsgOp}
 use Rattle.mcapi_msg.specs.declared.ops.MsgReply.{MsgReply}
 use Rattle.mcapi_msg.specs.declared.post.PostTerms.{PostTerms}
-use Rattle.mcapi_msg.specs.Row.{State, opening, Move, apply, Row}
-use Rattle.mcapi_msg.specs.Rows.{row}
+use Rattle.mcapi_msg.specs.Row.{MsgState, opening_post, MsgMove, apply_msg_move, MsgRow}
+use Rattle.mcapi_msg.specs.Rows.{msg_row}
 
 -- who asked what, and the reply
 abbrev pub MsgEntry : Type 0
 MsgEntry = Entry MsgOp MsgReply
 
 -- the post as a machine: every op may be asked
-abbrev pub post : Machine State MsgOp MsgReply Move
-post = record { seats = λ s. s.terms.seats; honest = λ o. Unit {0}; row = row; apply = apply }
+abbrev pub post : Machine MsgState MsgOp MsgReply MsgMove
+post = record { seats = λ s. s.terms.seats; honest = λ o. Unit {0}; row = msg_row; apply = apply_msg_move }
 
 -- the row of an entry's op
-abbrev pub row_of : State → MsgEntry → Row
-row_of = of.row_of post
+abbrev pub msg_row_of : MsgState → MsgEntry → MsgRow
+msg_row_of = of.row_of_entry post
 
 -- the entry may come next: it is by a seat, and the op's row allows the reply
-abbrev pub IsNext : State → MsgEntry → Type 0
-IsNext = of.IsNext post
+abbrev pub MsgIsNext : MsgState → MsgEntry → Type 0
+MsgIsNext = of.MayComeNext post
 
 -- the state after it
-abbrev pub next : State → MsgEntry → State
-next = of.next post
+abbrev pub msg_next : MsgState → MsgEntry → MsgState
+msg_next = of.state_after post
 
 -- each entry may come next in its turn
-unfoldable pub LegalFrom : State → List MsgEntry → Type 0
-unfolding of.LegalFrom
-LegalFrom = of.LegalFrom post
+unfoldable pub MsgLegalFrom : MsgState → List MsgEntry → Type 0
+unfolding of.EachMayCome
+MsgLegalFrom = of.EachMayCome post
 
 -- the state after all entries
-unfoldable pub after_from : State → List MsgEntry → State
-unfolding of.after_from
-after_from = of.after_from post
+unfoldable pub msg_after_from : MsgState → List MsgEntry → MsgState
+unfolding of.after_entries
+msg_after_from = of.after_entries post
 
 -- the terms are those of a post: 1 to 25 seats, 1 to 64 endpoints, and 1 to 256 messages that may wait at one
-pub record Fits (terms : PostTerms) : Type 0 where
+pub record FitsPost (terms : PostTerms) : Type 0 where
   pub some_seat : 1 ≤ terms.seats
   pub seats : terms.seats ≤ 25
   pub some_endpoint : 1 ≤ terms.endpoints
@@ -50,15 +50,15 @@ pub record Fits (terms : PostTerms) : Type 0 where
   pub messages : terms.limit ≤ 256
 
 -- the list is a legal history of a post with these terms
-pub record Legal (terms : PostTerms) (L : List MsgEntry) : Type 0 where
-  pub fits : Fits terms
-  pub from : LegalFrom (opening terms) L
+pub record MsgLegal (terms : PostTerms) (L : List MsgEntry) : Type 0 where
+  pub fits : FitsPost terms
+  pub from : MsgLegalFrom (opening_post terms) L
 
 -- the state at its end
-abbrev pub after : PostTerms → List MsgEntry → State
-after terms L = after_from (opening terms) L
+abbrev pub msg_after : PostTerms → List MsgEntry → MsgState
+msg_after terms L = msg_after_from (opening_post terms) L
 
 -- a prefix of a legal list is legal
-pub Legal-prefix : (terms : PostTerms) (L M : List MsgEntry) → Legal terms (L ++ M) → Legal terms L
-unfolding LegalFrom
-Legal-prefix terms L M h = record { fits = h.fits; from = Legal-front post _ L M h.from }
+pub MsgLegal-prefix : (terms : PostTerms) (L M : List MsgEntry) → MsgLegal terms (L ++ M) → MsgLegal terms L
+unfolding MsgLegalFrom
+MsgLegal-prefix terms L M h = record { fits = h.fits; from = Legal-front post _ L M h.from }

@@ -14,12 +14,12 @@ abbrev pub empty_rings : ℕ → RingTable
 empty_rings limit = record { limit = limit; first = []; second = []; third = []; fourth = [] }
 
 -- how many messages wait
-abbrev pub count_in : RingTable → ℕ
-count_in r = length r.first + length r.second + length r.third + length r.fourth
+abbrev pub messages_in : RingTable → ℕ
+messages_in r = length r.first + length r.second + length r.third + length r.fourth
 
 -- one message more, behind those of its priority
-abbrev pub with_last : Waiting → RingTable → RingTable
-with_last w r =
+abbrev pub with_last_message : Waiting → RingTable → RingTable
+with_last_message w r =
     if w.priority == 0 then record r { first = r.first ++ w ∷ [] }
     else (if w.priority == 1 then record r { second = r.second ++ w ∷ [] }
     else (if w.priority == 2 then record r { third = r.third ++ w ∷ [] }
@@ -55,7 +55,7 @@ without_front r = at_first r.first
     at_first (w ∷ ws) = record r { first = ws }
 
 -- each ring has room for all messages that may wait; the numbers are the rooms and the lengths
-pub record HasRoom (limit a b c d i j k l : ℕ) : Type 0 where
+pub record HasRingRoom (limit a b c d i j k l : ℕ) : Type 0 where
   pub few : limit ≤ 256
   pub first : limit ≤ a
   pub second : limit ≤ b

@@ -7,12 +7,12 @@ use Rattle.mcapi_msg.specs.declared.ops.MsgReply.TheVariants.{Ok, Got, Pending, 
 use Rattle.mcapi_msg.specs.declared.statuses.MsgStatus.TheVariants as status
 use Rattle.mcapi_msg.specs.declared.post.PostTerms.{PostTerms}
 use Rattle.mcapi_msg.specs.Endpoints.{new_endpoint}
-use Rattle.mcapi_msg.specs.Row.{State, Allows}
-use Rattle.mcapi_msg.specs.Rows.{row, names}
-use Rattle.mcapi_msg.specs.Legal.{MsgEntry, Legal}
+use Rattle.mcapi_msg.specs.Row.{MsgState, Allows}
+use Rattle.mcapi_msg.specs.Rows.{msg_row, names}
+use Rattle.mcapi_msg.specs.Legal.{MsgEntry, MsgLegal}
 
-abbrev pub usual : PostTerms
-usual = record { seats = 3; endpoints = 1; limit = 2 }
+abbrev pub usual_post : PostTerms
+usual_post = record { seats = 3; endpoints = 1; limit = 2 }
 
 -- the handle of the first place, and of the same place when it is used again
 abbrev pub box : EndpointHandle
@@ -63,8 +63,8 @@ used_again = two_wait ++ (
     ∷ [])
 
 -- two messages of one sender with one priority come in the order of their sends
-unfoldable pub in_order : List MsgEntry
-in_order =
+unfoldable pub sent_in_order : List MsgEntry
+sent_in_order =
     entry 0 (Open 9) (names 4294967296)
     ∷ entry 1 (Send box 1 (bytes 1)) Ok
     ∷ entry 1 (Send box 1 (bytes 2)) Ok
@@ -119,23 +119,23 @@ unfoldable pub no_seat : List MsgEntry
 no_seat = entry 3 (Open 9) (names 4294967296) ∷ []
 
 -- the one place had its last generation, and was given up
-abbrev pub used_up : State
+abbrev pub used_up : MsgState
 used_up = record {
-  terms = usual;
+  terms = usual_post;
   endpoints = record { handle = 4294967295 * 2 ^ 32; live = false; fields = new_endpoint 9 0 } ∷ [];
 }
 
-pub record WorkedHistories : Type 0 where
-  pub exchange_legal : Legal usual exchange
-  pub used_again_legal : Legal usual used_again
-  pub in_order_legal : Legal usual in_order
-  pub urgent_left_illegal : Legal usual urgent_left → ⊥
-  pub newest_first_illegal : Legal usual newest_first → ⊥
-  pub handed_twice_illegal : Legal usual handed_twice → ⊥
-  pub full_early_illegal : Legal usual full_early → ⊥
-  pub stranger_served_illegal : Legal usual stranger_served → ⊥
-  pub timeout_early_illegal : Legal usual timeout_early → ⊥
-  pub never_decides_illegal : Legal usual never_decides → ⊥
-  pub issued_twice_illegal : Legal usual issued_twice → ⊥
-  pub no_seat_illegal : Legal usual no_seat → ⊥
-  pub used_up_full : Allows (row used_up 1 (Open 9) (Refused status.EndpointLimit)) (Refused status.EndpointLimit)
+pub record WorkedMsgHistories : Type 0 where
+  pub exchange_legal : MsgLegal usual_post exchange
+  pub used_again_legal : MsgLegal usual_post used_again
+  pub in_order_legal : MsgLegal usual_post sent_in_order
+  pub urgent_left_illegal : MsgLegal usual_post urgent_left → ⊥
+  pub newest_first_illegal : MsgLegal usual_post newest_first → ⊥
+  pub handed_twice_illegal : MsgLegal usual_post handed_twice → ⊥
+  pub full_early_illegal : MsgLegal usual_post full_early → ⊥
+  pub stranger_served_illegal : MsgLegal usual_post stranger_served → ⊥
+  pub timeout_early_illegal : MsgLegal usual_post timeout_early → ⊥
+  pub never_decides_illegal : MsgLegal usual_post never_decides → ⊥
+  pub issued_twice_illegal : MsgLegal usual_post issued_twice → ⊥
+  pub no_seat_illegal : MsgLegal usual_post no_seat → ⊥
+  pub used_up_full : Allows (msg_row used_up 1 (Open 9) (Refused status.EndpointLimit)) (Refused status.EndpointLimit)

@@ -8,12 +8,12 @@ use Rattle.mcapi_msg.specs.declared.ops.MsgReply.TheVariants.{Ok, Got, Pending, 
 use Rattle.mcapi_msg.specs.declared.statuses.MsgStatus.{MsgStatus}
 use Rattle.mcapi_msg.specs.declared.statuses.MsgStatus.TheVariants.{Timeout, PortTaken, EndpointLimit, EndpointInvalid, PortUnknown, PriorityRange, Full, NotOwner, Spent}
 use Rattle.mcapi_msg.specs.declared.post.PostTerms.{PostTerms}
-use Rattle.mcapi_msg.specs.Statuses.{number_of}
+use Rattle.mcapi_msg.specs.Statuses.{msg_number_of}
 use Rattle.mcapi_msg.specs.Answers.{is_spent}
 use Rattle.mcapi_msg.specs.Rows.{names}
 use Rattle.mcapi_msg.specs.Fifo.{sent_to, received_at}
 use Rattle.mcapi_msg.specs.Laws.{does_nothing}
-use Rattle.mcapi_msg.specs.Legal.{MsgEntry, Fits}
+use Rattle.mcapi_msg.specs.Legal.{MsgEntry, FitsPost}
 use Rattle.mcapi_msg.specs.Worked.{box, bytes, newest_first, handed_twice}
 
 -- a second endpoint
@@ -58,14 +58,14 @@ abbrev pub post : ℕ → ℕ → ℕ → PostTerms
 post seats endpoints limit = record { seats = seats; endpoints = endpoints; limit = limit }
 
 -- all statuses
-abbrev pub all : List MsgStatus
-all = Timeout ∷ PortTaken ∷ EndpointLimit ∷ EndpointInvalid ∷ PortUnknown ∷ PriorityRange ∷ Full ∷ NotOwner ∷ Spent ∷ []
+abbrev pub all_statuses : List MsgStatus
+all_statuses = Timeout ∷ PortTaken ∷ EndpointLimit ∷ EndpointInvalid ∷ PortUnknown ∷ PriorityRange ∷ Full ∷ NotOwner ∷ Spent ∷ []
 
 -- replies of each kind
 abbrev pub replies : List MsgReply
 replies = Ok ∷ names 1 ∷ Got 1 2 (bytes 3) ∷ Pending ∷ Refused Full ∷ []
 
-pub record WorkedWords : Type 0 where
+pub record WorkedMsgWords : Type 0 where
   pub two_of_one : BothAre crossed box 1 1 (bytes 11 ∷ bytes 16 ∷ [])
   pub other_sender : BothAre crossed box 2 1 (bytes 12 ∷ [])
   pub other_priority : BothAre crossed box 1 2 (bytes 13 ∷ [])
@@ -74,14 +74,14 @@ pub record WorkedWords : Type 0 where
   pub later_first : IsInOrder newest_first box 1 1 → ⊥
   pub one_twice : IsInOrder handed_twice box 2 0 → ⊥
   pub never_put : IsInOrder made_up box 1 1 → ⊥
-  pub numbers : map number_of all ≡ (1 ∷ 2 ∷ 3 ∷ 4 ∷ 5 ∷ 6 ∷ 7 ∷ 8 ∷ 9 ∷ [])
-  pub spent_alone : map is_spent all ≡ (false ∷ false ∷ false ∷ false ∷ false ∷ false ∷ false ∷ false ∷ true ∷ [])
+  pub numbers : map msg_number_of all_statuses ≡ (1 ∷ 2 ∷ 3 ∷ 4 ∷ 5 ∷ 6 ∷ 7 ∷ 8 ∷ 9 ∷ [])
+  pub spent_alone : map is_spent all_statuses ≡ (false ∷ false ∷ false ∷ false ∷ false ∷ false ∷ false ∷ false ∷ true ∷ [])
   pub nothing_done : map does_nothing replies ≡ (false ∷ false ∷ false ∷ true ∷ true ∷ [])
-  pub least : Fits (post 1 1 1)
-  pub most : Fits (post 25 64 256)
-  pub no_seat : Fits (post 0 64 256) → ⊥
-  pub many_seats : Fits (post 26 64 256) → ⊥
-  pub no_endpoint : Fits (post 25 0 256) → ⊥
-  pub many_endpoints : Fits (post 25 65 256) → ⊥
-  pub no_message : Fits (post 25 64 0) → ⊥
-  pub many_messages : Fits (post 25 64 257) → ⊥
+  pub least : FitsPost (post 1 1 1)
+  pub most : FitsPost (post 25 64 256)
+  pub no_seat : FitsPost (post 0 64 256) → ⊥
+  pub many_seats : FitsPost (post 26 64 256) → ⊥
+  pub no_endpoint : FitsPost (post 25 0 256) → ⊥
+  pub many_endpoints : FitsPost (post 25 65 256) → ⊥
+  pub no_message : FitsPost (post 25 64 0) → ⊥
+  pub many_messages : FitsPost (post 25 64 257) → ⊥

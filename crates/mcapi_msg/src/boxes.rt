@@ -5,8 +5,8 @@ ghost use Rattle.std.specs.Bool.{OnFalse};
 ghost use Rattle.handle_pool.specs.Slots.{Slots, slot_value, free_slot, without, with_value, Inserts, IsFull};
 ghost use Rattle.handle_pool.specs.Walks.{NoneLive, HasLive, OneEach};
 ghost use Rattle.mcapi_msg.specs.declared.boxes.Mailbox.{Mailbox};
-ghost use Rattle.mcapi_msg.specs.Endpoints.{last_generation};
-ghost use Rattle.mcapi_msg.specs.Rings.{empty_rings, count_in, with_last, first_in, without_front};
+ghost use Rattle.mcapi_msg.specs.Endpoints.{last_endpoint_generation};
+ghost use Rattle.mcapi_msg.specs.Rings.{empty_rings, messages_in, with_last_message, first_in, without_front};
 ghost use Rattle.mcapi_msg.specs.Boxes.{HasPort, new_mailbox, with_rings, HasSpace, HasFree, AreEmpty};
 
 use crate::messages::{EndpointHandle, Waiting};
@@ -37,13 +37,13 @@ pub(crate) struct Boxes {
 
 impl Model for Boxes {
     ghost use Rattle.std.specs.Prelude.{vec_capacity};
-    ghost use Rattle.mcapi_msg.specs.Boxes.{BoxTable, IsKept};
+    ghost use Rattle.mcapi_msg.specs.Boxes.{BoxTable, IsRingKept};
 
     ghost Value = { BoxTable };
 
     ghost view = { λ b. record { limit = b.limit; pool = b.pool } };
 
-    ghost invariant = { λ b. IsKept b.limit b.pool b.spare.items (vec_capacity b.spare) };
+    ghost invariant = { λ b. IsRingKept b.limit b.pool b.spare.items (vec_capacity b.spare) };
 }
 
 // So many empty rings, with room for as many.
@@ -67,7 +67,7 @@ impl Boxes {
         requires few { max ≤ 64 }
         requires messages { limit ≤ 256 }
         ensures limit { IfOk result (λ b. b.limit ≡ limit) }
-        ensures generations { IfOk result (λ b. b.pool.generations ≡ last_generation) }
+        ensures generations { IfOk result (λ b. b.pool.generations ≡ last_endpoint_generation) }
         ensures slots { IfOk result (λ b. b.pool.slots ≡ replicate max (free_slot 1)) }
     {
         Boxes::with_generations(alloc, max, limit, LAST_GENERATION)
@@ -163,7 +163,7 @@ impl Boxes {
         requires space { HasSpace (slot_value self.old.pool at.0) }
         requires priority { message.priority < 4 }
         ensures limit { self.new.limit ≡ self.old.limit }
-        ensures put { (m : Mailbox) → slot_value self.old.pool at.0 ≡ Some m → self.new.pool ≡ with_value self.old.pool at.0 (with_rings (with_last message) m) }
+        ensures put { (m : Mailbox) → slot_value self.old.pool at.0 ≡ Some m → self.new.pool ≡ with_value self.old.pool at.0 (with_rings (with_last_message message) m) }
     {
         match self.pool.get_mut(at.0) {
             Some(mailbox) => mailbox.rings.push(message),

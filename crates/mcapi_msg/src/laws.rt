@@ -2,10 +2,10 @@
 
 ghost use Rattle.history.specs.Histories.{StartsWith};
 ghost use Rattle.mcapi_msg.specs.Fifo.{sent_to, received_at};
-ghost use Rattle.mcapi_msg.specs.Laws.{RefusalsStay};
-ghost use Rattle.mcapi_msg.specs.Legal.{Legal};
-ghost use Rattle.mcapi_msg.specs.Worked.{WorkedHistories};
-ghost use Rattle.mcapi_msg.specs.WorkedWords.{WorkedWords};
+ghost use Rattle.mcapi_msg.specs.Laws.{MsgRefusalsStay};
+ghost use Rattle.mcapi_msg.specs.Legal.{MsgLegal};
+ghost use Rattle.mcapi_msg.specs.Worked.{WorkedMsgHistories};
+ghost use Rattle.mcapi_msg.specs.WorkedWords.{WorkedMsgWords};
 
 use crate::messages::EndpointHandle;
 use crate::ops::MsgEntry;
@@ -21,7 +21,7 @@ pub fn law_fifo(
     sender: u32,
     priority: u32,
 )
-    requires { Legal (record { seats = seats; endpoints = endpoints; limit = limit }) entries.now }
+    requires { MsgLegal (record { seats = seats; endpoints = endpoints; limit = limit }) entries.now }
     ensures { StartsWith (sent_to at sender priority entries.now) (received_at at sender priority entries.now) }
 {
     let _ = (seats, endpoints, limit, at, sender, priority);
@@ -30,12 +30,12 @@ pub fn law_fifo(
 
 /// A refusal, and a look that finds nothing yet, leave the state as it was.
 pub fn law_refused()
-    ensures { RefusalsStay }
+    ensures { MsgRefusalsStay }
 {}
 
 /// The worked histories are legal or not, as they should be; what the words of the laws say of worked lists, and which lists the laws
 /// refuse; and the numbers of the statuses.
 pub fn worked_histories()
-    ensures histories { WorkedHistories }
-    ensures words { WorkedWords }
+    ensures histories { WorkedMsgHistories }
+    ensures words { WorkedMsgWords }
 {}

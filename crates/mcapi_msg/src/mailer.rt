@@ -5,8 +5,8 @@ ghost use Rattle.mtapi_values.specs.Timeouts.{looks_of};
 ghost use Rattle.turn_looks.specs.Turns.{SameSeat, Turned, Unturned};
 ghost use Rattle.mcapi_msg.specs.declared.ops.MsgOp.TheVariants as op;
 ghost use Rattle.mcapi_msg.specs.declared.statuses.MsgStatus.TheVariants as status;
-ghost use Rattle.mcapi_msg.specs.Legal.{Legal};
-ghost use Rattle.mcapi_msg.specs.Answers.{Done, Names, Hands, IsAnswer, AnsweredBy, Called, Received, TimedOut, RanOut};
+ghost use Rattle.mcapi_msg.specs.Legal.{MsgLegal};
+ghost use Rattle.mcapi_msg.specs.Answers.{Done, NamesEndpoint, Hands, IsAnswer, MsgAnsweredBy, MsgCalled, Received, TimedOut, RanOut};
 
 use crate::messages::{EndpointHandle, Msg};
 use crate::ops::{MsgOp, MsgReply};
@@ -45,7 +45,7 @@ impl LookFor<Post> for Arrival {
 // The answer of a call that gives no value.
 fn done(reply: Result<MsgReply, Spent>) -> Result<(), MsgStatus>
     requires { IfOk reply (IsAnswer Done) }
-    ensures { AnsweredBy Done reply result }
+    ensures { MsgAnsweredBy Done reply result }
 {
     match reply {
         Ok(MsgReply::Ok) => Ok(()),
@@ -57,8 +57,8 @@ fn done(reply: Result<MsgReply, Spent>) -> Result<(), MsgStatus>
 
 // The answer of a call that gives an endpoint.
 fn named(reply: Result<MsgReply, Spent>) -> Result<EndpointHandle, MsgStatus>
-    requires { IfOk reply (IsAnswer Names) }
-    ensures { AnsweredBy Names reply result }
+    requires { IfOk reply (IsAnswer NamesEndpoint) }
+    ensures { MsgAnsweredBy NamesEndpoint reply result }
 {
     match reply {
         Ok(MsgReply::Handle(handle)) => Ok(handle),
@@ -71,7 +71,7 @@ fn named(reply: Result<MsgReply, Spent>) -> Result<EndpointHandle, MsgStatus>
 // The answer of a call that gives a message.
 fn handed(reply: Result<MsgReply, Spent>) -> Result<(u32, u32, Msg), MsgStatus>
     requires { IfOk reply (IsAnswer Hands) }
-    ensures { AnsweredBy Hands reply result }
+    ensures { MsgAnsweredBy Hands reply result }
 {
     match reply {
         Ok(
@@ -103,9 +103,9 @@ pub struct Mailer<'a> {
 
 impl<'a> Model for Mailer<'a> {
     ghost use Rattle.std.specs.Prelude.{◌≡◌};
-    ghost use Rattle.mcapi_msg.specs.Answers.{Seat};
+    ghost use Rattle.mcapi_msg.specs.Answers.{PostSeat};
 
-    ghost Value = { Seat };
+    ghost Value = { PostSeat };
 
     ghost view = { λ m. m.seat };
 
@@ -131,7 +131,7 @@ impl<'a> Mailer<'a> {
 
     // A call without looks: one turn.
     fn once<R: Wait>(&mut self, rt: &R, op: MsgOp) -> Result<MsgReply, Spent>
-        ensures turned { IfOk result (λ r. Turned Legal self.old op r self.new) }
+        ensures turned { IfOk result (λ r. Turned MsgLegal self.old op r self.new) }
         ensures spent { OnErr result (Unturned self.old self.new) }
     {
         turn(rt, self.cell, &mut self.seat, op)
@@ -145,7 +145,7 @@ impl<'a> Mailer<'a> {
     /// - `EndpointLimit`: there is no room for a further endpoint.
     /// - `Spent`: the turns of the cell are used up. Nothing enters the history.
     pub fn open<R: Wait>(&mut self, rt: &R, port: u32) -> Result<EndpointHandle, MsgStatus>
-        ensures called { Called Names (op.Open port) self.old self.new result }
+        ensures called { MsgCalled NamesEndpoint (op.Open port) self.old self.new result }
         ensures same { SameSeat self.old self.new }
         ensures spent { result ≡ Err status.Spent → Unturned self.old self.new }
     {
@@ -159,7 +159,7 @@ impl<'a> Mailer<'a> {
     /// - `PortUnknown`: no live endpoint has this port.
     /// - `Spent`: the turns of the cell are used up. Nothing enters the history.
     pub fn find<R: Wait>(&mut self, rt: &R, port: u32) -> Result<EndpointHandle, MsgStatus>
-        ensures called { Called Names (op.Find port) self.old self.new result }
+        ensures called { MsgCalled NamesEndpoint (op.Find port) self.old self.new result }
         ensures same { SameSeat self.old self.new }
         ensures spent { result ≡ Err status.Spent → Unturned self.old self.new }
     {
@@ -181,7 +181,7 @@ impl<'a> Mailer<'a> {
         priority: u32,
         msg: Msg,
     ) -> Result<(), MsgStatus>
-        ensures called { Called Done (op.Send to priority msg) self.old self.new result }
+        ensures called { MsgCalled Done (op.Send to priority msg) self.old self.new result }
         ensures same { SameSeat self.old self.new }
         ensures spent { result ≡ Err status.Spent → Unturned self.old self.new }
     {
@@ -220,7 +220,7 @@ impl<'a> Mailer<'a> {
     /// - `NotOwner`: another seat opened the endpoint.
     /// - `Spent`: the turns of the cell are used up. Nothing enters the history.
     pub fn shut<R: Wait>(&mut self, rt: &R, at: EndpointHandle) -> Result<(), MsgStatus>
-        ensures called { Called Done (op.Shut at) self.old self.new result }
+        ensures called { MsgCalled Done (op.Shut at) self.old self.new result }
         ensures same { SameSeat self.old self.new }
         ensures spent { result ≡ Err status.Spent → Unturned self.old self.new }
     {

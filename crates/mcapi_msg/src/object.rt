@@ -11,20 +11,20 @@ impl Object for Post {
 
     type Terms = PostTerms;
 
-    ghost use Rattle.mcapi_msg.specs.Legal.{Legal, Legal-prefix};
-    ghost use Rattle.mcapi_msg.specs.Stands.{Stands, terms_of, seat_count, some_terms};
+    ghost use Rattle.mcapi_msg.specs.Legal.{MsgLegal, MsgLegal-prefix};
+    ghost use Rattle.mcapi_msg.specs.Stands.{PostStands, post_terms_of, post_seats, some_post_terms};
 
-    ghost blank = { some_terms };
+    ghost blank = { some_post_terms };
 
-    ghost terms = { terms_of };
+    ghost terms = { post_terms_of };
 
-    ghost seat_count = { seat_count };
+    ghost seat_count = { post_seats };
 
-    ghost legal = { Legal };
+    ghost legal = { MsgLegal };
 
-    ghost stands = { Stands };
+    ghost stands = { PostStands };
 
-    ghost prefix_legal = { Legal-prefix };
+    ghost prefix_legal = { MsgLegal-prefix };
 
     ghost stands_legal = { λ x l s. s.legal };
 

@@ -6,7 +6,7 @@ ghost use Rattle.mcapi_msg.specs.declared.ops.MsgOp.TheVariants as op;
 ghost use Rattle.handle_pool.specs.Slots.{slot_value};
 ghost use Rattle.mcapi_msg.specs.Boxes.{owner_refusal};
 ghost use Rattle.mcapi_msg.specs.Endpoints.{Endpoint};
-ghost use Rattle.mcapi_msg.specs.Stands.{Holds, Steps, Stands, terms_of};
+ghost use Rattle.mcapi_msg.specs.Stands.{HoldsEndpoints, PostSteps, PostStands, post_terms_of};
 
 use crate::boxes::Boxes;
 use crate::messages::{EndpointHandle, Msg, Waiting};
@@ -48,8 +48,8 @@ impl Post {
         requires endpoints { endpoints ≤ 64 }
         requires some_message { 1 ≤ limit }
         requires messages { limit ≤ 256 }
-        ensures terms { IfOk result (λ p. terms_of p ≡ record { seats = seats; endpoints = endpoints; limit = limit }) }
-        ensures stands { IfOk result (λ p. Stands p []) }
+        ensures terms { IfOk result (λ p. post_terms_of p ≡ record { seats = seats; endpoints = endpoints; limit = limit }) }
+        ensures stands { IfOk result (λ p. PostStands p []) }
     {
         let boxes = Boxes::new(alloc, endpoints, limit)?;
         Ok(Post { seats, boxes })
@@ -57,7 +57,7 @@ impl Post {
 
     // One op, by its own method.
     pub(crate) fn dispatch(&mut self, who: u32, op: MsgOp) -> MsgReply
-        ensures { (l : List (Listed Endpoint)) → Holds self.old l → Steps self.old l who op result self.new }
+        ensures { (l : List (Listed Endpoint)) → HoldsEndpoints self.old l → PostSteps self.old l who op result self.new }
     {
         match op {
             MsgOp::Open { port } => self.open(who, port),
@@ -69,7 +69,7 @@ impl Post {
     }
 
     fn open(&mut self, who: u32, port: u32) -> MsgReply
-        ensures { (l : List (Listed Endpoint)) → Holds self.old l → Steps self.old l who (op.Open port) result self.new }
+        ensures { (l : List (Listed Endpoint)) → HoldsEndpoints self.old l → PostSteps self.old l who (op.Open port) result self.new }
     {
         if let Some(_taken) = self.boxes.find(port) {
             return MsgReply::Refused(MsgStatus::PortTaken);
@@ -81,7 +81,7 @@ impl Post {
     }
 
     fn find(&self, port: u32) -> MsgReply
-        ensures { (l : List (Listed Endpoint)) (who : _) → Holds self.now l → Steps self.now l who (op.Find port) result self.now }
+        ensures { (l : List (Listed Endpoint)) (who : _) → HoldsEndpoints self.now l → PostSteps self.now l who (op.Find port) result self.now }
     {
         match self.boxes.find(port) {
             Some(handle) => MsgReply::Handle(handle),
@@ -90,7 +90,7 @@ impl Post {
     }
 
     fn send(&mut self, who: u32, to: EndpointHandle, priority: u32, msg: Msg) -> MsgReply
-        ensures { (l : List (Listed Endpoint)) → Holds self.old l → Steps self.old l who (op.Send to priority msg) result self.new }
+        ensures { (l : List (Listed Endpoint)) → HoldsEndpoints self.old l → PostSteps self.old l who (op.Send to priority msg) result self.new }
     {
         let Some(mailbox) = self.boxes.get(to) else {
             return MsgReply::Refused(MsgStatus::EndpointInvalid);
@@ -127,7 +127,7 @@ impl Post {
     }
 
     fn recv(&mut self, who: u32, at: EndpointHandle, last: bool) -> MsgReply
-        ensures { (l : List (Listed Endpoint)) → Holds self.old l → Steps self.old l who (op.Recv at last) result self.new }
+        ensures { (l : List (Listed Endpoint)) → HoldsEndpoints self.old l → PostSteps self.old l who (op.Recv at last) result self.new }
     {
         if let Some(status) = self.owner_refusal(who, at) {
             return MsgReply::Refused(status);
@@ -151,7 +151,7 @@ impl Post {
     }
 
     fn shut(&mut self, who: u32, at: EndpointHandle) -> MsgReply
-        ensures { (l : List (Listed Endpoint)) → Holds self.old l → Steps self.old l who (op.Shut at) result self.new }
+        ensures { (l : List (Listed Endpoint)) → HoldsEndpoints self.old l → PostSteps self.old l who (op.Shut at) result self.new }
     {
         if let Some(status) = self.owner_refusal(who, at) {
             return MsgReply::Refused(status);

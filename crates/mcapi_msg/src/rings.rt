@@ -1,7 +1,7 @@
 //! The messages that wait at one endpoint: one ring for each priority.
 
 ghost use Rattle.std.specs.Prelude.{◌≡◌, ◌==◌, ◌<◌, ◌≤◌, IfOk, IfNone};
-ghost use Rattle.mcapi_msg.specs.Rings.{empty_rings, count_in, with_last, first_in, without_front};
+ghost use Rattle.mcapi_msg.specs.Rings.{empty_rings, messages_in, with_last_message, first_in, without_front};
 
 use crate::messages::Waiting;
 use std::alloc::{AllocError, Global};
@@ -22,7 +22,7 @@ pub(crate) struct Rings {
 impl Model for Rings {
     ghost use Rattle.std.specs.Prelude.{◌≤◌};
     ghost use Rattle.std.specs.VecDeque.{deque_capacity, deque_len};
-    ghost use Rattle.mcapi_msg.specs.Rings.{RingTable, HasRoom};
+    ghost use Rattle.mcapi_msg.specs.Rings.{RingTable, HasRingRoom};
 
     ghost Value = { RingTable };
 
@@ -34,7 +34,7 @@ impl Model for Rings {
       fourth = r.fourth.items;
     } };
 
-    ghost invariant = { λ r. HasRoom r.limit (deque_capacity r.first) (deque_capacity r.second) (deque_capacity r.third) (deque_capacity r.fourth) (deque_len r.first) (deque_len r.second) (deque_len r.third) (deque_len r.fourth) };
+    ghost invariant = { λ r. HasRingRoom r.limit (deque_capacity r.first) (deque_capacity r.second) (deque_capacity r.third) (deque_capacity r.fourth) (deque_len r.first) (deque_len r.second) (deque_len r.third) (deque_len r.fourth) };
 }
 
 impl Rings {
@@ -54,8 +54,8 @@ impl Rings {
 
     /// Whether as many messages wait as may.
     pub(crate) fn is_full(&self) -> bool
-        ensures full { result ≡ (count_in self.now == self.now.limit) }
-        ensures within { count_in self.now ≤ self.now.limit }
+        ensures full { result ≡ (messages_in self.now == self.now.limit) }
+        ensures within { messages_in self.now ≤ self.now.limit }
     {
         self.first.len() + self.second.len() + self.third.len() + self.fourth.len()
             == self.limit as usize
@@ -64,8 +64,8 @@ impl Rings {
     /// Puts a message behind those of its priority.
     pub(crate) fn push(&mut self, message: Waiting)
         requires priority { message.priority < 4 }
-        requires room { count_in self.old < self.old.limit }
-        ensures { self.new ≡ with_last message self.old }
+        requires room { messages_in self.old < self.old.limit }
+        ensures { self.new ≡ with_last_message message self.old }
     {
         match message.priority {
             0 => self.first.push_back_reserved(message),

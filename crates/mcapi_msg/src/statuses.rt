@@ -1,7 +1,7 @@
 //! Why a call on endpoints is refused.
 
 ghost use Rattle.std.specs.Prelude.{◌≡◌};
-ghost use Rattle.mcapi_msg.specs.Statuses.{number_of};
+ghost use Rattle.mcapi_msg.specs.Statuses.{msg_number_of};
 
 /// What a call answers that is refused or has looked in vain.
 #[derive(Clone, Copy, Debug, Drop, PartialEq, Eq)]
@@ -29,7 +29,7 @@ pub enum MsgStatus {
 impl MsgStatus {
     /// The status's number, 1 to 9.
     pub fn number(self) -> u32
-        ensures { result ≡ number_of self }
+        ensures { result ≡ msg_number_of self }
     {
         self as u32
     }

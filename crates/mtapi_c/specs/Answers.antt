@@ -12,7 +12,7 @@ use Rattle.node_handle.specs.declared.journals.JournalEnd.TheVariants as ended
 use Rattle.node_handle.specs.Handles.{HandleCalled}
 use Rattle.node_handle.specs.Texts.{HasEndedAs, written_over}
 use Rattle.mtapi_c.specs.declared.picked.PickedTask.{PickedTask}
-use Rattle.mtapi_c.specs.Replies.{status_of, handle_in, number_in, asked_in, member_in, numbers_in, picked_in}
+use Rattle.mtapi_c.specs.Replies.{status_of_reply, handle_in, reply_number, asked_in, member_in, numbers_in, picked_in}
 
 -- numbers are written to the head of memory, as many as there is room for
 abbrev pub written : List ℤ → List ℤ → List ℤ
@@ -22,27 +22,27 @@ written numbers memory = written_over (take (length memory) numbers) memory
 pub record GivesStatus (old : NodeHandle) (who : ℕ) (op : Op) (code : ℕ) (new : NodeHandle) : Type 0 where
   pub reply : Reply
   pub called : HandleCalled old who op reply new
-  pub status : code ≡ status_of reply
+  pub status : code ≡ status_of_reply reply
 
 -- the status of the reply, and the handle in it
 pub record GivesHandle (old : NodeHandle) (who : ℕ) (op : Op) (code out : ℕ) (new : NodeHandle) : Type 0 where
   pub reply : Reply
   pub called : HandleCalled old who op reply new
-  pub status : code ≡ status_of reply
+  pub status : code ≡ status_of_reply reply
   pub handle : out ≡ handle_in reply
 
 -- the status of the reply, and the number in it
 pub record GivesNumber (old : NodeHandle) (who : ℕ) (op : Op) (code : ℕ) (out : ℤ) (new : NodeHandle) : Type 0 where
   pub reply : Reply
   pub called : HandleCalled old who op reply new
-  pub status : code ≡ status_of reply
-  pub number : out ≡ number_in reply
+  pub status : code ≡ status_of_reply reply
+  pub number : out ≡ reply_number reply
 
 -- the status of the reply, and the yes or no in it
 pub record GivesFlag (old : NodeHandle) (who : ℕ) (op : Op) (code : ℕ) (out : Bool) (new : NodeHandle) : Type 0 where
   pub reply : Reply
   pub called : HandleCalled old who op reply new
-  pub status : code ≡ status_of reply
+  pub status : code ≡ status_of_reply reply
   pub flag : out ≡ asked_in reply
 
 -- memory of the caller's before and after a call, and how many numbers there were
@@ -60,14 +60,14 @@ pub record HasNumbers (memory : Memory) (reply : Reply) : Type 0 where
 pub record GivesNumbers (old : NodeHandle) (who : ℕ) (op : Op) (code : ℕ) (memory : Memory) (new : NodeHandle) : Type 0 where
   pub reply : Reply
   pub called : HandleCalled old who op reply new
-  pub status : code ≡ status_of reply
+  pub status : code ≡ status_of_reply reply
   pub numbers : HasNumbers memory reply
 
 -- the status of the reply, and the member of a group in it with its results
 pub record GivesMember (old : NodeHandle) (who : ℕ) (op : Op) (code out : ℕ) (memory : Memory) (new : NodeHandle) : Type 0 where
   pub reply : Reply
   pub called : HandleCalled old who op reply new
-  pub status : code ≡ status_of reply
+  pub status : code ≡ status_of_reply reply
   pub member : out ≡ member_in reply
   pub numbers : HasNumbers memory reply
 
@@ -75,7 +75,7 @@ pub record GivesMember (old : NodeHandle) (who : ℕ) (op : Op) (code out : ℕ)
 pub record GivesTask (old : NodeHandle) (who : ℕ) (op : Op) (code : ℕ) (out : PickedTask) (before after : List ℤ) (new : NodeHandle) : Type 0 where
   pub reply : Reply
   pub called : HandleCalled old who op reply new
-  pub status : code ≡ status_of reply
+  pub status : code ≡ status_of_reply reply
   pub picked : out ≡ picked_in reply
   pub numbers : after ≡ written (numbers_in reply) before
 
@@ -88,13 +88,13 @@ Tried old who None r new = (new ≡ old) × (r ≡ Mtapi ErrParameter)
 pub record TriesForStatus (old : NodeHandle) (who : ℕ) (op : Option Op) (code : ℕ) (new : NodeHandle) : Type 0 where
   pub reply : Reply
   pub called : Tried old who op reply new
-  pub status : code ≡ status_of reply
+  pub status : code ≡ status_of_reply reply
 
 -- the status of such a reply, and the handle in it
 pub record TriesForHandle (old : NodeHandle) (who : ℕ) (op : Option Op) (code out : ℕ) (new : NodeHandle) : Type 0 where
   pub reply : Reply
   pub called : Tried old who op reply new
-  pub status : code ≡ status_of reply
+  pub status : code ≡ status_of_reply reply
   pub handle : out ≡ handle_in reply
 
 -- the status of an end of a node's calls

@@ -16,15 +16,15 @@ end_status Cancelled = mtapi_number ErrTaskCancelled
 end_status (Failed status) = mtapi_number status
 
 -- the status of a reply: 0 where the call was done
-abbrev pub status_of : Reply → ℕ
-status_of (said.Mtapi status) = mtapi_number status
-status_of (said.Mrapi status) = 200 + mrapi_number status
-status_of said.Pending = 100
-status_of said.Idle = 101
-status_of said.Stop = 102
-status_of (said.Ended end) = end_status end
-status_of (said.Given task end) = end_status end
-status_of _ = 0
+abbrev pub status_of_reply : Reply → ℕ
+status_of_reply (said.Mtapi status) = mtapi_number status
+status_of_reply (said.Mrapi status) = 200 + mrapi_number status
+status_of_reply said.Pending = 100
+status_of_reply said.Idle = 101
+status_of_reply said.Stop = 102
+status_of_reply (said.Ended end) = end_status end
+status_of_reply (said.Given task end) = end_status end
+status_of_reply _ = 0
 
 -- the handle in a reply, 0 where there is none
 abbrev pub handle_in : Reply → ℕ
@@ -32,9 +32,9 @@ handle_in (said.Handle handle) = handle
 handle_in _ = 0
 
 -- the number in a reply, 0 where there is none
-abbrev pub number_in : Reply → ℤ
-number_in (said.Number number) = number
-number_in _ = pos 0
+abbrev pub reply_number : Reply → ℤ
+reply_number (said.Number number) = number
+reply_number _ = pos 0
 
 -- the yes or no in a reply, no where there is none
 abbrev pub asked_in : Reply → Bool

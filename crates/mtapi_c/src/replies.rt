@@ -1,7 +1,7 @@
 //! What C is told of a reply.
 
 ghost use Rattle.std.specs.Prelude.{◌≡◌, length};
-ghost use Rattle.mtapi_c.specs.Replies.{status_of, end_status, handle_in, number_in, asked_in, member_in, end_numbers, numbers_in, picked_in};
+ghost use Rattle.mtapi_c.specs.Replies.{status_of_reply, end_status, handle_in, reply_number, asked_in, member_in, end_numbers, numbers_in, picked_in};
 ghost use Rattle.mtapi_c.specs.Answers.{written};
 
 use crate::kinds::number_of_kind;
@@ -31,7 +31,7 @@ fn end_status(end: &TaskEnd) -> u32
 
 /// The status of a reply: 0 where the call was done.
 pub fn status_of(reply: &Reply) -> u32
-    ensures { result ≡ status_of reply.now }
+    ensures { result ≡ status_of_reply reply.now }
 {
     match reply {
         Reply::Ended(end) | Reply::Given(_, end) => end_status(end),
@@ -56,7 +56,7 @@ pub fn handle_in(reply: &Reply) -> u64
 
 /// The number in a reply, 0 where there is none.
 pub fn number_in(reply: &Reply) -> i64
-    ensures { result ≡ number_in reply.now }
+    ensures { result ≡ reply_number reply.now }
 {
     match reply {
         Reply::Number(number) => *number,

@@ -1,7 +1,7 @@
 //! A task that doesn't begin is given 50 milliseconds, and is cancelled then: its queue is disabled, and keeps it.
 #![tactic(auto)]
 
-ghost use Rattle.workload_runners.specs.Turns.{SameSeat};
+ghost use Rattle.workload_runners.specs.Turns.{SameNodeSeat};
 ghost use Rattle.node_with_workers.specs.Clients.{StillBegins};
 
 use action_fn::StandardActions;
@@ -32,7 +32,7 @@ type Waits = (Result<TaskEnd, MtapiStatus>, Result<TaskEnd, MtapiStatus>);
 // A queue that is disabled and keeps its tasks.
 #[tactic(auto, using(node_with_workers::proofs::Calls::further_calls))]
 fn disabled_queue<R: Wait>(rt: &R, caller: &mut Caller) -> Result<QueueHandle, MtapiStatus>
-    ensures same { SameSeat caller.old caller.new }
+    ensures same { SameNodeSeat caller.old caller.new }
     ensures further { StillBegins caller.old caller.new }
 {
     let mut attr = QueueAttr::new();

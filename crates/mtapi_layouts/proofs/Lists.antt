@@ -1,5 +1,5 @@
 -- What a list of objects of layout two answers once its handles are turned.
-use Rattle.mtapi_layouts.proofs.Names.{◌≡◌, ℕ, ◌+◌, ◌≤◌, true, ◌&&◌, List, [], ◌∷◌, Some, refl, sym, ap, subst, arith, ◌==◌, not, option_map, eqb-true, eq-eqb, ObjectKind, object_number, slot_of, generation_of, Listed, live_object, issued_at, retired, is_full, may_issue, Agree, same_tests, IsOther, found-renamed, found-has, found-other, inward, Names, HasRoom, turned_list, AreNamed}
+use Rattle.mtapi_layouts.proofs.Names.{◌≡◌, ℕ, ◌+◌, ◌≤◌, true, ◌&&◌, List, [], ◌∷◌, Some, refl, sym, ap, subst, arith, ◌==◌, not, option_map, eqb-true, eq-eqb, ObjectKind, object_number, slot_of, generation_of, Listed, live_object, issued_at, retired, is_full, may_issue, Agree, same_tests, IsOther, found-renamed, found-has, found-other, inward, NamesThisKind, HasKindRoom, turned_list, AreNamed}
 use Rattle.std.proofs.lemmas.Bool.Decides.{nat_tests}
 use Rattle.handle_pool.proofs.InsideLemmas.{count-inside}
 use Rattle.mtapi_renaming.proofs.Pairs.{listed-renamed}
@@ -17,14 +17,15 @@ module _ {T : Type 0} (k : ObjectKind) (f : T → T) (P : T → Type 0) where
   found-turned h l n = found-renamed inward inward-one k f P h l n
 
   -- the live object of a handle is named
-  pub found-named : (h : ℕ) (x : T) (l : List (Listed T)) → AreNamed k P l → live_object l h ≡ Some x → Names k h × P x
+  pub found-named : (h : ℕ) (x : T) (l : List (Listed T)) → AreNamed k P l → live_object l h ≡ Some x → NamesThisKind k h × P x
   found-named h x l n e = found-has inward k P h x l n e
 
   -- a handle of the turned list leaves room for the number of the kind
-  pub found-room : (h : ℕ) (x : T) (l : List (Listed T)) → AreNamed k P l → live_object (turned_list k f l) h ≡ Some x → HasRoom h
-  found-room h x l n e = let o : IsOther inward k h = found-other inward k P f h x l n e in subst (λ (y : ℕ). HasRoom y) (sym o.is) (inward-room k o.own o.has)
+  pub found-room : (h : ℕ) (x : T) (l : List (Listed T)) → AreNamed k P l → live_object (turned_list k f l) h ≡ Some x → HasKindRoom h
+  found-room h x l n e = let o : IsOther inward k h = found-other inward k P f h x l n e in
+      subst (λ (y : ℕ). HasKindRoom y) (sym o.is) (inward-room k o.own o.has)
 
-  same_issued_at : (h : ℕ) (l : List (Listed T)) → Names k h → AreNamed k P l → issued_at (inward k h) (turned_list k f l) ≡ issued_at h l
+  same_issued_at : (h : ℕ) (l : List (Listed T)) → NamesThisKind k h → AreNamed k P l → issued_at (inward k h) (turned_list k f l) ≡ issued_at h l
   unfolding issued_at
   same_issued_at h l some n = count-inside (inward k) (λ i x. f x) (λ r. slot_of r.handle == slot_of (inward k h)) (λ r. slot_of r.handle == slot_of h) l
       (agree l n)
@@ -51,6 +52,7 @@ module _ {T : Type 0} (k : ObjectKind) (f : T → T) (P : T → Type 0) where
   unfolding is_full
   same_full last max l n = rw (same_length (inward k) f l, same_retired last l n) refl
 
-  pub same_may_issue : (last h : ℕ) (l : List (Listed T)) → Names k h → AreNamed k P l → may_issue last (inward k h) (turned_list k f l) ≡ may_issue last h l
+  pub same_may_issue : (last h : ℕ) (l : List (Listed T)) → NamesThisKind k h → AreNamed k P l
+      → may_issue last (inward k h) (turned_list k f l) ≡ may_issue last h l
   unfolding may_issue
   same_may_issue last h l some n = rw (listed-renamed inward inward-one k f P h l n, same_issued_at h l some n, (inward-parts k h some).0) refl

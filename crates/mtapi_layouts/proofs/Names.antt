@@ -8,10 +8,10 @@ pub use Rattle.handle_pool.proofs.LiveLemmas.{same_tests}
 pub use Rattle.handle_pool.specs.Inside.{Agree}
 pub use Rattle.handle_pool.specs.Issued.{Listed, live_object}
 pub use Rattle.handle_pool.specs.Slots.{generation_of, slot_of}
-pub use Rattle.mtapi_layouts.specs.Inward.{HasRoom, Names, inward, or_zero}
+pub use Rattle.mtapi_layouts.specs.Inward.{HasKindRoom, NamesThisKind, inward, or_zero}
 pub use Rattle.mtapi_layouts.specs.Named.{AreNamed, Named, TaskIsNamed}
 pub use Rattle.mtapi_layouts.specs.Ops.{HandleIsSmall, IsSmall, IssuesSmall, inward_op, outward, outward_reply}
-pub use Rattle.mtapi_layouts.specs.Turned.{in_layout_one, room_one, turned, turned_list, turned_task}
+pub use Rattle.mtapi_layouts.specs.Turned.{in_layout_one, room_one, state_in_one, turned_list, turned_task}
 pub use Rattle.mtapi_machine.specs.KeyedRows.{Keyed, creates_keyed, keyed_mutexes, keyed_queues, keyed_rwls, keyed_segments, keyed_sems}
 pub use Rattle.mtapi_machine.specs.Moves.{Fields, Groups, Move, Queues, Sort, after_moves, all_of, apply, is_fresh, makes, makes_action, starts_task}
 pub use Rattle.mtapi_machine.specs.Row.{Allows, Row, after_row, creates, gives, handle_of, moves_of, mtapi_unless, on, only, unless}
@@ -25,7 +25,7 @@ pub use Rattle.mtapi_objects.specs.Actions.{has_enabled_job, has_job, new_action
 pub use Rattle.mtapi_renaming.proofs.Lists.{IsOther, found-has, found-other, found-renamed, has-issue}
 pub use Rattle.mtapi_renaming.proofs.Rows.{Alike, HasAnswer, IsRenamed, gives_renamed, is_plain, live_alike, mrapi_alike, only_alike, says_alike, sort-any, sort-found, unless_alike, unless_then}
 pub use Rattle.mtapi_renaming.proofs.TaskRows.{action-any, count-in, group_missing, served}
-pub use Rattle.mtapi_renaming.specs.Follows.{Fits, HasEach, HasTask, NoHandle}
+pub use Rattle.mtapi_renaming.specs.Follows.{FitsState, HasEach, HasTaskNames, NoHandle}
 pub use Rattle.mtapi_renaming.specs.Ops.{answered_kind, renamed_answer, renamed_reply}
 pub use Rattle.mtapi_renaming.specs.Renamed.{renamed, renamed_task}
 pub use Rattle.mtapi_values.specs.Layouts.{named_kind, names_kind, object_number, outer}

@@ -1,5 +1,5 @@
 -- Every row of layout two, seen from inside, and the handles in the replies inside.
-use Rattle.mtapi_layouts.proofs.Names.{◌≡◌, ℕ, Bool, Option, Some, None, refl, sym, ◌∙◌, ap, subst, ◌==◌, not, ObjectKind, Two, new_action, has_job, Op, Reply, Ok, Handle, State, Groups, Row, Allows, handle_of, keyed_queues, keyed_mutexes, keyed_sems, keyed_rwls, keyed_segments, asked_for, asked_of, row, Fits, answered_kind, renamed_answer, renamed_reply, HasAnswer, IsRenamed, Alike, unless_alike, mrapi_alike, action-any, count-in, inward, room_one, turned, inward_op, outward, HandleIsSmall, IssuesSmall, IsSmall, nat_tests, arith}
+use Rattle.mtapi_layouts.proofs.Names.{◌≡◌, ℕ, Bool, Option, Some, None, refl, sym, ◌∙◌, ap, subst, ◌==◌, not, ObjectKind, Two, new_action, has_job, Op, Reply, Ok, Handle, State, Groups, Row, Allows, handle_of, keyed_queues, keyed_mutexes, keyed_sems, keyed_rwls, keyed_segments, asked_for, asked_of, row, FitsState, answered_kind, renamed_answer, renamed_reply, HasAnswer, IsRenamed, Alike, unless_alike, mrapi_alike, action-any, count-in, inward, room_one, state_in_one, inward_op, outward, HandleIsSmall, IssuesSmall, IsSmall, nat_tests, arith}
 use Rattle.mtapi_values.specs.declared.handles.GroupHandle.{GroupHandle}
 use Rattle.mtapi_values.specs.declared.handles.QueueHandle.{QueueHandle}
 use Rattle.mtapi_objects.specs.Groups.{new_group}
@@ -34,9 +34,9 @@ reads_handle u who k o q i = grind (arith, nat_tests)
 issues : (k : ObjectKind) (o : Op) (q : Reply) → made_kind o ≡ Some k → IssuesSmall o q → HandleIsSmall q
 issues k o q i small = grind (arith, nat_tests)
 
-module _ {s : State} (n : Fits inward s) (two : s.terms.layout ≡ Two) (who : ℕ) where
+module _ {s : State} (n : FitsState inward s) (two : s.terms.layout ≡ Two) (who : ℕ) where
   abbrev pub Turned : Op → Reply → Type 0
-  Turned o r = Alike inward (room_one s.terms) s (answered_kind o) r (row s who o r) (row (turned s) who (inward_op o) (renamed_reply inward o r))
+  Turned o r = Alike inward (room_one s.terms) s (answered_kind o) r (row s who o r) (row (state_in_one s) who (inward_op o) (renamed_reply inward o r))
 
   start_turned : (job : ℕ) (args : _) (priority : ℕ) (cores : _) (detached : Bool) (group : Option GroupHandle) (r : Reply)
       → Turned (op.TaskStart job args priority cores detached group) r
@@ -83,13 +83,14 @@ module _ {s : State} (n : Fits inward s) (two : s.terms.layout ≡ Two) (who : �
   row_turned o r = row_alike n (room_one s.terms) who o r refl
 
   -- each handle in a reply inside leaves room for the number of its kind
-  pub row_small : (o : Op) (q : Reply) → IssuesSmall o q → Allows (row (turned s) who (inward_op o) q) q → IsSmall q
+  pub row_small : (o : Op) (q : Reply) → IssuesSmall o q → Allows (row (state_in_one s) who (inward_op o) q) q → IsSmall q
   row_small o q small a = by_kind (made_kind o) refl
     where
-      by_reply : (k : ObjectKind) → made_kind o ≡ Some k → (y : Reply) → HandleIsSmall y → Allows (row (turned s) who (inward_op o) y) y → IsSmall y
+      by_reply : (k : ObjectKind) → made_kind o ≡ Some k → (y : Reply) → HandleIsSmall y → Allows (row (state_in_one s) who (inward_op o) y) y → IsSmall y
       by_reply k e (Handle h) room b = room
       by_reply k e y room b = come_small (answered_kind o) y
-          ((row_turned o Ok).comes y (subst (λ (w : Row). Allows w y) (reads_handle (turned s) who k o y e ∙ sym (reads_handle (turned s) who k o Ok e)) b))
+          ((row_turned o Ok).comes y (subst (λ (w : Row). Allows w y) (reads_handle (state_in_one s) who k o y e
+          ∙ sym (reads_handle (state_in_one s) who k o Ok e)) b))
 
       by_kind : (m : Option ObjectKind) → made_kind o ≡ m → IsSmall q
       by_kind None e = come_small (answered_kind o) q (reply_comes n (room_one s.terms) who o q e a)

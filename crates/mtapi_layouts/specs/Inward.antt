@@ -9,9 +9,9 @@ abbrev pub inward : ObjectKind → ℕ → ℕ
 inward k h = or_zero (inner k h)
 
 -- a handle of layout two names this kind
-abbrev pub Names : ObjectKind → ℕ → Type 0
-Names k h = 1 ≤ inward k h
+abbrev pub NamesThisKind : ObjectKind → ℕ → Type 0
+NamesThisKind k h = 1 ≤ inward k h
 
 -- a pool's handle leaves room for the number of a kind
-abbrev pub HasRoom : ℕ → Type 0
-HasRoom h = h % 2 ^ 32 < 2 ^ 24
+abbrev pub HasKindRoom : ℕ → Type 0
+HasKindRoom h = h % 2 ^ 32 < 2 ^ 24

@@ -5,13 +5,13 @@ use Rattle.mtapi_values.specs.declared.handles.ObjectKind.TheVariants as kind
 use Rattle.handle_pool.specs.Issued.{Listed}
 use Rattle.mtapi_objects.specs.Tasks.{Task}
 use Rattle.mtapi_machine.specs.State.{State}
-use Rattle.mtapi_renaming.specs.Follows.{HasTask, HasEach}
+use Rattle.mtapi_renaming.specs.Follows.{HasTaskNames, HasEach}
 pub use Rattle.mtapi_renaming.specs.Follows.{NoHandle}
 use Rattle.mtapi_layouts.specs.Inward.{inward}
 
 -- the handles of a task, of its queue, its group, and the mutex and the segment of its tally, where it has them
 abbrev pub TaskIsNamed : Task → Type 0
-TaskIsNamed t = HasTask inward t
+TaskIsNamed t = HasTaskNames inward t
 
 -- each handle of the list names the kind, and so do those among the fields
 abbrev pub AreNamed : {T : Type 0} → ObjectKind → (T → Type 0) → List (Listed T) → Type 0

@@ -11,7 +11,7 @@ use Rattle.mtapi_machine.specs.declared.replies.Reply.{Reply}
 use Rattle.mtapi_machine.specs.declared.replies.Reply.TheVariants.{Handle, Given, Picked}
 use Rattle.mtapi_renaming.specs.Ops.{renamed_op}
 pub use Rattle.mtapi_renaming.specs.Ops.{answered_kind}
-use Rattle.mtapi_layouts.specs.Inward.{inward, HasRoom}
+use Rattle.mtapi_layouts.specs.Inward.{inward, HasKindRoom}
 
 -- the op with each of its handles as the pool of its kind has it
 abbrev pub inward_op : Op → Op
@@ -41,7 +41,7 @@ outward_reply op r = outward (answered_kind op) r
 
 -- the handle in the reply leaves room for the number of a kind
 abbrev pub HandleIsSmall : Reply → Type 0
-HandleIsSmall (Handle h) = HasRoom h
+HandleIsSmall (Handle h) = HasKindRoom h
 HandleIsSmall r = Unit {0}
 
 -- so does the handle of a new object
@@ -59,7 +59,7 @@ IssuesSmall op r = Unit {0}
 
 -- each handle in the reply leaves room for the number of its kind
 abbrev pub IsSmall : Reply → Type 0
-IsSmall (Handle h) = HasRoom h
-IsSmall (Given t end) = HasRoom t.0
-IsSmall (Picked t a x args) = HasRoom t.0 × HasRoom a.0
+IsSmall (Handle h) = HasKindRoom h
+IsSmall (Given t end) = HasKindRoom t.0
+IsSmall (Picked t a x args) = HasKindRoom t.0 × HasKindRoom a.0
 IsSmall r = Unit {0}

@@ -34,5 +34,5 @@ abbrev pub turned_list : {T : Type 0} → ObjectKind → (T → T) → List (Lis
 turned_list k f l = renamed_list (inward k) f l
 
 -- the state in layout one
-abbrev pub turned : State → State
-turned s = renamed inward (room_one s.terms) s
+abbrev pub state_in_one : State → State
+state_in_one s = renamed inward (room_one s.terms) s

@@ -1,7 +1,7 @@
 //! Ops turned inwards and replies turned outwards.
 
 ghost use Rattle.std.specs.Prelude.{◌≡◌};
-ghost use Rattle.mtapi_layouts.specs.Inward.{inward, HasRoom};
+ghost use Rattle.mtapi_layouts.specs.Inward.{inward, HasKindRoom};
 ghost use Rattle.mtapi_layouts.specs.Ops.{answered_kind, outer_of, outer_task, outer_action, outward, IsSmall};
 
 use mtapi_machine::{Op, Reply};
@@ -46,7 +46,7 @@ pub fn answered_kind(op: &Op) -> Option<ObjectKind>
 
 // A pool's handle of an object of this kind, as callers see it. No pool has a slot as large as those that stay.
 fn outer_of(kind: Option<ObjectKind>, handle: u64) -> u64
-    ensures { HasRoom handle → result ≡ outer_of kind handle }
+    ensures { HasKindRoom handle → result ≡ outer_of kind handle }
 {
     match kind {
         Some(kind) if handle % (1 << 32) < 1 << 24 => mtapi_values::outer(kind, handle),
@@ -55,13 +55,13 @@ fn outer_of(kind: Option<ObjectKind>, handle: u64) -> u64
 }
 
 fn outer_task(task: TaskHandle) -> TaskHandle
-    ensures { HasRoom task.0 → result ≡ outer_task task }
+    ensures { HasKindRoom task.0 → result ≡ outer_task task }
 {
     TaskHandle(outer_of(Some(ObjectKind::Task), task.0))
 }
 
 fn outer_action(action: ActionHandle) -> ActionHandle
-    ensures { HasRoom action.0 → result ≡ outer_action action }
+    ensures { HasKindRoom action.0 → result ≡ outer_action action }
 {
     ActionHandle(outer_of(Some(ObjectKind::Action), action.0))
 }

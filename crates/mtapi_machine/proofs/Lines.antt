@@ -1,6 +1,6 @@
 -- A table of worked lines is decided by computing: its replay is the history that it tells, and at each line the machine's own reply
 -- differs from the wrong ones.
-use Rattle.mtapi_machine.proofs.Names.{rules, not, ◌≡◌, ℕ, ◌≤◌, Bool, true, false, List, ◌∷◌, ◌++◌, Option, Some, None, refl, ◌∙◌, ap, arith, ◌&&◌, nat_tests, entry, Terms, Reply, State, opening, NodeEntry, IsNext, Fits, row_of, next, LegalFrom, after_from, Legal, answer, replay, Line, reported, NoneIsLegal, WrongIsIllegal, Works, node_of, []}
+use Rattle.mtapi_machine.proofs.Names.{rules, not, ◌≡◌, ℕ, ◌≤◌, Bool, true, false, List, ◌∷◌, ◌++◌, Option, Some, None, refl, ◌∙◌, ap, arith, ◌&&◌, nat_tests, entry, Terms, Reply, State, opening, NodeEntry, IsNext, Fits, row_of, next, LegalFrom, after_from, Legal, answer_of_row, replay, TableLine, reported, NoneIsLegal, WrongIsIllegal, IsWorkedTable, node_of, []}
 use Rattle.mtapi_machine.specs.contracts.replies.ReplyPartialEq.TheImpl as reply_eq
 use Rattle.mtapi_machine.proofs.Equal.{reply_decides}
 use Rattle.mtapi_machine.proofs.Replays.{answer-allowed, is_at_most, legal_if}
@@ -14,15 +14,15 @@ rejected (Some y) x = not (reply_eq.ghosts.eq y x)
 same_reply : (r : Reply) → reply_eq.ghosts.eq r r ≡ true
 same_reply r = (reply_decides r r).1 refl
 
-rejected_next : (s : State) (e : NodeEntry) → rejected (answer (row_of s e)) e.reply ≡ true → IsNext s e → ⊥
+rejected_next : (s : State) (e : NodeEntry) → rejected (answer_of_row (row_of s e)) e.reply ≡ true → IsNext s e → ⊥
 rejected_next s e e1 e2 = grind (arith, nat_tests, answer-allowed, row_of, same_reply)
 
 abbrev none_is_next : State → NodeEntry → List Reply → Bool
 none_is_next s e [] = true
-none_is_next s e (x ∷ xs) = rejected (answer (row_of s (entry e.who e.op x))) x && none_is_next s e xs
+none_is_next s e (x ∷ xs) = rejected (answer_of_row (row_of s (entry e.who e.op x))) x && none_is_next s e xs
 
 -- at each line the machine's own reply differs from the wrong ones
-unfoldable pub wrong_differ : State → List Line → Bool
+unfoldable pub wrong_differ : State → List TableLine → Bool
 wrong_differ s [] = true
 wrong_differ s (l ∷ ls) = none_is_next s l.entry l.wrong && wrong_differ (next s l.entry) ls
 
@@ -40,7 +40,7 @@ none_if terms before e (x ∷ xs) h =
     let p = both_are _ _ h in
     (λ k. rejected_next _ (entry e.who e.op x) p.0 (last_is_next terms before _ k), none_if terms before e xs p.1)
 
-wrong_from : (terms : Terms) (before : List NodeEntry) (table : List Line) → wrong_differ (after_from (opening terms) before) table ≡ true
+wrong_from : (terms : Terms) (before : List NodeEntry) (table : List TableLine) → wrong_differ (after_from (opening terms) before) table ≡ true
     → WrongIsIllegal terms before table
 unfolding wrong_differ
 wrong_from terms before [] h = tt
@@ -50,8 +50,8 @@ wrong_from terms before (l ∷ ls) h =
       wrong_from terms (before ++ l.entry ∷ []) ls (ap (λ s. wrong_differ s ls) (after-one (opening terms) before l.entry) ∙ p.1),
     )
 
-pub works_if : (terms : Terms) (table : List Line) → Fits terms → replay (opening terms) (reported table) ≡ reported table
-    → wrong_differ (opening terms) table ≡ true → Works terms table
+pub works_if : (terms : Terms) (table : List TableLine) → Fits terms → replay (opening terms) (reported table) ≡ reported table
+    → wrong_differ (opening terms) table ≡ true → IsWorkedTable terms table
 unfolding after_from
 works_if terms table f h k = record { legal = record { fits = f; from = legal_if _ _ h }; wrong = wrong_from terms [] table k }
 

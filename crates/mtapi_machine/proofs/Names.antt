@@ -12,14 +12,14 @@ pub use Rattle.history.specs.Histories.{entry}
 pub use Rattle.mtapi_machine.specs.GroupRows.{gives_end, gives_first, verdict}
 pub use Rattle.mtapi_machine.specs.Kept.{drops, is_dropped, pends_alike}
 pub use Rattle.mtapi_machine.specs.KeyedRows.{Keyed, alters_one, creates_keyed, deletes, found, gets, looks_one, mrapi_unless}
-pub use Rattle.mtapi_machine.specs.Laws.{AreAbove, AreMade, DropsRightly, Grows, IsBy, IsMade, IsServed, Rises, Stays, comes_with_change, is_status, may, may_say, start_numbers}
+pub use Rattle.mtapi_machine.specs.Laws.{AreAbove, AreMade, DropsRightly, Grows, IsBy, IsMade, IsServed, Rises, Stays, comes_with_change, is_status, may_move, may_say, start_numbers}
 pub use Rattle.mtapi_machine.specs.Legal.{Fits, IsHonest, IsNext, Legal, NodeEntry, after, next, node, row_of}
 pub use Rattle.mtapi_machine.specs.Moves.{Fields, Groups, Move, Mutexes, Queues, Rwls, Segments, Sems, Sort, after_moves, all_of, alters, apply, enables, ends_task, ends_waiting, frees_members, is_fresh, leaves, lets_members_go, makes, makes_action, notes, removes, runs_task, starts_task, stops, withdraws}
-pub use Rattle.mtapi_machine.specs.Replay.{answer, corrected, is_sound}
+pub use Rattle.mtapi_machine.specs.Replay.{answer_of_row, corrected, is_sound}
 pub use Rattle.mtapi_machine.specs.Row.{Allows, Row, after_row, gives, handle_of, live, moves_of, mtapi_unless, never, not_yet, only, says, unless}
 pub use Rattle.mtapi_machine.specs.Rows.{row}
 pub use Rattle.mtapi_machine.specs.State.{FieldsOf, Objects, State, end_tasks, is_open, is_stop, objects_of, opening, workers}
-pub use Rattle.mtapi_machine.specs.Tables.{Line, NoneIsLegal, Works, WrongIsIllegal, finish, h1, node_of, reported, small}
+pub use Rattle.mtapi_machine.specs.Tables.{TableLine, NoneIsLegal, IsWorkedTable, WrongIsIllegal, finish, h1, node_of, reported, small}
 pub use Rattle.mtapi_machine.specs.TallyRows.{gives_up, locks, takes_both}
 pub use Rattle.mtapi_machine.specs.TaskRows.{cancels, looks_at}
 pub use Rattle.mtapi_machine.specs.WorkRows.{picks}

@@ -28,25 +28,25 @@ node = record { seats = seats; honest = IsHonest; row = row; apply = apply }
 
 -- the row of an entry's op
 abbrev pub row_of : State → NodeEntry → Row
-row_of = of.row_of node
+row_of = of.row_of_entry node
 
 -- the entry may come next: it is by a seat, and the op's row allows the reply
 abbrev pub IsNext : State → NodeEntry → Type 0
-IsNext = of.IsNext node
+IsNext = of.MayComeNext node
 
 -- the state after it
 abbrev pub next : State → NodeEntry → State
-next = of.next node
+next = of.state_after node
 
 -- each entry may come next in its turn
 unfoldable pub LegalFrom : State → List NodeEntry → Type 0
-unfolding of.LegalFrom
-LegalFrom = of.LegalFrom node
+unfolding of.EachMayCome
+LegalFrom = of.EachMayCome node
 
 -- the state after all entries
 unfoldable pub after_from : State → List NodeEntry → State
-unfolding of.after_from
-after_from = of.after_from node
+unfolding of.after_entries
+after_from = of.after_entries node
 
 -- the terms are those of a node: each setting is in its range, and there are 1 to 9 callers; so there are at most 25 seats
 pub record Fits (terms : Terms) : Type 0 where

@@ -4,7 +4,7 @@ pub use Rattle.action_fn.specs.declared.finished.ActEnd.{ActEnd}
 pub use Rattle.action_fn.specs.declared.finished.ActEnd.TheVariants.{Done, Fails}
 pub use Rattle.handle_pool.specs.Issued.{Listed, any_listed, change, change_all, count_listed, first_handle, gone, is_full, issue, live_object, live_of, may_issue, retire, update, with_fields}
 pub use Rattle.history.specs.Histories.{entry}
-pub use Rattle.history.specs.Row.{Row, after_moves}
+pub use Rattle.history.specs.Row.{RowOfMachine, after_each_move}
 pub use Rattle.mtapi_objects.specs.Actions.{Action, action_create_refusals, has_enabled_job, has_job, has_worker, is_eligible, new_action, with_enabled}
 pub use Rattle.mtapi_objects.specs.Groups.{Ending, Group, endings, first_fault, freed, in_no_group, is_member, is_unended_member, let_go, new_group}
 pub use Rattle.mtapi_objects.specs.Mutexes.{Mutex, locked_by, mutex_busy, mutex_delete_refusals, mutex_look_refusals, mutex_unlock_refusals, new_mutex, unlocked}

@@ -1,7 +1,7 @@
 -- A check of a history by computing. The law is that a list is legal exactly where its replay is the list itself.
 use Rattle.std.specs.Prelude.{Bool, true, ◌&&◌, nat_le, List, length}
-use Rattle.history.specs.Replay.{replay as replay_of}
-pub use Rattle.history.specs.Replay.{answer}
+use Rattle.history.specs.Replay.{replay_rows as replay_of}
+pub use Rattle.history.specs.Replay.{answer_of_row}
 use Rattle.action_fn.specs.Answers.{Answered, is_pure, answer_of}
 use Rattle.mtapi_machine.specs.declared.ops.Op.{Op}
 use Rattle.mtapi_machine.specs.declared.ops.Op.TheVariants.{Finish}

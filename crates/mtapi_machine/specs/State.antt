@@ -201,12 +201,12 @@ objects_of kind.Shmem = segments
 
 module _ {T : Type 0} where
   -- the state with the fields of the live object of this handle changed
-  abbrev pub changed : Objects T → ℕ → (T → T) → State → State
-  changed o h f s = o.with_list (update h f (o.list s)) s
+  abbrev pub object_changed : Objects T → ℕ → (T → T) → State → State
+  object_changed o h f s = o.with_list (update h f (o.list s)) s
 
   -- the state in which the object of this handle isn't live any more
-  abbrev pub without : Objects T → ℕ → State → State
-  without o h s = o.with_list (retire h (o.list s)) s
+  abbrev pub object_without : Objects T → ℕ → State → State
+  object_without o h s = o.with_list (retire h (o.list s)) s
 
 -- the live task of this handle ends, with the next number of an end
 abbrev pub end_task : ℕ → TaskEnd → State → State

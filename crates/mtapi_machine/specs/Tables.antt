@@ -11,12 +11,12 @@ use Rattle.mtapi_machine.specs.declared.replies.Reply.TheVariants as reply
 use Rattle.mtapi_machine.specs.Legal.{NodeEntry, Legal}
 
 -- who asked what, and the reply; and replies that would not be legal in its place
-pub record Line : Type 0 where
+pub record TableLine : Type 0 where
   pub entry : NodeEntry
   pub wrong : List Reply
 
 -- the history that a table tells
-abbrev pub reported : List Line → List NodeEntry
+abbrev pub reported : List TableLine → List NodeEntry
 reported [] = []
 reported (l ∷ ls) = l.entry ∷ reported ls
 
@@ -26,12 +26,12 @@ NoneIsLegal terms before e [] = Unit {0}
 NoneIsLegal terms before e (x ∷ xs) = (Legal terms (before ++ entry e.who e.op x ∷ []) → ⊥) × NoneIsLegal terms before e xs
 
 -- no reply beside a line is legal in its place
-abbrev pub WrongIsIllegal : Terms → List NodeEntry → List Line → Type 0
+abbrev pub WrongIsIllegal : Terms → List NodeEntry → List TableLine → Type 0
 WrongIsIllegal terms before [] = Unit {0}
 WrongIsIllegal terms before (l ∷ ls) = NoneIsLegal terms before l.entry l.wrong × WrongIsIllegal terms (before ++ l.entry ∷ []) ls
 
 -- the table tells a legal history of a node with these terms
-pub record Works (terms : Terms) (table : List Line) : Type 0 where
+pub record IsWorkedTable (terms : Terms) (table : List TableLine) : Type 0 where
   pub legal : Legal terms (reported table)
   pub wrong : WrongIsIllegal terms [] table
 
@@ -61,38 +61,38 @@ small = node_of 1 2 2
 -- Lines
 
 -- a line with replies that aren't legal in the place of its own
-abbrev pub line : ℕ → Op → Reply → List Reply → Line
+abbrev pub line : ℕ → Op → Reply → List Reply → TableLine
 line who o r wrong = record { entry = entry who o r; wrong = wrong }
 
 -- lines of the first worker, and of main and the second caller of a node with one worker
-abbrev pub worker : Op → Reply → Line
+abbrev pub worker : Op → Reply → TableLine
 worker o r = line 0 o r []
 
-abbrev pub main : Op → Reply → Line
+abbrev pub main : Op → Reply → TableLine
 main o r = line 1 o r []
 
-abbrev pub second : Op → Reply → Line
+abbrev pub second : Op → Reply → TableLine
 second o r = line 2 o r []
 
 -- the same, with a reply that isn't legal in the place of its own
-abbrev pub worker_not : Op → Reply → Reply → Line
+abbrev pub worker_not : Op → Reply → Reply → TableLine
 worker_not o r x = line 0 o r (x ∷ [])
 
-abbrev pub main_not : Op → Reply → Reply → Line
+abbrev pub main_not : Op → Reply → Reply → TableLine
 main_not o r x = line 1 o r (x ∷ [])
 
-abbrev pub second_not : Op → Reply → Reply → Line
+abbrev pub second_not : Op → Reply → Reply → TableLine
 second_not o r x = line 2 o r (x ∷ [])
 
 -- main is refused with this status, and not answered this
-abbrev pub refused : Op → MtapiStatus → Reply → Line
+abbrev pub refused : Op → MtapiStatus → Reply → TableLine
 refused o c x = main_not o (reply.Mtapi c) x
 
-abbrev pub denied : Op → MrapiStatus → Reply → Line
+abbrev pub denied : Op → MrapiStatus → Reply → TableLine
 denied o c x = main_not o (reply.Mrapi c) x
 
 -- a seat asks each of these in turn, is answered this, and not that
-abbrev pub each : ℕ → List Op → Reply → Reply → List Line
+abbrev pub each : ℕ → List Op → Reply → Reply → List TableLine
 each who [] r x = []
 each who (o ∷ os) r x = line who o r (x ∷ []) ∷ each who os r x
 
@@ -159,8 +159,8 @@ action_of k = op.ActionCreate 1 k every_core
 abbrev pub start : List ℤ → Op
 start args = op.TaskStart 1 args 0 every_core false None
 
-abbrev pub start_in : ℕ → List ℤ → Op
-start_in g args = op.TaskStart 1 args 0 every_core false (Some (group g))
+abbrev pub start_of_group : ℕ → List ℤ → Op
+start_of_group g args = op.TaskStart 1 args 0 every_core false (Some (group g))
 
 -- a task of this queue with these arguments
 abbrev pub put_in : ℕ → List ℤ → Op

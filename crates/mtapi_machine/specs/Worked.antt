@@ -22,53 +22,53 @@ usual = record {
 abbrev pub worker : Op → Reply → NodeEntry
 worker o r = entry 0 o r
 
-abbrev pub main : Op → Reply → NodeEntry
-main o r = entry 1 o r
+abbrev pub main_entry : Op → Reply → NodeEntry
+main_entry o r = entry 1 o r
 
 -- the handles of the first place and of the next one
-abbrev pub first_handle : ℕ
-first_handle = 4294967296
+abbrev pub worked_first_handle : ℕ
+worked_first_handle = 4294967296
 
 abbrev pub next_handle : ℕ
 next_handle = 4294967297
 
-abbrev pub task : ℕ → TaskHandle
-task h = record { 0 = h }
+abbrev pub task_handle : ℕ → TaskHandle
+task_handle h = record { 0 = h }
 
 abbrev pub the_action : ActionHandle
-the_action = record { 0 = first_handle }
+the_action = record { 0 = worked_first_handle }
 
-abbrev pub every_core : Mask
-every_core = record { 0 = 18446744073709551615 }
+abbrev pub every_core_mask : Mask
+every_core_mask = record { 0 = 18446744073709551615 }
 
 -- a task of job 1 with the arguments 2 and 3 and this priority; the worker takes the first task; it says that 2 and 3 make 5
 abbrev pub add_task : ℕ → Op
-add_task priority = op.TaskStart 1 (pos 2 ∷ pos 3 ∷ []) priority every_core false None
+add_task priority = op.TaskStart 1 (pos 2 ∷ pos 3 ∷ []) priority every_core_mask false None
 
 abbrev pub picks_first : NodeEntry
-picks_first = worker op.Pick (reply.Picked (task first_handle) the_action kind.Add (pos 2 ∷ pos 3 ∷ []))
+picks_first = worker op.Pick (reply.Picked (task_handle worked_first_handle) the_action kind.Add (pos 2 ∷ pos 3 ∷ []))
 
 abbrev pub finishes_first : NodeEntry
-finishes_first = worker (op.Finish (task first_handle) (record { kind = kind.Add; args = pos 2 ∷ pos 3 ∷ []; end = Done (pos 5 ∷ []) })) reply.Ok
+finishes_first = worker (op.Finish (task_handle worked_first_handle) (record { kind = kind.Add; args = pos 2 ∷ pos 3 ∷ []; end = Done (pos 5 ∷ []) })) reply.Ok
 
 -- the last entries of every whole run
 abbrev pub closed : List NodeEntry
-closed = main op.Close reply.Ok ∷ worker op.Pick reply.Stop ∷ main op.Final reply.Ok ∷ []
+closed = main_entry op.Close reply.Ok ∷ worker op.Pick reply.Stop ∷ main_entry op.Final reply.Ok ∷ []
 
 -- a node that is asked nothing but to open and to close
 unfoldable pub nothing_asked : List NodeEntry
-nothing_asked = main op.Initialize reply.Ok ∷ main op.Release reply.Ok ∷ closed
+nothing_asked = main_entry op.Initialize reply.Ok ∷ main_entry op.Release reply.Ok ∷ closed
 
 -- one task, from its start to its end
 unfoldable pub one_task : List NodeEntry
 one_task =
-    main op.Initialize reply.Ok
-    ∷ main op.Release reply.Ok
-    ∷ main (op.ActionCreate 1 kind.Add every_core) (reply.Handle first_handle)
-    ∷ main (add_task 0) (reply.Handle first_handle)
+    main_entry op.Initialize reply.Ok
+    ∷ main_entry op.Release reply.Ok
+    ∷ main_entry (op.ActionCreate 1 kind.Add every_core_mask) (reply.Handle worked_first_handle)
+    ∷ main_entry (add_task 0) (reply.Handle worked_first_handle)
     ∷ picks_first
     ∷ finishes_first
-    ∷ main (op.TaskLook (task first_handle) false) (reply.Ended (Completed (pos 5 ∷ [])))
+    ∷ main_entry (op.TaskLook (task_handle worked_first_handle) false) (reply.Ended (Completed (pos 5 ∷ [])))
     ∷ closed
 
 -- both are legal

@@ -5,10 +5,10 @@ use Rattle.mtapi_values.specs.declared.statuses.MtapiStatus.TheVariants as statu
 use Rattle.mtapi_machine.specs.Names.{Completed, Failed, Done}
 use Rattle.mtapi_machine.specs.declared.ops.Op.TheVariants as op
 use Rattle.mtapi_machine.specs.declared.replies.Reply.TheVariants as reply
-use Rattle.mtapi_machine.specs.Tables.{Line, Works, node_of, small, line, worker, main, main_not, refused, h1, h2, h3, again1, again2, action, task, group, queue, every_core, first_core, second_core, action_of, start, start_in, put_in, look, picked, finish}
+use Rattle.mtapi_machine.specs.Tables.{TableLine, IsWorkedTable, node_of, small, line, worker, main, main_not, refused, h1, h2, h3, again1, again2, action, task, group, queue, every_core, first_core, second_core, action_of, start, start_of_group, put_in, look, picked, finish}
 
 -- what the ops on jobs and actions are refused for, and what they answer
-unfoldable pub actions_made : List Line
+unfoldable pub actions_made : List TableLine
 actions_made =
     main op.Initialize reply.Ok
     ∷ refused (op.JobGet 1) status.ErrJobInvalid (reply.Number (pos 1))
@@ -39,7 +39,7 @@ actions_made =
     ∷ []
 
 -- two workers: a task that waits in a disabled queue fails when its only action is deleted
-unfoldable pub action_deleted : List Line
+unfoldable pub action_deleted : List TableLine
 action_deleted =
     line 2 op.Initialize reply.Ok []
     ∷ line 2 (action_of kind.Add) (reply.Handle h1) []
@@ -55,15 +55,15 @@ action_deleted =
 
 -- two tasks in a group fail together when their action is disabled: they end in the order of their starts, whatever their handles; a
 -- task that runs goes on
-unfoldable pub action_disabled : List Line
+unfoldable pub action_disabled : List TableLine
 action_disabled =
     main op.Initialize reply.Ok
     ∷ main (action_of kind.Echo) (reply.Handle h1)
     ∷ main op.GroupCreate (reply.Handle h1)
     ∷ main (start (pos 9 ∷ [])) (reply.Handle h3)
     ∷ worker op.Pick (picked h3 kind.Echo (pos 9 ∷ []))
-    ∷ main (start_in h1 (pos 2 ∷ [])) (reply.Handle h2)
-    ∷ main (start_in h1 (pos 1 ∷ [])) (reply.Handle h1)
+    ∷ main (start_of_group h1 (pos 2 ∷ [])) (reply.Handle h2)
+    ∷ main (start_of_group h1 (pos 1 ∷ [])) (reply.Handle h1)
     ∷ main (op.AnyLook (group h1) false) reply.Pending
     ∷ main (op.ActionDisable (action h1)) reply.Ok
     ∷ line 1 (op.AnyLook (group h1) false) (reply.Given (task h2) (Failed status.ErrActionDisabled))
@@ -74,7 +74,7 @@ action_disabled =
     ∷ []
 
 -- another action of the job keeps a task: the first on its core, the second on the other one, which no worker has
-unfoldable pub action_kept : List Line
+unfoldable pub action_kept : List TableLine
 action_kept =
     main op.Initialize reply.Ok
     ∷ main (op.ActionCreate 1 kind.Add first_core) (reply.Handle h1)
@@ -88,7 +88,7 @@ action_kept =
     ∷ []
 
 pub record WorkedActions : Type 0 where
-  pub made : Works small actions_made
-  pub deleted : Works (node_of 2 2 2) action_deleted
-  pub disabled : Works (node_of 1 4 2) action_disabled
-  pub kept : Works small action_kept
+  pub made : IsWorkedTable small actions_made
+  pub deleted : IsWorkedTable (node_of 2 2 2) action_deleted
+  pub disabled : IsWorkedTable (node_of 1 4 2) action_disabled
+  pub kept : IsWorkedTable small action_kept

@@ -7,7 +7,7 @@ use Rattle.mtapi_machine.specs.Names.{Two, Cancelled}
 use Rattle.mtapi_machine.specs.declared.terms.Terms.{Terms}
 use Rattle.mtapi_machine.specs.declared.ops.Op.TheVariants as op
 use Rattle.mtapi_machine.specs.declared.replies.Reply.TheVariants as reply
-use Rattle.mtapi_machine.specs.Tables.{Line, Works, line, main, main_not, refused, denied, h1, again1, action, task, group, queue, mutex, action_of, start, look}
+use Rattle.mtapi_machine.specs.Tables.{TableLine, IsWorkedTable, line, main, main_not, refused, denied, h1, again1, action, task, group, queue, mutex, action_of, start, look}
 
 -- one worker, two callers, and room for one object of each kind
 abbrev pub single : Terms
@@ -18,7 +18,7 @@ single = record {
 }
 
 -- the first handles of an action, a task and a group name their kinds, and each is invalid for another kind
-unfoldable pub kinds_named : List Line
+unfoldable pub kinds_named : List TableLine
 kinds_named =
     main op.Initialize reply.Ok
     ∷ line 1 (action_of kind.Add) (reply.Handle 4311744512) (reply.Handle h1 ∷ reply.Handle 4328521728 ∷ [])
@@ -33,7 +33,7 @@ kinds_named =
     ∷ []
 
 -- a place that is used again has the next generation of its kind
-unfoldable pub kinds_again : List Line
+unfoldable pub kinds_again : List TableLine
 kinds_again =
     main op.Initialize reply.Ok
     ∷ main (action_of kind.Add) (reply.Handle 4311744512)
@@ -45,7 +45,7 @@ kinds_again =
     ∷ []
 
 -- queues and the four kinds of resources
-unfoldable pub other_kinds : List Line
+unfoldable pub other_kinds : List TableLine
 other_kinds =
     main op.Initialize reply.Ok
     ∷ main (action_of kind.Add) (reply.Handle 4311744512)
@@ -61,6 +61,6 @@ other_kinds =
     ∷ []
 
 pub record WorkedLayouts : Type 0 where
-  pub named : Works single kinds_named
-  pub again : Works single kinds_again
-  pub others : Works single other_kinds
+  pub named : IsWorkedTable single kinds_named
+  pub again : IsWorkedTable single kinds_again
+  pub others : IsWorkedTable single other_kinds

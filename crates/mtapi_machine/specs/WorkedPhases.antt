@@ -7,7 +7,7 @@ use Rattle.action_fn.specs.declared.finished.ActEnd.TheVariants.{Done}
 use Rattle.mtapi_machine.specs.declared.ops.Op.{Op}
 use Rattle.mtapi_machine.specs.declared.ops.Op.TheVariants as op
 use Rattle.mtapi_machine.specs.declared.replies.Reply.TheVariants as reply
-use Rattle.mtapi_machine.specs.Tables.{Line, Works, small, worker, main, worker_not, main_not, second_not, refused, denied, each, h1, action, task, group, queue, mutex, sem, rwl, segment, action_of, start, put_in, look, finish}
+use Rattle.mtapi_machine.specs.Tables.{TableLine, IsWorkedTable, small, worker, main, worker_not, main_not, second_not, refused, denied, each, h1, action, task, group, queue, mutex, sem, rwl, segment, action_of, start, put_in, look, finish}
 
 -- the ops of MTAPI and of MRAPI that are refused in Closing too, and those that aren't
 abbrev pub mtapi_makers : List Op
@@ -80,7 +80,7 @@ steps =
     ∷ []
 
 -- New: every op of MTAPI and MRAPI is refused, by callers and by workers alike
-unfoldable pub in_new : List Line
+unfoldable pub in_new : List TableLine
 in_new =
     each 1 mtapi_makers (reply.Mtapi status.ErrNodeNotinit) reply.Ok
     ++ each 1 mtapi_others (reply.Mtapi status.ErrNodeNotinit) reply.Pending
@@ -95,7 +95,7 @@ in_new =
     ∷ []
 
 -- Open: what a seat may not ask for. Then Closing: no new objects, and no object is given up
-unfoldable pub in_closing : List Line
+unfoldable pub in_closing : List TableLine
 in_closing =
     main op.Initialize reply.Ok
     ∷ refused op.Initialize status.ErrNodeInitialized reply.Ok
@@ -125,7 +125,7 @@ in_closing =
     ∷ []
 
 -- Closed: every op is refused again
-unfoldable pub in_closed : List Line
+unfoldable pub in_closed : List TableLine
 in_closed =
     second_not op.Enter reply.Pending reply.Ok
     ∷ main_not op.Close reply.Ok (reply.Mtapi status.ErrNodeNotinit)
@@ -145,6 +145,6 @@ in_closed =
     ∷ []
 
 pub record WorkedPhases : Type 0 where
-  pub in_new : Works small in_new
-  pub in_closing : Works small in_closing
-  pub in_closed : Works small in_closed
+  pub in_new : IsWorkedTable small in_new
+  pub in_closing : IsWorkedTable small in_closing
+  pub in_closed : IsWorkedTable small in_closed

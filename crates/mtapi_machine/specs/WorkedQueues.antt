@@ -7,10 +7,10 @@ use Rattle.mtapi_machine.specs.declared.ops.Op.TheVariants as op
 use Rattle.mtapi_machine.specs.declared.replies.Reply.TheVariants as reply
 use Rattle.mtapi_machine.specs.State.{opening}
 use Rattle.mtapi_machine.specs.Kept.{skipped, no_counts}
-use Rattle.mtapi_machine.specs.Tables.{Line, reported, Works, node_of, small, line, worker, main, worker_not, main_not, refused, h1, h2, h3, again1, action, task, group, queue, every_core, first_core, second_core, action_of, start, start_in, put_in, look, last_look, picked, finish}
+use Rattle.mtapi_machine.specs.Tables.{TableLine, reported, IsWorkedTable, node_of, small, line, worker, main, worker_not, main_not, refused, h1, h2, h3, again1, action, task, group, queue, every_core, first_core, second_core, action_of, start, start_of_group, put_in, look, last_look, picked, finish}
 
 -- what the ops on queues are refused for; the priorities are 0 to 3
-unfoldable pub queues_made : List Line
+unfoldable pub queues_made : List TableLine
 queues_made =
     main op.Initialize reply.Ok
     ∷ refused (op.QueueCreate 1 1 4 1 false false) status.ErrParameter (reply.Mtapi status.ErrJobInvalid)
@@ -39,7 +39,7 @@ queues_made =
     ∷ []
 
 -- what an enqueue is refused for, in the order in which it is looked for; room for one task
-unfoldable pub puts_refused : List Line
+unfoldable pub puts_refused : List TableLine
 puts_refused =
     main op.Initialize reply.Ok
     ∷ main (op.ActionCreate 1 kind.Add first_core) (reply.Handle h1)
@@ -65,7 +65,7 @@ puts_refused =
     ∷ []
 
 -- a queue that retains its task: the task waits while the queue is disabled, and closing cancels it
-unfoldable pub retained : List Line
+unfoldable pub retained : List TableLine
 retained =
     main op.Initialize reply.Ok
     ∷ main (action_of kind.Add) (reply.Handle h1)
@@ -82,7 +82,7 @@ retained =
     ∷ []
 
 -- the same, and it is cancelled
-unfoldable pub retained_cancelled : List Line
+unfoldable pub retained_cancelled : List TableLine
 retained_cancelled =
     main op.Initialize reply.Ok
     ∷ main (action_of kind.Add) (reply.Handle h1)
@@ -94,7 +94,7 @@ retained_cancelled =
     ∷ []
 
 -- the same, and its queue is deleted
-unfoldable pub retained_deleted : List Line
+unfoldable pub retained_deleted : List TableLine
 retained_deleted =
     main op.Initialize reply.Ok
     ∷ main (action_of kind.Add) (reply.Handle h1)
@@ -106,7 +106,7 @@ retained_deleted =
     ∷ []
 
 -- a disabled queue for two tasks that retains them: a third is refused, and closing cancels both
-unfoldable pub third_refused : List Line
+unfoldable pub third_refused : List TableLine
 third_refused =
     main op.Initialize reply.Ok
     ∷ main (action_of kind.Add) (reply.Handle h1)
@@ -123,7 +123,7 @@ third_refused =
     ∷ []
 
 -- closing leaves the tasks of an enabled queue, and those of none; they are executed, and the worker stops after that
-unfoldable pub enabled_left : List Line
+unfoldable pub enabled_left : List TableLine
 enabled_left =
     main op.Initialize reply.Ok
     ∷ main (action_of kind.Add) (reply.Handle h1)
@@ -143,7 +143,7 @@ enabled_left =
 
 -- a queue that doesn't retain is disabled: its tasks that haven't begun end cancelled, in the order of their starts, and the running
 -- one goes on; a task outside the queue is left
-unfoldable pub not_retained : List Line
+unfoldable pub not_retained : List TableLine
 not_retained =
     main op.Initialize reply.Ok
     ∷ main (action_of kind.Add) (reply.Handle h1)
@@ -153,7 +153,7 @@ not_retained =
     ∷ worker op.Pick (picked h1 kind.Add (pos 1 ∷ []))
     ∷ main (op.TaskEnqueue (queue h1) [] every_core false (Some (group h1))) (reply.Handle h3)
     ∷ main (op.TaskEnqueue (queue h1) [] every_core false (Some (group h1))) (reply.Handle h2)
-    ∷ main (start_in h1 []) (reply.Handle 4294967299)
+    ∷ main (start_of_group h1 []) (reply.Handle 4294967299)
     ∷ main (op.QueueDisable (queue h1)) reply.Ok
     ∷ refused (put_in h1 []) status.ErrQueueDisabled (reply.Mtapi status.ErrTaskLimit)
     ∷ main_not (look h1) reply.Pending (reply.Ended Cancelled)
@@ -166,8 +166,8 @@ not_retained =
     ∷ []
 
 -- a queue is deleted: its tasks that haven't begun fail, and the running one goes on; a task of another queue is left
-unfoldable pub queue_deleted : List Line
-queue_deleted =
+unfoldable pub queue_deleted_table : List TableLine
+queue_deleted_table =
     main op.Initialize reply.Ok
     ∷ main (action_of kind.Add) (reply.Handle h1)
     ∷ main (op.QueueCreate 1 1 0 65536 false false) (reply.Handle h1)
@@ -186,7 +186,7 @@ queue_deleted =
     ∷ []
 
 -- a task of a queue has the queue's priority, and begins again once its queue is enabled again
-unfoldable pub queue_priority : List Line
+unfoldable pub queue_priority : List TableLine
 queue_priority =
     main op.Initialize reply.Ok
     ∷ main (action_of kind.Add) (reply.Handle h1)
@@ -202,15 +202,15 @@ queue_priority =
     ∷ []
 
 pub record WorkedQueues : Type 0 where
-  pub made : Works small queues_made
-  pub refused : Works (node_of 1 1 2) puts_refused
-  pub waits : Works small retained
+  pub made : IsWorkedTable small queues_made
+  pub refused : IsWorkedTable (node_of 1 1 2) puts_refused
+  pub waits : IsWorkedTable small retained
   -- of the looks by which main waits, the first and the last are kept; two were left out before the last one
   pub waits_skipped : skipped (opening small) no_counts (reported retained) ≡ (0 ∷ 0 ∷ 0 ∷ 0 ∷ 0 ∷ 0 ∷ 2 ∷ 0 ∷ 0 ∷ [])
-  pub cancelled : Works small retained_cancelled
-  pub deleted : Works small retained_deleted
-  pub third : Works (node_of 1 4 2) third_refused
-  pub enabled : Works small enabled_left
-  pub disabled : Works (node_of 1 4 2) not_retained
-  pub fails : Works (node_of 1 4 2) queue_deleted
-  pub priority : Works (node_of 1 4 2) queue_priority
+  pub cancelled : IsWorkedTable small retained_cancelled
+  pub deleted : IsWorkedTable small retained_deleted
+  pub third : IsWorkedTable (node_of 1 4 2) third_refused
+  pub enabled : IsWorkedTable small enabled_left
+  pub disabled : IsWorkedTable (node_of 1 4 2) not_retained
+  pub fails : IsWorkedTable (node_of 1 4 2) queue_deleted_table
+  pub priority : IsWorkedTable (node_of 1 4 2) queue_priority

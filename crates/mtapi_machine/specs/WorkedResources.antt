@@ -4,7 +4,7 @@ use Rattle.mtapi_values.specs.declared.statuses.MrapiStatus.TheVariants as code
 use Rattle.mtapi_machine.specs.declared.ops.Op.{Op}
 use Rattle.mtapi_machine.specs.declared.ops.Op.TheVariants as op
 use Rattle.mtapi_machine.specs.declared.replies.Reply.TheVariants as reply
-use Rattle.mtapi_machine.specs.Tables.{Line, Works, node_of, small, line, main, second, main_not, second_not, denied, h1, h2, h3, again1, mutex, sem, rwl, segment}
+use Rattle.mtapi_machine.specs.Tables.{TableLine, IsWorkedTable, node_of, small, line, main, second, main_not, second_not, denied, h1, h2, h3, again1, mutex, sem, rwl, segment}
 
 -- looks that aren't the last ones, and last ones
 
@@ -26,7 +26,7 @@ write_lock r = op.RwlLook (rwl r) true false
 -- Mutexes
 
 -- what creates, gets and deletes are refused for; a mutex that isn't recursive
-unfoldable pub mutexes_made : List Line
+unfoldable pub mutexes_made : List TableLine
 mutexes_made =
     main op.Initialize reply.Ok
     ∷ denied (op.MutexGet 1) code.ErrMutexIdInvalid (reply.Handle h1)
@@ -56,7 +56,7 @@ mutexes_made =
     ∷ []
 
 -- a recursive mutex: the keys go back in the other order
-unfoldable pub keys : List Line
+unfoldable pub keys : List TableLine
 keys =
     main op.Initialize reply.Ok
     ∷ main (op.MutexCreate 1 true) (reply.Handle h1)
@@ -75,12 +75,12 @@ keys =
     ∷ []
 
 -- so many locks of a recursive mutex, from a depth on
-abbrev pub deeper : ℕ → ℕ → List Line
+abbrev pub deeper : ℕ → ℕ → List TableLine
 deeper depth zero = []
 deeper depth (suc n) = main (lock h1) (reply.Number (pos (depth + 1))) ∷ deeper (depth + 1) n
 
 -- it is locked 64 deep, and no deeper
-unfoldable pub deepest : List Line
+unfoldable pub deepest : List TableLine
 deepest =
     main op.Initialize reply.Ok
     ∷ main (op.MutexCreate 1 true) (reply.Handle h1)
@@ -93,7 +93,7 @@ deepest =
 
 -- Semaphores
 
-unfoldable pub semaphores : List Line
+unfoldable pub semaphores : List TableLine
 semaphores =
     main op.Initialize reply.Ok
     ∷ denied (op.SemGet 1) code.ErrSemIdInvalid (reply.Handle h1)
@@ -133,7 +133,7 @@ semaphores =
 
 -- Reader-writer locks: either one writer, or readers, as many as the limit
 
-unfoldable pub reader_writer_locks : List Line
+unfoldable pub reader_writer_locks : List TableLine
 reader_writer_locks =
     main op.Initialize reply.Ok
     ∷ denied (op.RwlGet 1) code.ErrRwlIdInvalid (reply.Handle h1)
@@ -178,7 +178,7 @@ reader_writer_locks =
 
 -- Segments
 
-unfoldable pub segments : List Line
+unfoldable pub segments : List TableLine
 segments =
     main op.Initialize reply.Ok
     ∷ denied (op.ShmemGet 1) code.ErrShmIdInvalid (reply.Handle h1)
@@ -219,7 +219,7 @@ segments =
     ∷ []
 
 -- room for one segment: its place is used again, and the new segment's cell is 0
-unfoldable pub cleared : List Line
+unfoldable pub cleared : List TableLine
 cleared =
     main op.Initialize reply.Ok
     ∷ main (op.ShmemCreate 1 1) (reply.Handle h1)
@@ -234,15 +234,15 @@ cleared =
     ∷ []
 
 -- a segment of as many cells as there may be
-unfoldable pub greatest_segment : List Line
+unfoldable pub greatest_segment : List TableLine
 greatest_segment = main op.Initialize reply.Ok ∷ main_not (op.ShmemCreate 1 4096) (reply.Handle h1) (reply.Mrapi code.ErrParameter) ∷ []
 
 pub record WorkedResources : Type 0 where
-  pub mutexes_made : Works small mutexes_made
-  pub keys : Works small keys
-  pub deepest : Works small deepest
-  pub semaphores : Works small semaphores
-  pub reader_writer_locks : Works small reader_writer_locks
-  pub segments : Works small segments
-  pub cleared : Works (node_of 1 1 1) cleared
-  pub greatest : Works small greatest_segment
+  pub mutexes_made : IsWorkedTable small mutexes_made
+  pub keys : IsWorkedTable small keys
+  pub deepest : IsWorkedTable small deepest
+  pub semaphores : IsWorkedTable small semaphores
+  pub reader_writer_locks : IsWorkedTable small reader_writer_locks
+  pub segments : IsWorkedTable small segments
+  pub cleared : IsWorkedTable (node_of 1 1 1) cleared
+  pub greatest : IsWorkedTable small greatest_segment

@@ -6,10 +6,10 @@ use Rattle.mtapi_machine.specs.Names.{Completed, Cancelled, One, Done}
 use Rattle.mtapi_machine.specs.declared.terms.Terms.{Terms}
 use Rattle.mtapi_machine.specs.declared.ops.Op.TheVariants as op
 use Rattle.mtapi_machine.specs.declared.replies.Reply.TheVariants as reply
-use Rattle.mtapi_machine.specs.Tables.{Line, Works, node_of, small, line, worker, main, worker_not, main_not, second_not, refused, h1, h2, h3, again1, action, task, group, every_core, first_core, second_core, action_of, start, start_in, look, last_look, picked, finish}
+use Rattle.mtapi_machine.specs.Tables.{TableLine, IsWorkedTable, node_of, small, line, worker, main, worker_not, main_not, second_not, refused, h1, h2, h3, again1, action, task, group, every_core, first_core, second_core, action_of, start, start_of_group, look, last_look, picked, finish}
 
 -- what a start is refused for, in the order in which it is looked for; the priorities are 0 to 3
-unfoldable pub starts_refused : List Line
+unfoldable pub starts_refused : List TableLine
 starts_refused =
     main op.Initialize reply.Ok
     ∷ refused (op.TaskStart 1 [] 4 second_core false (Some (group h1))) status.ErrParameter (reply.Mtapi status.ErrJobInvalid)
@@ -31,7 +31,7 @@ starts_refused =
     ∷ []
 
 -- what a look and a cancel are refused for
-unfoldable pub looks_refused : List Line
+unfoldable pub looks_refused : List TableLine
 looks_refused =
     main op.Initialize reply.Ok
     ∷ main (action_of kind.Add) (reply.Handle h1)
@@ -40,7 +40,7 @@ looks_refused =
     ∷ refused (op.TaskCancel (task h1)) status.ErrTaskInvalid reply.Ok
     ∷ main (op.TaskStart 1 [] 0 every_core true None) (reply.Handle h1)
     ∷ refused (look h1) status.ErrParameter reply.Pending
-    ∷ main (start_in h2 []) (reply.Handle h2)
+    ∷ main (start_of_group h2 []) (reply.Handle h2)
     ∷ refused (look h2) status.ErrParameter reply.Pending
     ∷ refused (last_look h2) status.ErrParameter (reply.Mtapi status.Timeout)
     ∷ main (op.TaskCancel (task h1)) reply.Ok
@@ -48,7 +48,7 @@ looks_refused =
     ∷ []
 
 -- one seat waits for a task at a time
-unfoldable pub one_waiter : List Line
+unfoldable pub one_waiter : List TableLine
 one_waiter =
     main op.Initialize reply.Ok
     ∷ main (action_of kind.Add) (reply.Handle h1)
@@ -64,8 +64,8 @@ one_waiter =
 
 -- a scheduled task ends cancelled, one that has ended is left, and a running one goes on; room for one task, so its place is used
 -- again, under another handle, once it isn't live
-unfoldable pub cancelled : List Line
-cancelled =
+unfoldable pub cancelled_table : List TableLine
+cancelled_table =
     main op.Initialize reply.Ok
     ∷ main (action_of kind.Add) (reply.Handle h1)
     ∷ main (start (pos 1 ∷ [])) (reply.Handle h1)
@@ -92,7 +92,7 @@ one_generation = record {
   callers = 2;
 }
 
-unfoldable pub place_retires : List Line
+unfoldable pub place_retires : List TableLine
 place_retires =
     main op.Initialize reply.Ok
     ∷ main (action_of kind.Add) (reply.Handle h1)
@@ -104,7 +104,7 @@ place_retires =
     ∷ []
 
 -- two workers: the job's only action runs on the first core, and the task asks for the second one; so there is no task
-unfoldable pub no_core : List Line
+unfoldable pub no_core : List TableLine
 no_core =
     line 2 op.Initialize reply.Ok []
     ∷ line 2 (op.ActionCreate 1 kind.Add first_core) (reply.Handle h1) []
@@ -113,9 +113,9 @@ no_core =
     ∷ []
 
 pub record WorkedTasks : Type 0 where
-  pub starts_refused : Works small starts_refused
-  pub looks_refused : Works small looks_refused
-  pub one_waiter : Works small one_waiter
-  pub cancelled : Works (node_of 1 1 1) cancelled
-  pub place_retires : Works one_generation place_retires
-  pub no_core : Works (node_of 2 2 2) no_core
+  pub starts_refused : IsWorkedTable small starts_refused
+  pub looks_refused : IsWorkedTable small looks_refused
+  pub one_waiter : IsWorkedTable small one_waiter
+  pub cancelled : IsWorkedTable (node_of 1 1 1) cancelled_table
+  pub place_retires : IsWorkedTable one_generation place_retires
+  pub no_core : IsWorkedTable (node_of 2 2 2) no_core

@@ -6,10 +6,10 @@ use Rattle.mtapi_machine.specs.Names.{Completed, Cancelled, Failed, Done, Fails,
 use Rattle.mtapi_machine.specs.declared.ops.Op.TheVariants as op
 use Rattle.mtapi_machine.specs.declared.replies.Reply.TheVariants as reply
 use Rattle.mtapi_machine.specs.Legal.{Legal}
-use Rattle.mtapi_machine.specs.Tables.{Line, reported, Works, node_of, small, line, worker, main, worker_not, main_not, refused, h1, h2, h3, again1, action, task, every_core, second_core, action_of, start, look, picked, finish}
+use Rattle.mtapi_machine.specs.Tables.{TableLine, reported, IsWorkedTable, node_of, small, line, worker, main, worker_not, main_not, refused, h1, h2, h3, again1, action, task, every_core, second_core, action_of, start, look, picked, finish}
 
 -- a worker takes a task of the smallest priority; it takes none while it runs one, and stops once no task is left
-unfoldable pub picking : List Line
+unfoldable pub picking : List TableLine
 picking =
     worker_not op.Pick reply.Idle reply.Stop
     ∷ main op.Initialize reply.Ok
@@ -35,8 +35,8 @@ picking =
     ∷ []
 
 -- two workers: an action and a task run on the cores of their masks; each worker stops, and then the node is finalized
-unfoldable pub two_workers : List Line
-two_workers =
+unfoldable pub two_workers_table : List TableLine
+two_workers_table =
     line 2 op.Initialize reply.Ok []
     ∷ line 2 (op.ActionCreate 1 kind.Add second_core) (reply.Handle h1) []
     ∷ line 2 (op.ActionCreate 2 kind.Mul every_core) (reply.Handle h2) []
@@ -56,7 +56,7 @@ two_workers =
     ∷ []
 
 -- what a finish is refused for: the task isn't live, or doesn't run on this worker, with this kind and these arguments
-unfoldable pub finishing : List Line
+unfoldable pub finishing : List TableLine
 finishing =
     line 2 op.Initialize reply.Ok []
     ∷ line 2 (action_of kind.Div) (reply.Handle h1) []
@@ -81,7 +81,7 @@ finishing =
     ∷ []
 
 -- a watch that is asked to stop before it looks
-unfoldable pub stopped_watch : List Line
+unfoldable pub stopped_watch : List TableLine
 stopped_watch =
     main op.Initialize reply.Ok
     ∷ main (action_of kind.Watch) (reply.Handle h1)
@@ -100,7 +100,7 @@ stopped_watch =
     ∷ []
 
 -- a watch that isn't asked to stop: it looks as often as its argument says
-unfoldable pub whole_watch : List Line
+unfoldable pub whole_watch : List TableLine
 whole_watch =
     main op.Initialize reply.Ok
     ∷ main (action_of kind.Watch) (reply.Handle h1)
@@ -115,7 +115,7 @@ whole_watch =
     ∷ []
 
 -- watches with arguments that aren't one number from 0 to 64; the workers are two
-unfoldable pub bad_watches : List Line
+unfoldable pub bad_watches : List TableLine
 bad_watches =
     line 2 op.Initialize reply.Ok []
     ∷ line 2 (action_of kind.Watch) (reply.Handle h1) []
@@ -141,7 +141,7 @@ bad_watches =
     ∷ []
 
 -- a task that a worker runs; its kind makes 5 of 2 and 3
-unfoldable pub running : List Line
+unfoldable pub running : List TableLine
 running =
     main op.Initialize reply.Ok
     ∷ main (action_of kind.Add) (reply.Handle h1)
@@ -150,13 +150,13 @@ running =
     ∷ []
 
 pub record WorkedWork : Type 0 where
-  pub picking : Works (node_of 1 4 2) picking
-  pub two_workers : Works (node_of 2 4 2) two_workers
-  pub finishing : Works (node_of 2 1 2) finishing
-  pub stopped_watch : Works small stopped_watch
-  pub whole_watch : Works small whole_watch
-  pub bad_watches : Works (node_of 2 4 2) bad_watches
-  pub running_task : Works small running
+  pub picking : IsWorkedTable (node_of 1 4 2) picking
+  pub two_workers : IsWorkedTable (node_of 2 4 2) two_workers_table
+  pub finishing : IsWorkedTable (node_of 2 1 2) finishing
+  pub stopped_watch : IsWorkedTable small stopped_watch
+  pub whole_watch : IsWorkedTable small whole_watch
+  pub bad_watches : IsWorkedTable (node_of 2 4 2) bad_watches
+  pub running_task : IsWorkedTable small running
   -- a worker can't say that it made anything else of them; and nobody asks who has no seat
   pub another_end : Legal small (reported running ++ entry 0 (finish h1 kind.Add (pos 2 ∷ pos 3 ∷ []) (Done (pos 6 ∷ []))) reply.Ok ∷ []) → ⊥
   pub no_seat : Legal small (reported running ++ entry 3 (op.JobGet 1) (reply.Number (pos 1)) ∷ []) → ⊥

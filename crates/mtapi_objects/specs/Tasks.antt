@@ -167,15 +167,15 @@ abbrev pub finish_refusals : ℕ → Kind → List ℤ → Task → List (Bool �
 finish_refusals w kind args t = (not (runs_as w kind t && pointwise int_eq t.args args), ErrTaskInvalid) ∷ []
 
 -- how often a watch with these arguments looks, where they are one number from 0 to 64
-abbrev pub looks_of : List ℤ → Option ℕ
-looks_of (pos n ∷ []) = if nat_le n 64 then Some n else None
-looks_of _ = None
+abbrev pub watch_looks : List ℤ → Option ℕ
+watch_looks (pos n ∷ []) = if nat_le n 64 then Some n else None
+watch_looks _ = None
 
 -- a watch may ask once more while it has not seen the request and has looks left
 abbrev pub asked_refusals : ℕ → Task → List (Bool × MtapiStatus)
 asked_refusals w t =
     (not (runs_as w Watch t), ErrTaskInvalid)
-    ∷ (is_none (looks_of t.args) || t.notes.seen || holds (λ n. t.notes.looks == n) (looks_of t.args), ErrParameter) ∷ []
+    ∷ (is_none (watch_looks t.args) || t.notes.seen || holds (λ n. t.notes.looks == n) (watch_looks t.args), ErrParameter) ∷ []
 
 -- what an ask leaves: it has seen the request, or it has looked once more
 abbrev pub asked_once : Notes → Notes
@@ -185,13 +185,13 @@ asked_once n = if n.requested then record n { seen = true } else record n { look
 abbrev pub watch_end_refusals : ℕ → Task → List (Bool × MtapiStatus)
 watch_end_refusals w t =
     (not (runs_as w Watch t), ErrTaskInvalid)
-    ∷ (not t.notes.seen && holds (λ n. nat_lt t.notes.looks n) (looks_of t.args), ErrParameter) ∷ []
+    ∷ (not t.notes.seen && holds (λ n. nat_lt t.notes.looks n) (watch_looks t.args), ErrParameter) ∷ []
 
 -- how a watch ends
 abbrev pub watch_end : Task → TaskEnd
 watch_end t =
     if not (length t.args == 1) then Failed ErrArgSize
-    else if is_none (looks_of t.args) then Failed ErrActionFailed
+    else if is_none (watch_looks t.args) then Failed ErrActionFailed
     else if t.notes.seen then Cancelled else Completed t.args
 
 -- The steps of a tally, on a worker

@@ -53,14 +53,14 @@ pub record WorkedRwls : Type 0 where
   pub more_readers : first (rwl_create_refusals 33) ≡ Some ErrParameter
 
 -- a semaphore of two that seats 0 and 1 hold
-abbrev pub held : Sem
-held = sem_taken 1 (sem_taken 0 (new_sem 1 2))
+abbrev pub held_sem : Sem
+held_sem = sem_taken 1 (sem_taken 0 (new_sem 1 2))
 
 pub record WorkedSems : Type 0 where
   pub one_left : sem_busy (sem_taken 0 (new_sem 1 2)) ≡ false
-  pub none_left : sem_busy held ≡ true
-  pub another : first (sem_unlock_refusals 2 held) ≡ Some ErrSemNotlocked
-  pub own : first (sem_unlock_refusals 1 held) ≡ None
+  pub none_left : sem_busy held_sem ≡ true
+  pub another : first (sem_unlock_refusals 2 held_sem) ≡ Some ErrSemNotlocked
+  pub own : first (sem_unlock_refusals 1 held_sem) ≡ None
 
 -- a segment of three cells to which seat 5 is attached
 abbrev pub attached : Segment
@@ -76,33 +76,34 @@ pub record WorkedSegments : Type 0 where
   pub left : first (shmem_delete_refusals (with_attached 5 false attached)) ≡ None
 
 -- a task with these arguments, of a group, in a queue, with the number of its start
-abbrev pub asked : NewTask
-asked = record { job = 1; args = pos 2 ∷ []; priority = 0; cores = 1; detached = false; group = Some 7; queue = Some 9 }
+abbrev pub worked_asked : NewTask
+worked_asked = record { job = 1; args = pos 2 ∷ []; priority = 0; cores = 1; detached = false; group = Some 7; queue = Some 9 }
 
-abbrev pub task_of : ℕ → Task
-task_of start = new_task asked start
+abbrev pub worked_task_of : ℕ → Task
+worked_task_of start = new_task worked_asked start
 
 -- a live task
-abbrev pub listed : ℕ → Task → Listed Task
-listed h t = record { handle = h; live = true; fields = t }
+abbrev pub listed_task : ℕ → Task → Listed Task
+listed_task h t = record { handle = h; live = true; fields = t }
 
 -- three tasks, of which the second runs
 abbrev pub three : List (Listed Task)
-three = listed 1 (task_of 0) ∷ listed 2 (with_state (Running 0 kind.Echo) (task_of 1)) ∷ listed 3 (task_of 2) ∷ []
+three = listed_task 1 (worked_task_of 0) ∷ listed_task 2 (with_state (Running 0 kind.Echo) (worked_task_of 1)) ∷ listed_task 3 (worked_task_of 2) ∷ []
 
-abbrev pub over : ℕ → Task → Task
-over n t = with_state (Ended Cancelled n) t
+abbrev pub over_task : ℕ → Task → Task
+over_task n t = with_state (Ended Cancelled n) t
 
-pub record WorkedTasks : Type 0 where
+pub record WorkedTaskObjects : Type 0 where
   -- those that haven't begun end in the order of their starts, with the numbers 5 and 6
   pub ended_in_order : end_each is_unstarted Cancelled 5 three
-      ≡ (listed 1 (over 5 (task_of 0)) ∷ listed 2 (with_state (Running 0 kind.Echo) (task_of 1)) ∷ listed 3 (over 6 (task_of 2)) ∷ [])
-  pub another_waits : first (task_look_refusals 1 (with_notes (λ n. record (with_waiter (Some 2) n) { group = None }) (task_of 0))) ≡ Some ErrWaitPending
-  pub unseen : watch_end (task_of 0) ≡ Completed (pos 2 ∷ [])
-  pub seen : watch_end (with_notes (λ n. record n { seen = true }) (task_of 0)) ≡ Cancelled
-  pub too_long : watch_end (record (task_of 0) { args = pos 65 ∷ [] }) ≡ Failed ErrActionFailed
-  pub no_args : watch_end (record (task_of 0) { args = [] }) ≡ Failed ErrArgSize
-  pub longest : watch_end (record (task_of 0) { args = pos 64 ∷ [] }) ≡ Completed (pos 64 ∷ [])
+      ≡ (listed_task 1 (over_task 5 (worked_task_of 0)) ∷ listed_task 2 (with_state (Running 0 kind.Echo) (worked_task_of 1))
+      ∷ listed_task 3 (over_task 6 (worked_task_of 2)) ∷ [])
+  pub another_waits : first (task_look_refusals 1 (with_notes (λ n. record (with_waiter (Some 2) n) { group = None }) (worked_task_of 0))) ≡ Some ErrWaitPending
+  pub unseen : watch_end (worked_task_of 0) ≡ Completed (pos 2 ∷ [])
+  pub seen : watch_end (with_notes (λ n. record n { seen = true }) (worked_task_of 0)) ≡ Cancelled
+  pub too_long : watch_end (record (worked_task_of 0) { args = pos 65 ∷ [] }) ≡ Failed ErrActionFailed
+  pub no_args : watch_end (record (worked_task_of 0) { args = [] }) ≡ Failed ErrArgSize
+  pub longest : watch_end (record (worked_task_of 0) { args = pos 64 ∷ [] }) ≡ Completed (pos 64 ∷ [])
   -- each kind has a number of its own; a tally takes four arguments, of which the last alone may be negative
   pub kinds : map kind_number (kind.Add ∷ kind.Mul ∷ kind.Max ∷ kind.Div ∷ kind.Gcd ∷ kind.Echo ∷ kind.Triangle ∷ kind.Fail ∷ kind.Watch ∷ kind.Tally ∷ [])
       ≡ (1 ∷ 2 ∷ 3 ∷ 4 ∷ 5 ∷ 6 ∷ 7 ∷ 8 ∷ 9 ∷ 10 ∷ [])
@@ -115,35 +116,36 @@ pub record WorkedTasks : Type 0 where
 
 -- the second member ended first, and was cancelled; then the first one failed
 abbrev pub two_ended : List (ℕ × Task)
-two_ended = (1, with_state (Ended (Failed ErrActionFailed) 8) (task_of 0)) ∷ (2, with_state (Ended Cancelled 4) (task_of 1)) ∷ (3, task_of 2) ∷ []
+two_ended = (1, with_state (Ended (Failed ErrActionFailed) 8) (worked_task_of 0)) ∷ (2, with_state (Ended Cancelled 4) (worked_task_of 1))
+    ∷ (3, worked_task_of 2) ∷ []
 
-abbrev pub queue : Bool → Queue
-queue ordered = record { id = 1; job = 1; priority = 0; limit = 4; ordered = ordered; retain = false; enabled = true }
+abbrev pub worked_queue : Bool → Queue
+worked_queue ordered = record { id = 1; job = 1; priority = 0; limit = 4; ordered = ordered; retain = false; enabled = true }
 
-pub record WorkedGroups : Type 0 where
+pub record WorkedGroupObjects : Type 0 where
   pub in_order_of_ends : endings 7 two_ended
       ≡ (record { task = 2; end = Cancelled; number = 4 } ∷ record { task = 1; end = Failed ErrActionFailed; number = 8 } ∷ [])
   pub fault : first_fault (endings 7 two_ended) ≡ Some ErrTaskCancelled
   pub another : endings 8 two_ended ≡ []
 
-pub record WorkedQueues : Type 0 where
-  pub head : lets 9 (task_of 0) ((1, task_of 0) ∷ (2, task_of 1) ∷ []) (queue true) ≡ true
-  pub behind : lets 9 (task_of 1) ((1, task_of 0) ∷ (2, task_of 1) ∷ []) (queue true) ≡ false
-  pub head_ended : lets 9 (task_of 1) ((1, over 0 (task_of 0)) ∷ (2, task_of 1) ∷ []) (queue true) ≡ true
-  pub unordered : lets 9 (task_of 1) ((1, task_of 0) ∷ (2, task_of 1) ∷ []) (queue false) ≡ true
-  pub disabled : lets 9 (task_of 0) ((1, task_of 0) ∷ []) (opened false (queue false)) ≡ false
+pub record WorkedQueueObjects : Type 0 where
+  pub head : lets 9 (worked_task_of 0) ((1, worked_task_of 0) ∷ (2, worked_task_of 1) ∷ []) (worked_queue true) ≡ true
+  pub behind : lets 9 (worked_task_of 1) ((1, worked_task_of 0) ∷ (2, worked_task_of 1) ∷ []) (worked_queue true) ≡ false
+  pub head_ended : lets 9 (worked_task_of 1) ((1, over_task 0 (worked_task_of 0)) ∷ (2, worked_task_of 1) ∷ []) (worked_queue true) ≡ true
+  pub unordered : lets 9 (worked_task_of 1) ((1, worked_task_of 0) ∷ (2, worked_task_of 1) ∷ []) (worked_queue false) ≡ true
+  pub disabled : lets 9 (worked_task_of 0) ((1, worked_task_of 0) ∷ []) (opened false (worked_queue false)) ≡ false
 
-pub record WorkedActions : Type 0 where
+pub record WorkedActionObjects : Type 0 where
   pub on_a_worker : has_worker 2 1 2 ((1, new_action 1 kind.Add 2) ∷ []) ≡ true
   pub on_no_worker : has_worker 1 1 2 ((1, new_action 1 kind.Add 2) ∷ []) ≡ false
   pub other_core : has_worker 2 1 1 ((1, new_action 1 kind.Add 2) ∷ []) ≡ false
   pub other_job : has_worker 2 3 2 ((1, new_action 1 kind.Add 2) ∷ []) ≡ false
 
 pub record WorkedObjects : Type 0 where
-  pub actions : WorkedActions
-  pub tasks : WorkedTasks
-  pub groups : WorkedGroups
-  pub queues : WorkedQueues
+  pub actions : WorkedActionObjects
+  pub tasks : WorkedTaskObjects
+  pub groups : WorkedGroupObjects
+  pub queues : WorkedQueueObjects
   pub mutexes : WorkedMutexes
   pub sems : WorkedSems
   pub rwls : WorkedRwls

@@ -7,7 +7,7 @@ use journal_text::write_journal;
 use node_journals::Journal;
 use number_text::push_number;
 use std::alloc::{AllocError, Global};
-use workload_orders::Report;
+use workload_orders::{Deadlock, Report};
 
 /// A line that names an example, and its journal.
 fn push_journal(
@@ -90,6 +90,21 @@ fn push_reports(alloc: Global, out: &mut Vec<u8>, reports: &[Report]) -> Result<
     Ok(())
 }
 
+/// The way to each deadlock, or to each stop that isn't shown to be one.
+fn push_stops(
+    alloc: Global,
+    out: &mut Vec<u8>,
+    what: &[u8],
+    stops: &[Deadlock],
+) -> Result<(), AllocError> {
+    let mut number = 0usize;
+    for stop in stops {
+        number = number.saturating_add(1);
+        push_journal(alloc, out, what, number, &stop.journal)?;
+    }
+    Ok(())
+}
+
 /// An example of each report, or of each text of a line where these aren't all reports, and of each deadlock, behind lines that name
 /// them.
 pub fn push_journals(
@@ -104,16 +119,6 @@ pub fn push_journals(
     } else {
         push_all_lines(alloc, out, slots, all, &told.orders.reports)?;
     }
-    let mut number = 0usize;
-    for deadlock in &told.orders.deadlocks {
-        number = number.saturating_add(1);
-        push_journal(
-            alloc,
-            out,
-            b"journal of deadlock ",
-            number,
-            &deadlock.journal,
-        )?;
-    }
-    Ok(())
+    push_stops(alloc, out, b"journal of deadlock ", &told.orders.deadlocks)?;
+    push_stops(alloc, out, b"journal of stop ", &told.orders.stops)
 }

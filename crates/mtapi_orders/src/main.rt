@@ -32,7 +32,8 @@ fn end_of(told: &Told, mode: Mode) -> OrdersEnd {
     if found.cut {
         return OrdersEnd::Cut;
     }
-    if mode == Mode::One && (found.reports.len() != 1 || !found.deadlocks.is_empty()) {
+    let stops = !found.deadlocks.is_empty() || !found.stops.is_empty();
+    if mode == Mode::One && (found.reports.len() != 1 || stops) {
         return OrdersEnd::NotOne;
     }
     OrdersEnd::Whole

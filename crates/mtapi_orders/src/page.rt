@@ -45,6 +45,10 @@ fn push_head(
     push_count(alloc, out, reports, b"report")?;
     push_bytes(out, b" found, ")?;
     push_count(alloc, out, orders.deadlocks.len(), b"deadlock")?;
+    if !orders.stops.is_empty() {
+        push_bytes(out, b", ")?;
+        push_count(alloc, out, orders.stops.len(), b"unproved stop")?;
+    }
     if !orders.cut {
         push_bytes(out, b", ")?;
         push_count(alloc, out, orders.states, b"state")?;
@@ -235,17 +239,18 @@ fn push_indented(out: &mut Vec<u8>, text: &[u8]) -> Result<(), AllocError> {
     Ok(())
 }
 
-/// Each deadlock, with a line for each that waits.
-fn push_deadlocks(
+/// Each deadlock, or each stop that isn't shown to be one, with a line for each that waits.
+fn push_stops(
     alloc: Global,
     out: &mut Vec<u8>,
-    deadlocks: &[Deadlock],
+    word: &[u8],
+    stops: &[Deadlock],
 ) -> Result<(), AllocError> {
     let mut number = 0usize;
-    for deadlock in deadlocks {
+    for stop in stops {
         number = number.saturating_add(1);
-        push_numbered(alloc, out, b"deadlock ", number, b"\n")?;
-        push_indented(out, &deadlock.waits)?;
+        push_numbered(alloc, out, word, number, b"\n")?;
+        push_indented(out, &stop.waits)?;
     }
     Ok(())
 }
@@ -266,6 +271,7 @@ pub fn page_of(
     if told.whole {
         push_reports(alloc, &mut out, slots, all, &orders.reports)?;
     }
-    push_deadlocks(alloc, &mut out, &orders.deadlocks)?;
+    push_stops(alloc, &mut out, b"deadlock ", &orders.deadlocks)?;
+    push_stops(alloc, &mut out, b"unproved stop ", &orders.stops)?;
     Ok(out)
 }

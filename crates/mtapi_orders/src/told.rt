@@ -79,7 +79,8 @@ pub fn tell_of<E: Sink>(
         let whole = orders(alloc, load, most)?;
         if !whole.cut {
             let differ = count != Some(whole.reports.len())
-                || whole.deadlocks.is_empty() != lines.runs.deadlocks.is_empty();
+                || whole.deadlocks.is_empty() != lines.runs.deadlocks.is_empty()
+                || whole.stops.is_empty() != lines.runs.stops.is_empty();
             return Ok(Told {
                 count: Some(whole.reports.len()),
                 orders: whole,

@@ -6,10 +6,12 @@ ghost use Rattle.std.specs.Prelude.{◌≡◌, ◌⊎◌, true, false, IfSome};
 ghost use Rattle.std.specs.Process.{exit_status};
 ghost use Rattle.std.specs.Io.KnownBytes.{Appends};
 ghost use Rattle.byte_io.specs.Causes.{Rose, AppendsFront};
+ghost use Rattle.journal_check.specs.declared.verdicts.Verdict.TheVariants.{Yes};
+ghost use Rattle.mtapi_top.specs.Check.{IsJudged, verdict_line};
 ghost use Rattle.mtapi_top.specs.Command.{IsWorkload};
 ghost use Rattle.mtapi_top.specs.Ended.{HasEnded, IsReadFor};
-ghost use Rattle.mtapi_top.specs.Headline.{Ran};
-ghost use Rattle.mtapi_top.specs.Words.{texts, asked_of, reads, judges};
+ghost use Rattle.mtapi_top.specs.Headline.{RanWorkload};
+ghost use Rattle.mtapi_top.specs.Words.{texts, asked_by_words, reads_workload, judges};
 
 use action_fn::{
     FnTable, StoredFn, act_add, act_div, act_echo, act_fail, act_gcd, act_max, act_mul,
@@ -59,29 +61,33 @@ pub fn run_words<R: StartsThreads + Wait + Sync, S: Source, W: Sink, E: Sink, B:
     // written is the whole output of that journal with 0, and a prefix of it with 5.
     ensures headline { result.status ≡ 0
         → IfSome result.journal (λ journal.
-        Ran (asked_of (texts words.now)) (S.left src.old) journal (Appends (W.held out.old) (W.held out.new))) }
+        RanWorkload (asked_by_words (texts words.now)) (S.left src.old) journal (Appends (W.held out.old) (W.held out.new))) }
     ensures headline_cut { result.status ≡ 5
         → IfSome result.journal (λ journal.
-        Ran (asked_of (texts words.now)) (S.left src.old) journal (AppendsFront (W.held out.old) (W.held out.new))) }
+        RanWorkload (asked_by_words (texts words.now)) (S.left src.old) journal (AppendsFront (W.held out.old) (W.held out.new))) }
 
     // A workload, without a fault and with a thread for everyone, ends with 0, with 6 when out of memory, or with turns that are used up; and an
     // input that is judged, without a fault, with 0, 3, 6 or 9.
-    ensures complete { reads (asked_of (texts words.now)) ≡ true → (Rose (S.faults src.old) (S.faults src.new) → ⊥)
+    ensures complete { reads_workload (asked_by_words (texts words.now)) ≡ true → (Rose (S.faults src.old) (S.faults src.new) → ⊥)
         → (Rose (W.faults out.old) (W.faults out.new) → ⊥)
         → (Rose (B.refusals beside.old) (B.refusals beside.new) → ⊥)
         → IfSome (S.left src.old) (λ bytes. IsWorkload bytes → (result.status ≡ 0) ⊎ (result.status ≡ 6) ⊎ (result.status ≡ 8)) }
-    ensures check_complete { judges (asked_of (texts words.now)) ≡ true
+    ensures check_complete { judges (asked_by_words (texts words.now)) ≡ true
         → (Rose (S.faults src.old) (S.faults src.new) → ⊥)
         → (Rose (W.faults out.old) (W.faults out.new) → ⊥)
         → (result.status ≡ 0) ⊎ (result.status ≡ 3) ⊎ (result.status ≡ 6) ⊎ (result.status ≡ 9) }
 
+    // With 0 the journal that was judged is that of a run of the workload before it, and the verdict was written.
+    ensures check_yes { judges (asked_by_words (texts words.now)) ≡ true → result.status ≡ 0
+        → IsJudged (S.left src.old) Yes × Appends (W.held out.old) (W.held out.new) (verdict_line Yes) }
+
     // The status with its cause, the journal, what shows that the turns are used up, what was written and what was said are those of one
     // end of the command; and no more is read than it takes.
-    ensures ended { HasEnded (asked_of (texts words.now))
+    ensures ended { HasEnded (asked_by_words (texts words.now))
         (record { left = S.left src.old; reads = S.faults src.old; writes = W.faults out.old; held = W.held out.old; threads = B.refusals beside.old; says = E.faults err.old; said = E.held err.old })
         (record { left = S.left src.new; reads = S.faults src.new; writes = W.faults out.new; held = W.held out.new; threads = B.refusals beside.new; says = E.faults err.new; said = E.held err.new })
         result }
-    ensures read { IsReadFor (asked_of (texts words.now)) (S.left src.old) (S.left src.new) (S.faults src.old) (S.faults src.new) result.status result.journal }
+    ensures read { IsReadFor (asked_by_words (texts words.now)) (S.left src.old) (S.left src.new) (S.faults src.old) (S.faults src.new) result.status result.journal }
 {
     let mut acts = FnTable::new(
         StoredFn::new(Kind::Add, act_add),

@@ -1,5 +1,5 @@
 -- Every reply that the renamed state allows to an op that makes nothing is the renamed one of a reply; and which rows read the reply.
-use Rattle.mtapi_renaming.proofs.Names.{arith, nat_tests, ◌≡◌, ℕ, Bool, true, false, cond, List, [], ◌∷◌, Option, Some, None, refl, ap, subst, is_some, not, nat_lt, TaskHandle, ActionHandle, Kind, live_object, any_listed, runs_on, Op, Reply, Ok, Picked, Idle, Stop, Mtapi, State, workers, is_new, is_stop, Move, stops, Row, unless, gives, never, says, only, live, Allows, can_take, picks, row, answer, answer-allowed, Renaming, Room, renamed_task, renamed, HasTask, NoHandle, Fits, answered_kind, renamed_op, renamed_reply, made_kind, takes_task}
+use Rattle.mtapi_renaming.proofs.Names.{arith, nat_tests, ◌≡◌, ℕ, Bool, true, false, cond, List, [], ◌∷◌, Option, Some, None, refl, ap, subst, is_some, not, nat_lt, TaskHandle, ActionHandle, Kind, live_object, any_listed, runs_on, Op, Reply, Ok, Picked, Idle, Stop, Mtapi, State, workers, is_new, is_stop, Move, stops, Row, unless, gives, never, says, only, live, Allows, can_take, picks, row, answer_of_row, answer-allowed, Renaming, Room, renamed_task, renamed, HasTaskNames, NoHandle, FitsState, answered_kind, renamed_op, renamed_reply, made_kind, takes_task}
 use Rattle.mtapi_values.specs.declared.handles.ObjectKind.TheVariants as kind
 use Rattle.mtapi_values.specs.declared.statuses.MtapiStatus.TheVariants as m
 use Rattle.mtapi_machine.specs.declared.ops.Op.TheVariants as op
@@ -18,7 +18,7 @@ not_read s who o q r i = grind (arith, nat_tests)
 
 -- a row allows one reply
 pub allowed_one : (w : Row) (q r : Reply) → Allows w q → Allows w r → r ≡ q
-allowed_one w q r a b = let e : answer w ≡ Some q = answer-allowed w q a in let d : answer w ≡ Some r = answer-allowed w r b in cc
+allowed_one w q r a b = let e : answer_of_row w ≡ Some q = answer-allowed w q a in let d : answer_of_row w ≡ Some r = answer-allowed w r b in cc
 
 -- a renamed op chooses where the op does
 pub still : (g : Renaming) (o : Op) → chooses o ≡ false → chooses (renamed_op g o) ≡ false
@@ -46,13 +46,13 @@ past_gives b y q ms w i j l = grind (arith, nat_tests)
 pub if_there : {T C : Type 0} (o : Option T) (v : T → Row) (q : Reply) → ((y : T) → o ≡ Some y → Allows (v y) q → C) → Allows (live o never v) q → C
 if_there o v q i j = grind (arith, nat_tests)
 
-module _ {g : Renaming} {s : State} (n : Fits g s) (x : Room) (who : ℕ) where
+module _ {g : Renaming} {s : State} (n : FitsState g s) (x : Room) (who : ℕ) where
   picked_comes : (t : TaskHandle) (a : ActionHandle) (y : Kind) (args : List _) → Allows (picks (renamed g x s) who (Picked t a y args)) (Picked t a y args)
       → IsRenamed g None (Picked t a y args)
   picked_comes t a y args i =
       if_there (live_object (renamed g x s).tasks t.0) _ (Picked t a y args)
       (λ z there j. if_there (live_object (renamed g x s).actions a.0) _ (Picked t a y args) (λ w here k.
-      let task : IsOther g kind.Task t.0 = found-other g kind.Task (HasTask g) (renamed_task g) t.0 z s.tasks n.tasks there in
+      let task : IsOther g kind.Task t.0 = found-other g kind.Task (HasTaskNames g) (renamed_task g) t.0 z s.tasks n.tasks there in
       let action : IsOther g kind.Action a.0 = found-other g kind.Action NoHandle (λ u. u) a.0 w s.actions n.actions here in
       record {
         own = Picked (record { 0 = task.own }) (record { 0 = action.own }) y args;

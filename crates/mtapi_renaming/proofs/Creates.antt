@@ -1,5 +1,5 @@
 -- The rows of the ops that make objects, in the renamed state.
-use Rattle.mtapi_renaming.proofs.Names.{nat_tests, ◌≡◌, ◌↔◌, ℕ, Bool, true, false, List, [], ◌∷◌, Option, Some, None, refl, sym, ◌∙◌, ap, subst, ◌==◌, not, is_none, option_map, IfSome, MatchBool, ObjectKind, MrapiStatus, holds, live_object, Action, has_job, has_enabled_job, NewTask, Queue, Reply, Handle, State, Objects, actions, tasks, queues, Move, Sort, Groups, Queues, Fields, all_of, makes_action, starts_task, makes, is_fresh, apply, after_moves, of_sort, Row, unless, gives, Allows, after_row, says, only, mtapi_unless, handle_of, live, on, creates, Keyed, mrapi_unless, creates_keyed, start_refusals, Renaming, Has, with_pair, Room, renamed_task, renamed, HasTask, NoHandle, Fits, Follows, full, is_full_of, is_fresh_of, limit_of, CanBe, is_handle, makes_or_not, refusal_in, Ok, arith, cond}
+use Rattle.mtapi_renaming.proofs.Names.{nat_tests, ◌≡◌, ◌↔◌, ℕ, Bool, true, false, List, [], ◌∷◌, Option, Some, None, refl, sym, ◌∙◌, ap, subst, ◌==◌, not, is_none, option_map, IfSome, MatchBool, ObjectKind, MrapiStatus, holds, live_object, Action, has_job, has_enabled_job, NewTask, Queue, Reply, Handle, State, Objects, actions, tasks, queues, Move, Sort, Groups, Queues, Fields, all_of, makes_action, starts_task, makes, is_fresh, apply, after_moves, of_sort, Row, unless, gives, Allows, after_row, says, only, mtapi_unless, handle_of, live, on, creates, Keyed, mrapi_unless, creates_keyed, start_refusals, Renaming, HasOtherName, with_pair, Room, renamed_task, renamed, HasTaskNames, NoHandle, FitsState, Follows, is_kind_full, is_full_of, is_fresh_of, limit_of, CanBe, is_handle, makes_or_not, refusal_in, Ok, arith, cond}
 use Rattle.mtapi_values.specs.declared.handles.ObjectKind.TheVariants as kind
 use Rattle.mtapi_renaming.proofs.Rows.{is_plain}
 use Rattle.mtapi_renaming.proofs.Lists.{found-has}
@@ -26,7 +26,7 @@ refused_same {y = y} e = record { ends = refl; same = ap (λ (b : Bool). cond b 
 pub creates_none : {T : Type 0} (o : Objects T) (s : State) (make : ℕ → Move) → refusal_in (creates o s Ok make) ≡ None
 unfolding refusal_in
 creates_none o s make = elim (is_fresh o s (handle_of Ok)) as (λ b. refusal_in
-    (unless (full o s) o.limit (only b (gives (Handle (handle_of Ok)) (make (handle_of Ok) ∷ [])))) ≡ None) [ true ↦ refl | false ↦ refl ]
+    (unless (is_kind_full o s) o.limit (only b (gives (Handle (handle_of Ok)) (make (handle_of Ok) ∷ [])))) ≡ None) [ true ↦ refl | false ↦ refl ]
 
 -- the rows of an op that makes an object, for each reply: in the state, and in the renamed one
 pub record CreateAlike (g : Renaming) (x : Room) (s : State) (k : ObjectKind) (h other : ℕ) (own others : Reply → Row) : Type 0 where
@@ -106,8 +106,8 @@ pub stays_in : (s : State) (f b : Bool) (limit r : Reply) (ms : List Move) → A
 stays_in s f b limit r ms i j = grind (arith, nat_tests)
 
 -- the six kinds that no rule of tasks speaks of
-pub full_same : (t : Sort) (u : State) → is_full_of (all_of t).kind u ≡ full (all_of t) u
-full_same t u = of_sort (λ T o. full o u ≡ full (all_of t) u) t refl
+pub full_same : (t : Sort) (u : State) → is_full_of (all_of t).kind u ≡ is_kind_full (all_of t) u
+full_same t u = of_sort (λ T o. is_kind_full o u ≡ is_kind_full (all_of t) u) t refl
 
 pub fresh_same : (t : Sort) (u : State) (a : ℕ) → is_fresh_of (all_of t).kind u a ≡ is_fresh (all_of t) u a
 fresh_same t u a = of_sort (λ T o. is_fresh o u a ≡ is_fresh (all_of t) u a) t refl
@@ -121,44 +121,45 @@ limit_plain Groups = refl
 limit_plain t = refl
 
 -- the group of a new task that is not refused
-pub group_has : {g : Renaming} {s : State} → Fits g s → (c : Option ℕ) → holds (λ a. is_none (live_object s.groups a)) c ≡ false → IfSome c (Has g kind.Group)
+pub group_has : {g : Renaming} {s : State} → FitsState g s → (c : Option ℕ) → holds (λ a. is_none (live_object s.groups a)) c ≡ false
+    → IfSome c (HasOtherName g kind.Group)
 group_has i c j = grind (arith, nat_tests, found-has)
 
 module _ {g : Renaming} {x : Room} {s : State} (n : Follows g s) {h other : ℕ} where
-  creates_alike : {T : Type 0} (o : Objects T) (make make_other : ℕ → Move) → ((t : State) → is_full_of o.kind t ≡ full o t)
+  creates_alike : {T : Type 0} (o : Objects T) (make make_other : ℕ → Move) → ((t : State) → is_full_of o.kind t ≡ is_kind_full o t)
       → ((t : State) (a : ℕ) → is_fresh_of o.kind t a ≡ is_fresh o t a) → limit_of o.kind ≡ o.limit → is_plain o.limit ≡ true →
       (is_fresh o s h ≡ true → is_fresh o (renamed g x s) other ≡ true
       → MakesPair g x s o.kind h other (apply (make h) s) (apply (make_other other) (renamed g x s))) →
       CreateAlike g x s o.kind h other (λ r. creates o s r make) (λ r. creates o (renamed g x s) r make_other)
   creates_alike o make make_other ef er el plain pair = record {
     refused = λ r no_r less. let far : r ≡ o.limit → ⊥ = λ i. less (i ∙ sym el) in (
-      λ i. absurd (none_other (full o s) (is_fresh o s (handle_of r)) o.limit r (make (handle_of r) ∷ []) no_r far i),
+      λ i. absurd (none_other (is_kind_full o s) (is_fresh o s (handle_of r)) o.limit r (make (handle_of r) ∷ []) no_r far i),
       λ i. absurd
-          (none_other (full o (renamed g x s)) (is_fresh o (renamed g x s) (handle_of r)) o.limit r (make_other (handle_of r) ∷ []) no_r far i),
+          (none_other (is_kind_full o (renamed g x s)) (is_fresh o (renamed g x s) (handle_of r)) o.limit r (make_other (handle_of r) ∷ []) no_r far i),
     );
     refuses = λ given r no_r less i. absurd
-        (none_other (full o (renamed g x s)) (is_fresh o (renamed g x s) (handle_of given)) o.limit given (make_other (handle_of given)
+        (none_other (is_kind_full o (renamed g x s)) (is_fresh o (renamed g x s) (handle_of given)) o.limit given (make_other (handle_of given)
         ∷ []) no_r (λ j. less (j ∙ sym el)) i);
     same = record { ends = refl; same = creates_none o (renamed g x s) make_other ∙ sym (creates_none o s make) };
     answers = λ i r. subst (λ (b : Bool). Allows (creates o s r make) r
         ↔ MatchBool b (r ≡ limit_of o.kind) ((is_fresh_of o.kind s (handle_of r) ≡ true) × (r ≡ Handle (handle_of r)))) (sym (ef s))
         (subst (λ (b : Bool). Allows (creates o s r make) r
-        ↔ MatchBool (full o s) (r ≡ limit_of o.kind) ((b ≡ true) × (r ≡ Handle (handle_of r)))) (sym (er s (handle_of r)))
+        ↔ MatchBool (is_kind_full o s) (r ≡ limit_of o.kind) ((b ≡ true) × (r ≡ Handle (handle_of r)))) (sym (er s (handle_of r)))
         (subst (λ (y : Reply). Allows (creates o s r make) r
-        ↔ MatchBool (full o s) (r ≡ y) ((is_fresh o s (handle_of r) ≡ true) × (r ≡ Handle (handle_of r)))) (sym el)
-        (can_be (full o s) (is_fresh o s (handle_of r)) o.limit r (make (handle_of r) ∷ []))));
+        ↔ MatchBool (is_kind_full o s) (r ≡ y) ((is_fresh o s (handle_of r) ≡ true) × (r ≡ Handle (handle_of r)))) (sym el)
+        (can_be (is_kind_full o s) (is_fresh o s (handle_of r)) o.limit r (make (handle_of r) ∷ []))));
     made = λ a b c d. (
-      λ i. given (full o (renamed g x s)) (is_fresh o (renamed g x s) other) o.limit other (make_other other ∷ []) (sym (ef (renamed g x s))
+      λ i. given (is_kind_full o (renamed g x s)) (is_fresh o (renamed g x s) other) o.limit other (make_other other ∷ []) (sym (ef (renamed g x s))
           ∙ b) (sym (er (renamed g x s) other) ∙ d),
-      λ i. given (full o s) (is_fresh o s h) o.limit h (make h ∷ []) (sym (ef s) ∙ a) (sym (er s h) ∙ c),
+      λ i. given (is_kind_full o s) (is_fresh o s h) o.limit h (make h ∷ []) (sym (ef s) ∙ a) (sym (er s h) ∙ c),
     );
     makes = λ i j.
-        let own : (full o s ≡ false) × (is_fresh o s h ≡ true) = reached (full o s) (is_fresh o s h) o.limit h (make h ∷ []) plain i in
-        let others : (full o (renamed g x s) ≡ false) × (is_fresh o (renamed g x s) other ≡ true) =
-        reached (full o (renamed g x s)) (is_fresh o (renamed g x s) other) o.limit other (make_other other ∷ []) plain j in
+        let own : (is_kind_full o s ≡ false) × (is_fresh o s h ≡ true) = reached (is_kind_full o s) (is_fresh o s h) o.limit h (make h ∷ []) plain i in
+        let others : (is_kind_full o (renamed g x s) ≡ false) × (is_fresh o (renamed g x s) other ≡ true) =
+        reached (is_kind_full o (renamed g x s)) (is_fresh o (renamed g x s) other) o.limit other (make_other other ∷ []) plain j in
         let p : MakesPair g x s o.kind h other (apply (make h) s) (apply (make_other other) (renamed g x s)) = pair own.1 others.1 in
-        let e = after_given s (full o s) (is_fresh o s h) o.limit h (make h ∷ []) own.0 own.1 in
-        let d = after_given (renamed g x s) (full o (renamed g x s)) (is_fresh o (renamed g x s) other) o.limit other (make_other other
+        let e = after_given s (is_kind_full o s) (is_fresh o s h) o.limit h (make h ∷ []) own.0 own.1 in
+        let d = after_given (renamed g x s) (is_kind_full o (renamed g x s)) (is_fresh o (renamed g x s) other) o.limit other (make_other other
         ∷ []) others.0 others.1 in
         record {
           same = ap (renamed (with_pair o.kind h other g) x) e ∙ p.same ∙ sym d;
@@ -172,13 +173,13 @@ module _ {g : Renaming} {x : Room} {s : State} (n : Follows g s) {h other : ℕ}
       creates_alike actions (λ b. makes_action b a) (λ b. makes_action b a) (λ t. refl) (λ t b. refl) refl refl
       (λ i j. makes_action-pair g x s n h other a (is_new g x s n.fits.one actions (λ y. y) NoHandle refl n.fits.actions (n.only kind.Action) h other i j))
 
-  pub creates_task : (t : NewTask) → IfSome t.group (Has g kind.Group) → IfSome t.queue (Has g kind.Queue) →
+  pub creates_task : (t : NewTask) → IfSome t.group (HasOtherName g kind.Group) → IfSome t.queue (HasOtherName g kind.Queue) →
       CreateAlike g x s kind.Task h other (λ r. creates tasks s r (λ b. starts_task b t))
       (λ r. creates tasks (renamed g x s) r (λ b. starts_task b (renamed_new g t)))
   creates_task t a b =
       creates_alike tasks (λ c. starts_task c t) (λ c. starts_task c (renamed_new g t)) (λ u. refl) (λ u c. refl) refl refl
       (λ i j. starts_task-pair g x s n h other t a b
-      (is_new g x s n.fits.one tasks (renamed_task g) (HasTask g) refl n.fits.tasks (n.only kind.Task) h other i j))
+      (is_new g x s n.fits.one tasks (renamed_task g) (HasTaskNames g) refl n.fits.tasks (n.only kind.Task) h other i j))
 
   pub creates_sort : (t : Sort) (w : Fields t)
       → CreateAlike g x s (all_of t).kind h other (λ r. creates (all_of t) s r (λ b. makes t b w))
@@ -195,7 +196,8 @@ module _ {g : Renaming} {x : Room} {s : State} (n : Follows g s) {h other : ℕ}
 
   -- Starting
 
-  pub starts_creates : (t : NewTask) {own others : Reply → Row} → (IfSome t.group (Has g kind.Group) → CreateAlike g x s kind.Task h other own others) →
+  pub starts_creates : (t : NewTask) {own others : Reply → Row} → (IfSome t.group (HasOtherName g kind.Group) → CreateAlike g x s kind.Task h other own others)
+      →
       CreateAlike g x s kind.Task h other (λ r. mtapi_unless (start_refusals s t) (own r))
       (λ r. mtapi_unless (start_refusals (renamed g x s) (renamed_new g t)) (others r))
   starts_creates t {own} {others} w =
@@ -204,7 +206,7 @@ module _ {g : Renaming} {x : Room} {s : State} (n : Follows g s) {h other : ℕ}
       (unless_creates {own = own} {others = others} (ap not (served n.fits x t.job t.cores)) refl (w (group_has n.fits t.group b)))))
 
   -- an enqueue on the live queue of a handle
-  pub on_queue : (q : ℕ) (v w : Queue → Reply → Row) → ((y : Queue) → Has g kind.Queue q → CreateAlike g x s kind.Task h other (v y) (w y)) →
+  pub on_queue : (q : ℕ) (v w : Queue → Reply → Row) → ((y : Queue) → HasOtherName g kind.Queue q → CreateAlike g x s kind.Task h other (v y) (w y)) →
       CreateAlike g x s kind.Task h other (λ r. on queues s q (λ y. v y r)) (λ r. on queues (renamed g x s) (g kind.Queue q) (λ y. w y r))
   on_queue q v w e = live_creates (λ y. y) _ v w (sort-found n.fits x Queues q) refl
       (λ y d. e y (found-has g kind.Queue NoHandle q y s.queues n.fits.queues d).0)

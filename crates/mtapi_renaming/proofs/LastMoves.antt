@@ -1,5 +1,5 @@
 -- The handles of the last generation of a state, over its moves and over entries.
-use Rattle.mtapi_renaming.proofs.Names.{nat_tests, ◌≡◌, ℕ, ◌+◌, List, [], None, Some, refl, ◌∙◌, ap, arith, ◌==◌, ObjectKind, Listed, listed, new_task, Terms, Op, Reply, Handle, State, objects_of, opening, Move, Sort, Fields, all_of, makes, apply, Allows, moves_of, after_row, row, NodeEntry, after, IsMade, snd_true, row_made, moves_keep, along, rest_keeps, made_kind, live_in, is_full_of, most_of, lasts_in, lasts_of, gone_of, with_last, MakesLast, at_opening, of_sort, sort_at, released, is_full, is_some, live_object, how_many, not, sym}
+use Rattle.mtapi_renaming.proofs.Names.{nat_tests, ◌≡◌, ℕ, ◌+◌, List, [], None, Some, refl, ◌∙◌, ap, arith, ◌==◌, ObjectKind, Listed, listed, new_task, Terms, Op, Reply, Handle, State, objects_of, opening, Move, Sort, Fields, all_of, makes, apply, Allows, moves_of, after_row, row, NodeEntry, after, IsMade, snd_true, row_made, moves_keep, along, rest_keeps, made_kind, live_in, is_full_of, most_of, lasts_in, lasts_of, gone_of, with_last_handle, MakesLast, at_opening, of_sort, sort_at, released, is_full, is_some, live_object, how_many, not, sym}
 use Rattle.mtapi_values.specs.declared.handles.ObjectKind.TheVariants as kind
 use Rattle.mtapi_renaming.proofs.CountMoves.{SameIn, each_move, move_same, by_none, live_is, most_is}
 use Rattle.mtapi_renaming.proofs.CountRows.{other_actions, other_tasks, other_sorts}
@@ -66,7 +66,7 @@ others_keep_lasts s who o r k e =
 
 module _ (s : State) (h : ℕ) where
   last_so : (k : ObjectKind) (t : State) → t.terms ≡ s.terms
-      → lasts_in s.terms.settings.generations ((objects_of k).list t) ≡ with_last s.terms.settings.generations h (lasts_of k s) →
+      → lasts_in s.terms.settings.generations ((objects_of k).list t) ≡ with_last_handle s.terms.settings.generations h (lasts_of k s) →
       ((i : ObjectKind) → (i ≡ k → ⊥) → (objects_of i).list t ≡ (objects_of i).list s) → MakesLast s t k h
   last_so k t i j l = grind (arith, nat_tests)
 
@@ -74,7 +74,7 @@ module _ (s : State) (h : ℕ) where
   last_sort t v =
       let u = apply (makes t h v) s in
       let last = s.terms.settings.generations in
-      last_so (all_of t).kind u (terms_stay s (makes t h v)) (of_sort (λ T o. lasts_in last (o.list u) ≡ with_last last h (lasts_in last (o.list s))) t
+      last_so (all_of t).kind u (terms_stay s (makes t h v)) (of_sort (λ T o. lasts_in last (o.list u) ≡ with_last_handle last h (lasts_in last (o.list s))) t
       (ap (λ (l : List (Listed (Fields t))). lasts_in last l) (sort_at t _ s) ∙ lasts-issue last h v ((all_of t).list s))) (other_sorts s h t v)
 
 pub creates_make_last : (s : State) (who h : ℕ) (o : Op) (k : ObjectKind) → made_kind o ≡ Some k → Allows (row s who o (Handle h)) (Handle h)

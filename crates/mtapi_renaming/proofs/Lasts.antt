@@ -1,5 +1,5 @@
 -- The handles of the last generation of a list: how many of them are gone, what adds to them and what leaves them.
-use Rattle.mtapi_renaming.proofs.Names.{◌≡◌, ℕ, ◌+◌, ◌≤◌, Bool, true, false, cond, List, [], ◌∷◌, length, Option, None, refl, sym, ap, arith, ◌==◌, not, is_some, nat_tests, generation_of, Listed, how_many, live_of, live_object, issue, listed, retired, is_full, may_issue, listed-issue, lasts_in, with_last}
+use Rattle.mtapi_renaming.proofs.Names.{◌≡◌, ℕ, ◌+◌, ◌≤◌, Bool, true, false, cond, List, [], ◌∷◌, length, Option, None, refl, sym, ap, arith, ◌==◌, not, is_some, nat_tests, generation_of, Listed, how_many, live_of, live_object, issue, listed, retired, is_full, may_issue, listed-issue, lasts_in, with_last_handle}
 use Rattle.mtapi_renaming.proofs.Handles.{SameHandles, listed-same}
 
 module _ {T : Type 0} where
@@ -10,7 +10,7 @@ module _ {T : Type 0} where
       ∷ lasts-same last rs qs v.1 i) (lasts-same last rs qs v.1 i)
   lasts-same last l m v = absurd v
 
-  pub lasts-issue : (last h : ℕ) (v : T) (l : List (Listed T)) → lasts_in last (issue h v l) ≡ with_last last h (lasts_in last l)
+  pub lasts-issue : (last h : ℕ) (v : T) (l : List (Listed T)) → lasts_in last (issue h v l) ≡ with_last_handle last h (lasts_in last l)
   unfolding lasts_in issue
   lasts-issue last h v [] = refl
   lasts-issue last h v (r ∷ rs) = grind (arith, lasts-issue last h v rs)

@@ -1,9 +1,9 @@
 -- What a list of objects answers once its handles are others, and what its changes leave of the renaming.
-use Rattle.mtapi_renaming.proofs.Names.{◌≡◌, ℕ, Bool, true, false, ◌&&◌, List, [], ◌∷◌, Some, refl, sym, ap, ◌==◌, option_map, eqb-true, eq-eqb, ObjectKind, Listed, live_of, live_object, any_listed, first_handle, count_listed, issue, change, change_all, inside, Apart, Agree, at-inside, count-inside, same_tests, Renaming, Has, IsOneToOne, renamed_list, HasEach, arith, nat_tests}
+use Rattle.mtapi_renaming.proofs.Names.{◌≡◌, ℕ, Bool, true, false, ◌&&◌, List, [], ◌∷◌, Some, refl, sym, ap, ◌==◌, option_map, eqb-true, eq-eqb, ObjectKind, Listed, live_of, live_object, any_listed, first_handle, count_listed, issue, change, change_all, inside, Apart, Agree, at-inside, count-inside, same_tests, Renaming, HasOtherName, IsOneToOne, renamed_list, HasEach, arith, nat_tests}
 use Rattle.handle_pool.specs.Inside.{turned as turned_one}
 
 -- two handles are told apart by their other ones, where the first has another
-pub same_test : (g : Renaming) → IsOneToOne g → (k : ObjectKind) (a b : ℕ) → Has g k a → (g k a == g k b) ≡ (a == b)
+pub same_test : (g : Renaming) → IsOneToOne g → (k : ObjectKind) (a b : ℕ) → HasOtherName g k a → (g k a == g k b) ≡ (a == b)
 same_test g one k a b has = same_tests (g k a == g k b) (a == b) (λ e. eq-eqb a b (one k a b has (eqb-true (g k a) (g k b) e)))
     (λ e. eq-eqb (g k a) (g k b) (ap (g k) (eqb-true a b e)))
 
@@ -46,7 +46,7 @@ module _ {T : Type 0} (g : Renaming) (one : IsOneToOne g) (k : ObjectKind) (f : 
 -- a handle that is another one's
 pub record IsOther (g : Renaming) (k : ObjectKind) (other : ℕ) : Type 0 where
   pub own : ℕ
-  pub has : Has g k own
+  pub has : HasOtherName g k own
   pub is : other ≡ g k own
 
 module _ {T : Type 0} (g : Renaming) (k : ObjectKind) (P : T → Type 0) where
@@ -61,13 +61,13 @@ module _ {T : Type 0} (g : Renaming) (k : ObjectKind) (P : T → Type 0) where
   ] refl
 
   -- the live object of a handle, and the handle
-  pub found-has : (h : ℕ) (x : T) (l : List (Listed T)) → HasEach g k P l → live_object l h ≡ Some x → Has g k h × P x
+  pub found-has : (h : ℕ) (x : T) (l : List (Listed T)) → HasEach g k P l → live_object l h ≡ Some x → HasOtherName g k h × P x
   unfolding live_of
   found-has h x [] n e = absurd (cc)
   found-has h x (r ∷ rs) n e = grind (arith, nat_tests, n.0.0, n.0.1, found-has h x rs n.1)
 
   -- the handle of the first live object that passes
-  pub first-has : (m : T → Bool) (l : List (Listed T)) (h : ℕ) → HasEach g k P l → first_handle m (live_of l) ≡ Some h → Has g k h
+  pub first-has : (m : T → Bool) (l : List (Listed T)) (h : ℕ) → HasEach g k P l → first_handle m (live_of l) ≡ Some h → HasOtherName g k h
   unfolding live_of
   first-has m [] h n e = absurd (cc)
   first-has m (r ∷ rs) h n e = grind (arith, n.0.0, first-has m rs h n.1)
@@ -86,7 +86,7 @@ module _ {T : Type 0} (g : Renaming) (k : ObjectKind) (P : T → Type 0) where
   has-change_all p F same keeps [] n = tt
   has-change_all p F same keeps (r ∷ rs) n = grind (arith, same r, keeps r n.0.1, n.0, has-change_all p F same keeps rs n.1)
 
-  pub has-issue : (h : ℕ) (v : T) (l : List (Listed T)) → Has g k h → P v → HasEach g k P l → HasEach g k P (issue h v l)
+  pub has-issue : (h : ℕ) (v : T) (l : List (Listed T)) → HasOtherName g k h → P v → HasEach g k P l → HasEach g k P (issue h v l)
   unfolding issue
   has-issue h v [] some p n = ((some, p), tt)
   has-issue h v (r ∷ rs) some p n = (n.0, has-issue h v rs some p n.1)

@@ -1,5 +1,5 @@
 -- Each move of a state is, in the renamed state, the same move with the other handles, and leaves what the renaming has.
-use Rattle.mtapi_renaming.proofs.Names.{rules, arith, nat_tests, ◌≡◌, ℕ, ◌+◌, Bool, true, ◌&&◌, List, [], ◌∷◌, refl, sym, ◌∙◌, ap, not, slice_set, option_map, Kind, TaskEnd, Failed, MtapiStatus, Listed, live_of, change, issue, update, retire, gone, with_fields, change-inside, update-inside, retire-inside, issue-inside, Action, with_enabled, has_worker, Task, NewTask, Notes, is_unstarted, is_unended, ended, with_notes, is_member, freed, let_go, Phase, State, workers, end_tasks, Move, Sort, Groups, Queues, Mutexes, Sems, Rwls, Segments, Fields, all_of, phase_is, released, stops, makes_action, enables, withdraws, starts_task, runs_task, ends_task, ends_waiting, notes, leaves, frees_members, lets_members_go, makes, alters, removes, apply, after_moves, Renaming, Room, renamed_list, renamed_task, renamed_notes, renamed, HasNotes, HasTask, NoHandle, HasEach, Fits}
+use Rattle.mtapi_renaming.proofs.Names.{rules, arith, nat_tests, ◌≡◌, ℕ, ◌+◌, Bool, true, ◌&&◌, List, [], ◌∷◌, refl, sym, ◌∙◌, ap, not, slice_set, option_map, Kind, TaskEnd, Failed, MtapiStatus, Listed, live_of, change, issue, update, retire, gone, with_fields, change-inside, update-inside, retire-inside, issue-inside, Action, with_enabled, has_worker, Task, NewTask, Notes, is_unstarted, is_unended, ended, with_notes, is_member, freed, let_go, Phase, State, workers, end_tasks, Move, Sort, Groups, Queues, Mutexes, Sems, Rwls, Segments, Fields, all_of, phase_is, released, stops, makes_action, enables, withdraws, starts_task, runs_task, ends_task, ends_waiting, notes, leaves, frees_members, lets_members_go, makes, alters, removes, apply, after_moves, Renaming, Room, renamed_list, renamed_task, renamed_notes, renamed, HasNotes, HasTaskNames, NoHandle, HasEach, FitsState}
 use Rattle.mtapi_values.specs.declared.handles.ObjectKind.TheVariants as kind
 use Rattle.handle_pool.specs.Inside.{turned as turned_one}
 use Rattle.mtapi_renaming.proofs.Lists.{apart, same_count, change_all-renamed, has-change, has-change_all}
@@ -8,14 +8,14 @@ use Rattle.mtapi_renaming.proofs.Tasks.{SameTest, same_member, same_workers, end
 -- the move is, in the renamed state, this other one
 pub record MoveRenames (g : Renaming) (x : Room) (s : State) (other move : Move) : Type 0 where
   pub same : renamed g x (apply move s) ≡ apply other (renamed g x s)
-  pub fits : Fits g (apply move s)
+  pub fits : FitsState g (apply move s)
 
 -- so of several moves, one after the other
 pub record MovesRename (g : Renaming) (x : Room) (s : State) (others moves : List Move) : Type 0 where
   pub same : renamed g x (after_moves moves s) ≡ after_moves others (renamed g x s)
-  pub fits : Fits g (after_moves moves s)
+  pub fits : FitsState g (after_moves moves s)
 
-pub no_move : {g : Renaming} {x : Room} {s : State} → Fits g s → MovesRename g x s [] []
+pub no_move : {g : Renaming} {x : Room} {s : State} → FitsState g s → MovesRename g x s [] []
 no_move n = record { same = refl; fits = n }
 
 -- one move
@@ -24,7 +24,7 @@ one_move e = record { same = e.same; fits = e.fits }
 
 -- a move, and then more of them
 pub then_moves : {g : Renaming} {x : Room} {s : State} {m w : Move} {ms ws : List Move} → MoveRenames g x s m w
-    → (Fits g (apply w s) → MovesRename g x (apply w s) ms ws) → MovesRename g x s (m ∷ ms) (w ∷ ws)
+    → (FitsState g (apply w s) → MovesRename g x (apply w s) ms ws) → MovesRename g x s (m ∷ ms) (w ∷ ws)
 then_moves {g} {x} {s} {m} {w} {ms} {ws} e f = let r = f e.fits in record { same = r.same ∙ ap (after_moves ms) e.same; fits = r.fits }
 
 -- a new task, with the other handles of its group and its queue
@@ -46,7 +46,7 @@ pub sort-with : (g : Renaming) (x : Room) (k : Sort) (l : List (Listed (Fields k
 sort-with g x Groups l s = refl
 sort-with g x t l s = refl
 
-pub sort-has : (g : Renaming) (k : Sort) (s : State) → Fits g s → HasEach g (all_of k).kind NoHandle ((all_of k).list s)
+pub sort-has : (g : Renaming) (k : Sort) (s : State) → FitsState g s → HasEach g (all_of k).kind NoHandle ((all_of k).list s)
 sort-has g Groups s n = n.groups
 sort-has g Queues s n = n.queues
 sort-has g Mutexes s n = n.mutexes
@@ -55,16 +55,16 @@ sort-has g Rwls s n = n.rwls
 sort-has g Segments s n = n.segments
 
 -- the state with another list of a kind that no rule of tasks speaks of
-pub has-with : (g : Renaming) (s : State) → Fits g s → (k : Sort) (l : List (Listed (Fields k))) → HasEach g (all_of k).kind NoHandle l
-    → Fits g ((all_of k).with_list l s)
+pub has-with : (g : Renaming) (s : State) → FitsState g s → (k : Sort) (l : List (Listed (Fields k))) → HasEach g (all_of k).kind NoHandle l
+    → FitsState g ((all_of k).with_list l s)
 has-with g s n Groups l v = search rules
 has-with g s n _ l v = search rules
 
 -- the state with other actions and tasks, and what is no object
-pub has-so : (g : Renaming) (s : State) → Fits g s
+pub has-so : (g : Renaming) (s : State) → FitsState g s
     → (p : Phase) (b : Bool) (marks : List Bool) (starts ends : ℕ) (l : List (Listed Action)) (ts : List (Listed Task)) → HasEach g kind.Action NoHandle l
-    → HasEach g kind.Task (HasTask g) ts →
-    Fits g (record s { phase = p; released = b; stopped = marks; starts = starts; ends = ends; actions = l; tasks = ts })
+    → HasEach g kind.Task (HasTaskNames g) ts →
+    FitsState g (record s { phase = p; released = b; stopped = marks; starts = starts; ends = ends; actions = l; tasks = ts })
 has-so g s n p b marks starts ends l ts v w = search rules
 
 -- new objects, whatever the renaming has
@@ -82,8 +82,9 @@ module _ (g : Renaming) (x : Room) (s : State) where
       ∙ ap (λ (l : List (Listed (Fields k))). (all_of k).with_list l (renamed g x s)) (issue-inside (g (all_of k).kind) (λ j y. y) h v ((all_of k).list s)
       ∙ ap (issue (g (all_of k).kind h) v) (sym (sort-list g x k s)))
 
-module _ (g : Renaming) (x : Room) (s : State) (n : Fits g s) where
-  with_tasks : (starts ends : ℕ) (ts : List (Listed Task)) → HasEach g kind.Task (HasTask g) ts → Fits g (record s { starts = starts; ends = ends; tasks = ts })
+module _ (g : Renaming) (x : Room) (s : State) (n : FitsState g s) where
+  with_tasks : (starts ends : ℕ) (ts : List (Listed Task)) → HasEach g kind.Task (HasTaskNames g) ts
+      → FitsState g (record s { starts = starts; ends = ends; tasks = ts })
   with_tasks starts ends ts w = has-so g s n s.phase s.released s.stopped starts ends s.actions ts n.actions w
 
   pub phase-renames : (p : Phase) → MoveRenames g x s (phase_is p) (phase_is p)
@@ -112,7 +113,8 @@ module _ (g : Renaming) (x : Room) (s : State) (n : Fits g s) where
   task_changes : (h : ℕ) (F G : Task → Task) → ((t : Task) → renamed_task g (F t) ≡ G (renamed_task g t))
       → renamed g x (record s { tasks = update h F s.tasks }) ≡ record (renamed g x s) { tasks = update (g kind.Task h) G (renamed g x s).tasks }
   task_changes h F G to = λ i. record (renamed g x s) {
-    tasks = update-inside (g kind.Task) (λ j y. renamed_task g y) h F G s.tasks to (apart g n.one kind.Task (renamed_task g) (HasTask g) h s.tasks n.tasks) i;
+    tasks = update-inside (g kind.Task) (λ j y. renamed_task g y) h F G s.tasks to
+        (apart g n.one kind.Task (renamed_task g) (HasTaskNames g) h s.tasks n.tasks) i;
   }
 
   pub runs_task-renames : (h w : ℕ) (k : Kind) → MoveRenames g x s (runs_task (g kind.Task h) w k) (runs_task h w k)
@@ -122,7 +124,7 @@ module _ (g : Renaming) (x : Room) (s : State) (n : Fits g s) where
       → MoveRenames g x s (notes (g kind.Task h) c) (notes h f)
   notes-renames h f c to keeps = record {
     same = task_changes h (with_notes f) (with_notes c) (λ t. ap (λ (y : Notes). record (renamed_task g t) { notes = y }) (to t.notes));
-    fits = with_tasks s.starts s.ends _ (has-change g kind.Task (HasTask g) h (with_fields (with_notes f)) (λ r. refl)
+    fits = with_tasks s.starts s.ends _ (has-change g kind.Task (HasTaskNames g) h (with_fields (with_notes f)) (λ r. refl)
         (λ r v. record { queue = v.queue; notes = keeps r.fields.notes v.notes }) s.tasks n.tasks);
   }
 
@@ -130,19 +132,19 @@ module _ (g : Renaming) (x : Room) (s : State) (n : Fits g s) where
   ends_task-renames h e = record {
     same = λ i. record (renamed g x s) {
       tasks = change-inside (g kind.Task) (λ j y. renamed_task g y) h (ended e s.ends) (ended e s.ends) s.tasks (λ r d. refl)
-          (apart g n.one kind.Task (renamed_task g) (HasTask g) h s.tasks n.tasks) i;
+          (apart g n.one kind.Task (renamed_task g) (HasTaskNames g) h s.tasks n.tasks) i;
       ends = s.ends + 1;
     };
-    fits = with_tasks s.starts _ _ (has-change g kind.Task (HasTask g) h (ended e s.ends) (λ r. refl)
+    fits = with_tasks s.starts _ _ (has-change g kind.Task (HasTaskNames g) h (ended e s.ends) (λ r. refl)
         (λ r v. record { queue = v.queue; notes = v.notes }) s.tasks n.tasks);
   }
 
   pub leaves-renames : (h : ℕ) → MoveRenames g x s (leaves (g kind.Task h)) (leaves h)
   leaves-renames h = record {
     same = λ i. record (renamed g x s) {
-      tasks = retire-inside (g kind.Task) (λ j y. renamed_task g y) h s.tasks (apart g n.one kind.Task (renamed_task g) (HasTask g) h s.tasks n.tasks) i;
+      tasks = retire-inside (g kind.Task) (λ j y. renamed_task g y) h s.tasks (apart g n.one kind.Task (renamed_task g) (HasTaskNames g) h s.tasks n.tasks) i;
     };
-    fits = with_tasks s.starts s.ends _ (has-change g kind.Task (HasTask g) h gone (λ r. refl) (λ r v. v) s.tasks n.tasks);
+    fits = with_tasks s.starts s.ends _ (has-change g kind.Task (HasTaskNames g) h gone (λ r. refl) (λ r v. v) s.tasks n.tasks);
   }
 
   -- every task that passes ends
@@ -155,21 +157,23 @@ module _ (g : Renaming) (x : Room) (s : State) (n : Fits g s) where
   pub frees_members-renames : (h : ℕ) → MoveRenames g x s (frees_members (g kind.Group h)) (frees_members h)
   frees_members-renames h = record {
     same = λ i. record (renamed g x s) {
-      tasks = change_all-renamed g n.one kind.Task (renamed_task g) (HasTask g) (λ t. is_member (g kind.Group h) t && not (is_unended t)) (λ t. is_member h t
+      tasks = change_all-renamed g n.one kind.Task (renamed_task g) (HasTaskNames g) (λ t. is_member (g kind.Group h) t
+          && not (is_unended t)) (λ t. is_member h t
           && not (is_unended t))
           (λ t v. ap (λ (b : Bool). b && not (is_unended t)) (same_member g n.one h t v)) freed freed (λ r. refl) s.tasks n.tasks i;
     };
-    fits = with_tasks s.starts s.ends _ (has-change_all g kind.Task (HasTask g) (λ t. is_member h t
+    fits = with_tasks s.starts s.ends _ (has-change_all g kind.Task (HasTaskNames g) (λ t. is_member h t
         && not (is_unended t)) freed (λ r. refl) (λ r v. record { queue = v.queue; notes = record { group = tt; tally = v.notes.tally } }) s.tasks n.tasks);
   }
 
   pub lets_members_go-renames : (h : ℕ) → MoveRenames g x s (lets_members_go (g kind.Group h)) (lets_members_go h)
   lets_members_go-renames h = record {
     same = λ i. record (renamed g x s) {
-      tasks = change_all-renamed g n.one kind.Task (renamed_task g) (HasTask g) (is_member (g kind.Group h)) (is_member h) (same_member g n.one h) let_go let_go
+      tasks = change_all-renamed g n.one kind.Task (renamed_task g) (HasTaskNames g) (is_member (g kind.Group h)) (is_member h)
+          (same_member g n.one h) let_go let_go
           (λ r. refl) s.tasks n.tasks i;
     };
-    fits = with_tasks s.starts s.ends _ (has-change_all g kind.Task (HasTask g) (is_member h) let_go (λ r. refl)
+    fits = with_tasks s.starts s.ends _ (has-change_all g kind.Task (HasTaskNames g) (is_member h) let_go (λ r. refl)
         (λ r v. record { queue = v.queue; notes = record { group = tt; tally = v.notes.tally } }) s.tasks n.tasks);
   }
 

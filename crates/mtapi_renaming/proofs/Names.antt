@@ -28,7 +28,7 @@ pub use Rattle.mtapi_machine.specs.Laws.{IsMade, MakesAction, StartsTask, Withdr
 pub use Rattle.mtapi_machine.specs.Legal.{IsHonest, IsNext, NodeEntry, after, next, row_of}
 pub use Rattle.mtapi_machine.specs.Moves.{Fields, Groups, Move, Mutexes, Queues, Rwls, Segments, Sems, Sort, after_moves, all_of, alters, apply, enables, ends_task, ends_waiting, frees_members, is_fresh, is_served, leaves, lets_members_go, makes, makes_action, notes, phase_is, released, removes, runs_task, starts_task, stops, withdraws}
 pub use Rattle.mtapi_machine.specs.QueueRows.{new_queue}
-pub use Rattle.mtapi_machine.specs.Replay.{answer}
+pub use Rattle.mtapi_machine.specs.Replay.{answer_of_row}
 pub use Rattle.mtapi_machine.specs.Row.{Allows, Row, after_row, chosen, creates, gives, handle_of, live, moves_of, mtapi_unless, never, not_yet, on, only, says, unless}
 pub use Rattle.mtapi_machine.specs.Rows.{row}
 pub use Rattle.mtapi_machine.specs.State.{FieldsOf, Objects, State, actions, end_tasks, is_new, is_past_open, is_stop, objects_of, opening, queues, seats, tasks, workers}
@@ -51,16 +51,16 @@ pub use Rattle.mtapi_objects.specs.Segments.{Segment, attach_refusals, cell_refu
 pub use Rattle.mtapi_objects.specs.Sems.{new_sem, sem_busy, sem_create_refusals, sem_delete_refusals, sem_given, sem_taken, sem_unlock_refusals}
 pub use Rattle.mtapi_objects.specs.Tasks.{Adds, NewTask, Notes, Running, Scheduled, Task, TaskState, asked_once, cell_in, end_of, ended, is_unended, is_unstarted, kind_number, new_task, runs_on, tally_args, tally_has, tally_written, with_notes, with_state, with_tally}
 pub use Rattle.mtapi_renaming.specs.Counts.{MakesNone, MakesOne, is_next_of, made_at, made_in, most_of}
-pub use Rattle.mtapi_renaming.specs.Follows.{Fits, Follows, HasEach, HasNotes, HasOrNone, HasTask, NoHandle, Only, listed_in}
+pub use Rattle.mtapi_renaming.specs.Follows.{FitsState, Follows, HasEach, HasNotes, HasOrNone, HasTaskNames, NoHandle, Only, listed_in}
 pub use Rattle.mtapi_renaming.specs.Gone.{AreGone, TakenAreMade}
-pub use Rattle.mtapi_renaming.specs.Kinds.{CanBe, full, is_fresh_of, is_full_of, is_handle, is_live_of, limit_of, live_in, made_kind, takes_task}
-pub use Rattle.mtapi_renaming.specs.Lasts.{MakesLast, gone_of, lasts_of, with_last}
+pub use Rattle.mtapi_renaming.specs.Kinds.{CanBe, is_kind_full, is_fresh_of, is_full_of, is_handle, is_live_of, limit_of, live_in, made_kind, takes_task}
+pub use Rattle.mtapi_renaming.specs.Lasts.{MakesLast, gone_of, lasts_of, with_last_handle}
 pub use Rattle.mtapi_renaming.specs.Laws.{CreateRenames, LiveAlike, StartRenames, StepRenames, row_in}
 pub use Rattle.mtapi_renaming.specs.Ops.{answered_kind, renamed_answer, renamed_op, renamed_reply}
 pub use Rattle.mtapi_renaming.specs.Refusals.{CanAnswer, makes_or_not, refusal_of}
 pub use Rattle.mtapi_renaming.specs.Renamed.{Room, renamed, renamed_list, renamed_notes, renamed_task}
-pub use Rattle.mtapi_renaming.specs.Renaming.{Has, IsOneToOne, Renaming, with_pair}
-pub use Rattle.mtapi_renaming.specs.Verdicts.{IsJudged, is_answer, is_honest, may_come, same_act, same_end, same_reply}
+pub use Rattle.mtapi_renaming.specs.Renaming.{HasOtherName, IsOneToOne, Renaming, with_pair}
+pub use Rattle.mtapi_renaming.specs.Verdicts.{IsDecided, is_answer, is_honest, may_come, same_act, same_end, same_reply}
 pub use Rattle.mtapi_values.specs.Conditions.{holds}
 pub use Rattle.mtapi_values.specs.Layouts.{object_number}
 pub use Rattle.mtapi_values.specs.Statuses.{mrapi_number, mtapi_number}

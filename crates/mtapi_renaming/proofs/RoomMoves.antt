@@ -1,5 +1,5 @@
 -- The taken slots of a state, over its moves and over entries: a create takes one only where its kind isn't full.
-use Rattle.mtapi_renaming.proofs.Names.{nat_tests, ◌≡◌, ℕ, ◌+◌, ◌≤◌, Bool, false, List, [], ◌∷◌, Option, Some, None, refl, sym, subst, ObjectKind, Listed, Action, NewTask, new_task, Terms, Op, Reply, State, Objects, objects_of, opening, actions, tasks, Move, Sort, Fields, all_of, makes_action, starts_task, makes, apply, Row, unless, creates, moves_of, after_row, row, NodeEntry, next, after_from, after, row_made, moves_keep, at_opening, OnEach, each_so, each_with, full, made_kind, live_in, most_of, lasts_of, gone_of, arith}
+use Rattle.mtapi_renaming.proofs.Names.{nat_tests, ◌≡◌, ℕ, ◌+◌, ◌≤◌, Bool, false, List, [], ◌∷◌, Option, Some, None, refl, sym, subst, ObjectKind, Listed, Action, NewTask, new_task, Terms, Op, Reply, State, Objects, objects_of, opening, actions, tasks, Move, Sort, Fields, all_of, makes_action, starts_task, makes, apply, Row, unless, creates, moves_of, after_row, row, NodeEntry, next, after_from, after, row_made, moves_keep, at_opening, OnEach, each_so, each_with, is_kind_full, made_kind, live_in, most_of, lasts_of, gone_of, arith}
 use Rattle.mtapi_renaming.proofs.CountMoves.{move_same, by_none, live_is, most_is}
 use Rattle.mtapi_renaming.proofs.CreateRows.{HoldsInParts, create_row}
 use Rattle.mtapi_renaming.proofs.LastMoves.{once_after, terms_stay, gone_is}
@@ -22,17 +22,17 @@ within_each s m v w k = subst (λ (x : Terms). IsWithin x.settings.generations (
     (sym (terms_stay s m)) (v k (w k))
 
 -- a new object
-action_within : (s : State) (h : ℕ) (a : Action) → full actions s ≡ false → WithinAll s → WithinAll (apply (makes_action h a) s)
+action_within : (s : State) (h : ℕ) (a : Action) → is_kind_full actions s ≡ false → WithinAll s → WithinAll (apply (makes_action h a) s)
 action_within s h a e = within_each s (makes_action h a)
     (each_so (KeepsRoom s.terms) (λ T o l w. w) s s.phase s.released s.stopped s.starts s.ends _ s.tasks
     (within-issue s.terms.settings.generations (actions.max s.terms.settings) h a s.actions e) (λ w. w))
 
-task_within : (s : State) (h : ℕ) (t : NewTask) → full tasks s ≡ false → WithinAll s → WithinAll (apply (starts_task h t) s)
+task_within : (s : State) (h : ℕ) (t : NewTask) → is_kind_full tasks s ≡ false → WithinAll s → WithinAll (apply (starts_task h t) s)
 task_within s h t e = within_each s (starts_task h t)
     (each_so (KeepsRoom s.terms) (λ T o l w. w) s s.phase s.released s.stopped (s.starts
     + 1) s.ends s.actions _ (λ w. w) (within-issue s.terms.settings.generations (tasks.max s.terms.settings) h (new_task t s.starts) s.tasks e))
 
-sort_within : (s : State) (t : Sort) (h : ℕ) (v : Fields t) → full (all_of t) s ≡ false → WithinAll s → WithinAll (apply (makes t h v) s)
+sort_within : (s : State) (t : Sort) (h : ℕ) (v : Fields t) → is_kind_full (all_of t) s ≡ false → WithinAll s → WithinAll (apply (makes t h v) s)
 sort_within s t h v e = within_each s (makes t h v)
     (each_with (KeepsRoom s.terms) (λ T o l w. w) s t _ (within-issue s.terms.settings.generations ((all_of t).max s.terms.settings) h v ((all_of t).list s) e))
 
@@ -44,7 +44,8 @@ module _ {s : State} where
   unless_within : {k : ObjectKind} {a : Bool} {y : Reply} {own : Reply → Row} → KeepsWithin s k own → KeepsWithin s k (λ r. unless a y (own r))
   unless_within i = grind (arith, nat_tests)
 
-  creates_within : {T : Type 0} {k : ObjectKind} (o : Objects T) (make : ℕ → Move) → ((h : ℕ) → full o s ≡ false → WithinAll s → WithinAll (apply (make h) s))
+  creates_within : {T : Type 0} {k : ObjectKind} (o : Objects T) (make : ℕ → Move)
+      → ((h : ℕ) → is_kind_full o s ≡ false → WithinAll s → WithinAll (apply (make h) s))
       → KeepsWithin s k (λ r. creates o s r make)
   creates_within o make i = grind (arith, nat_tests)
 

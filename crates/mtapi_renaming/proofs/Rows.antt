@@ -1,5 +1,5 @@
 -- The ways in which a row is made up: where its parts are alike in the renamed state, so is the whole.
-use Rattle.mtapi_renaming.proofs.Names.{arith, nat_tests, ◌≡◌, ◌↔◌, ℕ, Bool, true, false, List, [], ◌∷◌, Option, Some, None, refl, sym, ◌∙◌, ap, subst, ◌==◌, option_map, ObjectKind, MrapiStatus, Listed, live_of, live_object, any_listed, first_handle, Action, Task, Reply, Handle, Given, Picked, State, actions, tasks, Move, Sort, Groups, Fields, all_of, Row, unless, gives, never, Allows, after_row, says, not_yet, only, live, on, chosen, Keyed, mrapi_unless, found, gets, alters_one, looks_one, deletes, Renaming, Has, Room, renamed_task, renamed, HasTask, NoHandle, Fits, renamed_answer}
+use Rattle.mtapi_renaming.proofs.Names.{arith, nat_tests, ◌≡◌, ◌↔◌, ℕ, Bool, true, false, List, [], ◌∷◌, Option, Some, None, refl, sym, ◌∙◌, ap, subst, ◌==◌, option_map, ObjectKind, MrapiStatus, Listed, live_of, live_object, any_listed, first_handle, Action, Task, Reply, Handle, Given, Picked, State, actions, tasks, Move, Sort, Groups, Fields, all_of, Row, unless, gives, never, Allows, after_row, says, not_yet, only, live, on, chosen, Keyed, mrapi_unless, found, gets, alters_one, looks_one, deletes, Renaming, HasOtherName, Room, renamed_task, renamed, HasTaskNames, NoHandle, FitsState, renamed_answer}
 use Rattle.std.specs.Prelude.{cond}
 use Rattle.mtapi_values.specs.declared.handles.ObjectKind.TheVariants as kind
 use Rattle.mtapi_renaming.proofs.Lists.{found-renamed, found-has, first-has, same_any, same_first}
@@ -15,12 +15,12 @@ is_plain r = true
 -- each handle in the reply has another one, where an object that it answers is of this kind
 abbrev pub HasOf : Renaming → Option ObjectKind → ℕ → Type 0
 HasOf g None h = ⊥
-HasOf g (Some k) h = Has g k h
+HasOf g (Some k) h = HasOtherName g k h
 
 abbrev pub HasAnswer : Renaming → Option ObjectKind → Reply → Type 0
 HasAnswer g k (Handle h) = HasOf g k h
-HasAnswer g k (Given t e) = Has g kind.Task t.0
-HasAnswer g k (Picked t a x args) = Has g kind.Task t.0 × Has g kind.Action a.0
+HasAnswer g k (Given t e) = HasOtherName g kind.Task t.0
+HasAnswer g k (Picked t a x args) = HasOtherName g kind.Task t.0 × HasOtherName g kind.Action a.0
 HasAnswer g k r = Unit {0}
 
 plain-same : (g : Renaming) (k : Option ObjectKind) (y : Reply) → is_plain y ≡ true → renamed_answer g k y ≡ y
@@ -45,9 +45,9 @@ pub record Alike (g : Renaming) (x : Room) (s : State) (k : Option ObjectKind) (
   pub allowed : Allows own r ↔ Allows other (renamed_answer g k r)
   pub comes : (q : Reply) → Allows other q → IsRenamed g k q
   pub leads : renamed g x (after_row s own) ≡ after_row (renamed g x s) other
-  pub fits : Fits g (after_row s own)
+  pub fits : FitsState g (after_row s own)
 
-module _ {g : Renaming} {x : Room} {s : State} (n : Fits g s) {k : Option ObjectKind} {r : Reply} where
+module _ {g : Renaming} {x : Room} {s : State} (n : FitsState g s) {k : Option ObjectKind} {r : Reply} where
   pub gives_renamed : {y : Reply} {ms ws : List Move} → HasAnswer g k y → MovesRename g x s ms ws
       → Alike g x s k r (gives y ws) (gives (renamed_answer g k y) ms)
   gives_renamed i j = grind (arith, nat_tests)
@@ -90,7 +90,7 @@ module _ {g : Renaming} {x : Room} {s : State} (n : Fits g s) {k : Option Object
   mrapi_alike (c ∷ cs) w = unless_alike refl refl (mrapi_alike cs w)
 
 -- the objects of a kind that no rule of tasks speaks of, in the renamed state
-module _ {g : Renaming} {s : State} (n : Fits g s) (x : Room) where
+module _ {g : Renaming} {s : State} (n : FitsState g s) (x : Room) where
   pub sort-found : (t : Sort) (h : ℕ) → live_object ((all_of t).list (renamed g x s)) (g (all_of t).kind h)
       ≡ option_map (λ y. y) (live_object ((all_of t).list s) h)
   sort-found t h = ap (λ (l : List (Listed (Fields t))). live_object l (g (all_of t).kind h)) (sort-list g x t s)
@@ -106,15 +106,15 @@ module _ {g : Renaming} {s : State} (n : Fits g s) (x : Room) where
       ∙ same_first g n.one (all_of t).kind (λ y. y) NoHandle p p (λ y v. refl) ((all_of t).list s) (sort-has g t s n)
 
 -- an op on an object
-module _ {g : Renaming} {x : Room} {s : State} (n : Fits g s) {k : Option ObjectKind} {r : Reply} where
+module _ {g : Renaming} {x : Room} {s : State} (n : FitsState g s) {k : Option ObjectKind} {r : Reply} where
   pub on_action : (h : ℕ) (v w : Action → Row) → ((y : Action) → Alike g x s k r (v y) (w y))
       → Alike g x s k r (on actions s h v) (on actions (renamed g x s) (g kind.Action h) w)
   on_action h v w e = live_alike n (λ y. y) _ _ (found-renamed g n.one kind.Action (λ y. y) NoHandle h s.actions n.actions) (says_alike n refl) (λ y d. e y)
 
-  pub on_task : (h : ℕ) (v w : Task → Row) → ((y : Task) → HasTask g y → Alike g x s k r (v y) (w (renamed_task g y)))
+  pub on_task : (h : ℕ) (v w : Task → Row) → ((y : Task) → HasTaskNames g y → Alike g x s k r (v y) (w (renamed_task g y)))
       → Alike g x s k r (on tasks s h v) (on tasks (renamed g x s) (g kind.Task h) w)
-  on_task h v w e = live_alike n (renamed_task g) _ _ (found-renamed g n.one kind.Task (renamed_task g) (HasTask g) h s.tasks n.tasks) (says_alike n refl)
-      (λ y d. e y (found-has g kind.Task (HasTask g) h y s.tasks n.tasks d).1)
+  on_task h v w e = live_alike n (renamed_task g) _ _ (found-renamed g n.one kind.Task (renamed_task g) (HasTaskNames g) h s.tasks n.tasks) (says_alike n refl)
+      (λ y d. e y (found-has g kind.Task (HasTaskNames g) h y s.tasks n.tasks d).1)
 
   pub on_sort : (t : Sort) (h : ℕ) (v w : Fields t → Row) → ((y : Fields t) → Alike g x s k r (v y) (w y))
       → Alike g x s k r (on (all_of t) s h v) (on (all_of t) (renamed g x s) (g (all_of t).kind h) w)
@@ -142,7 +142,7 @@ module _ {g : Renaming} {x : Room} {s : State} (n : Fits g s) {k : Option Object
   deletes_alike t h causes = on_sort t h _ _ (λ y. mrapi_alike n (causes y) (gives_alike n refl (one_move (removes-renames g x s n t h))))
 
 -- the object of an id
-pub gets_alike : {g : Renaming} {x : Room} {s : State} (n : Fits g s) {t : Sort} (o : Keyed t) (id : ℕ) (r : Reply) → is_plain o.absent ≡ true
+pub gets_alike : {g : Renaming} {x : Room} {s : State} (n : FitsState g s) {t : Sort} (o : Keyed t) (id : ℕ) (r : Reply) → is_plain o.absent ≡ true
     → Alike g x s (Some (all_of t).kind) r (gets o s id) (gets o (renamed g x s) id)
 gets_alike {g} {x} {s} n {t} o id r e =
     subst (λ (f : Option ℕ). Alike g x s (Some (all_of t).kind) r (gets o s id) (found f o.absent)) (sym (sort-first n x t (λ y. o.id y == id)))

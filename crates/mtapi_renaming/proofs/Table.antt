@@ -1,5 +1,5 @@
 -- Every row of an op that makes nothing, in the renamed state: a line an op.
-use Rattle.mtapi_renaming.proofs.Names.{◌≡◌, ℕ, Bool, true, false, ◌||◌, [], ◌∷◌, None, refl, sym, ◌∙◌, ap, subst, ◌==◌, not, pos, Cancelled, Failed, live_of, any_listed, with_fields, gone, with_enabled, has_job, runs_on, asked_once, cell_in, tally_args, with_tally, tally_written, is_member, is_unended_member, endings, first_fault, opened, is_in, is_shut_in, mutex_delete_refusals, mutex_look_refusals, mutex_busy, locked_by, mutex_unlock_refusals, unlocked, sem_delete_refusals, sem_busy, sem_taken, sem_unlock_refusals, sem_given, rwl_delete_refusals, rwl_look_refusals, rwl_busy, rwl_taken, rwl_unlock_refusals, rwl_given, shmem_delete_refusals, attach_refusals, detach_refusals, with_attached, cell_refusals, with_cell, Closing, Op, Reply, Ok, Number, State, is_stop, Groups, Queues, Mutexes, Sems, Rwls, Segments, frees_members, gives, keyed_queues, keyed_mutexes, keyed_sems, keyed_rwls, keyed_segments, verdict, task_end, row, answered_kind, Renaming, Room, renamed, Fits, renamed_op, renamed_reply, made_kind}
+use Rattle.mtapi_renaming.proofs.Names.{◌≡◌, ℕ, Bool, true, false, ◌||◌, [], ◌∷◌, None, refl, sym, ◌∙◌, ap, subst, ◌==◌, not, pos, Cancelled, Failed, live_of, any_listed, with_fields, gone, with_enabled, has_job, runs_on, asked_once, cell_in, tally_args, with_tally, tally_written, is_member, is_unended_member, endings, first_fault, opened, is_in, is_shut_in, mutex_delete_refusals, mutex_look_refusals, mutex_busy, locked_by, mutex_unlock_refusals, unlocked, sem_delete_refusals, sem_busy, sem_taken, sem_unlock_refusals, sem_given, rwl_delete_refusals, rwl_look_refusals, rwl_busy, rwl_taken, rwl_unlock_refusals, rwl_given, shmem_delete_refusals, attach_refusals, detach_refusals, with_attached, cell_refusals, with_cell, Closing, Op, Reply, Ok, Number, State, is_stop, Groups, Queues, Mutexes, Sems, Rwls, Segments, frees_members, gives, keyed_queues, keyed_mutexes, keyed_sems, keyed_rwls, keyed_segments, verdict, task_end, row, answered_kind, Renaming, Room, renamed, FitsState, renamed_op, renamed_reply, made_kind}
 use Rattle.std.specs.Prelude.{◌+◌}
 use Rattle.mtapi_values.specs.declared.handles.ObjectKind.TheVariants as kind
 use Rattle.mtapi_values.specs.declared.statuses.MtapiStatus.TheVariants as m
@@ -10,7 +10,7 @@ use Rattle.mtapi_renaming.proofs.Rows.{Alike, unless_alike, gives_alike, says_al
 use Rattle.mtapi_renaming.proofs.TaskRows.{is_some-map, verdict_plain, action-any, task-any, same_shut, looks_at_alike, cancels_alike, gives_first_alike, disables_alike}
 use Rattle.mtapi_renaming.proofs.WorkRows.{asked_same, asked_keeps, same_stop, picks_alike, on_tally_alike, locks_alike, gives_back_alike}
 
-module _ {g : Renaming} {s : State} (n : Fits g s) (x : Room) where
+module _ {g : Renaming} {s : State} (n : FitsState g s) (x : Room) where
   pub row_alike : (who : ℕ) (o : Op) (r : Reply) → made_kind o ≡ None
       → Alike g x s (answered_kind o) r (row s who o r) (row (renamed g x s) who (renamed_op g o) (renamed_reply g o r))
   row_alike who op.Initialize r i = unless_alike n refl refl (gives_alike n refl (one_move (phase-renames g x s n _)))

@@ -1,5 +1,5 @@
 -- The rows of tasks, groups and queues, in the renamed state.
-use Rattle.mtapi_renaming.proofs.Names.{arith, nat_tests, ◌≡◌, ℕ, Bool, true, false, cond, List, [], ◌∷◌, Option, Some, None, refl, sym, ◌∙◌, ap, subst, not, is_none, is_some, option_map, ObjectKind, MtapiStatus, Cancelled, holds, live_object, any_listed, count_listed, Action, Task, TaskState, Scheduled, Running, Ending, in_no_group, Queue, opened, is_in, is_unended_in, is_shut_in, Reply, Ok, State, workers, Queues, Groups, ends_waiting, alters, is_served, gives, looks_at, cancels, verdict, gives_end, gives_first, Renaming, Has, Room, renamed_task, renamed, HasTask, NoHandle, Fits}
+use Rattle.mtapi_renaming.proofs.Names.{arith, nat_tests, ◌≡◌, ℕ, Bool, true, false, cond, List, [], ◌∷◌, Option, Some, None, refl, sym, ◌∙◌, ap, subst, not, is_none, is_some, option_map, ObjectKind, MtapiStatus, Cancelled, holds, live_object, any_listed, count_listed, Action, Task, TaskState, Scheduled, Running, Ending, in_no_group, Queue, opened, is_in, is_unended_in, is_shut_in, Reply, Ok, State, workers, Queues, Groups, ends_waiting, alters, is_served, gives, looks_at, cancels, verdict, gives_end, gives_first, Renaming, HasOtherName, Room, renamed_task, renamed, HasTaskNames, NoHandle, FitsState}
 use Rattle.mtapi_values.specs.declared.handles.ObjectKind.TheVariants as kind
 use Rattle.mtapi_objects.specs.Tasks.{Ended}
 use Rattle.mtapi_renaming.proofs.Rows.{is_plain}
@@ -18,12 +18,12 @@ pub verdict_plain : (c : Option MtapiStatus) → is_plain (verdict c) ≡ true
 verdict_plain c = grind (arith, nat_tests)
 
 -- what is read of the lists
-module _ {g : Renaming} {s : State} (n : Fits g s) (x : Room) where
+module _ {g : Renaming} {s : State} (n : FitsState g s) (x : Room) where
   pub action-any : (p : Action → Bool) → any_listed p (renamed g x s).actions ≡ any_listed p s.actions
   action-any p = same_any g n.one kind.Action (λ y. y) NoHandle p p (λ y v. refl) s.actions n.actions
 
   pub task-any : (q m : Task → Bool) → SameTest g q m → any_listed q (renamed g x s).tasks ≡ any_listed m s.tasks
-  task-any q m same = same_any g n.one kind.Task (renamed_task g) (HasTask g) q m same s.tasks n.tasks
+  task-any q m same = same_any g n.one kind.Task (renamed_task g) (HasTaskNames g) q m same s.tasks n.tasks
 
   pub served : (job cores : ℕ) → is_served (renamed g x s) job cores ≡ is_served s job cores
   served job cores = same_workers g n.one (workers s) job cores s.actions n.actions
@@ -47,10 +47,10 @@ module _ {g : Renaming} {s : State} (n : Fits g s) (x : Room) where
       by_queue (Some h) = ap (holds (λ q. not q.enabled)) (sort-found n x Queues h) ∙ by_object (live_object s.queues h)
 
   pub count-in : (q : ℕ) → count_listed (is_unended_in (g kind.Queue q)) (renamed g x s).tasks ≡ count_listed (is_unended_in q) s.tasks
-  count-in q = same_count g n.one kind.Task (renamed_task g) (HasTask g) (is_unended_in (g kind.Queue q)) (is_unended_in q)
+  count-in q = same_count g n.one kind.Task (renamed_task g) (HasTaskNames g) (is_unended_in (g kind.Queue q)) (is_unended_in q)
       (same_unended_in g n.one q) s.tasks n.tasks
 
-module _ {g : Renaming} {x : Room} {s : State} (n : Fits g s) {k : Option ObjectKind} {r : Reply} where
+module _ {g : Renaming} {x : Room} {s : State} (n : FitsState g s) {k : Option ObjectKind} {r : Reply} where
   -- Looking and cancelling
 
   pub looks_at_alike : (who h : ℕ) (last : Bool) (y : TaskState) → Alike g x s k r (looks_at who h last y) (looks_at who (g kind.Task h) last y)
@@ -67,7 +67,7 @@ module _ {g : Renaming} {x : Room} {s : State} (n : Fits g s) {k : Option Object
 
   -- Groups
 
-  gives_end_alike : (h : ℕ) (y : TaskState) → Has g kind.Task h → Alike g x s k r (gives_end h y) (gives_end (g kind.Task h) y)
+  gives_end_alike : (h : ℕ) (y : TaskState) → HasOtherName g kind.Task h → Alike g x s k r (gives_end h y) (gives_end (g kind.Task h) y)
   gives_end_alike h (Ended e m) v =
       gives_renamed n v (then_moves (notes-renames g x s n h in_no_group in_no_group (λ y. refl) (λ y w. record { group = tt; tally = w.tally }))
       (λ f. one_move (leaves-renames g x _ f h)))
@@ -81,8 +81,8 @@ module _ {g : Renaming} {x : Room} {s : State} (n : Fits g s) {k : Option Object
       by_first : (zs : List Ending) → Alike g x s k r (gives_first s last zs) (gives_first (renamed g x s) last (renamed_endings g zs))
       by_first [] = not_yet_alike n last _ refl
       by_first (z ∷ zs) =
-          live_alike n (renamed_task g) _ _ (found-renamed g n.one kind.Task (renamed_task g) (HasTask g) z.task s.tasks n.tasks) (never_alike n)
-          (λ y d. gives_end_alike z.task y.state (found-has g kind.Task (HasTask g) z.task y s.tasks n.tasks d).0)
+          live_alike n (renamed_task g) _ _ (found-renamed g n.one kind.Task (renamed_task g) (HasTaskNames g) z.task s.tasks n.tasks) (never_alike n)
+          (λ y d. gives_end_alike z.task y.state (found-has g kind.Task (HasTaskNames g) z.task y s.tasks n.tasks d).0)
 
   -- Queues
 

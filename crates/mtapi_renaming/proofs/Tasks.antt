@@ -1,5 +1,5 @@
 -- What is read of a task, and what its list becomes, once its handles are others.
-use Rattle.mtapi_renaming.proofs.Names.{nat_tests, ◌≡◌, ℕ, ◌+◌, Bool, ◌&&◌, cond, List, [], ◌∷◌, Option, refl, ap, ◌==◌, option_map, option_or, IfSome, ObjectKind, TaskEnd, holds, Listed, live_of, inside, Action, some_below, is_eligible, has_worker, Task, is_unended, end_of, ended, end_each, is_member, is_unended_member, Ending, insert, insert_ended, endings, fault_of, first_fault, is_in, is_unended_in, is_head, Renaming, Has, IsOneToOne, renamed_list, renamed_task, HasTask, NoHandle, HasEach, arith}
+use Rattle.mtapi_renaming.proofs.Names.{nat_tests, ◌≡◌, ℕ, ◌+◌, Bool, ◌&&◌, cond, List, [], ◌∷◌, Option, refl, ap, ◌==◌, option_map, option_or, IfSome, ObjectKind, TaskEnd, holds, Listed, live_of, inside, Action, some_below, is_eligible, has_worker, Task, is_unended, end_of, ended, end_each, is_member, is_unended_member, Ending, insert, insert_ended, endings, fault_of, first_fault, is_in, is_unended_in, is_head, Renaming, HasOtherName, IsOneToOne, renamed_list, renamed_task, HasTaskNames, NoHandle, HasEach, arith}
 use Rattle.mtapi_values.specs.declared.handles.ObjectKind.TheVariants as kind
 use Rattle.handle_pool.specs.Inside.{turned as turned_one}
 use Rattle.mtapi_renaming.proofs.Lists.{same_any}
@@ -10,15 +10,15 @@ renamed_tasks g l = renamed_list (g kind.Task) (renamed_task g) l
 
 -- two tests that agree on every task whose handles have other ones
 abbrev pub SameTest : Renaming → (Task → Bool) → (Task → Bool) → Type 0
-SameTest g q m = (t : Task) → HasTask g t → q (renamed_task g t) ≡ m t
+SameTest g q m = (t : Task) → HasTaskNames g t → q (renamed_task g t) ≡ m t
 
 -- the workers that can take tasks
 below_same : (n : ℕ) (p q : ℕ → Bool) → ((w : ℕ) → p w ≡ q w) → some_below n p ≡ some_below n q
 below_same n p q i = grind (arith, nat_tests)
 
 -- the ends of tasks leave what the renaming has
-pub has-ends : (g : Renaming) (p : Task → Bool) (e : TaskEnd) (n : ℕ) (l : List (Listed Task)) → HasEach g kind.Task (HasTask g) l
-    → HasEach g kind.Task (HasTask g) (end_each p e n l)
+pub has-ends : (g : Renaming) (p : Task → Bool) (e : TaskEnd) (n : ℕ) (l : List (Listed Task)) → HasEach g kind.Task (HasTaskNames g) l
+    → HasEach g kind.Task (HasTaskNames g) (end_each p e n l)
 unfolding end_each
 has-ends g p e n [] v = tt
 has-ends g p e n (r ∷ rs) v = grind (arith, v.0, has-ends g p e n rs v.1, has-ends g p e (n + 1) rs v.1)
@@ -44,7 +44,7 @@ insert_ended-renamed : (g : Renaming) (h : ℕ) (x : Option (TaskEnd × ℕ)) (x
 insert_ended-renamed g h x xs ys i = grind (arith, nat_tests, insert-renamed)
 
 module _ (g : Renaming) (one : IsOneToOne g) where
-  same_handle : (k : ObjectKind) (h : ℕ) (o : Option ℕ) → IfSome o (Has g k) → holds (λ a. a == g k h) (option_map (g k) o) ≡ holds (λ a. a == h) o
+  same_handle : (k : ObjectKind) (h : ℕ) (o : Option ℕ) → IfSome o (HasOtherName g k) → holds (λ a. a == g k h) (option_map (g k) o) ≡ holds (λ a. a == h) o
   same_handle k h o i = grind (arith, nat_tests)
 
   pub same_member : (h : ℕ) → SameTest g (is_member (g kind.Group h)) (is_member h)
@@ -60,7 +60,7 @@ module _ (g : Renaming) (one : IsOneToOne g) where
   same_unended_in q t n = ap (λ (b : Bool). b && is_unended t) (same_in q t n)
 
   -- the task is the head of its queue
-  pub same_head : (q : ℕ) (t : Task) (l : List (Listed Task)) → HasEach g kind.Task (HasTask g) l
+  pub same_head : (q : ℕ) (t : Task) (l : List (Listed Task)) → HasEach g kind.Task (HasTaskNames g) l
       → is_head (g kind.Queue q) (renamed_task g t) (live_of (renamed_tasks g l)) ≡ is_head q t (live_of l)
   same_head q t l i = grind (arith, nat_tests, same_any, same_unended_in)
 
@@ -78,7 +78,7 @@ module _ (g : Renaming) (one : IsOneToOne g) where
   with_first b r rs q e n = cond b (ended e n (one_task r) ∷ end_each q e (n + 1) (renamed_tasks g rs)) (one_task r ∷ end_each q e n (renamed_tasks g rs))
 
   -- every live task that passes ends
-  pub end_each-renamed : (q m : Task → Bool) → SameTest g q m → (e : TaskEnd) (n : ℕ) (l : List (Listed Task)) → HasEach g kind.Task (HasTask g) l
+  pub end_each-renamed : (q m : Task → Bool) → SameTest g q m → (e : TaskEnd) (n : ℕ) (l : List (Listed Task)) → HasEach g kind.Task (HasTaskNames g) l
       → renamed_tasks g (end_each m e n l) ≡ end_each q e n (renamed_tasks g l)
   unfolding end_each inside
   end_each-renamed q m same e n [] v = refl
@@ -86,7 +86,7 @@ module _ (g : Renaming) (one : IsOneToOne g) where
       grind (arith, same r.fields v.0.1, end_each-renamed q m same e n rs v.1, end_each-renamed q m same e (n + 1) rs v.1)
 
   -- the members that have ended, in the order of their ends
-  pub endings-renamed : (h : ℕ) (l : List (Listed Task)) → HasEach g kind.Task (HasTask g) l
+  pub endings-renamed : (h : ℕ) (l : List (Listed Task)) → HasEach g kind.Task (HasTaskNames g) l
       → endings (g kind.Group h) (live_of (renamed_tasks g l)) ≡ renamed_endings g (endings h (live_of l))
   unfolding endings live_of inside
   endings-renamed h [] v = refl

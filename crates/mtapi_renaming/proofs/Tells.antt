@@ -1,5 +1,5 @@
 -- What an op that makes an object is refused for tells what it may answer; it is no handle, and leaves the state as it was.
-use Rattle.mtapi_renaming.proofs.Names.{nat_tests, ◌≡◌, ◌↔◌, ℕ, Bool, true, false, cond, [], ◌∷◌, Option, Some, None, refl, sym, ◌∙◌, ap, subst, arith, MatchBool, ObjectKind, Op, Reply, Ok, Handle, State, Objects, actions, tasks, Move, all_of, makes_action, starts_task, makes, is_fresh, Row, unless, after_row, Allows, says, handle_of, creates, row, full, made_kind, is_full_of, is_fresh_of, limit_of, CanBe, is_handle, makes_or_not, refusal_in, refusal_of, CanAnswer}
+use Rattle.mtapi_renaming.proofs.Names.{nat_tests, ◌≡◌, ◌↔◌, ℕ, Bool, true, false, cond, [], ◌∷◌, Option, Some, None, refl, sym, ◌∙◌, ap, subst, arith, MatchBool, ObjectKind, Op, Reply, Ok, Handle, State, Objects, actions, tasks, Move, all_of, makes_action, starts_task, makes, is_fresh, Row, unless, after_row, Allows, says, handle_of, creates, row, is_kind_full, made_kind, is_full_of, is_fresh_of, limit_of, CanBe, is_handle, makes_or_not, refusal_in, refusal_of, CanAnswer}
 use Rattle.mtapi_renaming.proofs.Rows.{is_plain}
 use Rattle.mtapi_renaming.proofs.Creates.{can_be, stays_in, creates_none, full_same, fresh_same, limit_same}
 use Rattle.mtapi_renaming.proofs.CreateRows.{HoldsInParts, create_row}
@@ -49,19 +49,20 @@ module _ {s : State} where
         stays = v.stays;
       }
 
-  creates_tells : {T : Type 0} {k : ObjectKind} (o : Objects T) (make : ℕ → Move) → is_full_of k s ≡ full o s → ((h : ℕ) → is_fresh_of k s h ≡ is_fresh o s h)
+  creates_tells : {T : Type 0} {k : ObjectKind} (o : Objects T) (make : ℕ → Move) → is_full_of k s ≡ is_kind_full o s
+      → ((h : ℕ) → is_fresh_of k s h ≡ is_fresh o s h)
       → limit_of k ≡ o.limit → Tells s k (λ r. creates o s r make)
   creates_tells {T} {k} o make e d l = record {
     asks = refl;
     why = None;
     is = creates_none o s make;
     tells = λ r.
-        let can : CanBe k s r ≡ MatchBool (full o s) (r ≡ o.limit) ((is_fresh o s (handle_of r) ≡ true) × (r ≡ Handle (handle_of r))) =
+        let can : CanBe k s r ≡ MatchBool (is_kind_full o s) (r ≡ o.limit) ((is_fresh o s (handle_of r) ≡ true) × (r ≡ Handle (handle_of r))) =
         λ i. MatchBool (e i) (r ≡ l i) ((d (handle_of r) i ≡ true) × (r ≡ Handle (handle_of r))) in
         subst (λ (A : Type 0). Allows (creates o s r make) r
-        ↔ A) (sym can) (can_be (full o s) (is_fresh o s (handle_of r)) o.limit r (make (handle_of r) ∷ []));
+        ↔ A) (sym can) (can_be (is_kind_full o s) (is_fresh o s (handle_of r)) o.limit r (make (handle_of r) ∷ []));
     plain = λ r e. absurd (cc);
-    stays = λ r. stays_in s (full o s) (is_fresh o s (handle_of r)) o.limit r (make (handle_of r) ∷ []);
+    stays = λ r. stays_in s (is_kind_full o s) (is_fresh o s (handle_of r)) o.limit r (make (handle_of r) ∷ []);
   }
 
   create_tells : (who : ℕ) (o : Op) (k : ObjectKind) → made_kind o ≡ Some k → Tells s k (λ r. row s who o r)

@@ -1,5 +1,5 @@
 -- A list is legal exactly where it has no first illegal entry.
-use Rattle.mtapi_renaming.proofs.Names.{◌≡◌, ℕ, suc, ◌+◌, ◌≤◌, ◌<◌, Bool, true, false, cond, List, [], ◌∷◌, length, take, Option, Some, None, refl, subst, arith, nat_lt, nat_le, Decides, nat_tests, is_pure, answer_of, Terms, Op, Finish, Reply, State, opening, seats, Row, unless, gives, never, Allows, NodeEntry, IsHonest, row_of, IsNext, next, LegalFrom, answer, is_honest, is_answer, may_come, first_illegal, IsJudged}
+use Rattle.mtapi_renaming.proofs.Names.{◌≡◌, ℕ, suc, ◌+◌, ◌≤◌, ◌<◌, Bool, true, false, cond, List, [], ◌∷◌, length, take, Option, Some, None, refl, subst, arith, nat_lt, nat_le, Decides, nat_tests, is_pure, answer_of, Terms, Op, Finish, Reply, State, opening, seats, Row, unless, gives, never, Allows, NodeEntry, IsHonest, row_of, IsNext, next, LegalFrom, answer_of_row, is_honest, is_answer, may_come, first_illegal, IsDecided}
 use Rattle.std.specs.Prelude.{option_map}
 use Rattle.mtapi_machine.specs.Legal.{Fits}
 use Rattle.mtapi_machine.proofs.Derived.{both_decide, decides_so}
@@ -21,7 +21,7 @@ honest_decides (Finish t d) =
     (act_decides d.end (answer_of d.kind d.args)))
 honest_decides o = (λ i. tt, λ i. refl)
 
-answer_decides : (w : Row) (r : Reply) → Decides (is_answer (answer w) r) (Allows w r)
+answer_decides : (w : Row) (r : Reply) → Decides (is_answer (answer_of_row w) r) (Allows w r)
 answer_decides (unless true x w) r = reply_decides r x
 answer_decides (unless false x w) r = answer_decides w r
 answer_decides (gives x ms) r = reply_decides r x
@@ -80,7 +80,7 @@ least s (e ∷ es) n i = by_test (λ m f. least (next s e) es m f) (may_come s e
     by_test more true d j = by_rest more (first_illegal (next s e) es) refl d j
     by_test more false d j = let k : 1 ≡ n = cc in subst (λ (x : ℕ). IsLeast s (e ∷ es) x) k (first_bad s e es d)
 
-pub judged : (terms : Terms) (L : List NodeEntry) → Fits terms → IsJudged terms L
+pub judged : (terms : Terms) (L : List NodeEntry) → Fits terms → IsDecided terms L
 judged terms L fits = record {
   legal = (λ l. legal_none (opening terms) L l.from, λ i. record { fits = fits; from = none_legal (opening terms) L i });
   illegal = λ n i. let l = least (opening terms) L n i in record {

@@ -1,5 +1,5 @@
 -- The rows by which workers take tasks and end them, and those of tallies, in the renamed state.
-use Rattle.mtapi_renaming.proofs.Names.{◌≡◌, ℕ, Bool, true, false, ◌&&◌, ◌||◌, List, Option, Some, None, inr, refl, sym, ◌∙◌, ap, subst, length, ◌==◌, not, nat_lt, is_some, ℤ, option_map, ObjectKind, MtapiStatus, TaskEnd, holds, live_of, live_object, first_handle, Action, is_eligible, Task, Notes, is_unstarted, is_unended, Adds, asked_once, with_tally, tally_has, Queue, lets, Mutex, locked_by, unlocked, Segment, with_attached, Reply, Picked, State, workers, is_past_open, is_stop, Queues, Mutexes, Segments, Row, is_ready, can_take, has_better, picks, on_tally, gives_up, takes_both, locks, gives_back, Renaming, Has, Room, renamed_task, renamed_notes, renamed, HasTask, NoHandle, Fits, renamed_answer, arith}
+use Rattle.mtapi_renaming.proofs.Names.{◌≡◌, ℕ, Bool, true, false, ◌&&◌, ◌||◌, List, Option, Some, None, inr, refl, sym, ◌∙◌, ap, subst, length, ◌==◌, not, nat_lt, is_some, ℤ, option_map, ObjectKind, MtapiStatus, TaskEnd, holds, live_of, live_object, first_handle, Action, is_eligible, Task, Notes, is_unstarted, is_unended, Adds, asked_once, with_tally, tally_has, Queue, lets, Mutex, locked_by, unlocked, Segment, with_attached, Reply, Picked, State, workers, is_past_open, is_stop, Queues, Mutexes, Segments, Row, is_ready, can_take, has_better, picks, on_tally, gives_up, takes_both, locks, gives_back, Renaming, HasOtherName, Room, renamed_task, renamed_notes, renamed, HasTaskNames, NoHandle, FitsState, renamed_answer, arith}
 use Rattle.mtapi_values.specs.declared.handles.ObjectKind.TheVariants as kind
 use Rattle.mtapi_renaming.proofs.Lists.{found-renamed, found-has, first-has}
 use Rattle.mtapi_renaming.proofs.Tasks.{SameTest, same_head}
@@ -15,7 +15,7 @@ asked_keeps g y v = grind (arith, v.group, v.tally)
 
 -- Picking
 
-module _ {g : Renaming} {s : State} (n : Fits g s) (x : Room) where
+module _ {g : Renaming} {s : State} (n : FitsState g s) (x : Room) where
   queue_lets : (t : Task) (o : Option ℕ) → holds (λ h. holds (lets h (renamed_task g t) (live_of (renamed g x s).tasks)) (live_object (renamed g x s).queues h))
       (option_map (g kind.Queue) o) ≡ holds (λ h. holds (lets h t (live_of s.tasks)) (live_object s.queues h)) o
   queue_lets t None = refl
@@ -39,7 +39,7 @@ module _ {g : Renaming} {s : State} (n : Fits g s) (x : Room) where
   unfolding has_better
   same_better w priority = task-any n x _ _ (λ t v. ap (λ (b : Bool). b && nat_lt t.priority priority) (same_take w t v))
 
-  same_may : (w : ℕ) (t : Task) (a : Action) → HasTask g t
+  same_may : (w : ℕ) (t : Task) (a : Action) → HasTaskNames g t
       → (is_ready (renamed g x s) (renamed_task g t) && is_eligible (workers (renamed g x s)) w (renamed_task g t).job (renamed_task g t).cores a
       && not (has_better (renamed g x s) w (renamed_task g t).priority))
       ≡ (is_ready s t && is_eligible (workers s) w t.job t.cores a && not (has_better s w t.priority))
@@ -50,8 +50,8 @@ module _ {g : Renaming} {s : State} (n : Fits g s) (x : Room) where
 
   pub picks_alike : (w : ℕ) (r : Reply) → Alike g x s None r (picks s w r) (picks (renamed g x s) w (renamed_answer g None r))
   picks_alike w (Picked t a k args) =
-      live_alike n (renamed_task g) _ _ (found-renamed g n.one kind.Task (renamed_task g) (HasTask g) t.0 s.tasks n.tasks) (never_alike n) (λ y d.
-      let has : Has g kind.Task t.0 × HasTask g y = found-has g kind.Task (HasTask g) t.0 y s.tasks n.tasks d in
+      live_alike n (renamed_task g) _ _ (found-renamed g n.one kind.Task (renamed_task g) (HasTaskNames g) t.0 s.tasks n.tasks) (never_alike n) (λ y d.
+      let has : HasOtherName g kind.Task t.0 × HasTaskNames g y = found-has g kind.Task (HasTaskNames g) t.0 y s.tasks n.tasks d in
       live_alike n (λ z. z) _ _ (found-renamed g n.one kind.Action (λ z. z) NoHandle a.0 s.actions n.actions) (never_alike n) (λ z e.
       only_alike n (same_may w y z has.1) (λ c. gives_renamed n (has.0, (found-has g kind.Action NoHandle a.0 z s.actions n.actions e).0)
       (one_move (runs_task-renames g x s n t.0 w z.kind)))))
@@ -59,8 +59,8 @@ module _ {g : Renaming} {s : State} (n : Fits g s) (x : Room) where
 
 -- Tallies
 
-module _ {g : Renaming} {x : Room} {s : State} (n : Fits g s) {k : Option ObjectKind} {r : Reply} where
-  pub on_tally_alike : (who h : ℕ) (v w : Task → Row) → ((y : Task) → HasTask g y → Alike g x s k r (v y) (w (renamed_task g y)))
+module _ {g : Renaming} {x : Room} {s : State} (n : FitsState g s) {k : Option ObjectKind} {r : Reply} where
+  pub on_tally_alike : (who h : ℕ) (v w : Task → Row) → ((y : Task) → HasTaskNames g y → Alike g x s k r (v y) (w (renamed_task g y)))
       → Alike g x s k r (on_tally s who h v) (on_tally (renamed g x s) who (g kind.Task h) w)
   on_tally_alike who h v w e = unless_alike n refl refl (on_task n h _ _ (λ y m. unless_alike n refl refl (e y m)))
 
@@ -69,7 +69,8 @@ module _ {g : Renaming} {x : Room} {s : State} (n : Fits g s) {k : Option Object
       (one_move (notes-renames g x s n h _ _ (λ y. refl)
       (λ y v. record { group = v.group; tally = record { mutex = v.tally.mutex; segment = v.tally.segment } })))
 
-  takes_both_alike : (who h cell : ℕ) (a b : Option ℕ) → ((i : ℕ) → a ≡ Some i → Has g kind.Mutex i) → ((i : ℕ) → b ≡ Some i → Has g kind.Shmem i) →
+  takes_both_alike : (who h cell : ℕ) (a b : Option ℕ) → ((i : ℕ) → a ≡ Some i → HasOtherName g kind.Mutex i)
+      → ((i : ℕ) → b ≡ Some i → HasOtherName g kind.Shmem i) →
       Alike g x s k r (takes_both s who h cell a b)
       (takes_both (renamed g x s) who (g kind.Task h) cell (option_map (g kind.Mutex) a) (option_map (g kind.Shmem) b))
   takes_both_alike who h cell (Some a) (Some b) v w =

@@ -41,12 +41,12 @@ is_live_of Rwl s h = is_some (live_object s.rwls h)
 is_live_of Shmem s h = is_some (live_object s.segments h)
 
 -- no further object can be made
-abbrev pub full : {T : Type 0} → Objects T → State → Bool
-full o s = is_full s.terms.settings.generations (o.max s.terms.settings) (o.list s)
+abbrev pub is_kind_full : {T : Type 0} → Objects T → State → Bool
+is_kind_full o s = is_full s.terms.settings.generations (o.max s.terms.settings) (o.list s)
 
 -- so for each kind
 abbrev pub is_full_of : ObjectKind → State → Bool
-is_full_of k s = full (objects_of k) s
+is_full_of k s = is_kind_full (objects_of k) s
 
 -- the handle may be given to a new object of the kind
 abbrev pub is_fresh_of : ObjectKind → State → ℕ → Bool

@@ -29,12 +29,12 @@ RoomIsKept = (terms : Terms) (L : List NodeEntry) (k : ObjectKind)
     → live_in k (after terms L) + gone_of k (after terms L) (lasts_of k (after terms L)) ≤ most_of k (after terms L)
 
 -- the list with this handle behind, where it is of the last generation
-abbrev pub with_last : ℕ → ℕ → List ℕ → List ℕ
-with_last last h hs = if generation_of h == last then hs ++ h ∷ [] else hs
+abbrev pub with_last_handle : ℕ → ℕ → List ℕ → List ℕ
+with_last_handle last h hs = if generation_of h == last then hs ++ h ∷ [] else hs
 
 -- a new object's handle stands behind those of its kind, and no other kind's change
 pub record MakesLast (s t : State) (k : ObjectKind) (h : ℕ) : Type 0 where
-  pub one : lasts_of k t ≡ with_last s.terms.settings.generations h (lasts_of k s)
+  pub one : lasts_of k t ≡ with_last_handle s.terms.settings.generations h (lasts_of k s)
   pub others : (i : ObjectKind) → (i ≡ k → ⊥) → lasts_of i t ≡ lasts_of i s
 
 abbrev pub CreatesMakeLast : Type 0

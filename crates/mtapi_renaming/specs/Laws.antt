@@ -1,7 +1,7 @@
 -- Two nodes that differ in their handles and in their limits alone, step by step.
 use Rattle.std.specs.Prelude.{◌≡◌, ◌↔◌, ℕ, true, false, None, Some}
 use Rattle.mtapi_renaming.specs.Names.{ObjectKind, Terms, Op, Reply, Handle, State, opening, Row, Allows, after_row, row}
-use Rattle.mtapi_renaming.specs.Renaming.{Renaming, nothing, with_pair}
+use Rattle.mtapi_renaming.specs.Renaming.{Renaming, renames_nothing, with_pair}
 use Rattle.mtapi_renaming.specs.Renamed.{Room, terms_in, renamed}
 use Rattle.mtapi_renaming.specs.Follows.{Follows}
 use Rattle.mtapi_renaming.specs.Ops.{renamed_op, renamed_reply}
@@ -61,8 +61,8 @@ LivesAlike = (g : Renaming) (x : Room) (s : State) (k : ObjectKind) → Follows 
 
 -- a node starts so
 pub record StartRenames (x : Room) (terms : Terms) : Type 0 where
-  pub follows : Follows nothing (opening terms)
-  pub renamed : renamed nothing x (opening terms) ≡ opening (terms_in x terms)
+  pub follows : Follows renames_nothing (opening terms)
+  pub renamed : renamed renames_nothing x (opening terms) ≡ opening (terms_in x terms)
 
 abbrev pub StartsRename : Type 0
 StartsRename = (x : Room) (terms : Terms) → StartRenames x terms

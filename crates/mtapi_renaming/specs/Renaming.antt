@@ -12,12 +12,12 @@ abbrev pub Renaming : Type 0
 Renaming = ObjectKind → ℕ → ℕ
 
 -- no handle has another one
-abbrev pub nothing : Renaming
-nothing k h = 0
+abbrev pub renames_nothing : Renaming
+renames_nothing k h = 0
 
 -- the handle has another one
-abbrev pub Has : Renaming → ObjectKind → ℕ → Type 0
-Has g k h = 1 ≤ g k h
+abbrev pub HasOtherName : Renaming → ObjectKind → ℕ → Type 0
+HasOtherName g k h = 1 ≤ g k h
 
 -- and this handle of this kind has this other one
 abbrev pub with_pair : ObjectKind → ℕ → ℕ → Renaming → Renaming
@@ -25,4 +25,4 @@ with_pair k h other g = λ j a. if (object_number j == object_number k) && (a ==
 
 -- no two handles of a kind have the same other one
 abbrev pub IsOneToOne : Renaming → Type 0
-IsOneToOne g = (k : ObjectKind) (a b : ℕ) → Has g k a → g k a ≡ g k b → a ≡ b
+IsOneToOne g = (k : ObjectKind) (a b : ℕ) → HasOtherName g k a → g k a ≡ g k b → a ≡ b

@@ -9,7 +9,7 @@ use Rattle.mtapi_renaming.specs.Names.{Completed, Cancelled, Failed, Done, Fails
 use Rattle.action_fn.specs.declared.finished.ActEnd.{ActEnd}
 use Rattle.action_fn.specs.Answers.{is_pure, answer_of}
 use Rattle.mtapi_machine.specs.declared.replies.Reply.TheVariants.{Asked}
-use Rattle.mtapi_machine.specs.Replay.{answer}
+use Rattle.mtapi_machine.specs.Replay.{answer_of_row}
 
 -- two ends of a task are the same
 abbrev pub same_end : TaskEnd → TaskEnd → Bool
@@ -52,7 +52,7 @@ is_answer (Some x) r = same_reply r x
 
 -- the entry may come next
 abbrev pub may_come : State → NodeEntry → Bool
-may_come s e = nat_lt e.who (seats s) && is_honest e.op && is_answer (answer (row_of s e)) e.reply
+may_come s e = nat_lt e.who (seats s) && is_honest e.op && is_answer (answer_of_row (row_of s e)) e.reply
 
 -- the number of the first entry that may not come next in its turn, from 1
 unfoldable pub first_illegal : State → List NodeEntry → Option ℕ
@@ -67,9 +67,9 @@ pub record IsLeastIllegal (terms : Terms) (L : List NodeEntry) (n : ℕ) : Type 
   pub illegal : Legal terms (take n L) → ⊥
 
 -- a list is legal exactly where it has no such entry, and else the entry is the least of this kind
-pub record IsJudged (terms : Terms) (L : List NodeEntry) : Type 0 where
+pub record IsDecided (terms : Terms) (L : List NodeEntry) : Type 0 where
   pub legal : Legal terms L ↔ (first_illegal (opening terms) L ≡ None)
   pub illegal : (n : ℕ) → first_illegal (opening terms) L ≡ Some n → IsLeastIllegal terms L n
 
 abbrev pub ListsAreJudged : Type 0
-ListsAreJudged = (terms : Terms) (L : List NodeEntry) → Fits terms → IsJudged terms L
+ListsAreJudged = (terms : Terms) (L : List NodeEntry) → Fits terms → IsDecided terms L

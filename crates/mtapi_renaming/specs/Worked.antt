@@ -11,7 +11,7 @@ use Rattle.history.specs.Histories.{entry}
 use Rattle.mtapi_machine.specs.declared.ops.Op.TheVariants as op
 use Rattle.mtapi_machine.specs.declared.replies.Reply.TheVariants as reply
 use Rattle.mtapi_machine.specs.Tables.{node_of, small, h1, h2, h3, again1, action, task, mutex, action_of, start, put_in, look, finish}
-use Rattle.mtapi_renaming.specs.Renaming.{Renaming, nothing, with_pair}
+use Rattle.mtapi_renaming.specs.Renaming.{Renaming, renames_nothing, with_pair}
 use Rattle.mtapi_renaming.specs.Renamed.{Room, terms_in, renamed}
 use Rattle.mtapi_renaming.specs.Kinds.{live_in, is_full_of}
 use Rattle.mtapi_renaming.specs.Refusals.{refusal_of}
@@ -19,14 +19,14 @@ use Rattle.mtapi_renaming.specs.Lasts.{lasts_of, gone_of}
 use Rattle.mtapi_renaming.specs.Verdicts.{first_illegal}
 
 -- the run of an empty workload: main is seat 1, the worker is seat 0
-abbrev pub opened : List NodeEntry
-opened = entry 1 op.Initialize reply.Ok ∷ entry 1 op.Release reply.Ok ∷ entry 1 op.Close reply.Ok ∷ []
+abbrev pub opened_run : List NodeEntry
+opened_run = entry 1 op.Initialize reply.Ok ∷ entry 1 op.Release reply.Ok ∷ entry 1 op.Close reply.Ok ∷ []
 
 abbrev pub stopped : List NodeEntry
 stopped = entry 0 op.Pick reply.Stop ∷ []
 
-abbrev pub closed : List NodeEntry
-closed = entry 1 op.Final reply.Ok ∷ []
+abbrev pub closed_run : List NodeEntry
+closed_run = entry 1 op.Final reply.Ok ∷ []
 
 -- a node of layout two with room for two tasks, in which a task is executed and its place is used again
 abbrev pub own_terms : Terms
@@ -59,17 +59,17 @@ roomy = record { layout = One; tasks = 65536; actions = 1024; groups = 1024; que
 
 -- it gives each of these objects another place
 abbrev pub pairs : Renaming
-pairs = with_pair kind.Task t1_again h1 (with_pair kind.Task t1 h3 (with_pair kind.Action a1 h2 nothing))
+pairs = with_pair kind.Task t1_again h1 (with_pair kind.Task t1 h3 (with_pair kind.Action a1 h2 renames_nothing))
 
 -- where these lists aren't legal any more
 pub record WorkedVerdicts : Type 0 where
-  pub whole : first_illegal (opening small) (opened ++ stopped ++ closed) ≡ None
+  pub whole : first_illegal (opening small) (opened_run ++ stopped ++ closed_run) ≡ None
   -- the worker hasn't stopped
-  pub unstopped : first_illegal (opening small) (opened ++ closed) ≡ Some 4
+  pub unstopped : first_illegal (opening small) (opened_run ++ closed_run) ≡ Some 4
   -- there is no such seat
   pub no_seat : first_illegal (opening small) (entry 3 op.Initialize reply.Ok ∷ []) ≡ Some 1
   -- another reply than the machine's
-  pub refused : first_illegal (opening small) (opened ++ entry 1 op.GroupCreate (reply.Mtapi status.ErrParameter) ∷ []) ≡ Some 4
+  pub refused : first_illegal (opening small) (opened_run ++ entry 1 op.GroupCreate (reply.Mtapi status.ErrParameter) ∷ []) ≡ Some 4
   -- a handle that was never issued, one of another kind, and one that was issued before
   pub never_issued : first_illegal (opening own_terms) (executed a1 h1 t1_again) ≡ Some 3
   pub of_another_kind : first_illegal (opening own_terms) (executed t1 t1 t1_again) ≡ Some 2
@@ -97,24 +97,24 @@ mutex_of id = op.MutexCreate id false
 abbrev pub one_mutex : Terms
 one_mutex = node_of 1 2 1
 
-abbrev pub taken : List NodeEntry
-taken = entry 1 op.Initialize reply.Ok ∷ entry 1 (mutex_of 7) (reply.Handle h1) ∷ []
+abbrev pub taken_run : List NodeEntry
+taken_run = entry 1 op.Initialize reply.Ok ∷ entry 1 (mutex_of 7) (reply.Handle h1) ∷ []
 
 -- what a create is refused for where its kind has no room
 pub record WorkedRefusals : Type 0 where
   -- the node isn't open
   pub unopened : refusal_of (opening one_mutex) 1 (mutex_of 7) ≡ Some (reply.Mrapi cause.ErrNodeNotinit)
   -- there is no room, and yet the id is told of; a worker may not ask at all; and with another id nothing is told before the limit
-  pub full : is_full_of kind.Mutex (after one_mutex taken) ≡ true
-  pub exists : refusal_of (after one_mutex taken) 1 (mutex_of 7) ≡ Some (reply.Mrapi cause.ErrMutexExists)
-  pub worker : refusal_of (after one_mutex taken) 0 (mutex_of 7) ≡ Some (reply.Mrapi cause.ErrParameter)
-  pub unrefused : refusal_of (after one_mutex taken) 1 (mutex_of 8) ≡ None
+  pub full : is_full_of kind.Mutex (after one_mutex taken_run) ≡ true
+  pub exists : refusal_of (after one_mutex taken_run) 1 (mutex_of 7) ≡ Some (reply.Mrapi cause.ErrMutexExists)
+  pub worker : refusal_of (after one_mutex taken_run) 0 (mutex_of 7) ≡ Some (reply.Mrapi cause.ErrParameter)
+  pub unrefused : refusal_of (after one_mutex taken_run) 1 (mutex_of 8) ≡ None
   -- there is no such queue; a refusal that stands behind no limit
-  pub absent : refusal_of (after one_mutex taken) 1 (put_in h1 []) ≡ Some (reply.Mtapi status.ErrQueueInvalid)
+  pub absent : refusal_of (after one_mutex taken_run) 1 (put_in h1 []) ≡ Some (reply.Mtapi status.ErrQueueInvalid)
   -- so it is in histories
-  pub exists_told : first_illegal (opening one_mutex) (taken ++ entry 1 (mutex_of 7) (reply.Mrapi cause.ErrMutexExists) ∷ []) ≡ None
-  pub exists_first : first_illegal (opening one_mutex) (taken ++ entry 1 (mutex_of 7) (reply.Mrapi cause.ErrMutexLimit) ∷ []) ≡ Some 3
-  pub limit_told : first_illegal (opening one_mutex) (taken ++ entry 1 (mutex_of 8) (reply.Mrapi cause.ErrMutexLimit) ∷ []) ≡ None
+  pub exists_told : first_illegal (opening one_mutex) (taken_run ++ entry 1 (mutex_of 7) (reply.Mrapi cause.ErrMutexExists) ∷ []) ≡ None
+  pub exists_first : first_illegal (opening one_mutex) (taken_run ++ entry 1 (mutex_of 7) (reply.Mrapi cause.ErrMutexLimit) ∷ []) ≡ Some 3
+  pub limit_told : first_illegal (opening one_mutex) (taken_run ++ entry 1 (mutex_of 8) (reply.Mrapi cause.ErrMutexLimit) ∷ []) ≡ None
 
 -- a node with room for two mutexes, each of whose places is used so often
 abbrev pub used_often : ℕ → Terms

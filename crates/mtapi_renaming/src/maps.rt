@@ -4,7 +4,7 @@ ghost use Rattle.std.specs.Prelude.{◌≡◌, ℕ, OnOk, OnErr, IfOk, Some, ◌
 ghost use Rattle.std.specs.Ordering.{nat_cmp};
 ghost use Rattle.std.specs.BTreeMap.{get};
 ghost use Rattle.mtapi_renaming.specs.Renaming.{or_zero};
-ghost use Rattle.mtapi_renaming.specs.Renaming.{nothing, with_pair};
+ghost use Rattle.mtapi_renaming.specs.Renaming.{renames_nothing, with_pair};
 ghost use Rattle.mtapi_renaming.specs.Maps.{renaming_of};
 
 use crate::ops::Rename;
@@ -48,7 +48,7 @@ fn beside(map: &BTreeMap<u64, u64>, handle: u64) -> u64
 impl OtherHandles {
     /// No handle has another one.
     pub fn new(alloc: Global) -> OtherHandles
-        ensures { renaming_of result ≡ nothing }
+        ensures { renaming_of result ≡ renames_nothing }
     {
         OtherHandles {
             actions: BTreeMap::new(alloc),

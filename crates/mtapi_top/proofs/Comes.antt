@@ -1,7 +1,7 @@
 -- How the command comes to each of its ends.
-use Rattle.mtapi_top.proofs.Names.{◌≡◌, ◌≤◌, ◌⊎◌, ℕ, true, false, List, Option, Some, None, Err, arith, refl, sym, ap, subst, inl, inr, IfSome, Appends, AppendsFront, IsAtEnd, TakesAtMost, ReadsClean, Workload, WellFormed, Journal, IsRun, Asked, InRange, End, reads, judges, output, IsLoadOf, IsReadAgain, Ran, Outside, Ends, HasRead, status_of, Checks, IsPastReading, IsReadFor, StartsNothing}
+use Rattle.mtapi_top.proofs.Names.{◌≡◌, ◌≤◌, ◌⊎◌, ℕ, true, false, List, Option, Some, None, Err, arith, refl, sym, ap, subst, inl, inr, IfSome, Appends, AppendsFront, IsAtEnd, TakesAtMost, ReadsClean, Workload, WellFormed, Journal, IsRun, Asked, InRange, End, reads_workload, judges, output, IsLoadOf, IsReadAgain, RanWorkload, Outside, Ends, HasRead, status_of, Checks, IsPastReading, IsReadFor, StartsNothing}
 use Rattle.std.specs.Prelude.{IsErrOf}
-use Rattle.journal_text.specs.Journals.{ReadsClean as ReadsInput}
+use Rattle.journal_text.specs.Journals.{ReadsJournalClean as ReadsInput}
 use Rattle.workload_file.specs.declared.faults.LoadError.{LoadError}
 use Rattle.workload_file.specs.declared.faults.LoadError.TheVariants as errors
 use Rattle.workload_file.specs.Loading.{HoldsBut}
@@ -10,8 +10,8 @@ use Rattle.workload_runners.specs.declared.run.NoRun.TheVariants as reason
 use Rattle.workload_runners.specs.Reasons.{HasReason}
 use Rattle.mtapi_top.specs.declared.words.Asked.TheVariants as asks
 use Rattle.mtapi_top.specs.declared.ends.End.TheVariants as end
-use Rattle.mtapi_top.specs.Command.{HasNone, journal_of}
-use Rattle.mtapi_top.specs.PartEnds.{ComesTo, WritesOutput, without_load, without_run}
+use Rattle.mtapi_top.specs.Command.{journal_in_end}
+use Rattle.mtapi_top.specs.PartEnds.{ComesTo, HasNoWorkload, WritesOutput, without_load, without_run}
 use Rattle.mtapi_top.proofs.Ended.{judges_one, not_both, not_six, starts_early}
 
 -- Words that ask for nothing.
@@ -37,7 +37,7 @@ usage_comes words s a n = record {
     none None e j = cc
     none (Some x) e j = cc
 
-    none_read : (w : Option Asked) → w ≡ None → reads w ≡ true → ⊥
+    none_read : (w : Option Asked) → w ≡ None → reads_workload w ≡ true → ⊥
     none_read None e j = cc
     none_read (Some x) e j = cc
 
@@ -68,10 +68,10 @@ check_comes words old new r r' w w' t held held' e is h clean taken faultless la
 module _ (asked : Asked) (old new : Option (List ℕ)) (j : judges (Some asked) ≡ false) (g : InRange asked) where
   -- There is no workload.
   pub without_load_comes : (error : LoadError) (r r' w t : ℕ) (held : Option (List ℕ))
-      → HasNone (Some asked) old r r' error
-      → (reads (Some asked) ≡ true → HoldsBut (ReadsClean r r' old new) (Err error))
-      → (reads (Some asked) ≡ false → (new ≡ old) × (r' ≡ r))
-      → (reads (Some asked) ≡ true → TakesAtMost 1048577 old new)
+      → HasNoWorkload (Some asked) old r r' error
+      → (reads_workload (Some asked) ≡ true → HoldsBut (ReadsClean r r' old new) (Err error))
+      → (reads_workload (Some asked) ≡ false → (new ≡ old) × (r' ≡ r))
+      → (reads_workload (Some asked) ≡ true → TakesAtMost 1048577 old new)
       → ((IsErrOf {T = Workload} (Err error) errors.Read → ⊥) → r' ≡ r)
       → r ≤ r'
       → ComesTo (Some asked) old new (record { reads = r; writes = w; threads = t; held = held }) (record { reads = r'; writes = w; threads = t; held = held })
@@ -93,7 +93,7 @@ module _ (asked : Asked) (old new : Option (List ℕ)) (j : judges (Some asked) 
     later = (later, omega arith);
   }
     where
-      ends : (e : LoadError) → HasNone (Some asked) old r r' e
+      ends : (e : LoadError) → HasNoWorkload (Some asked) old r r' e
           → Ends (Some asked) old (record { reads = r; writes = w; threads = t; held = held }) (record { reads = r'; writes = w; threads = t; held = held })
           (without_load e)
       ends errors.Memory h = (refl, refl)
@@ -107,7 +107,7 @@ module _ (asked : Asked) (old new : Option (List ℕ)) (j : judges (Some asked) 
       cleanly errors.TooLong past h = h
       cleanly (errors.Refused line cause) past h = h
 
-      whole_at : (e : LoadError) → reads (Some asked) ≡ true → IfSome (journal_of (without_load e)) (λ x. IfSome old (λ bytes. IsAtEnd new))
+      whole_at : (e : LoadError) → reads_workload (Some asked) ≡ true → IfSome (journal_in_end (without_load e)) (λ x. IfSome old (λ bytes. IsAtEnd new))
       whole_at errors.Memory x = tt
       whole_at errors.Read x = tt
       whole_at errors.TooLong x = tt
@@ -121,8 +121,8 @@ module _ (asked : Asked) (old new : Option (List ℕ)) (j : judges (Some asked) 
 
   -- A workload was read or made.
   module _ (load : Workload) (r r' : ℕ) (is : HasRead (Some asked) old)
-      (clean : reads (Some asked) ≡ true → ReadsClean r r' old new) (whole : reads (Some asked) ≡ true → IfSome old (λ bytes. IsAtEnd new))
-      (unread : reads (Some asked) ≡ false → (new ≡ old) × (r' ≡ r)) (taken : reads (Some asked) ≡ true
+      (clean : reads_workload (Some asked) ≡ true → ReadsClean r r' old new) (whole : reads_workload (Some asked) ≡ true → IfSome old (λ bytes. IsAtEnd new))
+      (unread : reads_workload (Some asked) ≡ false → (new ≡ old) × (r' ≡ r)) (taken : reads_workload (Some asked) ≡ true
       → TakesAtMost 1048577 old new) (faultless : r' ≡ r) (later : r ≤ r') where
     read_for : (n : ℕ) (x : Option Journal) → IsReadFor (Some asked) old new r r' n x
     read_for n x = record {
@@ -176,16 +176,16 @@ module _ (asked : Asked) (old new : Option (List ℕ)) (j : judges (Some asked) 
       later = (later, more);
     }
       where
-        ran : (P : List ℕ → Type 0) → P text → Ran (Some asked) old journal P
+        ran : (P : List ℕ → Type 0) → P text → RanWorkload (Some asked) old journal P
         ran P h = record { asked = asked; asks = refl; load = load; is = loads; is_run = run; again = again; written = subst P same h }
 
         ends : (e : End) → WritesOutput w w' held held' text journal e
             → Ends (Some asked) old (record { reads = r; writes = w; threads = t; held = held })
             (record { reads = r'; writes = w'; threads = t'; held = held' }) e
-        ends (end.Done x) h = subst (λ (y : Journal). Ran (Some asked) old y (Appends held held')) (sym h.0) (ran (Appends held held') h.1)
+        ends (end.Done x) h = subst (λ (y : Journal). RanWorkload (Some asked) old y (Appends held held')) (sym h.0) (ran (Appends held held') h.1)
         ends (end.WriteFault x) h = (
           h.1,
-          subst (λ (y : Journal). Ran (Some asked) old y (AppendsFront held held')) (sym h.0)
+          subst (λ (y : Journal). RanWorkload (Some asked) old y (AppendsFront held held')) (sym h.0)
               (ran (AppendsFront held held') h.2),
         )
         ends _ h = absurd h

@@ -1,13 +1,13 @@
 -- Which words exclude one another, and what the ends of a run have in common.
-use Rattle.mtapi_top.proofs.Names.{◌≡◌, ◌≤◌, ℕ, arith, true, false, List, Option, Some, None, refl, sym, ◌∙◌, inl, inr, is_some, Asked, End, reads, judges, Outside, Ends, status_of, has_line, Channels, Checks, StartsNothing}
+use Rattle.mtapi_top.proofs.Names.{◌≡◌, ◌≤◌, ℕ, arith, true, false, List, Option, Some, None, refl, sym, ◌∙◌, inl, inr, is_some, Asked, End, reads_workload, judges, Outside, Ends, status_of, has_line, Channels, Checks, StartsNothing}
 use Rattle.mtapi_top.specs.declared.words.Asked.TheVariants as asks
 use Rattle.mtapi_top.specs.declared.ends.End.TheVariants as end
 
-pub is_asked : (words : Option Asked) → reads words ≡ true → is_some words ≡ true
+pub is_asked : (words : Option Asked) → reads_workload words ≡ true → is_some words ≡ true
 is_asked None r = absurd (cc)
 is_asked (Some asked) r = refl
 
-pub not_both : (words : Option Asked) → reads words ≡ true → judges words ≡ true → ⊥
+pub not_both : (words : Option Asked) → reads_workload words ≡ true → judges words ≡ true → ⊥
 not_both (Some asks.Check) r j = cc
 not_both _ r j = cc
 

@@ -1,5 +1,5 @@
 -- The generated workload is settled.
-use Rattle.mtapi_top.proofs.Names.{◌≡◌, ℕ, zero, suc, pos, ◌+◌, ◌%◌, ◌≤◌, ◌<◌, Bool, true, false, cond, List, [], ◌∷◌, ◌++◌, Some, None, length, refl, ap, ◌∙◌, arith, ◌==◌, ◌&&◌, ◌||◌, not, nat_lt, nat_le, is_some, ◌+ℤ◌, ◌*◌, ◌/◌, option_and_then, list_any, flat_map, action_in, actions_in, queue_in, task_in, plain_end, plain_fault, serves, is_settled_deed, are_settled, has_one_kind_a_job, has_new_id, has_different_ids, has_room, puts_into, keep_limits, both, fault_in, have_one_fault_a_group, makes_action, makes_group, makes_task, is_settled, all_cores, first_statements, start, task_deed, task_statement, tasks, last_statement, generated_settings, generated, GeneratedIsSettled}
+use Rattle.mtapi_top.proofs.Names.{◌≡◌, ℕ, zero, suc, pos, ◌+◌, ◌%◌, ◌≤◌, ◌<◌, Bool, true, false, cond, List, [], ◌∷◌, ◌++◌, Some, None, length, refl, ap, ◌∙◌, arith, ◌==◌, ◌&&◌, ◌||◌, not, nat_lt, nat_le, is_some, ◌+ℤ◌, ◌*◌, ◌/◌, option_and_then, list_any, flat_map, action_in, actions_in, queue_in, task_in, plain_end, plain_fault, serves, is_settled_deed, are_settled, has_one_kind_a_job, has_new_id, has_different_ids, has_room, deed_puts_into, keep_limits, both, fault_in, have_one_fault_a_group, is_action_deed, makes_group, makes_task, is_settled, all_cores, first_statements, start_deed, task_deed, task_statement, generated_tasks, last_statement, generated_settings, generated, GeneratedIsSettled}
 use Rattle.std.proofs.lemmas.Bool.Decides.{nat_tests}
 use Rattle.std.proofs.lemmas.List.{append-nil}
 use Rattle.mtapi_values.specs.Attributes.{NodeSettings}
@@ -17,8 +17,8 @@ use Rattle.settled_runs.proofs.Granted.{below_found}
 -- What a task's statement asks for
 
 data IsTask : Deed → Type 0 where
-  adds : (i : ℕ) → i < 19000 → IsTask (start 1 (pos i ∷ pos 7 ∷ []))
-  triangles : (k : ℕ) → k < 64 → IsTask (start 2 (pos k ∷ []))
+  adds : (i : ℕ) → i < 19000 → IsTask (start_deed 1 (pos i ∷ pos 7 ∷ []))
+  triangles : (k : ℕ) → k < 64 → IsTask (start_deed 2 (pos k ∷ []))
 
 abbrev AreTasks : List Statement → Type 0
 AreTasks [] = Unit {0}
@@ -27,7 +27,7 @@ AreTasks (s ∷ ss) = IsTask s.deed × AreTasks ss
 deed_is : (i : ℕ) → i < 19000 → IsTask (task_deed i)
 deed_is i l = by_half (i % 2 == 0)
   where
-    by_half : (b : Bool) → IsTask (cond b (start 1 (pos i ∷ pos 7 ∷ [])) (start 2 (pos (i % 64) ∷ [])))
+    by_half : (b : Bool) → IsTask (cond b (start_deed 1 (pos i ∷ pos 7 ∷ [])) (start_deed 2 (pos (i % 64) ∷ [])))
     by_half true = adds i l
     by_half false = triangles (i % 64) (omega arith)
 
@@ -35,20 +35,21 @@ more : (ss : List Statement) (s : Statement) → AreTasks ss → IsTask s.deed �
 more [] s a t = (t, tt)
 more (x ∷ ss) s a t = (a.0, more ss s a.1 t)
 
-tasks_are : (n : ℕ) → n ≤ 19000 → AreTasks (tasks n)
-unfolding tasks
+tasks_are : (n : ℕ) → n ≤ 19000 → AreTasks (generated_tasks n)
+unfolding generated_tasks
 tasks_are zero l = tt
-tasks_are (suc n) l = more (tasks n) (task_statement n) (tasks_are n (omega arith)) (deed_is n (omega arith))
+tasks_are (suc n) l = more (generated_tasks n) (task_statement n) (tasks_are n (omega arith)) (deed_is n (omega arith))
 
 length_more : (ss : List Statement) (s : Statement) → length (ss ++ s ∷ []) ≡ length ss + 1
 length_more [] s = refl
 length_more (x ∷ ss) s = let k : length (ss ++ s ∷ []) ≡ length ss + 1 = length_more ss s in omega arith
 
-tasks_length : (n : ℕ) → length (tasks n) ≡ n
-unfolding tasks
+tasks_length : (n : ℕ) → length (generated_tasks n) ≡ n
+unfolding generated_tasks
 tasks_length zero = refl
-tasks_length (suc n) = let k : length (tasks n) ≡ n = tasks_length n in let e : length (tasks n ++ task_statement n ∷ []) ≡ length (tasks n) + 1 =
-    length_more (tasks n) (task_statement n) in omega arith
+tasks_length (suc n) = let k : length (generated_tasks n) ≡ n = tasks_length n in
+    let e : length (generated_tasks n ++ task_statement n ∷ []) ≡ length (generated_tasks n) + 1 =
+    length_more (generated_tasks n) (task_statement n) in omega arith
 
 -- The two actions
 
@@ -123,7 +124,7 @@ limits all place [] m a = refl
 limits all place (s ∷ ss) m a = by_deed s.deed a.0 (limits all (place + 1) ss m a.1)
   where
     by_deed : (d : Deed) → IsTask d → keep_limits all (place + 1) (ss ++ last_statement m ∷ []) ≡ true
-        → (not (holds (λ q. nat_lt q.limit (how_many (λ e. puts_into place e.deed) all)) (queue_in d))
+        → (not (holds (λ q. nat_lt q.limit (how_many (λ e. deed_puts_into place e.deed) all)) (queue_in d))
         && keep_limits all (place + 1) (ss ++ last_statement m ∷ [])) ≡ true
     by_deed _ (adds i l) e = e
     by_deed _ (triangles k l) e = e
@@ -144,7 +145,8 @@ counts p b f g (s ∷ ss) m a = by_bit b (f s.deed a.0) (counts p b f g ss m a.1
     by_bit true e k = let d : cond {A = ℕ} (p s.deed) 1 0 ≡ 1 = ap (λ (z : Bool). cond {A = ℕ} z 1 0) e in omega arith
     by_bit false e k = let d : cond {A = ℕ} (p s.deed) 1 0 ≡ 0 = ap (λ (z : Bool). cond {A = ℕ} z 1 0) e in omega arith
 
-none_of : (p : Deed → Bool) → ((i : ℕ) → p (start 1 (pos i ∷ pos 7 ∷ [])) ≡ false) → ((k : ℕ) → p (start 2 (pos k ∷ [])) ≡ false) → (d : Deed) → IsTask d
+none_of : (p : Deed → Bool) → ((i : ℕ) → p (start_deed 1 (pos i ∷ pos 7 ∷ [])) ≡ false) → ((k : ℕ) → p (start_deed 2 (pos k ∷ [])) ≡ false) → (d : Deed)
+    → IsTask d
     → p d ≡ false
 none_of p f g _ (adds i l) = f i
 none_of p f g _ (triangles k l) = g k
@@ -198,17 +200,17 @@ no_more_actions (s ∷ ss) m a = by_deed s.deed a.0 (no_more_actions ss m a.1)
 
 module _ (n w : ℕ) (some : 1 ≤ w) (few : n ≤ 19000) where
   abbrev all : List Statement
-  all = first_statements ++ (tasks n ++ last_statement n ∷ [])
+  all = first_statements ++ (generated_tasks n ++ last_statement n ∷ [])
 
-  are : AreTasks (tasks n)
+  are : AreTasks (generated_tasks n)
   are = tasks_are n few
 
   acts : actions_in all ≡ two
-  acts = ap (λ xs. new_action 1 kind.Add all_cores.0 ∷ new_action 2 kind.Triangle all_cores.0 ∷ xs) (no_more_actions (tasks n) n are)
+  acts = ap (λ xs. new_action 1 kind.Add all_cores.0 ∷ new_action 2 kind.Triangle all_cores.0 ∷ xs) (no_more_actions (generated_tasks n) n are)
 
   parts_are : are_settled (generated_settings n w) [] all [] all ≡ true
   unfolding are_settled is_settled_deed
-  parts_are = all_settled n w some all first_statements (tasks n) n refl are
+  parts_are = all_settled n w some all first_statements (generated_tasks n) n refl are
 
   kinds_are : has_one_kind_a_job two ≡ true
   unfolding has_one_kind_a_job
@@ -216,31 +218,33 @@ module _ (n w : ℕ) (some : 1 ≤ w) (few : n ≤ 19000) where
 
   ids_are : has_different_ids all ≡ true
   unfolding has_different_ids
-  ids_are = ids (tasks n) n are
+  ids_are = ids (generated_tasks n) n are
 
   limits_are : keep_limits all 0 all ≡ true
   unfolding keep_limits
-  limits_are = limits all 3 (tasks n) n are
+  limits_are = limits all 3 (generated_tasks n) n are
 
   faults_are : have_one_fault_a_group (flat_map (λ s. fault_in two (task_in all s.deed)) all) ≡ true
   unfolding have_one_fault_a_group task_in
-  faults_are = ap have_one_fault_a_group (no_faults all (tasks n) n are)
+  faults_are = ap have_one_fault_a_group (no_faults all (generated_tasks n) n are)
 
   room_is : has_room (generated_settings n w) all ≡ true
   room_is =
-      let a : how_many (λ s. makes_action s.deed) (tasks n ++ last_statement n ∷ []) ≡ 0 =
-      counts makes_action false (none_of makes_action (λ i. refl) (λ k. refl)) (λ m. refl) (tasks n) n are in
-      let b : how_many (λ s. makes_group s.deed) (tasks n ++ last_statement n ∷ []) ≡ 0 =
-      counts makes_group false (none_of makes_group (λ i. refl) (λ k. refl)) (λ m. refl) (tasks n) n are in
-      let c : how_many (λ s. is_some (queue_in s.deed)) (tasks n ++ last_statement n ∷ []) ≡ 0 =
-      counts (λ d. is_some (queue_in d)) false (none_of (λ d. is_some (queue_in d)) (λ i. refl) (λ k. refl)) (λ m. refl) (tasks n) n are in
-      let d : how_many (λ s. makes_task s.deed) (tasks n ++ last_statement n ∷ []) ≡ length (tasks n) =
-      counts makes_task true each_of (λ m. refl) (tasks n) n are in
-      let e : length (tasks n) ≡ n = tasks_length n in
-      let x : nat_le (1 + (1 + (0 + how_many (λ s. makes_action s.deed) (tasks n ++ last_statement n ∷ [])))) 64 ≡ true = grind (arith, nat_tests) in
-      let y : nat_le (0 + (0 + (1 + how_many (λ s. makes_group s.deed) (tasks n ++ last_statement n ∷ [])))) 128 ≡ true = grind (arith, nat_tests) in
-      let z : nat_le (0 + (0 + (0 + how_many (λ s. is_some (queue_in s.deed)) (tasks n ++ last_statement n ∷ [])))) 16 ≡ true = grind (arith, nat_tests) in
-      let t : nat_le (0 + (0 + (0 + how_many (λ s. makes_task s.deed) (tasks n ++ last_statement n ∷ [])))) n ≡ true = grind (arith, nat_tests) in
+      let a : how_many (λ s. is_action_deed s.deed) (generated_tasks n ++ last_statement n ∷ []) ≡ 0 =
+      counts is_action_deed false (none_of is_action_deed (λ i. refl) (λ k. refl)) (λ m. refl) (generated_tasks n) n are in
+      let b : how_many (λ s. makes_group s.deed) (generated_tasks n ++ last_statement n ∷ []) ≡ 0 =
+      counts makes_group false (none_of makes_group (λ i. refl) (λ k. refl)) (λ m. refl) (generated_tasks n) n are in
+      let c : how_many (λ s. is_some (queue_in s.deed)) (generated_tasks n ++ last_statement n ∷ []) ≡ 0 =
+      counts (λ d. is_some (queue_in d)) false (none_of (λ d. is_some (queue_in d)) (λ i. refl) (λ k. refl)) (λ m. refl) (generated_tasks n) n are in
+      let d : how_many (λ s. makes_task s.deed) (generated_tasks n ++ last_statement n ∷ []) ≡ length (generated_tasks n) =
+      counts makes_task true each_of (λ m. refl) (generated_tasks n) n are in
+      let e : length (generated_tasks n) ≡ n = tasks_length n in
+      let x : nat_le (1 + (1 + (0 + how_many (λ s. is_action_deed s.deed) (generated_tasks n ++ last_statement n ∷ [])))) 64 ≡ true =
+      grind (arith, nat_tests) in
+      let y : nat_le (0 + (0 + (1 + how_many (λ s. makes_group s.deed) (generated_tasks n ++ last_statement n ∷ [])))) 128 ≡ true = grind (arith, nat_tests) in
+      let z : nat_le (0 + (0 + (0 + how_many (λ s. is_some (queue_in s.deed)) (generated_tasks n ++ last_statement n ∷ [])))) 16 ≡ true =
+      grind (arith, nat_tests) in
+      let t : nat_le (0 + (0 + (0 + how_many (λ s. makes_task s.deed) (generated_tasks n ++ last_statement n ∷ [])))) n ≡ true = grind (arith, nat_tests) in
       λ i. x i && y i && z i && t i
 
   whole : is_settled (generated n w) ≡ true

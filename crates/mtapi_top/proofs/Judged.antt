@@ -1,5 +1,5 @@
 -- What is refused is not judged, and what is judged has one verdict.
-use Rattle.mtapi_top.proofs.Names.{◌≡◌, ◌⊎◌, ◌≤◌, ℕ, List, length, refl, sym, ap, subst, ◌∙◌, inl, inr, arith, Result, Ok, Err, Workload, workload_of, Journal, Verdict, IsVerdict, End, IsWorkload, IsRefused, status_of, IsInput, IsRefusedInput, IsUnjudged, FrontFails, RestFails, same_split}
+use Rattle.mtapi_top.proofs.Names.{◌≡◌, ◌⊎◌, ◌≤◌, ℕ, List, length, refl, sym, ap, subst, ◌∙◌, inl, inr, arith, Result, Ok, Err, Workload, workload_of, Journal, Verdict, IsVerdict, End, IsWorkload, IsRefused, status_of, IsInput, IsRefusedInput, IsUnjudged, FirstPartFails, LastPartFails, same_split}
 use Rattle.journal_text.specs.declared.faults.TextError.{TextError}
 use Rattle.journal_text.specs.declared.faults.TextError.TheVariants as errors
 use Rattle.journal_text.specs.Journals.{journal_of}
@@ -43,13 +43,13 @@ same_verdict load j (verdict.Illegal n) w h k = (k.illegal n).1 ((h.illegal n).0
 same_verdict load j verdict.NotRun w h k = k.not_run.1 (h.not_run.0 refl)
 
 -- a first part that fails with the status 3 is refused
-front_refused : (front : List ℕ) (e : End) → status_of e ≡ 3 → FrontFails front e → IsRefused front
+front_refused : (front : List ℕ) (e : End) → status_of e ≡ 3 → FirstPartFails front e → IsRefused front
 front_refused front (end.Refused line cause) q f = inr (f.0, record { line = line; cause = cause }, f.1)
 front_refused front end.TooLong q f = inl f
 front_refused front end.Memory q f = absurd (cc)
 front_refused front _ q f = absurd f
 
-rest_refused : (rest : List ℕ) (e : End) → status_of e ≡ 3 → RestFails rest e → (error : TextError) × (journal_of rest ≡ Err error)
+rest_refused : (rest : List ℕ) (e : End) → status_of e ≡ 3 → LastPartFails rest e → (error : TextError) × (journal_of rest ≡ Err error)
 rest_refused rest (end.JournalLine line) q f = (errors.BadLine line, f)
 rest_refused rest end.JournalCut q f = (errors.PartialEnd, f)
 rest_refused rest end.Memory q f = absurd (cc)
@@ -59,7 +59,7 @@ rest_refused rest _ q f = absurd f
 pub unjudged_refused : (t : List ℕ) (e : End) → status_of e ≡ 3 → length t ≤ 67108864 → IsUnjudged t e → IsRefusedInput t
 unjudged_refused t e q short u = by u.holds
   where
-    by : FrontFails u.front e ⊎ (IsWorkload u.front × RestFails u.rest e) → IsRefusedInput t
+    by : FirstPartFails u.front e ⊎ (IsWorkload u.front × LastPartFails u.rest e) → IsRefusedInput t
     by (inl f) = inr (short, record { front = u.front; rest = u.rest; split = u.split; holds = inl (front_refused u.front e q f) })
     by (inr f) = let faulty = rest_refused u.rest e q f.1 in
         inr (short, record { front = u.front; rest = u.rest; split = u.split; holds = inr (f.0, faulty.0, faulty.1) })

@@ -1,5 +1,5 @@
 -- The journal of a run can be written, and is judged yes.
-use Rattle.mtapi_top.proofs.Names.{◌≡◌, ℕ, ◌≤◌, ◌+◌, List, [], ◌∷◌, length, refl, sym, ap, subst, arith, Ok, AllByRecursion, Layout, Two, Workload, WellFormed, workload_of, opening, NodeEntry, Journal, journal_text, head_for, IsVerdict, IsLegal, terms_of, IsRun, terms_for, IsInput}
+use Rattle.mtapi_top.proofs.Names.{◌≡◌, ℕ, ◌≤◌, ◌+◌, List, [], ◌∷◌, length, refl, sym, ap, subst, arith, Ok, AllByRecursion, Layout, Two, Workload, WellFormed, workload_of, opening, NodeEntry, Journal, journal_text, head_for, IsVerdict, IsLegal, terms_of_journal, IsRun, terms_for, IsInput}
 use Rattle.history_law.specs.Seats.{BySeats}
 use Rattle.history_law.proofs.Bounds.{by_seats}
 use Rattle.journal_text.specs.declared.heads.Head.{Head}
@@ -16,7 +16,7 @@ judged_yes load j r =
     let legal : IsLegal j = told_legal load j r in
     record {
       yes = (λ q. (legal, record { settings = r.settings; callers = r.callers; run = r.run }), λ p. refl);
-      illegal = λ n. (λ q. absurd (cc), λ f. absurd (f.illegal (legal_front (terms_of j) j.entries.entries n legal)));
+      illegal = λ n. (λ q. absurd (cc), λ f. absurd (f.illegal (legal_front (terms_of_journal j) j.entries.entries n legal)));
       not_run = (λ q. absurd (cc), λ p. absurd (p.1 (record { settings = r.settings; callers = r.callers; run = r.run })));
     }
 

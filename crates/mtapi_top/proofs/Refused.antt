@@ -1,5 +1,5 @@
 -- What was told of an end; and what was run, or is a workload, is no refused text.
-use Rattle.mtapi_top.proofs.Names.{◌≡◌, ◌⊎◌, ℕ, true, List, Option, Some, None, sym, ap, subst, ◌∙◌, inl, inr, arith, IfSome, IfOk, Result, Ok, Err, Workload, Loads, Journal, Asked, End, Outcome, reads, Ran, IsRead, IsLoadOf, HasRead, IsWorkload, IsRefused, status_of, has_line, IsTold}
+use Rattle.mtapi_top.proofs.Names.{◌≡◌, ◌⊎◌, ℕ, true, List, Option, Some, None, sym, ap, subst, ◌∙◌, inl, inr, arith, IfSome, IfOk, Result, Ok, Err, Workload, Loads, Journal, Asked, End, Outcome, reads_workload, RanWorkload, IsRead, IsLoadOf, HasRead, IsWorkload, IsRefused, status_of, has_line, IsTold}
 use Rattle.workload_file.specs.declared.faults.LoadError.{LoadError}
 use Rattle.mtapi_top.specs.declared.words.Asked.TheVariants as asks
 use Rattle.mtapi_top.specs.declared.ends.End.TheVariants as end
@@ -15,10 +15,11 @@ told_status Q e f f' p p' outcome q six (inl t) = subst Q (sym t.status) q
 told_status Q e f f' p p' outcome q six (inr t) = subst Q (sym t.1.status) six
 
 -- what was run was no refused text
-not_refused : (words : Option Asked) (t : List ℕ) (j : Journal) (P : List ℕ → Type 0) → Ran words (Some t) j P → reads words ≡ true → IsRefused t → ⊥
-not_refused words t j P r e i = by i (was_read r.asked t r.load (ap reads (sym r.asks) ∙ e) r.is)
+not_refused : (words : Option Asked) (t : List ℕ) (j : Journal) (P : List ℕ → Type 0) → RanWorkload words (Some t) j P → reads_workload words ≡ true
+    → IsRefused t → ⊥
+not_refused words t j P r e i = by i (was_read r.asked t r.load (ap reads_workload (sym r.asks) ∙ e) r.is)
   where
-    was_read : (asked : Asked) (t : List ℕ) (load : Workload) → reads (Some asked) ≡ true → IsLoadOf asked (Some t) load → IsRead (Some t) load
+    was_read : (asked : Asked) (t : List ℕ) (load : Workload) → reads_workload (Some asked) ≡ true → IsLoadOf asked (Some t) load → IsRead (Some t) load
     was_read asks.Report t load e h = h
     was_read asks.Journal t load e h = h
     was_read (asks.Generated n w) t load e h = absurd (cc)
@@ -33,11 +34,12 @@ pub not_workload : (t : List ℕ) → IsWorkload t → IsRefused t → ⊥
 not_workload t x (inl long) = omega (arith, x.0)
 not_workload t x (inr none) = let both = sym none.2 ∙ x.2 in cc
 
-pub nothing_asked : (words : Option Asked) → words ≡ None → reads words ≡ true → ⊥
-nothing_asked words e q = let none = ap reads (sym e) ∙ q in cc
+pub nothing_asked : (words : Option Asked) → words ≡ None → reads_workload words ≡ true → ⊥
+nothing_asked words e q = let none = ap reads_workload (sym e) ∙ q in cc
 
 -- where a run came back, what was read isn't refused
-pub no_refusal : (Q : Type 0) (words : Option Asked) (bytes : Option (List ℕ)) (j : Journal) (P : List ℕ → Type 0) → Ran words bytes j P → reads words ≡ true
+pub no_refusal : (Q : Type 0) (words : Option Asked) (bytes : Option (List ℕ)) (j : Journal) (P : List ℕ → Type 0) → RanWorkload words bytes j P
+    → reads_workload words ≡ true
     → IfSome bytes (λ t. IsRefused t → Q)
 no_refusal Q words None j P r e = tt
 no_refusal Q words (Some t) j P r e = λ i. absurd (not_refused words t j P r e i)

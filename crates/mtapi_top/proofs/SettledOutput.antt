@@ -1,9 +1,9 @@
 -- What the command writes of a settled workload is told by the workload's statements alone.
-use Rattle.mtapi_top.proofs.Names.{◌≡◌, ℕ, true, List, length, ◌++◌, Option, Some, None, refl, sym, ◌∙◌, ap, subst, IfSome, Result, Ok, Layout, Workload, workload_of, WellFormed, Legal, Journal, journal_text, terms_with, IsLegal, plain_report, is_settled, Asked, InRange, generated, IsRun, Ran, IsLoadOf, output, generated_summary, IsPlainOutput}
+use Rattle.mtapi_top.proofs.Names.{◌≡◌, ℕ, true, List, length, ◌++◌, Option, Some, None, refl, sym, ◌∙◌, ap, subst, IfSome, Result, Ok, Layout, Workload, workload_of, WellFormed, Legal, Journal, journal_text, terms_with, IsLegal, plain_report, is_settled, Asked, InRange, generated, IsRun, RanWorkload, IsLoadOf, output, generated_summary, IsPlainOutput}
 use Rattle.workload_file.specs.declared.faults.Fault.{Fault}
 use Rattle.mtapi_machine.specs.declared.terms.Terms.{Terms}
 use Rattle.run_report.specs.Report.{report}
-use Rattle.journal_check.specs.Verdicts.{IsRun as IsRunOf}
+use Rattle.journal_check.specs.Verdicts.{IsJournalRun as IsRunOf}
 use Rattle.workload_file.proofs.Invariant.{workload_formed}
 use Rattle.generated_workload.proofs.Formed.{is_formed}
 use Rattle.settled_runs.specs.PlainSummary.{plain_summary}
@@ -66,7 +66,7 @@ module _ (j : Journal) (P : List ℕ → Type 0) where
       ∙ one_summary n w) p
   by_asked asks.Check bytes load i r g p = tt
 
-  pub plain_output : (words : Option Asked) (bytes : Option (List ℕ)) → Ran words bytes j P → IfSome words InRange → IsPlainOutput words bytes j P
+  pub plain_output : (words : Option Asked) (bytes : Option (List ℕ)) → RanWorkload words bytes j P → IfSome words InRange → IsPlainOutput words bytes j P
   plain_output words bytes r g =
       subst (λ (x : Option Asked). IsPlainOutput x bytes j P) (sym r.asks)
       (by_asked r.asked bytes r.load r.is r.is_run (subst (λ (x : Option Asked). IfSome x InRange) r.asks g) r.written)

@@ -1,10 +1,10 @@
 -- What follows of the outcome from how the command came to its end, and from what was told of that.
-use Rattle.mtapi_top.proofs.Names.{◌≡◌, ◌≤◌, ◌⊎◌, ℕ, Bool, true, false, List, Option, Some, None, refl, sym, ap, subst, ◌∙◌, inl, inr, IfSome, is_some, Appends, AppendsFront, Rose, Workload, Journal, journal_text, Verdict, IsVerdict, Asked, End, Outcome, reads, judges, InRange, Ran, IsTextTwo, IsPlainOutput, Outside, Ends, HasRead, IsTold, IsWorkload, IsRefused, IsRefusedInput, IsInput, status_of, verdict_status, has_line, Checks, HasEnded, IsReadFor, StartsNothing}
+use Rattle.mtapi_top.proofs.Names.{◌≡◌, ◌≤◌, ◌⊎◌, ℕ, Bool, true, false, List, Option, Some, None, refl, sym, ap, subst, ◌∙◌, inl, inr, IfSome, is_some, Appends, AppendsFront, Rose, Workload, Journal, journal_text, Verdict, IsVerdict, Asked, End, Outcome, reads_workload, judges, InRange, RanWorkload, IsTextTwo, IsPlainOutput, Outside, Ends, HasRead, IsTold, IsWorkload, IsRefused, IsRefusedInput, IsInput, status_of, verdict_status, has_line, Checks, HasEnded, IsReadFor, StartsNothing}
 use Rattle.std.specs.Prelude.{◌^◌, ◌↔◌, IsSome}
 use Rattle.journal_check.specs.declared.verdicts.Verdict.TheVariants as verdict
 use Rattle.mtapi_top.specs.declared.ends.End.TheVariants as end
 use Rattle.mtapi_top.specs.Check.{HasNoVerdict, IsJudged, verdict_line}
-use Rattle.mtapi_top.specs.Command.{journal_of, spent_of}
+use Rattle.mtapi_top.specs.Command.{journal_in_end, spent_of}
 use Rattle.mtapi_top.specs.PartEnds.{ComesTo, channels_of}
 use Rattle.mtapi_top.proofs.Carried.{text_two as run_text_two}
 use Rattle.mtapi_top.proofs.Refused.{Told, told_status, no_refusal, not_workload, nothing_asked}
@@ -62,10 +62,10 @@ module _ {T : Type 0} where
 
 -- of a run
 pub data Runs (words : Option Asked) (old : Option (List ℕ)) (a b : Outside) : ℕ → Option Journal → Option ℕ → Type 0 where
-  is_done : (j : Journal) → Ran words old j (Appends a.held b.held) → Runs words old a b 0 (Some j) None
-  is_refused : reads words ≡ true → IfSome old IsRefused → b.held ≡ a.held → Runs words old a b 3 None None
-  is_unread : reads words ≡ true → Rose a.reads b.reads → b.held ≡ a.held → Runs words old a b 4 None None
-  is_cut : (j : Journal) → Rose a.writes b.writes → Ran words old j (AppendsFront a.held b.held) → Runs words old a b 5 (Some j) None
+  is_done : (j : Journal) → RanWorkload words old j (Appends a.held b.held) → Runs words old a b 0 (Some j) None
+  is_refused : reads_workload words ≡ true → IfSome old IsRefused → b.held ≡ a.held → Runs words old a b 3 None None
+  is_unread : reads_workload words ≡ true → Rose a.reads b.reads → b.held ≡ a.held → Runs words old a b 4 None None
+  is_cut : (j : Journal) → Rose a.writes b.writes → RanWorkload words old j (AppendsFront a.held b.held) → Runs words old a b 5 (Some j) None
   is_memory : b.held ≡ a.held → Runs words old a b 6 None None
   is_threadless : Rose a.threads b.threads → HasRead words old → b.held ≡ a.held → Runs words old a b 7 None None
   is_spent : (s : ℕ) → 2 ^ 62 ≤ s → HasRead words old → b.held ≡ a.held → Runs words old a b 8 None (Some s)
@@ -91,7 +91,7 @@ none_judged : (words : Option Asked) → judges words ≡ true → words ≡ Non
 none_judged words j n = let m = ap judges (sym n) ∙ j in cc
 
 module _ (words : Option Asked) (old : Option (List ℕ)) (a b : Outside) where
-  by_run : (e : End) → judges words ≡ false → Ends words old a b e → Shows words old a b (status_of e) (journal_of e) (spent_of e)
+  by_run : (e : End) → judges words ≡ false → Ends words old a b e → Shows words old a b (status_of e) (journal_in_end e) (spent_of e)
   by_run (end.Done j) k h = ran _ _ _ k (ap is_some h.asks) (is_done j h)
   by_run end.Usage k h = unasked h.0 h.1
   by_run (end.Refused line cause) k h = ran _ _ _ k (is_asked words h.0)
@@ -107,7 +107,7 @@ module _ (words : Option Asked) (old : Option (List ℕ)) (a b : Outside) where
   unjudged : (e : End) → status_of e ≡ 3 → HasNoVerdict old e → IfSome old IsRefusedInput
   unjudged e q h = some_weaker old _ IsRefusedInput (λ t x. unjudged_refused t e q x.0 x.1) h
 
-  by_check : (e : End) → judges words ≡ true → Checks old (channels_of a) (channels_of b) e → Shows words old a b (status_of e) (journal_of e) (spent_of e)
+  by_check : (e : End) → judges words ≡ true → Checks old (channels_of a) (channels_of b) e → Shows words old a b (status_of e) (journal_in_end e) (spent_of e)
   by_check (end.Judged verdict.Yes) k h = judged _ k (says_yes h.0 h.1)
   by_check (end.Judged (verdict.Illegal n)) k h = judged _ k (says_no (verdict.Illegal n) (λ x. cc) refl h.0 h.1)
   by_check (end.Judged verdict.NotRun) k h = judged _ k (says_no verdict.NotRun (λ x. cc) refl h.0 h.1)
@@ -145,13 +145,14 @@ module _ {words : Option Asked} {old : Option (List ℕ)} {a b : Outside} where
   not_two_run (is_memory h) q = cc
   not_two_run _ q = cc
 
-  pub headline : {n : ℕ} {j : Option Journal} {s : Option ℕ} → Shows words old a b n j s → n ≡ 0 → IfSome j (λ x. Ran words old x (Appends a.held b.held))
+  pub headline : {n : ℕ} {j : Option Journal} {s : Option ℕ} → Shows words old a b n j s → n ≡ 0
+      → IfSome j (λ x. RanWorkload words old x (Appends a.held b.held))
   headline (ran _ _ _ k i (is_done j x)) q = x
   headline (ran _ _ _ k i (is_cut j r x)) q = absurd (cc)
   headline _ q = tt
 
   pub headline_cut : {n : ℕ} {j : Option Journal} {s : Option ℕ} → Shows words old a b n j s → n ≡ 5
-      → IfSome j (λ x. Ran words old x (AppendsFront a.held b.held))
+      → IfSome j (λ x. RanWorkload words old x (AppendsFront a.held b.held))
   headline_cut (ran _ _ _ k i (is_cut j r x)) q = x
   headline_cut (ran _ _ _ k i (is_done j x)) q = absurd (cc)
   headline_cut _ q = tt
@@ -194,7 +195,7 @@ module _ {words : Option Asked} {old : Option (List ℕ)} {a b : Outside} where
   refused (judged _ k x) l q = absurd (judges_one words l k)
   refused _ l q = absurd (cc)
 
-  pub refused_where : {n : ℕ} {j : Option Journal} {s : Option ℕ} → Shows words old a b n j s → reads words ≡ true → (Rose a.reads b.reads → ⊥)
+  pub refused_where : {n : ℕ} {j : Option Journal} {s : Option ℕ} → Shows words old a b n j s → reads_workload words ≡ true → (Rose a.reads b.reads → ⊥)
       → IfSome old (λ x. IsRefused x → (n ≡ 3) ⊎ (n ≡ 6))
   refused_where (unasked e h) r n = absurd (nothing_asked words e r)
   refused_where (ran _ _ _ k i (is_done j x)) r n = no_refusal _ words old j _ x r
@@ -206,7 +207,8 @@ module _ {words : Option Asked} {old : Option (List ℕ)} {a b : Outside} where
   refused_where (ran _ _ _ k i (is_spent s x y h)) r n = some_weaker old IsWorkload _ (λ t w z. absurd (not_workload t w z)) (y r)
   refused_where (judged _ k x) r n = absurd (not_both words r k)
 
-  pub reading : {n : ℕ} {j : Option Journal} {s : Option ℕ} → Shows words old a b n j s → (n ≡ 3) ⊎ (n ≡ 4) → (reads words ≡ true) ⊎ (judges words ≡ true)
+  pub reading : {n : ℕ} {j : Option Journal} {s : Option ℕ} → Shows words old a b n j s → (n ≡ 3) ⊎ (n ≡ 4)
+      → (reads_workload words ≡ true) ⊎ (judges words ≡ true)
   reading (ran _ _ _ k i (is_refused r x h)) q = inl r
   reading (ran _ _ _ k i (is_unread r x h)) q = inl r
   reading (judged _ k x) q = inr k
@@ -247,7 +249,7 @@ module _ {words : Option Asked} {old : Option (List ℕ)} {a b : Outside} where
   nothing (judged _ k (says_unread v h)) x y z = h
   nothing (judged _ k (says_memory h)) x y z = h
 
-  pub complete : {n : ℕ} {j : Option Journal} {s : Option ℕ} → Shows words old a b n j s → reads words ≡ true → (Rose a.reads b.reads → ⊥)
+  pub complete : {n : ℕ} {j : Option Journal} {s : Option ℕ} → Shows words old a b n j s → reads_workload words ≡ true → (Rose a.reads b.reads → ⊥)
       → (Rose a.writes b.writes → ⊥) → (Rose a.threads b.threads → ⊥)
       → IfSome old (λ x. IsWorkload x → (n ≡ 0) ⊎ (n ≡ 6) ⊎ (n ≡ 8))
   complete (unasked e h) r x w y = absurd (nothing_asked words e r)
@@ -260,7 +262,7 @@ module _ {words : Option Asked} {old : Option (List ℕ)} {a b : Outside} where
   complete (ran _ _ _ k i (is_spent s v z h)) r x w y = some_all old _ (λ t z. inr (inr refl))
   complete (judged _ k z) r x w y = absurd (not_both words r k)
 
-  pub complete_generated : {n : ℕ} {j : Option Journal} {s : Option ℕ} → Shows words old a b n j s → is_some words ≡ true → reads words ≡ false
+  pub complete_generated : {n : ℕ} {j : Option Journal} {s : Option ℕ} → Shows words old a b n j s → is_some words ≡ true → reads_workload words ≡ false
       → judges words ≡ false → (Rose a.writes b.writes → ⊥)
       → (Rose a.threads b.threads → ⊥) → (n ≡ 0) ⊎ (n ≡ 6) ⊎ (n ≡ 8)
   complete_generated (unasked e h) s r l w y = absurd (none_some words s e)
@@ -344,7 +346,7 @@ module _ {words : Option Asked} {old new : Option (List ℕ)} {a b : Outside} {f
   shown =
       subst (λ (n : ℕ). Shows words old a b n outcome.journal outcome.spent) (sym t.told.status)
       (subst (λ (j : Option Journal). Shows words old a b (status_of t.end) j outcome.spent) (sym t.told.journal)
-      (subst (λ (s : Option ℕ). Shows words old a b (status_of t.end) (journal_of t.end) s) (sym t.told.spent)
+      (subst (λ (s : Option ℕ). Shows words old a b (status_of t.end) (journal_in_end t.end) s) (sym t.told.spent)
       (either (judges words) (λ k. by_run words old a b t.end k (t.comes.run k)) (λ k. by_check words old a b t.end k (t.comes.check k)))))
 
   pub all_threads : (outcome.status ≡ 7 → ⊥) → b.threads ≡ a.threads

@@ -47,32 +47,32 @@ pub record IsJudged (bytes : Option (List ℕ)) (v : Verdict) : Type 0 where
 -- ---- the ends
 
 -- why a first part is no workload
-abbrev pub FrontFails : List ℕ → End → Type 0
-FrontFails front (end.Refused line cause) = (length front ≤ 1048576) × (workload_of front ≡ Err (record { line = line; cause = cause }))
-FrontFails front end.TooLong = 1048576 < length front
-FrontFails front end.Memory = Unit {0}
-FrontFails front _ = ⊥
+abbrev pub FirstPartFails : List ℕ → End → Type 0
+FirstPartFails front (end.Refused line cause) = (length front ≤ 1048576) × (workload_of front ≡ Err (record { line = line; cause = cause }))
+FirstPartFails front end.TooLong = 1048576 < length front
+FirstPartFails front end.Memory = Unit {0}
+FirstPartFails front _ = ⊥
 
 -- the workload that a first part is, or why it is none
-abbrev pub FrontGives : List ℕ → Result Workload End → Type 0
-FrontGives front (Ok load) = (length front ≤ 1048576) × (workload_of front ≡ Ok load)
-FrontGives front (Err e) = FrontFails front e
+abbrev pub FirstPartGives : List ℕ → Result Workload End → Type 0
+FirstPartGives front (Ok load) = (length front ≤ 1048576) × (workload_of front ≡ Ok load)
+FirstPartGives front (Err e) = FirstPartFails front e
 
 -- why a rest is no journal
-abbrev pub RestFails : List ℕ → End → Type 0
-RestFails rest (end.JournalLine line) = journal_of rest ≡ Err (errors.BadLine line)
-RestFails rest end.JournalCut = journal_of rest ≡ Err errors.PartialEnd
-RestFails rest end.Memory = Unit {0}
-RestFails rest _ = ⊥
+abbrev pub LastPartFails : List ℕ → End → Type 0
+LastPartFails rest (end.JournalLine line) = journal_of rest ≡ Err (errors.BadLine line)
+LastPartFails rest end.JournalCut = journal_of rest ≡ Err errors.PartialEnd
+LastPartFails rest end.Memory = Unit {0}
+LastPartFails rest _ = ⊥
 
 -- the journal that a rest is, or why it is none
-abbrev pub RestGives : List ℕ → Result Journal End → Type 0
-RestGives rest (Ok j) = journal_of rest ≡ Ok j
-RestGives rest (Err e) = RestFails rest e
+abbrev pub LastPartGives : List ℕ → Result Journal End → Type 0
+LastPartGives rest (Ok j) = journal_of rest ≡ Ok j
+LastPartGives rest (Err e) = LastPartFails rest e
 
 -- why an input that isn't too long has no verdict: by its first part, or where that is a workload, by the rest
 abbrev pub IsUnjudged : List ℕ → End → Type 0
-IsUnjudged bytes e = OfParts bytes (λ front rest. FrontFails front e ⊎ (IsWorkload front × RestFails rest e))
+IsUnjudged bytes e = OfParts bytes (λ front rest. FirstPartFails front e ⊎ (IsWorkload front × LastPartFails rest e))
 
 -- the same of an input that may not be told
 abbrev pub HasNoVerdict : Option (List ℕ) → End → Type 0

@@ -5,8 +5,6 @@ use Rattle.std.specs.Io.KnownBytes.{Appends}
 use Rattle.byte_io.specs.Causes.{Rose, AppendsFront, WritesText}
 use Rattle.workload_file.specs.declared.workload.Workload.{Workload}
 use Rattle.workload_file.specs.declared.faults.Fault.{Fault}
-use Rattle.workload_file.specs.declared.faults.LoadError.{LoadError}
-use Rattle.workload_file.specs.declared.faults.LoadError.TheVariants as errors
 use Rattle.workload_file.specs.Causes.{cause_text}
 use Rattle.workload_file.specs.Reading.{workload_of}
 use Rattle.node_journals.specs.declared.entries.Journal.{Journal}
@@ -16,8 +14,8 @@ use Rattle.mtapi_top.specs.declared.ends.End.{End}
 use Rattle.mtapi_top.specs.declared.ends.End.TheVariants as end
 use Rattle.mtapi_top.specs.declared.ends.Outcome.{Outcome}
 use Rattle.mtapi_top.specs.declared.words.Asked.{Asked}
-use Rattle.mtapi_top.specs.Words.{reads}
-use Rattle.mtapi_top.specs.Headline.{Ran}
+use Rattle.mtapi_top.specs.Words.{reads_workload}
+use Rattle.mtapi_top.specs.Headline.{RanWorkload}
 
 -- the bytes are a workload
 abbrev pub IsWorkload : List ℕ → Type 0
@@ -29,15 +27,7 @@ IsRefused bytes = (1048576 < length bytes) ⊎ ((length bytes ≤ 1048576) × (f
 
 -- where words that read a workload were asked, the bytes are one
 abbrev pub HasRead : Option Asked → Option (List ℕ) → Type 0
-HasRead words bytes = reads words ≡ true → IfSome bytes IsWorkload
-
--- why there is no workload to run: but for want of memory, only where one is read
-abbrev pub HasNone : Option Asked → Option (List ℕ) → ℕ → ℕ → LoadError → Type 0
-HasNone words bytes before now errors.Memory = Unit {0}
-HasNone words bytes before now errors.Read = (reads words ≡ true) × Rose before now
-HasNone words bytes before now errors.TooLong = (reads words ≡ true) × IfSome bytes (λ t. 1048576 < length t)
-HasNone words bytes before now (errors.Refused line cause) =
-    (reads words ≡ true) × IfSome bytes (λ t. (length t ≤ 1048576) × (workload_of t ≡ Err (record { line = line; cause = cause })))
+HasRead words bytes = reads_workload words ≡ true → IfSome bytes IsWorkload
 
 -- what stands outside the command: how many reads, writes and threads were refused so far, and what the output holds
 pub record Outside : Type 0 where
@@ -48,13 +38,13 @@ pub record Outside : Type 0 where
 
 -- what is known at each end of a run: of the words, the bytes of the source, and what stood outside before and stands there then
 abbrev pub Ends : Option Asked → Option (List ℕ) → Outside → Outside → End → Type 0
-Ends words bytes a b (end.Done journal) = Ran words bytes journal (Appends a.held b.held)
+Ends words bytes a b (end.Done journal) = RanWorkload words bytes journal (Appends a.held b.held)
 Ends words bytes a b end.Usage = (words ≡ None) × (b.held ≡ a.held)
 Ends words bytes a b (end.Refused line cause) =
-    (reads words ≡ true) × IfSome bytes (λ t. (length t ≤ 1048576) × (workload_of t ≡ Err (record { line = line; cause = cause }))) × (b.held ≡ a.held)
-Ends words bytes a b end.TooLong = (reads words ≡ true) × IfSome bytes (λ t. 1048576 < length t) × (b.held ≡ a.held)
-Ends words bytes a b end.ReadFault = (reads words ≡ true) × Rose a.reads b.reads × (b.held ≡ a.held)
-Ends words bytes a b (end.WriteFault journal) = Rose a.writes b.writes × Ran words bytes journal (AppendsFront a.held b.held)
+    (reads_workload words ≡ true) × IfSome bytes (λ t. (length t ≤ 1048576) × (workload_of t ≡ Err (record { line = line; cause = cause }))) × (b.held ≡ a.held)
+Ends words bytes a b end.TooLong = (reads_workload words ≡ true) × IfSome bytes (λ t. 1048576 < length t) × (b.held ≡ a.held)
+Ends words bytes a b end.ReadFault = (reads_workload words ≡ true) × Rose a.reads b.reads × (b.held ≡ a.held)
+Ends words bytes a b (end.WriteFault journal) = Rose a.writes b.writes × RanWorkload words bytes journal (AppendsFront a.held b.held)
 Ends words bytes a b end.Memory = (is_some words ≡ true) × (b.held ≡ a.held)
 Ends words bytes a b end.NoThread = (is_some words ≡ true) × Rose a.threads b.threads × HasRead words bytes × (b.held ≡ a.held)
 Ends words bytes a b (end.Spent s) = (is_some words ≡ true) × (2 ^ 62 ≤ s) × HasRead words bytes × (b.held ≡ a.held)
@@ -84,10 +74,10 @@ status_of (end.JournalLine line) = 3
 status_of end.JournalCut = 3
 
 -- the journal of the run, where there was one
-abbrev pub journal_of : End → Option Journal
-journal_of (end.Done journal) = Some journal
-journal_of (end.WriteFault journal) = Some journal
-journal_of _ = None
+abbrev pub journal_in_end : End → Option Journal
+journal_in_end (end.Done journal) = Some journal
+journal_in_end (end.WriteFault journal) = Some journal
+journal_in_end _ = None
 
 -- what shows that the turns are used up, where they did
 abbrev pub spent_of : End → Option ℕ
@@ -120,6 +110,6 @@ has_line _ = false
 -- The outcome is told by an end: its status, its journal, what shows that the turns are used up, and its message on the error output.
 pub record IsTold (end : End) (e e' : ℕ) (o o' : Option (List ℕ)) (outcome : Outcome) : Type 0 where
   pub status : outcome.status ≡ status_of end
-  pub journal : outcome.journal ≡ journal_of end
+  pub journal : outcome.journal ≡ journal_in_end end
   pub spent : outcome.spent ≡ spent_of end
   pub said : WritesText e e' o o' (message end)

@@ -4,11 +4,11 @@ use Rattle.std.specs.Io.KnownBytes.{IsAtEnd}
 use Rattle.byte_io.specs.Causes.{TakesAtMost}
 use Rattle.workload_file.specs.Loading.{ReadsClean}
 use Rattle.node_journals.specs.declared.entries.Journal.{Journal}
-use Rattle.journal_text.specs.Journals.{ReadsClean as ReadsInput}
+use Rattle.journal_text.specs.Journals.{ReadsJournalClean as ReadsInput}
 use Rattle.mtapi_top.specs.declared.ends.End.{End}
 use Rattle.mtapi_top.specs.declared.ends.Outcome.{Outcome}
 use Rattle.mtapi_top.specs.declared.words.Asked.{Asked}
-use Rattle.mtapi_top.specs.Words.{reads, judges}
+use Rattle.mtapi_top.specs.Words.{reads_workload, judges}
 use Rattle.mtapi_top.specs.Command.{Outside, Ends, IsTold}
 use Rattle.mtapi_top.specs.Check.{Channels, Checks}
 
@@ -39,11 +39,11 @@ IsPastReading status = (status ≡ 4 → ⊥) × (status ≡ 6 → ⊥)
 -- the other ones the source gave at most one byte past the limit, and but for the status of a failed read it counted no fault. But for
 -- that and want of memory it was read to its end, or to that byte; and to its end where a run came back.
 pub record IsReadFor (words : Option Asked) (old new : Option (List ℕ)) (before now : ℕ) (status : ℕ) (journal : Option Journal) : Type 0 where
-  pub unread : reads words ≡ false → judges words ≡ false → (new ≡ old) × (now ≡ before)
-  pub clean : reads words ≡ true → IsPastReading status → ReadsClean before now old new
-  pub whole : reads words ≡ true → IfSome journal (λ j. IfSome old (λ bytes. IsAtEnd new))
+  pub unread : reads_workload words ≡ false → judges words ≡ false → (new ≡ old) × (now ≡ before)
+  pub clean : reads_workload words ≡ true → IsPastReading status → ReadsClean before now old new
+  pub whole : reads_workload words ≡ true → IfSome journal (λ j. IfSome old (λ bytes. IsAtEnd new))
   pub input : judges words ≡ true → IsPastReading status → ReadsInput before now old new
-  pub few : reads words ≡ true → TakesAtMost 1048577 old new
+  pub few : reads_workload words ≡ true → TakesAtMost 1048577 old new
   pub few_judged : judges words ≡ true → TakesAtMost 67108865 old new
   pub faultless : (status ≡ 4 → ⊥) → now ≡ before
 

@@ -40,7 +40,7 @@ IsReadAgain asks.Journal j = journal_read (journal_text j) ≡ Ok j
 IsReadAgain _ j = Unit {0}
 
 -- The journal is that of a run of the workload that was asked for, and P holds of the output of that run.
-pub record Ran (words : Option Asked) (bytes : Option (List ℕ)) (j : Journal) (P : List ℕ → Type 0) : Type 0 where
+pub record RanWorkload (words : Option Asked) (bytes : Option (List ℕ)) (j : Journal) (P : List ℕ → Type 0) : Type 0 where
   pub asked : Asked
   pub asks : words ≡ Some asked
   pub load : Workload

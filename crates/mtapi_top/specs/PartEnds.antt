@@ -1,19 +1,28 @@
 -- How the parts of the command end. Its own functions alone cite this.
-use Rattle.std.specs.Prelude.{◌≡◌, ℕ, ◌≤◌, List, true, false, Option, IfSome}
+use Rattle.std.specs.Prelude.{◌≡◌, ℕ, ◌≤◌, ◌<◌, List, length, true, false, Option, IfSome, Err}
 use Rattle.std.specs.Io.KnownBytes.{Appends}
 use Rattle.byte_io.specs.Causes.{Rose, AppendsFront}
 use Rattle.workload_file.specs.declared.faults.LoadError.{LoadError}
 use Rattle.workload_file.specs.declared.faults.LoadError.TheVariants as errors
+use Rattle.workload_file.specs.Reading.{workload_of}
 use Rattle.node_journals.specs.declared.entries.Journal.{Journal}
 use Rattle.workload_runners.specs.declared.run.NoRun.{NoRun}
 use Rattle.workload_runners.specs.declared.run.NoRun.TheVariants as reason
 use Rattle.mtapi_top.specs.declared.ends.End.{End}
 use Rattle.mtapi_top.specs.declared.ends.End.TheVariants as end
 use Rattle.mtapi_top.specs.declared.words.Asked.{Asked}
-use Rattle.mtapi_top.specs.Words.{reads, judges, InRange}
-use Rattle.mtapi_top.specs.Command.{Outside, Ends, status_of, journal_of}
+use Rattle.mtapi_top.specs.Words.{reads_workload, judges, InRange}
+use Rattle.mtapi_top.specs.Command.{Outside, Ends, status_of, journal_in_end}
 use Rattle.mtapi_top.specs.Check.{Channels, Checks}
 use Rattle.mtapi_top.specs.Ended.{IsReadFor}
+
+-- why there is no workload to run: but for want of memory, only where one is read
+abbrev pub HasNoWorkload : Option Asked → Option (List ℕ) → ℕ → ℕ → LoadError → Type 0
+HasNoWorkload words bytes before now errors.Memory = Unit {0}
+HasNoWorkload words bytes before now errors.Read = (reads_workload words ≡ true) × Rose before now
+HasNoWorkload words bytes before now errors.TooLong = (reads_workload words ≡ true) × IfSome bytes (λ t. 1048576 < length t)
+HasNoWorkload words bytes before now (errors.Refused line cause) =
+    (reads_workload words ≡ true) × IfSome bytes (λ t. (length t ≤ 1048576) × (workload_of t ≡ Err (record { line = line; cause = cause })))
 
 -- the end where there is no workload to run
 abbrev pub without_load : LoadError → End
@@ -44,6 +53,6 @@ pub record ComesTo (words : Option Asked) (old new : Option (List ℕ)) (a b : O
   pub range : IfSome words InRange
   pub run : judges words ≡ false → Ends words old a b end
   pub check : judges words ≡ true → Checks old (channels_of a) (channels_of b) end
-  pub read : IsReadFor words old new a.reads b.reads (status_of end) (journal_of end)
+  pub read : IsReadFor words old new a.reads b.reads (status_of end) (journal_in_end end)
   pub threads : (status_of end ≡ 7 → ⊥) → b.threads ≡ a.threads
   pub later : (a.reads ≤ b.reads) × (a.writes ≤ b.writes)

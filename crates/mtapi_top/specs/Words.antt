@@ -35,17 +35,17 @@ check_asks [] = Some asks.Check
 check_asks (next ∷ more) = None
 
 -- what the words ask for; nothing, where the command takes no such words
-abbrev pub asked_of : List (List ℕ) → Option Asked
-asked_of [] = None
-asked_of (word ∷ options) =
+abbrev pub asked_by_words : List (List ℕ) → Option Asked
+asked_by_words [] = None
+asked_by_words (word ∷ options) =
     if bytes_eq word (codes "run") then run_asks options
     else (if bytes_eq word (codes "gen") then gen_asks options else (if bytes_eq word (codes "check") then check_asks options else None))
 
 -- the words ask for the run of a workload that is read
-abbrev pub reads : Option Asked → Bool
-reads (Some asks.Report) = true
-reads (Some asks.Journal) = true
-reads _ = false
+abbrev pub reads_workload : Option Asked → Bool
+reads_workload (Some asks.Report) = true
+reads_workload (Some asks.Journal) = true
+reads_workload _ = false
 
 -- the words ask for a journal to be judged, and for no run
 abbrev pub judges : Option Asked → Bool

@@ -2,7 +2,7 @@
 ghost use Rattle.std.specs.Prelude.{◌≡◌, ◌≤◌, true, length, IfOk, IfErr, IfSome, string_bytes};
 ghost use Rattle.std.specs.Io.KnownBytes.{IsAtEnd};
 ghost use Rattle.byte_io.specs.Causes.{TakesAtMost};
-ghost use Rattle.journal_text.specs.Journals.{ReadsClean};
+ghost use Rattle.journal_text.specs.Journals.{ReadsJournalClean};
 ghost use Rattle.mtapi_top.specs.Command.{status_of};
 ghost use Rattle.mtapi_top.specs.Ended.{IsPastReading};
 ghost use Rattle.mtapi_top.specs.Check.{IsJudged, IsUnjudged, Checks, verdict_line, WritesVerdict};
@@ -60,7 +60,7 @@ pub(crate) fn check_input<S: Source, W: Sink>(alloc: Global, src: &mut S, out: &
     ensures end { Checks (S.left src.old) (record { reads = S.faults src.old; writes = W.faults out.old; held = W.held out.old })
         (record { reads = S.faults src.new; writes = W.faults out.new; held = W.held out.new }) result }
     ensures clean { IsPastReading (status_of result)
-        → ReadsClean (S.faults src.old) (S.faults src.new) (S.left src.old) (S.left src.new) }
+        → ReadsJournalClean (S.faults src.old) (S.faults src.new) (S.left src.old) (S.left src.new) }
     ensures taken { TakesAtMost 67108865 (S.left src.old) (S.left src.new) }
     ensures faultless { (status_of result ≡ 4 → ⊥) → S.faults src.new ≡ S.faults src.old }
     ensures later { (S.faults src.old ≤ S.faults src.new) × (W.faults out.old ≤ W.faults out.new) }

@@ -1,7 +1,7 @@
 //! The input of `check`: a workload, and a journal behind it.
 ghost use Rattle.std.specs.Prelude.{◌≤◌, length, IfOk};
 ghost use Rattle.workload_file.specs.Formed.{WellFormed};
-ghost use Rattle.mtapi_top.specs.Check.{FrontGives, RestGives};
+ghost use Rattle.mtapi_top.specs.Check.{FirstPartGives, LastPartGives};
 
 use crate::ends::End;
 use journal_text::{InputPart, JournalError, read_journal};
@@ -11,7 +11,7 @@ use workload_file::{LoadError, Workload, read_workload};
 
 /// The workload that the part before the journal is, or how the command ends where it is none.
 pub(crate) fn workload_in(alloc: Global, front: &[u8]) -> Result<Workload, End>
-    ensures gives { FrontGives front.now result }
+    ensures gives { FirstPartGives front.now result }
     ensures formed { IfOk result WellFormed }
 {
     let mut part = InputPart { left: front };
@@ -28,7 +28,7 @@ pub(crate) fn workload_in(alloc: Global, front: &[u8]) -> Result<Workload, End>
 /// The journal that the rest of the input is, or how the command ends where it is none.
 pub(crate) fn journal_in(alloc: Global, rest: &[u8]) -> Result<Journal, End>
     requires { length rest.now ≤ 67108864 }
-    ensures { RestGives rest.now result }
+    ensures { LastPartGives rest.now result }
 {
     let mut part = InputPart { left: rest };
     match read_journal(alloc, &mut part) {

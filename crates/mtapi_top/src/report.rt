@@ -1,6 +1,6 @@
 //! The report of a run, which of a settled workload the statements alone tell.
 ghost use Rattle.std.specs.Prelude.{◌≡◌, IfOk, true};
-ghost use Rattle.journal_check.specs.Verdicts.{IsLegal, IsRun};
+ghost use Rattle.journal_check.specs.Verdicts.{IsLegal, IsJournalRun};
 ghost use Rattle.run_report.specs.Report.{report};
 ghost use Rattle.settled_runs.specs.Plain.{plain_report};
 ghost use Rattle.settled_runs.specs.Settled.{is_settled};
@@ -17,7 +17,7 @@ use workload_file::Workload;
 pub fn report_of(alloc: Global, load: &Workload, journal: &Journal) -> Result<Vec<u8>, AllocError>
     requires formed { WellFormed load.now }
     requires legal { IsLegal journal.now }
-    requires run { IsRun load.now journal.now }
+    requires run { IsJournalRun load.now journal.now }
     ensures report { IfOk result (λ text. text.items ≡ report journal.now.layout load.now journal.now.entries.entries) }
     ensures settled { is_settled load.now ≡ true → IfOk result (λ text. text.items ≡ plain_report load.now) }
 {

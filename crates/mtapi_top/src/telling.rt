@@ -1,6 +1,6 @@
 //! What the command says of its end.
 ghost use Rattle.std.specs.Prelude.{◌≡◌, ◌⊎◌, true, false, Some, None, IfOk, string_bytes};
-ghost use Rattle.mtapi_top.specs.Command.{verdict_status, status_of, journal_of, spent_of, message, has_line, IsTold};
+ghost use Rattle.mtapi_top.specs.Command.{verdict_status, status_of, journal_in_end, spent_of, message, has_line, IsTold};
 ghost use Rattle.mtapi_top.specs.declared.ends.End.{End};
 
 use crate::ends::{End, Outcome};
@@ -62,7 +62,7 @@ fn verdict_status(verdict: Verdict) -> u8
 /// The status of an end, and what shows it.
 fn outcome_of(end: End) -> Outcome
     ensures status { result.status ≡ status_of end }
-    ensures journal { result.journal ≡ journal_of end }
+    ensures journal { result.journal ≡ journal_in_end end }
     ensures spent { result.spent ≡ spent_of end }
 {
     match end {

@@ -2,23 +2,23 @@
 ghost use Rattle.std.specs.Prelude.{◌≡◌, ◌≤◌, ◌⊎◌, ◌↔◌, ◌^◌, IfOk, IfErr, IfSome, IsSome, IsErrOf, is_some, true, false, None, Some};
 ghost use Rattle.std.specs.Io.KnownBytes.{Appends, IsAtEnd};
 ghost use Rattle.byte_io.specs.Causes.{Rose, AppendsFront, TakesAtMost};
-ghost use Rattle.mtapi_top.specs.Command.{HasNone, HasRead, IsRefused, IsWorkload, status_of};
+ghost use Rattle.mtapi_top.specs.Command.{HasRead, IsRefused, IsWorkload, status_of};
 ghost use Rattle.workload_file.specs.Formed.{WellFormed};
 ghost use Rattle.workload_file.specs.Loading.{HoldsBut, ReadsClean};
 ghost use Rattle.generated_workload.specs.Generated.{generated};
-ghost use Rattle.mtapi_top.specs.Headline.{IsLoadOf, IsTextTwo, Ran};
+ghost use Rattle.mtapi_top.specs.Headline.{IsLoadOf, IsTextTwo, RanWorkload};
 ghost use Rattle.mtapi_top.specs.Settled.{IsPlainOutput};
 ghost use Rattle.mtapi_top.specs.Check.{IsJudged, IsInput, IsRefusedInput, verdict_line};
 ghost use Rattle.mtapi_top.specs.Command.{verdict_status};
 ghost use Rattle.mtapi_top.specs.Ended.{HasEnded, IsReadFor, StartsNothing};
-ghost use Rattle.mtapi_top.specs.PartEnds.{ComesTo, WritesOutput, without_load, without_run};
+ghost use Rattle.mtapi_top.specs.PartEnds.{ComesTo, HasNoWorkload, WritesOutput, without_load, without_run};
 ghost use Rattle.journal_text.specs.Journals.{journal_text};
 ghost use Rattle.journal_check.specs.Verdicts.{IsVerdict};
 ghost use Rattle.journal_check.specs.declared.verdicts.Verdict.{Verdict};
 ghost use Rattle.journal_check.specs.declared.verdicts.Verdict.TheVariants.{Yes};
 ghost use Rattle.workload_file.specs.declared.workload.Workload.{Workload};
 ghost use Rattle.node_journals.specs.declared.entries.Journal.{Journal};
-ghost use Rattle.mtapi_top.specs.Words.{texts, asked_of, reads, judges, InRange};
+ghost use Rattle.mtapi_top.specs.Words.{texts, asked_by_words, reads_workload, judges, InRange};
 
 use crate::checking::check_input;
 use crate::ends::{End, Outcome};
@@ -56,14 +56,14 @@ fn load_for<S: Source>(alloc: Global, asked: &Asked, src: &mut S) -> Result<Work
     ensures load { IfOk result (λ load. IsLoadOf asked.now (S.left src.old) load) }
     ensures formed { IfOk result WellFormed }
     ensures workload { IfOk result (λ load. HasRead (Some asked.now) (S.left src.old)) }
-    ensures none { IfErr result (HasNone (Some asked.now) (S.left src.old) (S.faults src.old) (S.faults src.new)) }
-    ensures clean { reads (Some asked.now) ≡ true
+    ensures none { IfErr result (HasNoWorkload (Some asked.now) (S.left src.old) (S.faults src.old) (S.faults src.new)) }
+    ensures clean { reads_workload (Some asked.now) ≡ true
         → HoldsBut (ReadsClean (S.faults src.old) (S.faults src.new) (S.left src.old) (S.left src.new)) result }
-    ensures whole { reads (Some asked.now) ≡ true
+    ensures whole { reads_workload (Some asked.now) ≡ true
         → IfOk result (λ load. IfSome (S.left src.old) (λ bytes. IsAtEnd (S.left src.new))) }
-    ensures unread { reads (Some asked.now) ≡ false
+    ensures unread { reads_workload (Some asked.now) ≡ false
         → (S.left src.new ≡ S.left src.old) × (S.faults src.new ≡ S.faults src.old) }
-    ensures taken { reads (Some asked.now) ≡ true → TakesAtMost 1048577 (S.left src.old) (S.left src.new) }
+    ensures taken { reads_workload (Some asked.now) ≡ true → TakesAtMost 1048577 (S.left src.old) (S.left src.new) }
     ensures faultless { (IsErrOf result LoadError.Read → ⊥) → S.faults src.new ≡ S.faults src.old }
     ensures later { S.faults src.old ≤ S.faults src.new }
 {
@@ -147,10 +147,10 @@ fn end_of<R: Threads + Wait + Sync, S: Source, W: Sink, A: ActionSource, B: Besi
     acts: &mut A,
     beside: &mut B,
 ) -> End
-    ensures comes { ComesTo (asked_of (texts words.now)) (S.left src.old) (S.left src.new)
+    ensures comes { ComesTo (asked_by_words (texts words.now)) (S.left src.old) (S.left src.new)
         (record { reads = S.faults src.old; writes = W.faults out.old; threads = B.refusals beside.old; held = W.held out.old })
         (record { reads = S.faults src.new; writes = W.faults out.new; threads = B.refusals beside.new; held = W.held out.new }) result }
-    ensures idle { (judges (asked_of (texts words.now)) ≡ true) ⊎ StartsNothing (status_of result)
+    ensures idle { (judges (asked_by_words (texts words.now)) ≡ true) ⊎ StartsNothing (status_of result)
         → (acts.new ≡ acts.old) × (beside.new ≡ beside.old) }
 {
     let Some(asked) = asked_of(words) else {
@@ -204,10 +204,10 @@ pub fn command<R: Threads + Wait + Sync, S: Source, W: Sink, E: Sink, A: ActionS
     // and a prefix of it with 5.
     ensures headline { result.status ≡ 0
         → IfSome result.journal (λ journal.
-        Ran (asked_of (texts words.now)) (S.left src.old) journal (Appends (W.held out.old) (W.held out.new))) }
+        RanWorkload (asked_by_words (texts words.now)) (S.left src.old) journal (Appends (W.held out.old) (W.held out.new))) }
     ensures headline_cut { result.status ≡ 5
         → IfSome result.journal (λ journal.
-        Ran (asked_of (texts words.now)) (S.left src.old) journal (AppendsFront (W.held out.old) (W.held out.new))) }
+        RanWorkload (asked_by_words (texts words.now)) (S.left src.old) journal (AppendsFront (W.held out.old) (W.held out.new))) }
 
     // The journal of a run is written as text 2.
     ensures text_two { IfSome result.journal (λ journal. IsTextTwo (journal_text journal)) }
@@ -216,22 +216,22 @@ pub fn command<R: Threads + Wait + Sync, S: Source, W: Sink, E: Sink, A: ActionS
     // ones, which are settled, a summary that is the same for every number of workers.
     ensures settled { result.status ≡ 0
         → IfSome result.journal (λ journal.
-        IsPlainOutput (asked_of (texts words.now)) (S.left src.old) journal (Appends (W.held out.old) (W.held out.new))) }
+        IsPlainOutput (asked_by_words (texts words.now)) (S.left src.old) journal (Appends (W.held out.old) (W.held out.new))) }
     ensures settled_cut { result.status ≡ 5
         → IfSome result.journal (λ journal.
-        IsPlainOutput (asked_of (texts words.now)) (S.left src.old) journal (AppendsFront (W.held out.old) (W.held out.new))) }
+        IsPlainOutput (asked_by_words (texts words.now)) (S.left src.old) journal (AppendsFront (W.held out.old) (W.held out.new))) }
     ensures journal { IsSome result.journal
-        ↔ ((judges (asked_of (texts words.now)) ≡ false) × ((result.status ≡ 0) ⊎ (result.status ≡ 5))) }
+        ↔ ((judges (asked_by_words (texts words.now)) ≡ false) × ((result.status ≡ 0) ⊎ (result.status ≡ 5))) }
     ensures spent { IsSome result.spent ↔ (result.status ≡ 8) }
 
     // Each status has its cause.
-    ensures usage { (result.status ≡ 2) ↔ (asked_of (texts words.now) ≡ None) }
-    ensures refused { judges (asked_of (texts words.now)) ≡ false → result.status ≡ 3
+    ensures usage { (result.status ≡ 2) ↔ (asked_by_words (texts words.now) ≡ None) }
+    ensures refused { judges (asked_by_words (texts words.now)) ≡ false → result.status ≡ 3
         → IfSome (S.left src.old) IsRefused }
-    ensures refused_where { reads (asked_of (texts words.now)) ≡ true → (Rose (S.faults src.old) (S.faults src.new) → ⊥)
+    ensures refused_where { reads_workload (asked_by_words (texts words.now)) ≡ true → (Rose (S.faults src.old) (S.faults src.new) → ⊥)
         → IfSome (S.left src.old) (λ bytes. IsRefused bytes → (result.status ≡ 3) ⊎ (result.status ≡ 6)) }
     ensures reading { (result.status ≡ 3) ⊎ (result.status ≡ 4)
-        → (reads (asked_of (texts words.now)) ≡ true) ⊎ (judges (asked_of (texts words.now)) ≡ true) }
+        → (reads_workload (asked_by_words (texts words.now)) ≡ true) ⊎ (judges (asked_by_words (texts words.now)) ≡ true) }
     ensures read_fault { result.status ≡ 4 → Rose (S.faults src.old) (S.faults src.new) }
     ensures write_fault { result.status ≡ 5 → Rose (W.faults out.old) (W.faults out.new) }
     ensures no_thread { result.status ≡ 7 → Rose (B.refusals beside.old) (B.refusals beside.new) }
@@ -243,51 +243,51 @@ pub fn command<R: Threads + Wait + Sync, S: Source, W: Sink, E: Sink, A: ActionS
         → W.held out.new ≡ W.held out.old }
 
     // A workload, without a fault and with a thread for everyone, ends with 0, with 6 when out of memory, or with turns that are used up.
-    ensures complete { reads (asked_of (texts words.now)) ≡ true → (Rose (S.faults src.old) (S.faults src.new) → ⊥)
+    ensures complete { reads_workload (asked_by_words (texts words.now)) ≡ true → (Rose (S.faults src.old) (S.faults src.new) → ⊥)
         → (Rose (W.faults out.old) (W.faults out.new) → ⊥)
         → (Rose (B.refusals beside.old) (B.refusals beside.new) → ⊥)
         → IfSome (S.left src.old) (λ bytes. IsWorkload bytes → (result.status ≡ 0) ⊎ (result.status ≡ 6) ⊎ (result.status ≡ 8)) }
-    ensures complete_generated { is_some (asked_of (texts words.now)) ≡ true
-        → reads (asked_of (texts words.now)) ≡ false
-        → judges (asked_of (texts words.now)) ≡ false → (Rose (W.faults out.old) (W.faults out.new) → ⊥) → (Rose (B.refusals beside.old) (B.refusals beside.new) → ⊥)
+    ensures complete_generated { is_some (asked_by_words (texts words.now)) ≡ true
+        → reads_workload (asked_by_words (texts words.now)) ≡ false
+        → judges (asked_by_words (texts words.now)) ≡ false → (Rose (W.faults out.old) (W.faults out.new) → ⊥) → (Rose (B.refusals beside.old) (B.refusals beside.new) → ⊥)
         → (result.status ≡ 0) ⊎ (result.status ≡ 6) ⊎ (result.status ≡ 8) }
 
     // A journal that is judged. With 0 and with 9 the verdict on it was written: yes, and another one; with 5 a prefix of it.
-    ensures check_yes { judges (asked_of (texts words.now)) ≡ true → result.status ≡ 0
+    ensures check_yes { judges (asked_by_words (texts words.now)) ≡ true → result.status ≡ 0
         → IsJudged (S.left src.old) Yes × Appends (W.held out.old) (W.held out.new) (verdict_line Yes) }
-    ensures check_no { judges (asked_of (texts words.now)) ≡ true → result.status ≡ 9
+    ensures check_no { judges (asked_by_words (texts words.now)) ≡ true → result.status ≡ 9
         → (v : Verdict) × (v ≡ Yes → ⊥) × IsJudged (S.left src.old) v × Appends (W.held out.old) (W.held out.new) (verdict_line v) }
-    ensures check_cut { judges (asked_of (texts words.now)) ≡ true → result.status ≡ 5
+    ensures check_cut { judges (asked_by_words (texts words.now)) ≡ true → result.status ≡ 5
         → (v : Verdict) × IsJudged (S.left src.old) v × AppendsFront (W.held out.old) (W.held out.new) (verdict_line v) }
-    ensures check_nine { result.status ≡ 9 → judges (asked_of (texts words.now)) ≡ true }
+    ensures check_nine { result.status ≡ 9 → judges (asked_by_words (texts words.now)) ≡ true }
 
     // What is refused in place of being judged.
-    ensures check_refused { judges (asked_of (texts words.now)) ≡ true → result.status ≡ 3
+    ensures check_refused { judges (asked_by_words (texts words.now)) ≡ true → result.status ≡ 3
         → IfSome (S.left src.old) IsRefusedInput }
-    ensures check_refused_where { judges (asked_of (texts words.now)) ≡ true
+    ensures check_refused_where { judges (asked_by_words (texts words.now)) ≡ true
         → (Rose (S.faults src.old) (S.faults src.new) → ⊥)
         → IfSome (S.left src.old) (λ bytes. IsRefusedInput bytes → (result.status ≡ 3) ⊎ (result.status ≡ 6)) }
 
     // Without a fault it ends with 0, with 9, with 3, or with 6 when out of memory; and but for 6 the input alone tells with which.
-    ensures check_complete { judges (asked_of (texts words.now)) ≡ true
+    ensures check_complete { judges (asked_by_words (texts words.now)) ≡ true
         → (Rose (S.faults src.old) (S.faults src.new) → ⊥)
         → (Rose (W.faults out.old) (W.faults out.new) → ⊥)
         → (result.status ≡ 0) ⊎ (result.status ≡ 3) ⊎ (result.status ≡ 6) ⊎ (result.status ≡ 9) }
-    ensures check_decides { judges (asked_of (texts words.now)) ≡ true
+    ensures check_decides { judges (asked_by_words (texts words.now)) ≡ true
         → (Rose (S.faults src.old) (S.faults src.new) → ⊥)
         → (Rose (W.faults out.old) (W.faults out.new) → ⊥)
         → IfSome (S.left src.old) (λ bytes. (load : Workload) (j : Journal) (v : Verdict) → IsInput bytes load j → IsVerdict load j v
         → (result.status ≡ verdict_status v) ⊎ (result.status ≡ 6)) }
 
     // The status, the journal, what was written and what was said are those of one end of the command; and no more is read than it takes.
-    ensures ended { HasEnded (asked_of (texts words.now))
+    ensures ended { HasEnded (asked_by_words (texts words.now))
         (record { left = S.left src.old; reads = S.faults src.old; writes = W.faults out.old; held = W.held out.old; threads = B.refusals beside.old; says = E.faults err.old; said = E.held err.old })
         (record { left = S.left src.new; reads = S.faults src.new; writes = W.faults out.new; held = W.held out.new; threads = B.refusals beside.new; says = E.faults err.new; said = E.held err.new })
         result }
-    ensures read { IsReadFor (asked_of (texts words.now)) (S.left src.old) (S.left src.new) (S.faults src.old) (S.faults src.new) result.status result.journal }
+    ensures read { IsReadFor (asked_by_words (texts words.now)) (S.left src.old) (S.left src.new) (S.faults src.old) (S.faults src.new) result.status result.journal }
 
     // Where no run is made, no thread is asked for, and no action.
-    ensures idle { (judges (asked_of (texts words.now)) ≡ true) ⊎ StartsNothing result.status
+    ensures idle { (judges (asked_by_words (texts words.now)) ≡ true) ⊎ StartsNothing result.status
         → (acts.new ≡ acts.old) × (beside.new ≡ beside.old) }
     ensures later { (S.faults src.old ≤ S.faults src.new) × (W.faults out.old ≤ W.faults out.new)
         × (E.faults err.old ≤ E.faults err.new) }

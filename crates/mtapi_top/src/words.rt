@@ -1,7 +1,7 @@
 //! What the words of the command ask for.
 ghost use Rattle.std.specs.Prelude.{◌≡◌, ◌≤◌, IfSome};
 ghost use Rattle.number_text.specs.Numbers.{number_within};
-ghost use Rattle.mtapi_top.specs.Words.{texts, asked_of, run_asks, gen_asks, check_asks, generated_asks, InRange};
+ghost use Rattle.mtapi_top.specs.Words.{texts, asked_by_words, run_asks, gen_asks, check_asks, generated_asks, InRange};
 
 use number_text::number_within;
 
@@ -84,7 +84,7 @@ fn check_asks(words: &[&str]) -> Option<Asked>
 
 /// What the words ask for. None where they are no words of the command.
 pub fn asked_of(words: &[&str]) -> Option<Asked>
-    ensures value { result ≡ asked_of (texts words.now) }
+    ensures value { result ≡ asked_by_words (texts words.now) }
     ensures range { IfSome result InRange }
 {
     match words {

@@ -2,7 +2,7 @@
 //! back, each with the number of its worker.
 #![tactic(auto)]
 
-ghost use Rattle.workload_runners.specs.Turns.{SameSeat};
+ghost use Rattle.workload_runners.specs.Turns.{SameNodeSeat};
 ghost use Rattle.node_with_workers.specs.Clients.{StillBegins};
 
 use action_fn::{ActionSet, ActionSource, Finished, StandardActions};
@@ -22,7 +22,7 @@ type Shared = (MutexHandle, ShmemHandle);
 // What the callers share, which the first one makes.
 #[tactic(auto, using(node_with_workers::proofs::Calls::further_calls))]
 fn shared<R: Wait>(rt: &R, caller: &mut Caller) -> Result<Shared, MrapiStatus>
-    ensures same { SameSeat caller.old caller.new }
+    ensures same { SameNodeSeat caller.old caller.new }
     ensures further { StillBegins caller.old caller.new }
 {
     match caller.mutex_create(rt, 5, MutexAttr::new()) {
@@ -36,7 +36,7 @@ fn shared<R: Wait>(rt: &R, caller: &mut Caller) -> Result<Shared, MrapiStatus>
 // Adds a number, and tells the sum.
 #[tactic(auto, using(node_with_workers::proofs::Calls::further_calls))]
 fn add<R: Wait>(rt: &R, caller: &mut Caller, at: Shared, number: i64) -> Result<i64, MrapiStatus>
-    ensures same { SameSeat caller.old caller.new }
+    ensures same { SameNodeSeat caller.old caller.new }
     ensures further { StillBegins caller.old caller.new }
 {
     let (mutex, cells) = at;

@@ -18,8 +18,8 @@ abbrev pub is_within : ℕ → ℕ → ℕ → Bool
 is_within least greatest value = nat_le least value && nat_le value greatest
 
 -- a yes or no as a number, and back
-abbrev pub number_of : Bool → ℕ
-number_of b = if b then 1 else 0
+abbrev pub number_of_bool : Bool → ℕ
+number_of_bool b = if b then 1 else 0
 
 abbrev pub is_one : ℕ → Bool
 is_one value = value == 1
@@ -49,13 +49,13 @@ abbrev pub ranged : {S : Type 0} → ℕ → ℕ → ℕ → (S → ℕ) → (�
 ranged number least greatest value changed = record { number = number; settable = true; least = least; greatest = greatest; value = value; changed = changed }
 
 abbrev pub yes_or_no : {S : Type 0} → ℕ → (S → Bool) → (Bool → S → S) → Attribute S
-yes_or_no number value changed = ranged number 0 1 (λ s. number_of (value s)) (λ n s. changed (is_one n) s)
+yes_or_no number value changed = ranged number 0 1 (λ s. number_of_bool (value s)) (λ n s. changed (is_one n) s)
 
 abbrev pub bits : {S : Type 0} → ℕ → (S → ℕ) → (ℕ → S → S) → Attribute S
 bits number value changed = ranged number 0 18446744073709551615 value changed
 
 abbrev pub read_only : {S : Type 0} → ℕ → (S → Bool) → Attribute S
-read_only number value = record { number = number; settable = false; least = 0; greatest = 0; value = λ s. number_of (value s); changed = λ n s. s }
+read_only number value = record { number = number; settable = false; least = 0; greatest = 0; value = λ s. number_of_bool (value s); changed = λ n s. s }
 
 -- the settings of a node
 abbrev pub node_attributes : List (Attribute NodeSettings)

@@ -154,8 +154,8 @@ module _ {S : Type 0} where
   abbrev pub left : List (Attribute S) → S → List (ℕ × ℕ) → List S
   left table s pairs = map (λ pair. after_set table pair.0 pair.1 s) pairs
 
-  abbrev pub gets : List (Attribute S) → S → List ℕ → List (Result ℕ MtapiStatus)
-  gets table s numbers = map (λ number. get_answer table number s) numbers
+  abbrev pub gets_attributes : List (Attribute S) → S → List ℕ → List (Result ℕ MtapiStatus)
+  gets_attributes table s numbers = map (λ number. get_answer table number s) numbers
 
 -- the answers of `set`
 abbrev pub taken : Result (Unit {0}) MtapiStatus
@@ -175,7 +175,7 @@ abbrev pub settings : NodeSettings
 settings = record { workers = 2; tasks = 300; actions = 401; groups = 502; queues = 63; objects = 74; priorities = 5; generations = 806 }
 
 pub record WorkedNodes : Type 0 where
-  pub gets : gets node_attributes settings (0 ∷ 1 ∷ 2 ∷ 3 ∷ 4 ∷ 5 ∷ 6 ∷ 7 ∷ 8 ∷ 9 ∷ [])
+  pub gets : gets_attributes node_attributes settings (0 ∷ 1 ∷ 2 ∷ 3 ∷ 4 ∷ 5 ∷ 6 ∷ 7 ∷ 8 ∷ 9 ∷ [])
       ≡ (Err t.ErrAttrNum ∷ Ok 2 ∷ Ok 300 ∷ Ok 401 ∷ Ok 502 ∷ Ok 63 ∷ Ok 74 ∷ Ok 5 ∷ Ok 806 ∷ Err t.ErrAttrNum ∷ [])
   pub below : sets node_attributes ((1, 0) ∷ (2, 0) ∷ (3, 0) ∷ (4, 0) ∷ (5, 0) ∷ (6, 0) ∷ (7, 0) ∷ (8, 0) ∷ [])
       ≡ (out_of_range ∷ out_of_range ∷ out_of_range ∷ out_of_range ∷ out_of_range ∷ out_of_range ∷ out_of_range ∷ out_of_range ∷ [])
@@ -191,41 +191,44 @@ pub record WorkedNodes : Type 0 where
       ∷ record settings { generations = 6 } ∷ settings ∷ settings ∷ [])
 
 -- an action, tasks, queues and mutexes with values that differ
-abbrev pub action : ActionAttributes
-action = record { global = false; affinity = 12; domain_shared = true }
+abbrev pub worked_action : ActionAttributes
+worked_action = record { global = false; affinity = 12; domain_shared = true }
 
-abbrev pub task : TaskAttributes
-task = record { detached = true; instances = 1; priority = 5; affinity = 12 }
+abbrev pub worked_task : TaskAttributes
+worked_task = record { detached = true; instances = 1; priority = 5; affinity = 12 }
 
-abbrev pub queue : QueueAttributes
-queue = record { global = false; priority = 5; limit = 70; ordered = true; retain = false; domain_shared = true }
+abbrev pub worked_queue_attributes : QueueAttributes
+worked_queue_attributes = record { global = false; priority = 5; limit = 70; ordered = true; retain = false; domain_shared = true }
 
 -- the greatest number of 64 bits
 abbrev pub all_bits : ℕ
 all_bits = 18446744073709551615
 
-pub record WorkedObjects : Type 0 where
-  pub action_gets : gets action_attributes action (0 ∷ 1 ∷ 2 ∷ 3 ∷ 4 ∷ []) ≡ (Err t.ErrAttrNum ∷ Ok 0 ∷ Ok 12 ∷ Ok 1 ∷ Err t.ErrAttrNum ∷ [])
+pub record WorkedObjectValues : Type 0 where
+  pub action_gets : gets_attributes action_attributes worked_action (0 ∷ 1 ∷ 2 ∷ 3 ∷ 4 ∷ []) ≡ (Err t.ErrAttrNum ∷ Ok 0 ∷ Ok 12 ∷ Ok 1 ∷ Err t.ErrAttrNum ∷ [])
   pub action_sets : sets action_attributes ((0, 0) ∷ (1, 0) ∷ (2, 0) ∷ (2, all_bits) ∷ (2, 18446744073709551616) ∷ (3, 0) ∷ (4, 0) ∷ [])
       ≡ (unknown ∷ fixed ∷ taken ∷ taken ∷ out_of_range ∷ fixed ∷ unknown ∷ [])
-  pub action_left : left action_attributes action ((1, 1) ∷ (2, 6) ∷ (3, 0) ∷ []) ≡ (action ∷ record action { affinity = 6 } ∷ action ∷ [])
-  pub task_gets : gets task_attributes task (0 ∷ 1 ∷ 2 ∷ 3 ∷ 4 ∷ 5 ∷ []) ≡ (Err t.ErrAttrNum ∷ Ok 1 ∷ Ok 1 ∷ Ok 5 ∷ Ok 12 ∷ Err t.ErrAttrNum ∷ [])
+  pub action_left : left action_attributes worked_action ((1, 1) ∷ (2, 6) ∷ (3, 0) ∷ [])
+      ≡ (worked_action ∷ record worked_action { affinity = 6 } ∷ worked_action ∷ [])
+  pub task_gets : gets_attributes task_attributes worked_task (0 ∷ 1 ∷ 2 ∷ 3 ∷ 4 ∷ 5 ∷ [])
+      ≡ (Err t.ErrAttrNum ∷ Ok 1 ∷ Ok 1 ∷ Ok 5 ∷ Ok 12 ∷ Err t.ErrAttrNum ∷ [])
   pub task_flags : sets task_attributes ((0, 0) ∷ (1, 0) ∷ (1, 1) ∷ (1, 2) ∷ (2, 0) ∷ (2, 1) ∷ (2, 2) ∷ [])
       ≡ (unknown ∷ taken ∷ taken ∷ out_of_range ∷ out_of_range ∷ taken ∷ out_of_range ∷ [])
   pub task_sets : sets task_attributes ((3, 0) ∷ (3, 7) ∷ (3, 8) ∷ (4, 0) ∷ (4, all_bits) ∷ (4, 18446744073709551616) ∷ (5, 0) ∷ [])
       ≡ (taken ∷ taken ∷ out_of_range ∷ taken ∷ taken ∷ out_of_range ∷ unknown ∷ [])
-  pub task_left : left task_attributes task ((1, 0) ∷ (1, 1) ∷ (3, 6) ∷ (4, 6) ∷ (3, 8) ∷ [])
-      ≡ (record task { detached = false } ∷ task ∷ record task { priority = 6 } ∷ record task { affinity = 6 } ∷ task ∷ [])
-  pub instances_left : left task_attributes (record task { instances = 3 }) ((2, 1) ∷ []) ≡ (task ∷ [])
-  pub queue_gets : gets queue_attributes queue (0 ∷ 1 ∷ 2 ∷ 3 ∷ 4 ∷ 5 ∷ 6 ∷ 7 ∷ [])
+  pub task_left : left task_attributes worked_task ((1, 0) ∷ (1, 1) ∷ (3, 6) ∷ (4, 6) ∷ (3, 8) ∷ [])
+      ≡ (record worked_task { detached = false } ∷ worked_task ∷ record worked_task { priority = 6 } ∷ record worked_task { affinity = 6 } ∷ worked_task ∷ [])
+  pub instances_left : left task_attributes (record worked_task { instances = 3 }) ((2, 1) ∷ []) ≡ (worked_task ∷ [])
+  pub queue_gets : gets_attributes queue_attributes worked_queue_attributes (0 ∷ 1 ∷ 2 ∷ 3 ∷ 4 ∷ 5 ∷ 6 ∷ 7 ∷ [])
       ≡ (Err t.ErrAttrNum ∷ Ok 0 ∷ Ok 5 ∷ Ok 70 ∷ Ok 1 ∷ Ok 0 ∷ Ok 1 ∷ Err t.ErrAttrNum ∷ [])
   pub queue_sets : sets queue_attributes ((0, 0) ∷ (1, 0) ∷ (2, 0) ∷ (2, 7) ∷ (2, 8) ∷ (3, 0) ∷ (3, 1) ∷ (3, 65536) ∷ (3, 65537) ∷ [])
       ≡ (unknown ∷ fixed ∷ taken ∷ taken ∷ out_of_range ∷ out_of_range ∷ taken ∷ taken ∷ out_of_range ∷ [])
   pub queue_flags : sets queue_attributes ((4, 0) ∷ (4, 1) ∷ (4, 2) ∷ (5, 0) ∷ (5, 1) ∷ (5, 2) ∷ (6, 0) ∷ (7, 0) ∷ [])
       ≡ (taken ∷ taken ∷ out_of_range ∷ taken ∷ taken ∷ out_of_range ∷ fixed ∷ unknown ∷ [])
-  pub queue_left : left queue_attributes queue ((1, 1) ∷ (2, 6) ∷ (3, 6) ∷ (4, 0) ∷ (5, 1) ∷ (6, 0) ∷ [])
-      ≡ (queue ∷ record queue { priority = 6 } ∷ record queue { limit = 6 } ∷ record queue { ordered = false } ∷ record queue { retain = true } ∷ queue ∷ [])
-  pub mutex_gets : gets mutex_attributes (record { recursive = true }) (0 ∷ 1 ∷ 2 ∷ []) ≡ (Err t.ErrAttrNum ∷ Ok 1 ∷ Err t.ErrAttrNum ∷ [])
+  pub queue_left : left queue_attributes worked_queue_attributes ((1, 1) ∷ (2, 6) ∷ (3, 6) ∷ (4, 0) ∷ (5, 1) ∷ (6, 0) ∷ [])
+      ≡ (worked_queue_attributes ∷ record worked_queue_attributes { priority = 6 } ∷ record worked_queue_attributes { limit = 6 }
+      ∷ record worked_queue_attributes { ordered = false } ∷ record worked_queue_attributes { retain = true } ∷ worked_queue_attributes ∷ [])
+  pub mutex_gets : gets_attributes mutex_attributes (record { recursive = true }) (0 ∷ 1 ∷ 2 ∷ []) ≡ (Err t.ErrAttrNum ∷ Ok 1 ∷ Err t.ErrAttrNum ∷ [])
   pub mutex_sets : sets mutex_attributes ((0, 0) ∷ (1, 0) ∷ (1, 1) ∷ (1, 2) ∷ (2, 0) ∷ []) ≡ (unknown ∷ taken ∷ taken ∷ out_of_range ∷ unknown ∷ [])
   pub mutex_left : left mutex_attributes (record { recursive = false }) ((1, 0) ∷ (1, 1) ∷ [])
       ≡ (record { recursive = false } ∷ record { recursive = true } ∷ [])
@@ -235,4 +238,4 @@ pub record WorkedValues : Type 0 where
   pub handles : WorkedHandles
   pub looks : WorkedLooks
   pub nodes : WorkedNodes
-  pub objects : WorkedObjects
+  pub objects : WorkedObjectValues

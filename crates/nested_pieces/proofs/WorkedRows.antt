@@ -1,7 +1,7 @@
 -- The worked rows, by computing.
 use Rattle.std.proofs.Common.{◌≡◌, ℕ, arith, refl}
 use Rattle.nested_pieces.specs.Worked.{WorkedRounds, WorkedWorks}
-unfoldable use Rattle.nested_workers.specs.Rounds.{all_in}
+unfoldable use Rattle.nested_workers.specs.Rounds.{all_nested}
 
 pub works : WorkedWorks
 works = record { pieces = refl; results = refl; counts = refl; none = refl }
@@ -10,7 +10,7 @@ four_is_three : (n : ℕ) → n ≡ 4 → n ≡ 3 → ⊥
 four_is_three n e f = omega (arith, e, f)
 
 pub rounds : WorkedRounds
-unfolding all_in
+unfolding all_nested
 rounds = record {
   entries = λ t a k args done s. refl;
   stops = tt;

@@ -7,7 +7,7 @@ use Rattle.typed_pieces.specs.Places.{IsKeptAt}
 use Rattle.typed_pieces.proofs.Levels.{kept_at}
 use Rattle.nested_pieces.proofs.Kept.{all_alike}
 use Rattle.nested_pieces.specs.Joins.{JoinsAt}
-use Rattle.nested_pieces.specs.Works.{Works, Came, HasWorked, IsWorkOf, count_in, pieces_in, results_in}
+use Rattle.nested_pieces.specs.Works.{Works, Came, HasWorked, IsWorkOf, how_many_pieces, pieces_in, results_in}
 use Rattle.nested_pieces.specs.Works.Works.{NoneRan, Gave, Joined}
 use Rattle.nested_pieces.specs.declared.parts.Counted.{Counted}
 
@@ -31,7 +31,7 @@ module _ {P D J : Type 0} where
   beside_results (Gave p d others) ws = ap (λ l. d ∷ l) (beside_results others ws)
   beside_results (Joined p join d parts others) ws = ap (λ l. d ∷ l) (beside_results others ws)
 
-  beside_count : (vs ws : Works P D J) → count_in (beside vs ws) ≡ count_in vs + count_in ws
+  beside_count : (vs ws : Works P D J) → how_many_pieces (beside vs ws) ≡ how_many_pieces vs + how_many_pieces ws
   beside_count NoneRan ws = omega arith
   beside_count (Gave p d others) ws = let e = beside_count others ws in omega (arith, e)
   beside_count (Joined p join d parts others) ws = let e = beside_count others ws in omega (arith, e)
@@ -47,7 +47,7 @@ module _ {P D J : Type 0} (promise : P → D → Type 0) (joined : J → List D 
     works : Works P D J
     pieces : pieces_in works ≡ ps
     results : results_in works ≡ map (λ c. c.result) cs
-    counts : count_in works ≡ sum_by (λ c. c.pieces) cs
+    counts : how_many_pieces works ≡ sum_by (λ c. c.pieces) cs
     worked : HasWorked promise joined works
 
   are_works : (ps : List P) (cs : List (Counted D)) → AllKept (Came promise joined) ps cs → AreWorks ps cs
@@ -63,7 +63,7 @@ module _ {P D J : Type 0} (promise : P → D → Type 0) (joined : J → List D 
         results = beside_results one.works more.works
             ∙ (ap (λ l. l ++ results_in more.works) one.results ∙ ap (λ l. k.0.result ∷ l) more.results);
         counts = counts
-            ∙ (ap (λ n. n + count_in more.works) one.counts
+            ∙ (ap (λ n. n + how_many_pieces more.works) one.counts
             ∙ (ap (λ n. k.0.pieces + n) more.counts ∙ sym (sum_by-cons (λ c. c.pieces) k.0 k.1)));
         worked = beside_worked one.works more.works one.worked more.worked;
       })

@@ -23,10 +23,10 @@ module _ {P D J : Type 0} where
   results_in (Joined p join d parts others) = d ∷ results_in others
 
   -- how many pieces there are, parts and their parts too
-  abbrev pub count_in : Works P D J → ℕ
-  count_in NoneRan = 0
-  count_in (Gave p d others) = suc (count_in others)
-  count_in (Joined p join d parts others) = suc (count_in parts + count_in others)
+  abbrev pub how_many_pieces : Works P D J → ℕ
+  how_many_pieces NoneRan = 0
+  how_many_pieces (Gave p d others) = suc (how_many_pieces others)
+  how_many_pieces (Joined p join d parts others) = suc (how_many_pieces parts + how_many_pieces others)
 
   -- A piece gave a result that it promises; or it has split, so that it promises what its join gives of results that its parts promise, and its
   -- result is what the join gave, once, of the results of all its parts, in their order.
@@ -42,7 +42,7 @@ pub record IsWorkOf {P D J : Type 0} (promise : P → D → Type 0) (joined : J 
   pub works : Works P D J
   pub pieces : pieces_in works ≡ piece ∷ []
   pub results : results_in works ≡ result ∷ []
-  pub counts : count_in works ≡ count
+  pub counts : how_many_pieces works ≡ count
   pub worked : HasWorked promise joined works
 
 -- the same of a result that is counted

@@ -3,8 +3,8 @@
 ghost use Rattle.std.specs.Prelude.{[], ◌∷◌, pos, Some};
 ghost use Rattle.mtapi_values.specs.declared.kinds.Kind.TheVariants.{Echo};
 ghost use Rattle.mtapi_machine.specs.declared.ops.Op.TheVariants.{ActionCreate};
-ghost use Rattle.sched_workers.specs.Answers.{Called, with_number, start_of};
-ghost use Rattle.workload_runners.specs.Replies.{handle, mtapi};
+ghost use Rattle.sched_workers.specs.Answers.{Called, with_handle_number, start_of};
+ghost use Rattle.workload_runners.specs.Replies.{handle_told, mtapi_standard};
 ghost use Rattle.typed_pieces.specs.Runs.{every_worker};
 
 use crate::runner::JOB;
@@ -18,7 +18,7 @@ use typed_pieces::args_of;
 
 // Makes the action whose tasks run pieces.
 fn make_action<R: Wait>(rt: &R, caller: &mut Caller) -> Result<ActionHandle, MtapiStatus>
-    ensures { Called mtapi handle (ActionCreate 1 Echo every_worker) caller.old caller.new (with_number (λ h. h.0) result) }
+    ensures { Called mtapi_standard handle_told (ActionCreate 1 Echo every_worker) caller.old caller.new (with_handle_number (λ h. h.0) result) }
 {
     caller.action_create(rt, JOB, Kind::Echo, ActionAttr::new())
 }
@@ -30,7 +30,7 @@ fn start_root<R: Wait>(
     attr: TaskAttr,
     group: GroupHandle,
 ) -> Result<TaskHandle, MtapiStatus>
-    ensures { Called mtapi handle (start_of 1 (pos 0 ∷ []) attr (Some group)) caller.old caller.new (with_number (λ h. h.0) result) }
+    ensures { Called mtapi_standard handle_told (start_of 1 (pos 0 ∷ []) attr (Some group)) caller.old caller.new (with_handle_number (λ h. h.0) result) }
 {
     caller.task_start(rt, JOB, &args_of(0), attr, Some(group))
 }

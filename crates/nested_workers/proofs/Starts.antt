@@ -1,11 +1,11 @@
 -- A start by a worker's own seat leaves the task that runs on it as it is: the row of a start doesn't ask who asks.
-use Rattle.workload_runners.proofs.Names.{[], ◌++◌, ◌<◌, ◌∙◌, ◌∷◌, ◌≡◌, ◌≤◌, AtWork, Holds, JournaledTerms, Legal, Legal-prefix, LegalFrom, List, MtapiStatus, NodeEntry, Op, Reply, Result, Seat, State, Terms, Turned, Unturned, Work, WorkerKeeps, after, after_from, ap, append-nil, append_assoc, arith, entry, inl, inr, nat_tests, next, opening, refl, subst, sym, terms_stay, true, work_stays, workers, ℕ, entries_of, IsNext}
+use Rattle.workload_runners.proofs.Names.{[], ◌++◌, ◌<◌, ◌∙◌, ◌∷◌, ◌≡◌, ◌≤◌, AtWork, HoldsTask, JournaledTerms, Legal, Legal-prefix, LegalFrom, List, MtapiStatus, NodeEntry, Op, Reply, Result, Seat, State, Terms, NodeTurned, NodeUnturned, Work, WorkerKeeps, after, after_from, ap, append-nil, append_assoc, arith, entry, inl, inr, nat_tests, next, opening, refl, subst, sym, terms_stay, true, work_stays, workers, ℕ, entries_of, IsNext}
 use Rattle.mtapi_machine.specs.State.{seats}
 use Rattle.mtapi_machine.specs.declared.ops.Op.TheVariants as op
 use Rattle.workload_runners.proofs.OwnEntries.{state_at, turned_next}
 use Rattle.workload_runners.proofs.Adds.{same_seat, same_then}
 use Rattle.workload_runners.proofs.SeatSteps.{holds_at, worker_at, works_then}
-use Rattle.workload_runners.specs.Replies.{handle, mtapi}
+use Rattle.workload_runners.specs.Replies.{handle_told, mtapi_standard}
 use Rattle.sched_workers.specs.Answers.{Called}
 use Rattle.nested_workers.specs.Starts.{AddsStarts, AreStarts, Since, is_start}
 
@@ -22,7 +22,7 @@ start_keeps s w (op.TaskStart job args priority cores detached group) r e l m n 
     work_stays s (entry (workers s) o r ∷ []) w (record { seat = m; honest = n.honest; allowed = n.allowed }, tt) (none_of w (workers s) o r l)
 start_keeps s w _ r e l m n = absurd cc
 
-module _ (old new : Seat) (o : Op) (r : Reply) (t : Turned old o r new) where
+module _ (old new : Seat) (o : Op) (r : Reply) (t : NodeTurned old o r new) where
   before : Legal new.terms.node (old.seen ++ t.between)
   before = Legal-prefix new.terms.node (old.seen ++ t.between) (entry old.number o r ∷ []) (subst (Legal new.terms.node) t.seen t.legal)
 
@@ -40,19 +40,20 @@ module _ (old new : Seat) (o : Op) (r : Reply) (t : Turned old o r new) where
       (works_then old new o r t h x a.worker (k.holds h x (holds_at old new o r t h x a))).work
 
 -- where nothing was added the task is as it was
-unturned_keeps : (old new : Seat) → Unturned old new → (h : ℕ) (x : Work) → AtWork old h x → AtWork new h x
+unturned_keeps : (old new : Seat) → NodeUnturned old new → (h : ℕ) (x : Work) → AtWork old h x → AtWork new h x
 unturned_keeps old new u h x a = record {
   worker =
       subst (λ (n : ℕ). n < new.terms.node.settings.workers) (sym u.same.number)
       (subst (λ (y : JournaledTerms). old.number < y.node.settings.workers) (sym u.same.terms) a.worker);
   holds =
-      subst (λ (n : ℕ). Holds (after new.terms.node new.seen) n h x) (sym u.same.number)
-      (subst (λ (y : JournaledTerms). Holds (after y.node new.seen) old.number h x) (sym u.same.terms)
-      (subst (λ (l : List NodeEntry). Holds (after old.terms.node l) old.number h x) (sym u.seen) a.holds));
+      subst (λ (n : ℕ). HoldsTask (after new.terms.node new.seen) n h x) (sym u.same.number)
+      (subst (λ (y : JournaledTerms). HoldsTask (after y.node new.seen) old.number h x) (sym u.same.terms)
+      (subst (λ (l : List NodeEntry). HoldsTask (after old.terms.node l) old.number h x) (sym u.seen) a.holds));
 }
 
 -- a call for a start adds a start, or nothing
-pub called_starts : (old new : Seat) (o : Op) (x : Result ℕ MtapiStatus) → is_start o ≡ true → Called mtapi handle o old new x → AddsStarts old new
+pub called_starts : (old new : Seat) (o : Op) (x : Result ℕ MtapiStatus) → is_start o ≡ true → Called mtapi_standard handle_told o old new x
+    → AddsStarts old new
 called_starts old new o x is (inl c) = record {
   same = c.1.same;
   own = entry old.number o c.0 ∷ [];

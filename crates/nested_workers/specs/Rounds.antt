@@ -9,7 +9,7 @@ use Rattle.mtapi_machine.specs.Legal.{NodeEntry}
 use Rattle.mtapi_machine.specs.declared.ops.Op.TheVariants as op
 use Rattle.mtapi_machine.specs.declared.replies.Reply.{Reply}
 use Rattle.mtapi_machine.specs.declared.replies.Reply.TheVariants as reply
-use Rattle.workload_runners.specs.Turns.{Seat, SameSeat, AddsOwn}
+use Rattle.workload_runners.specs.Turns.{Seat, SameNodeSeat, AddsOwn}
 use Rattle.workload_runners.specs.Rounds.{Added}
 use Rattle.nested_workers.specs.Starts.{AreStarts}
 use Rattle.turn_looks.specs.declared.services.ServeEnd.{ServeEnd}
@@ -21,9 +21,9 @@ pub data NestedRound : Type 0 where
   Worked : TaskHandle → ActionHandle → Kind → List ℤ → List NodeEntry → Answered → NestedRound
 
 -- the entries of a round: each task that was taken is ended in it, and between stand the starts that it asked for
-abbrev pub entries_in : ℕ → NestedRound → List NodeEntry
-entries_in w Rested = entry w op.Pick reply.Idle ∷ []
-entries_in w (Worked t a k args starts done) =
+abbrev pub nested_entries_in : ℕ → NestedRound → List NodeEntry
+nested_entries_in w Rested = entry w op.Pick reply.Idle ∷ []
+nested_entries_in w (Worked t a k args starts done) =
     entry w op.Pick (reply.Picked t a k args) ∷ (starts ++ entry w (op.Finish t done) reply.Ok ∷ [])
 
 -- what stands between is starts
@@ -31,16 +31,16 @@ abbrev pub StartsIn : ℕ → NestedRound → Type 0
 StartsIn w Rested = Unit {0}
 StartsIn w (Worked t a k args starts done) = AreStarts w starts
 
-unfoldable pub all_in : ℕ → List NestedRound → List NodeEntry
-all_in w [] = []
-all_in w (r ∷ rs) = entries_in w r ++ all_in w rs
+unfoldable pub all_nested : ℕ → List NestedRound → List NodeEntry
+all_nested w [] = []
+all_nested w (r ∷ rs) = nested_entries_in w r ++ all_nested w rs
 
 abbrev pub AllStart : ℕ → List NestedRound → Type 0
 AllStart w [] = Unit {0}
 AllStart w (r ∷ rs) = StartsIn w r × AllStart w rs
 
 -- what a worker does with the task that it took: it asks for starts, and finishes it
-pub record Ran (old : Seat) (t : TaskHandle) (new : Seat) : Type 0 where
+pub record RanTask (old : Seat) (t : TaskHandle) (new : Seat) : Type 0 where
   pub starts : List NodeEntry
   pub are : AreStarts old.number starts
   pub done : Answered
@@ -54,16 +54,16 @@ IsLastPick _ = ⊥
 
 -- the worker made its last pick
 pub record PicksLast (old new : Seat) : Type 0 where
-  pub same : SameSeat old new
+  pub same : SameNodeSeat old new
   pub last : Reply
   pub is : IsLastPick last
   pub mine : new.mine ≡ old.mine ++ entry old.number op.Pick last ∷ []
 
 -- a round that went on, the last pick, or one after which the turns were used up
-abbrev pub Rounded : Seat → Option ServeEnd → Seat → Type 0
-Rounded old None new = (r : NestedRound) × StartsIn old.number r × Added old (entries_in old.number r) new
-Rounded old (Some end.Stopped) new = PicksLast old new
-Rounded old (Some (end.Spent s)) new = SameSeat old new
+abbrev pub NestedRounded : Seat → Option ServeEnd → Seat → Type 0
+NestedRounded old None new = (r : NestedRound) × StartsIn old.number r × Added old (nested_entries_in old.number r) new
+NestedRounded old (Some end.Stopped) new = PicksLast old new
+NestedRounded old (Some (end.Spent s)) new = SameNodeSeat old new
 
 -- a worker's entries: rounds, and at the end its last pick
 pub record NestsAs (w : ℕ) (es : List NodeEntry) : Type 0 where
@@ -71,9 +71,9 @@ pub record NestsAs (w : ℕ) (es : List NodeEntry) : Type 0 where
   pub start : AllStart w rounds
   pub last : Reply
   pub stops : IsLastPick last
-  pub is : es ≡ all_in w rounds ++ entry w op.Pick last ∷ []
+  pub is : es ≡ all_nested w rounds ++ entry w op.Pick last ∷ []
 
 -- how a worker's service ended
 abbrev pub NestsTo : Seat → ServeEnd → Seat → Type 0
 NestsTo old end.Stopped new = AddsOwn NestsAs old new
-NestsTo old (end.Spent s) new = SameSeat old new
+NestsTo old (end.Spent s) new = SameNodeSeat old new

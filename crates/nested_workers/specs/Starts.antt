@@ -4,7 +4,7 @@ use Rattle.history_law.specs.Seats.{Work}
 use Rattle.mtapi_machine.specs.Legal.{NodeEntry}
 use Rattle.mtapi_machine.specs.declared.ops.Op.{Op}
 use Rattle.mtapi_machine.specs.declared.ops.Op.TheVariants.{TaskStart}
-use Rattle.workload_runners.specs.Turns.{Seat, SameSeat}
+use Rattle.workload_runners.specs.Turns.{Seat, SameNodeSeat}
 use Rattle.workload_runners.specs.Rounds.{AtWork}
 
 -- the op starts a task
@@ -19,7 +19,7 @@ AreStarts w (e ∷ es) = (e.who ≡ w) × (is_start e.op ≡ true) × AreStarts 
 
 -- the seat asked for starts of tasks, and for nothing else; the task that runs on it still does
 pub record AddsStarts (old new : Seat) : Type 0 where
-  pub same : SameSeat old new
+  pub same : SameNodeSeat old new
   pub own : List NodeEntry
   pub mine : new.mine ≡ old.mine ++ own
   pub starts : AreStarts old.number own

@@ -2,8 +2,8 @@
 
 ghost use Rattle.std.specs.Prelude.{◌≡◌, List, [], ◌∷◌, IfOk, OnErr, true};
 ghost use Rattle.mtapi_machine.specs.declared.replies.Reply.{Reply};
-ghost use Rattle.workload_runners.specs.Turns.{Seat, Turned, Unturned};
-ghost use Rattle.workload_runners.specs.Replies.{handle, mtapi, says, fits};
+ghost use Rattle.workload_runners.specs.Turns.{Seat, NodeTurned, NodeUnturned};
+ghost use Rattle.workload_runners.specs.Replies.{handle_told, mtapi_standard, says_something, fits_op};
 ghost use Rattle.sched_workers.specs.Answers.{AnsweredBy, Called};
 ghost use Rattle.nested_workers.specs.Starts.{AddsStarts, Since, is_start};
 
@@ -36,8 +36,8 @@ pub struct Held<'a, B: Began> {
 
 // The handle that an op gives.
 fn handle_of(reply: Result<Reply, Spent>) -> Result<u64, MtapiStatus>
-    requires { IfOk reply (λ r. says mtapi handle r ≡ true) }
-    ensures { AnsweredBy mtapi handle reply result }
+    requires { IfOk reply (λ r. says_something mtapi_standard handle_told r ≡ true) }
+    ensures { AnsweredBy mtapi_standard handle_told reply result }
 {
     match reply {
         Ok(Reply::Handle(handle)) => Ok(handle),
@@ -56,9 +56,9 @@ fn once<R: Wait>(
 ) -> Result<Reply, Spent>
     requires cell { seat.old.cell ≡ cell.now.id }
     requires start { is_start op ≡ true }
-    ensures turned { IfOk result (λ r. Turned seat.old op r seat.new) }
-    ensures spent { OnErr result (Unturned seat.old seat.new) }
-    ensures fits { IfOk result (λ r. fits op r ≡ true) }
+    ensures turned { IfOk result (λ r. NodeTurned seat.old op r seat.new) }
+    ensures spent { OnErr result (NodeUnturned seat.old seat.new) }
+    ensures fits { IfOk result (λ r. fits_op op r ≡ true) }
 {
     let affected = affected_by(&op);
     let reply = turn(rt, cell, seat, op);
@@ -75,7 +75,7 @@ fn started<R: Wait>(
 ) -> Result<u64, MtapiStatus>
     requires cell { seat.old.cell ≡ cell.now.id }
     requires start { is_start op ≡ true }
-    requires fits { (r : Reply) → fits op r ≡ says mtapi handle r }
+    requires fits { (r : Reply) → fits_op op r ≡ says_something mtapi_standard handle_told r }
     ensures { AddsStarts seat.old seat.new }
 {
     handle_of(once(rt, cell, seat, op))
@@ -109,7 +109,7 @@ impl<'a, B: Began> Held<'a, B> {
     // One turn that starts a task.
     pub(crate) fn start<R: Wait>(&mut self, rt: &R, op: Op) -> Result<u64, MtapiStatus>
         requires start { is_start op ≡ true }
-        requires fits { (r : Reply) → fits op r ≡ says mtapi handle r }
+        requires fits { (r : Reply) → fits_op op r ≡ says_something mtapi_standard handle_told r }
     {
         started(rt, self.cell, &mut self.seat, op)
     }

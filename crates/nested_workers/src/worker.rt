@@ -4,8 +4,8 @@ ghost use Rattle.std.specs.Prelude.{◌≡◌, true, IfOk, OnErr, [], ◌∷◌}
 ghost use Rattle.action_fn.specs.Answers.{is_pure};
 ghost use Rattle.workload_runners.specs.Rounds.{AtRest, AtWork};
 ghost use Rattle.workload_runners.specs.Steps.{work_of, PickEnds, Finishes};
-ghost use Rattle.workload_runners.specs.Turns.{SameSeat};
-ghost use Rattle.nested_workers.specs.Rounds.{NestsTo, Ran, Rounded};
+ghost use Rattle.workload_runners.specs.Turns.{SameNodeSeat};
+ghost use Rattle.nested_workers.specs.Rounds.{NestsTo, RanTask, NestedRounded};
 
 use crate::held::{Began, Held};
 use crate::starter::Starter;
@@ -49,7 +49,7 @@ fn pick<R: Wait>(
     requires cell { seat.old.cell ≡ cell.now.id }
     requires rest { AtRest seat.old }
     ensures picked { IfOk result (λ r. PickEnds seat.old r seat.new) }
-    ensures same { SameSeat seat.old seat.new }
+    ensures same { SameNodeSeat seat.old seat.new }
 {
     match turn(rt, cell, seat, Op::Pick) {
         Ok(reply) => Ok(reply),
@@ -68,7 +68,7 @@ fn finish<R: Wait>(
     requires cell { seat.old.cell ≡ cell.now.id }
     requires work { AtWork seat.old task.0 (work_of done.kind done.args) }
     ensures finished { IfOk result (λ _. Finishes seat.old task done seat.new) }
-    ensures same { SameSeat seat.old seat.new }
+    ensures same { SameNodeSeat seat.old seat.new }
 {
     match turn(rt, cell, seat, Op::Finish { task, done }) {
         Ok(_) => Ok(()),
@@ -90,8 +90,8 @@ fn act_since<B: Began, R: Wait, A: RunTasks>(
     requires pure { is_pure kind ≡ true }
     requires work { AtWork seat task.0 (work_of kind args) }
     requires began { B.began ≡ seat ∷ [] }
-    ensures ran { IfOk result.1 (λ _. Ran seat task result.0) }
-    ensures same { SameSeat seat result.0 }
+    ensures ran { IfOk result.1 (λ _. RanTask seat task result.0) }
+    ensures same { SameNodeSeat seat result.0 }
 {
     let starter = Starter {
         held: Mutex::new(Held::<B>::new(cell, seat)),
@@ -116,8 +116,8 @@ fn act<R: Wait, A: RunTasks>(
     requires cell { seat.cell ≡ cell.now.id }
     requires pure { is_pure kind ≡ true }
     requires work { AtWork seat task.0 (work_of kind args) }
-    ensures ran { IfOk result.1 (λ _. Ran seat task result.0) }
-    ensures same { SameSeat seat result.0 }
+    ensures ran { IfOk result.1 (λ _. RanTask seat task result.0) }
+    ensures same { SameNodeSeat seat result.0 }
 {
     act_since::<Brand, R, A>(rt, cell, seat, acts, task, kind, args)
 }
@@ -140,7 +140,7 @@ fn round<R: Wait, A: RunTasks>(
 ) -> (TurnSeat<Journaled>, Option<ServeEnd>)
     requires cell { seat.cell ≡ cell.now.id }
     requires rest { AtRest seat }
-    ensures { Rounded seat result.1 result.0 }
+    ensures { NestedRounded seat result.1 result.0 }
 {
     let mut seat = seat;
     match pick(rt, cell, &mut seat) {

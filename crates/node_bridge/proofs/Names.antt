@@ -27,20 +27,20 @@ pub use Rattle.mtapi_values.specs.declared.handles.TaskHandle.{TaskHandle}
 pub use Rattle.mtapi_values.specs.declared.kinds.Kind.{Kind}
 pub use Rattle.mtapi_values.specs.declared.masks.Mask.{Mask}
 pub use Rattle.mtapi_values.specs.declared.statuses.MtapiStatus.{MtapiStatus}
-pub use Rattle.node_bridge.specs.Answers.{Asks, Course, LeftBehind, LookEnds, LookForm, LooksOn, LostSight, NotBegun, PickSays, Seat, StartEnds, StartSays, Told, Unasked, WorkSays, entries_in, look_in, pends, start_in, told_in}
-pub use Rattle.node_bridge.specs.Image.{BridgeEntry, asks_node, creates, image, image-append, image_of, inside, inward}
-pub use Rattle.node_bridge.specs.Jobs.{action_for, all_cores, job_of, pure_kinds}
-pub use Rattle.node_bridge.specs.Legal.{Begun, Legal, Legal-prefix, begun_by, begun_from, last_of, seat_count}
-pub use Rattle.node_bridge.specs.Opening.{Has, IsOpening}
-pub use Rattle.node_bridge.specs.Rounds.{Added, AtRest, AtWork, Finishes, PickEnds, Ran, Round, Rounded, Rounds, Serves, Took, UnusedWorkersRest, work_of}
-pub use Rattle.node_bridge.specs.Stands.{EachLive, EndsAs, IsKept, Stands, flat, noted_in, place_of, terms_of}
+pub use Rattle.node_bridge.specs.Answers.{AsksNode, Course, LeftBehind, LookEnds, LookForm, LooksOn, LostSight, NotBegun, PickSays, BridgeSeat, StartEnds, StartSays, Told, Unasked, WorkSays, start_entries_in, look_in, bridge_pends, reply_of_start, told_in}
+pub use Rattle.node_bridge.specs.Image.{BridgeEntry, asks_node, creates_actions, image, image-append, image_of, inside_reply, op_asked_inside}
+pub use Rattle.node_bridge.specs.Jobs.{action_for, mask_of_all, job_of_kind, pure_kinds}
+pub use Rattle.node_bridge.specs.Legal.{BegunTask, BridgeLegal, BridgeLegal-prefix, begun_by, begun_from, later_start, bridge_seats}
+pub use Rattle.node_bridge.specs.Opening.{NodeHas, IsOpening}
+pub use Rattle.node_bridge.specs.Rounds.{BridgeAdded, BridgeAtRest, BridgeAtWork, BridgeFinishes, BridgePickEnds, Ran, BridgeRound, BridgeRounded, Rounds, BridgeServes, BridgeTook, UnusedWorkersRest, bridge_work_of}
+pub use Rattle.node_bridge.specs.Stands.{EachLive, EndsAs, IsTaskKept, BridgeStands, flat, noted_in, place_of_task, served_terms_of}
 pub use Rattle.node_bridge.specs.declared.ops.BridgeOp.{BridgeOp}
 pub use Rattle.node_bridge.specs.declared.ops.BridgeReply.{BridgeReply}
 pub use Rattle.node_bridge.specs.declared.served.Noted.{Noted}
 pub use Rattle.node_bridge.specs.declared.served.Served.{Served}
 pub use Rattle.node_bridge.specs.declared.terms.ServedTerms.{ServedTerms}
 pub use Rattle.node_core.specs.Parts.{Agrees, AgreesIn}
-pub use Rattle.node_core.specs.Stands.{Stands as NodeStands, history_of, terms_of as node_terms}
+pub use Rattle.node_core.specs.Stands.{NodeStands, node_history_of, terms_of_node as node_terms}
 pub use Rattle.node_core.specs.declared.node.Node.{Node}
 pub use Rattle.std.proofs.Common.{Bool, List, None, Option, Some, Vec, [], ap, append_assoc, arith, cond, eq-eqb, false, get_or, length, length-append, ne_eqb, refl, rules, subst, suc, sym, true, vec_capacity, zero, ℕ, ℤ, ◌++◌, ◌+◌, ◌<◌, ◌∙◌, ◌∷◌, ◌≡◌, ◌≢◌, ◌≤◌}
 pub use Rattle.std.proofs.lemmas.Bool.{eqb-true}
@@ -57,5 +57,5 @@ unfoldable pub use Rattle.mtapi_machine.specs.WorkRows.{can_take, has_better, is
 unfoldable pub use Rattle.mtapi_objects.specs.Actions.{has_worker}
 unfoldable pub use Rattle.mtapi_objects.specs.Tasks.{end_each}
 unfoldable pub use Rattle.node_bridge.specs.Image.{images, opening_entries}
-unfoldable pub use Rattle.node_bridge.specs.Legal.{FitFrom, begun}
-unfoldable pub use Rattle.node_bridge.specs.Rounds.{all_in}
+unfoldable pub use Rattle.node_bridge.specs.Legal.{FitFrom, begun_start}
+unfoldable pub use Rattle.node_bridge.specs.Rounds.{all_bridge}

@@ -11,5 +11,5 @@ pub use Rattle.mtapi_values.specs.declared.handles.ActionHandle.{ActionHandle}
 pub use Rattle.mtapi_values.specs.declared.handles.TaskHandle.{TaskHandle}
 pub use Rattle.mtapi_values.specs.declared.kinds.Kind.{Kind}
 pub use Rattle.mtapi_values.specs.declared.statuses.MtapiStatus.TheVariants.{ErrActionFailed, ErrParameter, ErrTaskLimit}
-pub use Rattle.node_core.specs.Stands.{Stands, some_terms, terms_of}
+pub use Rattle.node_core.specs.Stands.{NodeStands, some_terms, terms_of_node}
 pub use Rattle.turn_looks.specs.Turns.{SameSeat}

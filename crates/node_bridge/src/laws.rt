@@ -1,13 +1,13 @@
 //! Laws that follow from the definitions alone. Each function does nothing: its contract is the law.
 
 ghost use Rattle.node_bridge.specs.Rounds.{UnusedWorkersRest};
-ghost use Rattle.node_bridge.specs.Worked.{WorkedHistories};
+ghost use Rattle.node_bridge.specs.Worked.{WorkedBridgeHistories};
 ghost use Rattle.node_bridge.specs.WorkedImages.{WorkedImages};
 
 /// A worked history of a served node, its image, and histories that aren't legal; and what each op asks of the node inside, what each
 /// reply tells, and which entries a bridge and a worker add.
 pub fn worked_histories()
-    ensures histories { WorkedHistories }
+    ensures histories { WorkedBridgeHistories }
     ensures images { WorkedImages }
 {}
 

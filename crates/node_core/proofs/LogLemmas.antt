@@ -1,5 +1,5 @@
 -- The log of a list, with one more entry.
-use Rattle.node_core.proofs.Names.{nat_tests, ◌≡◌, ℕ, ◌<◌, ◌^◌, Bool, true, false, List, [], ◌∷◌, ◌++◌, length, refl, sym, ◌∙◌, ap, subst, arith, slice_index, Option, None, Result, Ok, IfOk, IfSome, IsErr, ◌↔◌, entry, Op, Reply, Terms, State, opening, NodeEntry, Legal, after_from, after, pends_alike, drops, is_dropped, is_pending, kept, skipped, counted, counts_after, no_counts, Node, KeptEntries, kept_of, skipped_of, Stands, terms_of, seat_count, history_of, keeps, lost, AddsTo, Logs, KeepsOf, LoggedFrom, HasTerms, KeptAs, IsJournal}
+use Rattle.node_core.proofs.Names.{nat_tests, ◌≡◌, ℕ, ◌<◌, ◌^◌, Bool, true, false, List, [], ◌∷◌, ◌++◌, length, refl, sym, ◌∙◌, ap, subst, arith, slice_index, Option, None, Result, Ok, IfOk, IfSome, IsErr, ◌↔◌, entry, Op, Reply, Terms, State, opening, NodeEntry, Legal, after_from, after, pends_alike, drops, is_dropped, is_pending, kept, skipped, counted, counts_after, no_counts, Node, KeptEntries, kept_of, skipped_of, NodeStands, terms_of_node, seat_count, node_history_of, keeps, lost, AddsTo, Logs, KeepsOf, LoggedFrom, HasTerms, KeptAs, IsKeptJournal}
 use Rattle.std.specs.declared.alloc.AllocError.{AllocError}
 use Rattle.node_journals.specs.declared.entries.Journal.{Journal}
 use Rattle.mtapi_machine.proofs.Drops.{Kept-legal, after-kept}
@@ -35,17 +35,17 @@ logged s g k L e true old d new = grind (arith, nat_tests, kept, left_out, count
 logged s g k L e false old d new = grind (arith, nat_tests, kept, added, counted, counts-append, no_counts)
 
 -- the node goes on with the list, and so does the log
-pub journal_goes_on : (n m : Node) (g k : Log) (L : List NodeEntry) (who : ℕ) (op : Op) (r : Reply) (alike : Bool) → LoggedFrom (opening (terms_of n)) g L
-    → terms_of m ≡ terms_of n → pends_alike (after (terms_of n) L) who op ≡ alike → Logs g (drops alike r) (entry who op r) k
-    → LoggedFrom (opening (terms_of m)) k (L ++ entry who op r ∷ [])
+pub journal_goes_on : (n m : Node) (g k : Log) (L : List NodeEntry) (who : ℕ) (op : Op) (r : Reply) (alike : Bool) → LoggedFrom (opening (terms_of_node n)) g L
+    → terms_of_node m ≡ terms_of_node n → pends_alike (after (terms_of_node n) L) who op ≡ alike → Logs g (drops alike r) (entry who op r) k
+    → LoggedFrom (opening (terms_of_node m)) k (L ++ entry who op r ∷ [])
 journal_goes_on n m g k L who op r alike old same is new =
     subst (λ (t : Terms). LoggedFrom (opening t) k (L ++ entry who op r ∷ [])) (sym same)
-    (logged (opening (terms_of n)) g k L (entry who op r) (drops alike r) old (ap (λ b. drops b r) is) new)
+    (logged (opening (terms_of_node n)) g k L (entry who op r) (drops alike r) old (ap (λ b. drops b r) is) new)
 
 -- a number fits, and so does a seat
-pub number_fits : (n : Node) (g : Log) (L : List NodeEntry) (who : ℕ) → LoggedFrom (opening (terms_of n)) g L → length L < 2 ^ 62
+pub number_fits : (n : Node) (g : Log) (L : List NodeEntry) (who : ℕ) → LoggedFrom (opening (terms_of_node n)) g L → length L < 2 ^ 62
     → slice_index g.counts who < 2 ^ 63
-number_fits n g L who st l = grind (arith, nat_tests, number_le, terms_of)
+number_fits n g L who st l = grind (arith, nat_tests, number_le, terms_of_node)
 
 -- nothing was called yet
 pub logged_none : (s : State) (g : Log) → KeepsOf s g.kept [] → g.counts ≡ no_counts → LoggedFrom s g []
@@ -62,22 +62,22 @@ kept_legal t L E l e = grind (arith, nat_tests, Kept-legal, after-kept)
 
 -- the journal that is handed out
 module _ (t : Terms) where
-  pub journal_none : (k : Kept) (r : Result (Option Journal) AllocError) → IsJournal t k r → (r ≡ Ok None) ↔ (keeps k ≡ false)
+  pub journal_none : (k : Kept) (r : Result (Option Journal) AllocError) → IsKeptJournal t k r → (r ≡ Ok None) ↔ (keeps k ≡ false)
   journal_none Nothing r e = (λ x. refl, λ x. e)
   journal_none Lost r e = rw e (λ x. cc, λ x. cc)
   journal_none (Entries k) r e = rw e (λ x. cc, λ x. cc)
 
-  pub journal_has : (k : Kept) (r : Result (Option Journal) AllocError) → IsJournal t k r → IfOk r (λ o. IfSome o (HasTerms t))
+  pub journal_has : (k : Kept) (r : Result (Option Journal) AllocError) → IsKeptJournal t k r → IfOk r (λ o. IfSome o (HasTerms t))
   journal_has Nothing r e = rw e tt
   journal_has Lost r e = rw e tt
   journal_has (Entries k) r e = rw e (record { layout = refl; settings = refl; callers = refl })
 
-  pub journal_lost : (k : Kept) (r : Result (Option Journal) AllocError) → IsJournal t k r → IsErr r ↔ (lost k ≡ true)
+  pub journal_lost : (k : Kept) (r : Result (Option Journal) AllocError) → IsKeptJournal t k r → IsErr r ↔ (lost k ≡ true)
   journal_lost Nothing r e = rw e (λ x. cc, λ x. cc)
   journal_lost Lost r e = rw e (λ x. refl, λ x. refl)
   journal_lost (Entries k) r e = rw e (λ x. cc, λ x. cc)
 
-  pub journal_kept : (k : Kept) (r : Result (Option Journal) AllocError) (L : List NodeEntry) → IsJournal t k r → KeepsOf (opening t) k L → Legal t L
+  pub journal_kept : (k : Kept) (r : Result (Option Journal) AllocError) (L : List NodeEntry) → IsKeptJournal t k r → KeepsOf (opening t) k L → Legal t L
       → IfOk r (λ o. IfSome o (λ j. KeptAs t j L))
   journal_kept Nothing r L e h l = rw e tt
   journal_kept Lost r L e h l = rw e tt

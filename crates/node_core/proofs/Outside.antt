@@ -1,5 +1,5 @@
 -- A history as the callers of a node see it, and as the node inside saw it.
-use Rattle.node_core.proofs.Names.{◌≡◌, ℕ, suc, Bool, List, [], ◌∷◌, ◌++◌, length, refl, sym, ◌∙◌, ap, subst, Two, entry, Terms, Op, Reply, State, opening, NodeEntry, IsNext, next, LegalFrom, Legal, after_from, after, pends_alike, in_layout_one, turned, Named, inward_op, outward_reply, IssuesSmall, IsSmall, inner_entries, outer_entries, AllIssueSmall, all_stay, step_turns, opening_turns, history_turns, history_named, pends_turned}
+use Rattle.node_core.proofs.Names.{◌≡◌, ℕ, suc, Bool, List, [], ◌∷◌, ◌++◌, length, refl, sym, ◌∙◌, ap, subst, Two, entry, Terms, Op, Reply, State, opening, NodeEntry, IsNext, next, LegalFrom, Legal, after_from, after, pends_alike, in_layout_one, state_in_one, Named, inward_op, outward_reply, IssuesSmall, IsSmall, inner_entries, outer_entries, AllIssueSmall, all_stay, step_turns, opening_turns, history_turns, history_named, pends_turned}
 use Rattle.mtapi_machine.specs.declared.ops.Op.TheVariants as op
 use Rattle.mtapi_machine.specs.Row.{Allows, moves_of}
 use Rattle.mtapi_machine.specs.Rows.{row}
@@ -55,7 +55,7 @@ unfolding LegalFrom
 reply_small t L who o r two small new l before =
     let last : IsNext (after (in_layout_one t) (inner_entries L)) (entry who (inward_op o) r) =
     (Legal-rest (opening (in_layout_one t)) (inner_entries L) (entry who (inward_op o) r ∷ []) l.from).0 in
-    let leads : turned (after t (outer_entries L)) ≡ after (in_layout_one t) (inner_entries L) = (history_turns t L two small before).leads in
+    let leads : state_in_one (after t (outer_entries L)) ≡ after (in_layout_one t) (inner_entries L) = (history_turns t L two small before).leads in
     (step_turns (after t (outer_entries L)) who o r (layout_stays (opening t) (outer_entries L) two) (named t L two) new
     (subst (λ (s : State). Allows (row s who (inward_op o) r) r) (sym leads) last.allowed)).small
 

@@ -1,5 +1,5 @@
 -- A node that stands for a list agrees with its state, part by part.
-use Rattle.node_core.proofs.Names.{nat_tests, ◌≡◌, inl, inr, ℕ, zero, suc, ◌+◌, ◌<◌, ◌≤◌, Bool, true, false, cond, List, Option, Some, None, refl, sym, ◌∙◌, ap, subst, arith, NodeSettings, ObjectKind, Slot, Slots, slot_of, generation_of, value_at, Listed, live_object, issued_at, retired, State, NodeEntry, after, AreNamed, NoHandle, TaskIsNamed, Named, turned, turned_list, turned_task, inner_entries, history_turns, Node, Stands, terms_of, IsPast, AgreesIn, same_fields, lists_in, Agrees}
+use Rattle.node_core.proofs.Names.{nat_tests, ◌≡◌, inl, inr, ℕ, zero, suc, ◌+◌, ◌<◌, ◌≤◌, Bool, true, false, cond, List, Option, Some, None, refl, sym, ◌∙◌, ap, subst, arith, NodeSettings, ObjectKind, Slot, Slots, slot_of, generation_of, value_at, Listed, live_object, issued_at, retired, State, NodeEntry, after, AreNamed, NoHandle, TaskIsNamed, Named, state_in_one, turned_list, turned_task, inner_entries, history_turns, Node, NodeStands, terms_of_node, IsPast, AgreesIn, same_fields, lists_in, Agrees}
 use Rattle.std.specs.Option.{option_map}
 use Rattle.std.proofs.lemmas.Bool.Decides.{eqb_tells}
 use Rattle.mtapi_values.specs.Layouts.{outer}
@@ -48,7 +48,7 @@ module _ {T : Type 0} (k : ObjectKind) (f : T → T) (P : T → Type 0) where
     retired = h.stands.retired ∙ ap (λ (g : ℕ). retired g (turned_list k f l)) h.generations;
   }
 
-pub agrees : (n : Node) (L : List NodeEntry) → Stands n L → Agrees n (after (terms_of n) L)
+pub agrees : (n : Node) (L : List NodeEntry) → NodeStands n L → Agrees n (after (terms_of_node n) L)
 agrees n L st = record {
   beside = same ∙ ap (state_of n.inner) (sym (ap lists_in same));
   actions = agrees-in kind.Action same_fields NoHandle attr.actions attr.generations n.inner.scheduler.actions s.actions names.actions live.actions;
@@ -67,19 +67,19 @@ agrees n L st = record {
     attr = n.inner.scheduler.settings
 
     s : State
-    s = after (terms_of n) L
+    s = after (terms_of_node n) L
 
-    leads : turned s ≡ after (terms_inside n.inner) (inner_entries st.entries)
-    leads = ap (λ (K : List NodeEntry). turned (after (terms_of n) K)) (sym st.seen)
-        ∙ (history_turns (terms_of n) st.entries refl st.small st.inside.legal).leads
+    leads : state_in_one s ≡ after (terms_inside n.inner) (inner_entries st.entries)
+    leads = ap (λ (K : List NodeEntry). state_in_one (after (terms_of_node n) K)) (sym st.seen)
+        ∙ (history_turns (terms_of_node n) st.entries refl st.small st.inside.legal).leads
 
-    same : turned s ≡ state_of n.inner st.inside.lists
+    same : state_in_one s ≡ state_of n.inner st.inside.lists
     same = leads ∙ st.inside.state
 
     names : Named s
-    names = subst (λ (K : List NodeEntry). Named (after (terms_of n) K)) st.seen (named (terms_of n) st.entries refl)
+    names = subst (λ (K : List NodeEntry). Named (after (terms_of_node n) K)) st.seen (named (terms_of_node n) st.entries refl)
 
     live : Pools attr n.inner.scheduler.actions n.inner.scheduler.tasks.pool (group_slots n.inner.scheduler)
-        (records_of n.inner.scheduler.queues.pool) n.inner.resources (lists_in (turned s))
+        (records_of n.inner.scheduler.queues.pool) n.inner.resources (lists_in (state_in_one s))
     live = subst (λ (l : Lists). Pools attr n.inner.scheduler.actions n.inner.scheduler.tasks.pool (group_slots n.inner.scheduler)
         (records_of n.inner.scheduler.queues.pool) n.inner.resources l) (sym (ap lists_in same)) st.inside.live

@@ -13,7 +13,7 @@ use Rattle.node_core.specs.declared.journaled.Log.{Log}
 use Rattle.node_core.specs.declared.journaled.Journaled.{Journaled}
 use Rattle.node_core.specs.declared.journaled.JournaledTerms.{JournaledTerms}
 use Rattle.node_journals.specs.Journals.{KeptEntries}
-use Rattle.node_core.specs.Stands.{Stands, terms_of, seat_count, some_terms}
+use Rattle.node_core.specs.Stands.{NodeStands, terms_of_node, seat_count, some_terms}
 
 -- a journal is kept, be it lost by now or not
 abbrev pub keeps : Kept → Bool
@@ -51,12 +51,12 @@ pub record LoggedFrom (s : State) (g : Log) (L : List NodeEntry) : Type 0 where
 
 -- the node stands for the list, and the log is the list's
 pub record StandsKept (j : Journaled) (L : List NodeEntry) : Type 0 where
-  pub node : Stands j.node L
-  pub log : LoggedFrom (opening (terms_of j.node)) j.log L
+  pub node : NodeStands j.node L
+  pub log : LoggedFrom (opening (terms_of_node j.node)) j.log L
 
 -- what no op changes: the node's terms, and whether a journal is kept
 abbrev pub journal_terms : Journaled → JournaledTerms
-journal_terms j = record { node = terms_of j.node; keeps = keeps j.log.kept }
+journal_terms j = record { node = terms_of_node j.node; keeps = keeps j.log.kept }
 
 -- memory was short for the journal
 abbrev pub is_lost : Journaled → Bool
@@ -78,7 +78,7 @@ pub record HasTerms (t : Terms) (j : Journal) : Type 0 where
   pub callers : j.callers ≡ t.callers
 
 -- the journal with what was kept; an error where it is lost
-abbrev pub IsJournal : Terms → Kept → Result (Option Journal) AllocError → Type 0
-IsJournal t Nothing r = r ≡ Ok None
-IsJournal t Lost r = r ≡ Err alloc_error
-IsJournal t (Entries k) r = r ≡ Ok (Some (record { layout = t.layout; settings = t.settings; callers = t.callers; entries = k }))
+abbrev pub IsKeptJournal : Terms → Kept → Result (Option Journal) AllocError → Type 0
+IsKeptJournal t Nothing r = r ≡ Ok None
+IsKeptJournal t Lost r = r ≡ Err alloc_error
+IsKeptJournal t (Entries k) r = r ≡ Ok (Some (record { layout = t.layout; settings = t.settings; callers = t.callers; entries = k }))

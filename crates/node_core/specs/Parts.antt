@@ -9,13 +9,13 @@ use Rattle.handle_pool.specs.Issued.{Listed, live_object, listed, issued_at, ret
 use Rattle.handle_pool.specs.Stands.{generation_after}
 use Rattle.mtapi_machine.specs.State.{State}
 use Rattle.mtapi_layouts.specs.Inward.{inward}
-use Rattle.mtapi_layouts.specs.Turned.{turned, turned_list, turned_task}
+use Rattle.mtapi_layouts.specs.Turned.{state_in_one, turned_list, turned_task}
 use Rattle.task_board.specs.Scheduler.{records_of, group_slots}
 use Rattle.node_resources.specs.Holds.{resource_lists}
 use Rattle.node_steps.specs.Stands.{Lists, state_of}
 use Rattle.node_steps.specs.Keeps.{Keeps}
 use Rattle.node_core.specs.declared.node.Node.{Node}
-use Rattle.node_core.specs.Stands.{terms_of}
+use Rattle.node_core.specs.Stands.{terms_of_node}
 
 -- the slot has had this generation: it has a later one, or it is retired with the last one
 abbrev pub IsPast : {T : Type 0} → ℕ → ℕ → Slot T → Type 0
@@ -46,15 +46,15 @@ lists_in s = record { actions = s.actions; tasks = s.tasks; groups = s.groups; q
 -- the node agrees with the state that its callers see
 pub record Agrees (n : Node) (s : State) : Type 0 where
   -- the terms, the phase, the release, the stopped workers and the two counts are the node's: all but the lists
-  pub beside : turned s ≡ state_of n.inner (lists_in (turned s))
+  pub beside : state_in_one s ≡ state_of n.inner (lists_in (state_in_one s))
   -- the pool of each kind
-  pub actions : AgreesIn kind.Action same_fields (terms_of n).settings.generations n.inner.scheduler.actions s.actions
-  pub tasks : AgreesIn kind.Task turned_task (terms_of n).settings.generations n.inner.scheduler.tasks.pool s.tasks
-  pub groups : AgreesIn kind.Group same_fields (terms_of n).settings.generations (group_slots n.inner.scheduler) s.groups
-  pub queues : AgreesIn kind.Queue same_fields (terms_of n).settings.generations (records_of n.inner.scheduler.queues.pool) s.queues
-  pub mutexes : AgreesIn kind.Mutex same_fields (terms_of n).settings.generations n.inner.resources.mutexes s.mutexes
-  pub sems : AgreesIn kind.Sem same_fields (terms_of n).settings.generations n.inner.resources.sems s.sems
-  pub rwls : AgreesIn kind.Rwl same_fields (terms_of n).settings.generations n.inner.resources.rwls s.rwls
-  pub segments : AgreesIn kind.Shmem same_fields (terms_of n).settings.generations n.inner.resources.segments s.segments
+  pub actions : AgreesIn kind.Action same_fields (terms_of_node n).settings.generations n.inner.scheduler.actions s.actions
+  pub tasks : AgreesIn kind.Task turned_task (terms_of_node n).settings.generations n.inner.scheduler.tasks.pool s.tasks
+  pub groups : AgreesIn kind.Group same_fields (terms_of_node n).settings.generations (group_slots n.inner.scheduler) s.groups
+  pub queues : AgreesIn kind.Queue same_fields (terms_of_node n).settings.generations (records_of n.inner.scheduler.queues.pool) s.queues
+  pub mutexes : AgreesIn kind.Mutex same_fields (terms_of_node n).settings.generations n.inner.resources.mutexes s.mutexes
+  pub sems : AgreesIn kind.Sem same_fields (terms_of_node n).settings.generations n.inner.resources.sems s.sems
+  pub rwls : AgreesIn kind.Rwl same_fields (terms_of_node n).settings.generations n.inner.resources.rwls s.rwls
+  pub segments : AgreesIn kind.Shmem same_fields (terms_of_node n).settings.generations n.inner.resources.segments s.segments
   -- the marks of the ready index, the tasks that run and wait, and the lists of groups and of queues, each task as the pool has it
-  pub keeps : Keeps (turned s) n.inner.scheduler
+  pub keeps : Keeps (state_in_one s) n.inner.scheduler

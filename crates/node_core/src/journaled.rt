@@ -5,9 +5,9 @@ ghost use Rattle.std.specs.Bool.{OnTrue, OnFalse};
 ghost use Rattle.history.specs.Histories.{entry};
 ghost use Rattle.mtapi_machine.specs.Legal.{NodeEntry};
 ghost use Rattle.mtapi_machine.specs.Kept.{drops, is_pending};
-ghost use Rattle.node_core.specs.Stands.{Stands, terms_of};
+ghost use Rattle.node_core.specs.Stands.{NodeStands, terms_of_node};
 ghost use Rattle.node_core.specs.Keeping.{KeptAs};
-ghost use Rattle.node_core.specs.Logs.{AddsTo, Logs, StandsKept, HasTerms, IsJournal, keeps, journal_terms, is_lost};
+ghost use Rattle.node_core.specs.Logs.{AddsTo, Logs, StandsKept, HasTerms, IsKeptJournal, keeps, journal_terms, is_lost};
 
 use crate::node::Node;
 use history::Object;
@@ -105,7 +105,7 @@ impl Object for Journaled {
     type Terms = JournaledTerms;
 
     ghost use Rattle.mtapi_machine.proofs.Lists.{Legal-prefix};
-    ghost use Rattle.node_core.specs.Stands.{history_of};
+    ghost use Rattle.node_core.specs.Stands.{node_history_of};
     ghost use Rattle.node_core.specs.Logs.{StandsKept, journal_terms, journal_seats, journal_legal, some_journal_terms};
 
     ghost blank = { some_journal_terms };
@@ -120,7 +120,7 @@ impl Object for Journaled {
 
     ghost prefix_legal = { λ t. Legal-prefix t.node };
 
-    ghost stands_legal = { λ x l s. history_of x.node l s.node };
+    ghost stands_legal = { λ x l s. node_history_of x.node l s.node };
 
     fn seats(&self) -> u32 {
         self.node.seats()
@@ -145,8 +145,8 @@ impl Object for Journaled {
 impl Journaled {
     /// Makes an object for a cell out of a node, which keeps no journal. It takes no memory.
     pub fn without(node: Node) -> Journaled
-        ensures terms { journal_terms result ≡ record { node = terms_of node; keeps = false } }
-        ensures stands { Stands node [] → StandsKept result [] }
+        ensures terms { journal_terms result ≡ record { node = terms_of_node node; keeps = false } }
+        ensures stands { NodeStands node [] → StandsKept result [] }
     {
         Journaled {
             node,
@@ -161,9 +161,9 @@ impl Journaled {
     /// Where a call finds no memory for its entry, the call is answered as ever, and the journal is
     /// lost.
     pub fn with(alloc: Global, node: Node) -> Journaled
-        ensures terms { journal_terms result ≡ record { node = terms_of node; keeps = true } }
+        ensures terms { journal_terms result ≡ record { node = terms_of_node node; keeps = true } }
         ensures there { is_lost result ≡ false }
-        ensures stands { Stands node [] → StandsKept result [] }
+        ensures stands { NodeStands node [] → StandsKept result [] }
     {
         Journaled {
             node,
@@ -192,7 +192,7 @@ impl Journaled {
 
 // The journal with what was kept.
 fn journal_in(kept: Kept, terms: &Terms) -> Result<Option<Journal>, AllocError>
-    ensures { IsJournal terms.now kept result }
+    ensures { IsKeptJournal terms.now kept result }
 {
     match kept {
         Kept::Nothing => Ok(None),

@@ -5,7 +5,7 @@ ghost use Rattle.history.specs.Histories.{entry};
 ghost use Rattle.mtapi_values.specs.declared.handles.Layout.TheVariants.{Two};
 ghost use Rattle.mtapi_machine.specs.Legal.{NodeEntry, after};
 ghost use Rattle.mtapi_machine.specs.Kept.{pends_alike};
-ghost use Rattle.node_core.specs.Stands.{Stands, terms_of, seat_count};
+ghost use Rattle.node_core.specs.Stands.{NodeStands, terms_of_node, seat_count};
 ghost use Rattle.node_core.specs.Parts.{Agrees};
 
 use history::Object;
@@ -34,21 +34,21 @@ impl Object for Node {
 
     ghost use Rattle.mtapi_machine.specs.Legal.{Legal};
     ghost use Rattle.mtapi_machine.proofs.Lists.{Legal-prefix};
-    ghost use Rattle.node_core.specs.Stands.{Stands, terms_of, seat_count, some_terms, history_of};
+    ghost use Rattle.node_core.specs.Stands.{NodeStands, terms_of_node, seat_count, some_terms, node_history_of};
 
     ghost blank = { some_terms };
 
-    ghost terms = { terms_of };
+    ghost terms = { terms_of_node };
 
     ghost seat_count = { seat_count };
 
     ghost legal = { Legal };
 
-    ghost stands = { Stands };
+    ghost stands = { NodeStands };
 
     ghost prefix_legal = { Legal-prefix };
 
-    ghost stands_legal = { history_of };
+    ghost stands_legal = { node_history_of };
 
     fn seats(&self) -> u32 {
         self.inner.seats()
@@ -77,8 +77,8 @@ impl Node {
     pub fn init(alloc: Global, attr: NodeAttr, callers: u32) -> Result<Node, AllocError>
         requires some_caller { 1 ≤ callers }
         requires few_callers { callers ≤ 9 }
-        ensures terms { IfOk result (λ n. terms_of n ≡ record { layout = Two; settings = attr; callers = callers }) }
-        ensures stands { IfOk result (λ n. Stands n []) }
+        ensures terms { IfOk result (λ n. terms_of_node n ≡ record { layout = Two; settings = attr; callers = callers }) }
+        ensures stands { IfOk result (λ n. NodeStands n []) }
     {
         let inner = node_steps::PoolNode::init(alloc, attr, callers)?;
         Ok(Node { inner })
@@ -86,7 +86,7 @@ impl Node {
 
     /// Shows the settings of the node, which never change.
     pub fn settings(&self) -> &NodeAttr
-        ensures { result.now ≡ (terms_of self.now).settings }
+        ensures { result.now ≡ (terms_of_node self.now).settings }
     {
         self.inner.settings()
     }
@@ -94,10 +94,10 @@ impl Node {
     /// Executes one op by the seat `who`: it does what `apply` does. It has no error of its own,
     /// since what the node refuses it says in its reply.
     pub fn step(&mut self, who: u32, op: Op) -> Reply
-        requires seat { who < seat_count (terms_of self.old) }
-        requires room { (L : List NodeEntry) × Stands self.old L × (length L < 2 ^ 62 + 16) }
-        ensures terms { terms_of self.new ≡ terms_of self.old }
-        ensures stands { (L : List NodeEntry) → Stands self.old L → Stands self.new (L ++ entry who op result ∷ []) }
+        requires seat { who < seat_count (terms_of_node self.old) }
+        requires room { (L : List NodeEntry) × NodeStands self.old L × (length L < 2 ^ 62 + 16) }
+        ensures terms { terms_of_node self.new ≡ terms_of_node self.old }
+        ensures stands { (L : List NodeEntry) → NodeStands self.old L → NodeStands self.new (L ++ entry who op result ∷ []) }
     {
         let mut reply = Reply::Idle;
         self.execute(who, &op, &mut reply);
@@ -106,11 +106,11 @@ impl Node {
 
     // The same. The op is read where it stands, and the reply put where it is wanted.
     pub(crate) fn execute(&mut self, who: u32, op: &Op, reply: &mut Reply)
-        requires seat { who < seat_count (terms_of self.old) }
-        requires room { (L : List NodeEntry) × Stands self.old L × (length L < 2 ^ 62 + 16) }
-        ensures terms { terms_of self.new ≡ terms_of self.old }
-        ensures stands { (L : List NodeEntry) → Stands self.old L
-            → Stands self.new (L ++ entry who op.now reply.new ∷ []) }
+        requires seat { who < seat_count (terms_of_node self.old) }
+        requires room { (L : List NodeEntry) × NodeStands self.old L × (length L < 2 ^ 62 + 16) }
+        ensures terms { terms_of_node self.new ≡ terms_of_node self.old }
+        ensures stands { (L : List NodeEntry) → NodeStands self.old L
+            → NodeStands self.new (L ++ entry who op.now reply.new ∷ []) }
     {
         let kind = answered_kind(op);
         self.inner.step_inward(who, op, reply);
@@ -120,13 +120,13 @@ impl Node {
     /// What a node is that stands for a list: it agrees with the state that its callers see, kind by kind and index by index. It
     /// does nothing.
     pub fn agrees(&self)
-        ensures { (L : List NodeEntry) → Stands self.now L → Agrees self.now (after (terms_of self.now) L) }
+        ensures { (L : List NodeEntry) → NodeStands self.now L → Agrees self.now (after (terms_of_node self.now) L) }
     {}
 
     // Where this op is answered Pending, does the state stay as it was?
     pub(crate) fn pends_alike(&self, who: u32, op: &Op) -> bool
-        ensures { (L : List NodeEntry) → Stands self.now L
-            → pends_alike (after (terms_of self.now) L) who op.now ≡ result }
+        ensures { (L : List NodeEntry) → NodeStands self.now L
+            → pends_alike (after (terms_of_node self.now) L) who op.now ≡ result }
     {
         match op {
             Op::TaskLook { task, last } => {

@@ -4,5 +4,5 @@ use Rattle.mtapi_machine.specs.State.{terms_with}
 use Rattle.mtapi_machine.specs.Legal.{Legal}
 
 -- its entries are a legal history of a node with its terms
-abbrev pub IsLegal : Journal → Type 0
-IsLegal j = Legal (terms_with j.layout j.settings j.callers) j.entries.entries
+abbrev pub HasLegalEntries : Journal → Type 0
+HasLegalEntries j = Legal (terms_with j.layout j.settings j.callers) j.entries.entries

@@ -2,7 +2,7 @@
 
 ghost use Rattle.mtapi_machine.specs.Legal.{Legal};
 ghost use Rattle.mtapi_machine.specs.State.{terms_with};
-ghost use Rattle.node_core_tests.specs.Journals.{IsLegal};
+ghost use Rattle.node_core_tests.specs.Journals.{HasLegalEntries};
 
 use crate::tests::asking::{GROUP, QUEUE, SHMEM, TASK};
 use history_law::{
@@ -18,7 +18,7 @@ use std::alloc::{AllocError, Global};
 
 /// Each law of the entries of a journal: of the first object of its kind, and of the entry at place 4.
 pub(crate) fn each_law(alloc: Global, journal: &Journal) -> Result<(), AllocError>
-    requires { IsLegal journal.now }
+    requires { HasLegalEntries journal.now }
 {
     let list = journal.entries.in_full(alloc)?;
     each_law_of(

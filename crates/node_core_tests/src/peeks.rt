@@ -3,7 +3,7 @@
 ghost use Rattle.std.specs.Prelude.{◌≡◌, [], ◌∷◌, IfOk, IfSome, replicate};
 ghost use Rattle.turn_cell.specs.Seats.{fresh_seat as fresh_cell_seat, fresh_seats};
 ghost use Rattle.peek_board.specs.Numbers.{class_of_end};
-ghost use Rattle.peek_board.specs.Seats.{fresh_seat};
+ghost use Rattle.peek_board.specs.Seats.{fresh_board_seat};
 ghost use Rattle.node_core.specs.Logs.{journal_seats};
 ghost use Rattle.peek_board.specs.Marks.{HasEndedSo, IsOf, SamePeeker};
 
@@ -44,9 +44,9 @@ fn deal(
     marks: Vec<BoardSeat>,
 ) -> Seats
     requires seats { seats.items ≡ fresh_seats cell.now.terms cell.now.id 0 2 }
-    requires marks { marks.items ≡ replicate 2 (fresh_seat board.now.id) }
-    ensures worker { result.worker ≡ record { seat = fresh_cell_seat cell.now.terms cell.now.id 0; mark = fresh_seat board.now.id } }
-    ensures caller { result.caller ≡ record { seat = fresh_cell_seat cell.now.terms cell.now.id 1; mark = fresh_seat board.now.id } }
+    requires marks { marks.items ≡ replicate 2 (fresh_board_seat board.now.id) }
+    ensures worker { result.worker ≡ record { seat = fresh_cell_seat cell.now.terms cell.now.id 0; mark = fresh_board_seat board.now.id } }
+    ensures caller { result.caller ≡ record { seat = fresh_cell_seat cell.now.terms cell.now.id 1; mark = fresh_board_seat board.now.id } }
 {
     let _ = cell;
     let _ = board;

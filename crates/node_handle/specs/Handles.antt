@@ -8,7 +8,7 @@ use Rattle.node_handle.specs.declared.counted.CountedNode.{CountedNode}
 use Rattle.node_handle.specs.declared.held.Held.{Held}
 use Rattle.node_handle.specs.declared.held.Held.TheVariants.{Node}
 use Rattle.node_handle.specs.declared.handle.NodeHandle.{NodeHandle}
-use Rattle.node_handle.specs.Turns.{StandsCounted, MadeOrRefused, terms_of}
+use Rattle.node_handle.specs.Turns.{StandsCounted, MadeOrRefused, terms_counted}
 
 -- this is a node that stands for some history
 pub record IsLiveNode (held : Held) : Type 0 where
@@ -25,7 +25,7 @@ NodeCalled old who op r new = (n : CountedNode) → old ≡ Node n → (m : Coun
 pub record IsNewNode (h : NodeHandle) (asked : JournaledTerms) : Type 0 where
   pub node : CountedNode
   pub holds : h.held ≡ Some (Node node)
-  pub terms : terms_of node ≡ asked
+  pub terms : terms_counted node ≡ asked
   pub counts : StandsCounted node []
 
 -- the handle holds a node that stands for some history

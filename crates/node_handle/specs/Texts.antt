@@ -9,7 +9,7 @@ use Rattle.node_handle.specs.declared.held.Held.TheVariants.{Text}
 use Rattle.node_handle.specs.declared.handle.NodeHandle.{NodeHandle}
 use Rattle.node_handle.specs.declared.journals.JournalEnd.{JournalEnd}
 use Rattle.node_handle.specs.declared.journals.JournalEnd.TheVariants as ended
-use Rattle.node_handle.specs.Turns.{IsJournalOf, terms_of}
+use Rattle.node_handle.specs.Turns.{IsJournalOf, terms_counted}
 
 -- the bytes are the text of the node's journal
 pub record IsTextOf (n : CountedNode) (bytes : List ℕ) : Type 0 where
@@ -19,15 +19,15 @@ pub record IsTextOf (n : CountedNode) (bytes : List ℕ) : Type 0 where
 
 -- the text of the journal is given where one is kept, unless memory is short
 abbrev pub TextGiven : CountedNode → Result (Option (Vec ℕ)) AllocError → Type 0
-TextGiven n (Ok (Some text)) = ((terms_of n).keeps ≡ true) × IsTextOf n text.items
-TextGiven n (Ok None) = (terms_of n).keeps ≡ false
-TextGiven n (Err e) = (terms_of n).keeps ≡ true
+TextGiven n (Ok (Some text)) = ((terms_counted n).keeps ≡ true) × IsTextOf n text.items
+TextGiven n (Ok None) = (terms_counted n).keeps ≡ false
+TextGiven n (Err e) = (terms_counted n).keeps ≡ true
 
 -- the calls of a node end so, with this text: that of its journal, or an empty one
 abbrev pub EndsWith : CountedNode → Vec ℕ → JournalEnd → Type 0
-EndsWith n text (ended.Text long) = ((terms_of n).keeps ≡ true) × IsTextOf n text.items × (long ≡ length text.items)
-EndsWith n text ended.NoJournal = ((terms_of n).keeps ≡ false) × (text.items ≡ [])
-EndsWith n text ended.Memory = ((terms_of n).keeps ≡ true) × (text.items ≡ [])
+EndsWith n text (ended.Text long) = ((terms_counted n).keeps ≡ true) × IsTextOf n text.items × (long ≡ length text.items)
+EndsWith n text ended.NoJournal = ((terms_counted n).keeps ≡ false) × (text.items ≡ [])
+EndsWith n text ended.Memory = ((terms_counted n).keeps ≡ true) × (text.items ≡ [])
 
 -- the handle holds this text
 pub record HoldsText (h : NodeHandle) (bytes : List ℕ) : Type 0 where

@@ -19,16 +19,16 @@ pub record StandsCounted (n : CountedNode) (L : List NodeEntry) : Type 0 where
   pub turns : n.turns ≡ length L
 
 -- what no call changes: the settings and the callers, and whether a journal is kept
-abbrev pub terms_of : CountedNode → JournaledTerms
-terms_of n = journal_terms n.node
+abbrev pub terms_counted : CountedNode → JournaledTerms
+terms_counted n = journal_terms n.node
 
 -- how many seats call the node
 abbrev pub seats_of : CountedNode → ℕ
-seats_of n = journal_seats (terms_of n)
+seats_of n = journal_seats (terms_counted n)
 
 -- the call of this seat was made: each history gets its entry, at the end
-pub record Made (old : CountedNode) (who : ℕ) (op : Op) (r : Reply) (new : CountedNode) : Type 0 where
-  pub terms : terms_of new ≡ terms_of old
+pub record MadeCall (old : CountedNode) (who : ℕ) (op : Op) (r : Reply) (new : CountedNode) : Type 0 where
+  pub terms : terms_counted new ≡ terms_counted old
   pub counts : (L : List NodeEntry) → StandsCounted old L → StandsCounted new (L ++ entry who op r ∷ [])
 
 -- no call was made: there is no such seat, or the turns are used up
@@ -37,14 +37,14 @@ Refused old who r new = (new ≡ old) × (((seats_of old ≤ who) × (r ≡ Mtap
 
 -- the call was made, or refused
 abbrev pub MadeOrRefused : CountedNode → ℕ → Op → Reply → CountedNode → Type 0
-MadeOrRefused old who op r new = Made old who op r new ⊎ Refused old who r new
+MadeOrRefused old who op r new = MadeCall old who op r new ⊎ Refused old who r new
 
 -- the journal is that of each list that the node stands for
 abbrev pub IsJournalOf : CountedNode → Journal → Type 0
-IsJournalOf n j = (L : List NodeEntry) → StandsCounted n L → KeptAs (terms_of n).node j L
+IsJournalOf n j = (L : List NodeEntry) → StandsCounted n L → KeptAs (terms_counted n).node j L
 
 -- the journal is given, where one is kept and none of it is lost
 pub record JournalGiven (n : CountedNode) (r : Result (Option Journal) AllocError) : Type 0 where
-  pub none : (r ≡ Ok None) ↔ ((terms_of n).keeps ≡ false)
+  pub none : (r ≡ Ok None) ↔ ((terms_counted n).keeps ≡ false)
   pub lost : IsErr r ↔ (is_lost n.node ≡ true)
-  pub kept : (L : List NodeEntry) → StandsCounted n L → IfOk r (λ o. IfSome o (λ j. KeptAs (terms_of n).node j L))
+  pub kept : (L : List NodeEntry) → StandsCounted n L → IfOk r (λ o. IfSome o (λ j. KeptAs (terms_counted n).node j L))

@@ -3,9 +3,9 @@
 ghost use Rattle.std.specs.Prelude.{◌≡◌, ◌≤◌, ◌<◌, ◌^◌, [], List, IfOk};
 ghost use Rattle.mtapi_values.specs.declared.handles.Layout.TheVariants.{Two};
 ghost use Rattle.mtapi_machine.specs.Legal.{NodeEntry};
-ghost use Rattle.node_core.specs.Stands.{Stands, terms_of as node_terms};
+ghost use Rattle.node_core.specs.Stands.{NodeStands, terms_of_node as node_terms};
 ghost use Rattle.node_core.specs.Logs.{StandsKept, journal_terms};
-ghost use Rattle.node_handle.specs.Turns.{StandsCounted, Made, MadeOrRefused, JournalGiven, seats_of, terms_of};
+ghost use Rattle.node_handle.specs.Turns.{StandsCounted, MadeCall, MadeOrRefused, JournalGiven, seats_of, terms_counted};
 
 use history::Object;
 use mtapi_values::{MtapiStatus, NodeAttr};
@@ -25,7 +25,7 @@ pub struct CountedNode {
 // An object for the node, which keeps a journal or doesn't.
 fn journaled(alloc: Global, node: Node, keeps: bool) -> Journaled
     ensures terms { journal_terms result ≡ record { node = node_terms node; keeps = keeps } }
-    ensures stands { Stands node [] → StandsKept result [] }
+    ensures stands { NodeStands node [] → StandsKept result [] }
 {
     if keeps {
         Journaled::with(alloc, node)
@@ -44,7 +44,7 @@ impl CountedNode {
     ) -> Result<CountedNode, AllocError>
         requires some_caller { 1 ≤ callers }
         requires few_callers { callers ≤ 9 }
-        ensures terms { IfOk result (λ n. terms_of n ≡ record { node = record { layout = Two; settings = attr; callers = callers }; keeps = keeps }) }
+        ensures terms { IfOk result (λ n. terms_counted n ≡ record { node = record { layout = Two; settings = attr; callers = callers }; keeps = keeps }) }
         ensures counts { IfOk result (λ n. StandsCounted n []) }
     {
         let node = Node::init(alloc, attr, callers)?;
@@ -59,7 +59,7 @@ impl CountedNode {
         requires seat { who < seats_of self.old }
         requires room { self.old.turns < 2 ^ 62 }
         requires counts { (L : List NodeEntry) × StandsCounted self.old L }
-        ensures { Made self.old who op result self.new }
+        ensures { MadeCall self.old who op result self.new }
     {
         self.turns += 1;
         self.node.apply(who, op)

@@ -1,5 +1,5 @@
 -- A step of one kind is a step of all four.
-use Rattle.node_resources.proofs.Names.{◌≡◌, ℕ, List, None, refl, sym, subst, ◌∙◌, first, MrapiStatus, Listed, Slots, slot_value, NoneLive, HasLive, OneEach, Op, Reply, Keyed, mrapi, gets, State, is_up, Sort, Groups, Queues, Mutexes, Sems, Rwls, Segments, Fields, all_of, Gate, ResourceTable, HoldsList, Stands, Does, IsAt, gate_refusals, with_lists_of}
+use Rattle.node_resources.proofs.Names.{◌≡◌, ℕ, List, None, refl, sym, subst, ◌∙◌, first, MrapiStatus, Listed, Slots, slot_value, NoneLive, HasLive, OneEach, Op, Reply, Keyed, mrapi, gets, State, is_up, Sort, Groups, Queues, Mutexes, Sems, Rwls, Segments, Fields, all_of, Gate, ResourceTable, HoldsList, ResourcesStand, Does, IsAt, gate_refusals, with_lists_of}
 use Rattle.mtapi_machine.specs.declared.replies.Reply.TheVariants as reply
 use Rattle.mtapi_machine.specs.Rows.{row}
 use Rattle.node_resources.proofs.RowLemmas.{Leads, past_up, gets_does, gets_none}
@@ -32,9 +32,9 @@ record Parts (k : Sort) (is : IsResource k) (s : State) (old : ResourceTable) : 
   same : with_slots k (slots_of k is old) old ≡ old
   others : (l : List (Listed (Fields k))) → (all_of k).with_list l s ≡ with_lists_of ((all_of k).with_list l s) s
   stands : (q : Slots (Fields k)) (l : List (Listed (Fields k))) → HoldsList (all_of k) s.terms.settings q l
-      → Stands ((all_of k).with_list l s) (with_slots k q old)
+      → ResourcesStand ((all_of k).with_list l s) (with_slots k q old)
 
-parts : (k : Sort) (is : IsResource k) (s : State) (old : ResourceTable) → Stands s old → Parts k is s old
+parts : (k : Sort) (is : IsResource k) (s : State) (old : ResourceTable) → ResourcesStand s old → Parts k is s old
 parts Groups is s old v = absurd is
 parts Queues is s old v = absurd is
 parts Mutexes is s old v = record {
@@ -64,18 +64,18 @@ parts Segments is s old v = record {
 
 module _ (k : Sort) (is : IsResource k) (s : State) (who : ℕ) (op : Op) where
   -- the same reply, told of a call
-  pub kind_does : (r : Reply) (old : ResourceTable) → Stands s old → (said : Reply) (q : Slots (Fields k)) → said ≡ r → Leads k s (row s who op r) r q
+  pub kind_does : (r : Reply) (old : ResourceTable) → ResourcesStand s old → (said : Reply) (q : Slots (Fields k)) → said ≡ r → Leads k s (row s who op r) r q
       → Does s who op said (with_slots k q old)
   kind_does r old v said q e g =
       let p = parts k is s old v in
       subst (λ (x : Reply). Does s who op x (with_slots k q old)) (sym e) (record {
         allowed = g.allowed;
         others = subst (λ (t : State). t ≡ with_lists_of t s) (sym g.leads) (p.others g.list);
-        stands = subst (λ (t : State). Stands t (with_slots k q old)) (sym g.leads) (p.stands q g.list g.holds);
+        stands = subst (λ (t : State). ResourcesStand t (with_slots k q old)) (sym g.leads) (p.stands q g.list g.holds);
       })
 
   -- a get, where the pools are seen as the table now
-  module _ (o : Keyed k) (g : Gate) (a : IsAt s g) (old now : ResourceTable) (view : old ≡ now) (v : Stands s now) (n : ℕ) (in_row : (r : Reply)
+  module _ (o : Keyed k) (g : Gate) (a : IsAt s g) (old now : ResourceTable) (view : old ≡ now) (v : ResourcesStand s now) (n : ℕ) (in_row : (r : Reply)
       → row s who op r ≡ mrapi s who (gets o s n)) (passes : None ≡ first (gate_refusals (is_up g.phase) who g.workers)) where
     answers : (r : Reply) → Leads k s (gets o s n) r (slots_of k is old) → Does s who op r now
     answers r leads =
@@ -84,7 +84,7 @@ module _ (k : Sort) (is : IsResource k) (s : State) (who : ℕ) (op : Op) where
         rw (← (parts k is s old was).same ∙ view) (kind_does r old was r (slots_of k is old) refl (rw (← in_row r) at told))
 
     held : HoldsList (all_of k) s.terms.settings (slots_of k is old) ((all_of k).list s)
-    held = (parts k is s old (subst (λ (t : ResourceTable). Stands s t) (sym view) v)).holds
+    held = (parts k is s old (subst (λ (t : ResourceTable). ResourcesStand s t) (sym view) v)).holds
 
     pub got : (h : ℕ) → OneEach o.id (slots_of k is old) → HasLive (slots_of k is old) h (λ y. o.id y ≡ n) → Does s who op (reply.Handle h) now
     got h each has = answers (reply.Handle h) (gets_does k s o (slots_of k is old) held n h each has)

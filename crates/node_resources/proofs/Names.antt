@@ -25,8 +25,8 @@ pub use Rattle.mtapi_values.specs.declared.handles.MutexHandle.{MutexHandle}
 pub use Rattle.mtapi_values.specs.declared.handles.ShmemHandle.{ShmemHandle}
 pub use Rattle.mtapi_values.specs.declared.statuses.MrapiStatus.{MrapiStatus}
 pub use Rattle.mtapi_values.specs.declared.statuses.MrapiStatus.TheVariants.{ErrMutexExists, ErrMutexIdInvalid, ErrMutexInvalid, ErrMutexLimit, ErrRwlExists, ErrRwlIdInvalid, ErrRwlInvalid, ErrRwlLimit, ErrSemExists, ErrSemIdInvalid, ErrSemInvalid, ErrSemLimit, ErrShmExists, ErrShmIdInvalid, ErrShmInvalid, ErrShmLimit, Timeout}
-pub use Rattle.node_resources.specs.Holds.{Holds, HoldsList, ResourceTable, Stands}
-pub use Rattle.node_resources.specs.Steps.{Does, IsAt, Steps, gate_refusals, with_lists_of}
+pub use Rattle.node_resources.specs.Holds.{Holds, HoldsList, ResourceTable, ResourcesStand}
+pub use Rattle.node_resources.specs.Steps.{Does, IsAt, ResourceSteps, gate_refusals, with_lists_of}
 pub use Rattle.node_resources.specs.Tallies.{Locks, both_row}
 pub use Rattle.node_resources.specs.contracts.Resources.{the_view}
 pub use Rattle.node_resources.specs.declared.gate.Gate.{Gate}

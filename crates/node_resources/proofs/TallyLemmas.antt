@@ -1,5 +1,5 @@
 -- A tally's steps on mutexes and segments, by the pools that stand for the lists.
-use Rattle.node_resources.proofs.Names.{◌≡◌, ℕ, zero, suc, ◌+◌, Bool, true, false, not, cond, List, [], ◌∷◌, Option, Some, None, refl, sym, ◌∙◌, ap, subst, ◌==◌, ◌&&◌, ◌||◌, is_some, is_none, nat_lt, length, ℤ, slice_set, option_map, MutexHandle, ShmemHandle, first, answer, is_got, Slots, slot_value, put, changed, NoneLive, HasLive, OneEach, live_of, live_object, first_handle, Mutex, locked_by, unlocked, Segment, with_attached, with_cell, after_look, after_unlock, after_attach, after_detach, State, Mutexes, Segments, alters, notes, after_moves, Row, gives, says, live, ResourceTable, Stands, Both, Owned, Absent, both_row, Locks}
+use Rattle.node_resources.proofs.Names.{◌≡◌, ℕ, zero, suc, ◌+◌, Bool, true, false, not, cond, List, [], ◌∷◌, Option, Some, None, refl, sym, ◌∙◌, ap, subst, ◌==◌, ◌&&◌, ◌||◌, is_some, is_none, nat_lt, length, ℤ, slice_set, option_map, MutexHandle, ShmemHandle, first, answer, is_got, Slots, slot_value, put, changed, NoneLive, HasLive, OneEach, live_of, live_object, first_handle, Mutex, locked_by, unlocked, Segment, with_attached, with_cell, after_look, after_unlock, after_attach, after_detach, State, Mutexes, Segments, alters, notes, after_moves, Row, gives, says, live, ResourceTable, ResourcesStand, Both, Owned, Absent, both_row, Locks}
 use Rattle.std.proofs.lemmas.Bool.{eq-eqb}
 use Rattle.mtapi_values.specs.declared.statuses.MtapiStatus.TheVariants as m
 use Rattle.mtapi_values.specs.declared.statuses.MrapiStatus.TheVariants as c
@@ -58,7 +58,7 @@ detach_marks who y = by_mark (marked who y.attached) refl
 
 -- The mutex and the segment of a tally
 
-module _ (s : State) (old : ResourceTable) (v : Stands s old) (who mutex segment cell : ℕ) where
+module _ (s : State) (old : ResourceTable) (v : ResourcesStand s old) (who mutex segment cell : ℕ) where
   pub no_mutex : NoneLive (slot_value old.mutexes) (λ x. x.id ≡ mutex) → Locks s who mutex segment cell Absent old
   no_mutex none = record {
     row = λ t. ap (λ (o : Option ℕ). takes_both s who t cell o (first_handle (λ y. y.id == segment) (live_of s.segments)))
@@ -129,8 +129,8 @@ module _ (s : State) (old : ResourceTable) (v : Stands s old) (who mutex segment
       }
 
 -- a number is written, and both are given back
-pub writes_stand : (s : State) (old : ResourceTable) (h cell : ℕ) (value : ℤ) → Stands s old
-    → Stands (after_moves (alters Segments h (with_cell cell value) ∷ []) s) (record old { segments = changed old.segments h (with_cell cell value) })
+pub writes_stand : (s : State) (old : ResourceTable) (h cell : ℕ) (value : ℤ) → ResourcesStand s old
+    → ResourcesStand (after_moves (alters Segments h (with_cell cell value) ∷ []) s) (record old { segments = changed old.segments h (with_cell cell value) })
 writes_stand s old h cell value v = record {
   mutexes = v.mutexes;
   sems = v.sems;
@@ -138,12 +138,12 @@ writes_stand s old h cell value v = record {
   segments = holds_changed _ _ old.segments s.segments h (with_cell cell value) v.segments;
 }
 
-pub gives_stand : (s : State) (old : ResourceTable) (who a b : ℕ) (x : Mutex) → Stands s old → live_object s.mutexes a ≡ Some x → x.owner ≡ Some who
+pub gives_stand : (s : State) (old : ResourceTable) (who a b : ℕ) (x : Mutex) → ResourcesStand s old → live_object s.mutexes a ≡ Some x → x.owner ≡ Some who
     → x.depth ≡ 1
-    → Stands (after_moves (alters Segments b (with_attached who false) ∷ alters Mutexes a unlocked ∷ []) s)
+    → ResourcesStand (after_moves (alters Segments b (with_attached who false) ∷ alters Mutexes a unlocked ∷ []) s)
     (record old { mutexes = changed old.mutexes a (after_unlock who 1); segments = changed old.segments b (after_detach who) })
 gives_stand s old who a b x v f o d =
-    subst (λ (q : ResourceTable). Stands (after_moves (alters Segments b (with_attached who false) ∷ alters Mutexes a unlocked ∷ []) s) q)
+    subst (λ (q : ResourceTable). ResourcesStand (after_moves (alters Segments b (with_attached who false) ∷ alters Mutexes a unlocked ∷ []) s) q)
     (λ i. record old {
       mutexes = changed_as old.mutexes a unlocked (after_unlock who 1) unlocks i;
       segments = changed_as old.segments b (with_attached who false) (after_detach who) (λ y e. sym (detach_marks who y)) i;

@@ -46,8 +46,8 @@ abbrev pub resource_lists : State → ResourceLists
 resource_lists s = record { mutexes = s.mutexes; sems = s.sems; rwls = s.rwls; segments = s.segments }
 
 -- the pools stand for the four lists of a state, with its settings
-abbrev pub Stands : State → ResourceTable → Type 0
-Stands s r = HoldsAll s.terms.settings r (resource_lists s)
+abbrev pub ResourcesStand : State → ResourceTable → Type 0
+ResourcesStand s r = HoldsAll s.terms.settings r (resource_lists s)
 
 -- each pool has at most 65,536 slots
 pub record AreSmall (r : ResourceTable) : Type 0 where

@@ -9,7 +9,7 @@ use Rattle.mtapi_machine.specs.State.{State, workers}
 use Rattle.mtapi_machine.specs.Row.{Allows, after_row}
 use Rattle.mtapi_machine.specs.Rows.{row}
 use Rattle.node_resources.specs.declared.gate.Gate.{Gate}
-use Rattle.node_resources.specs.Holds.{ResourceTable, Stands}
+use Rattle.node_resources.specs.Holds.{ResourceTable, ResourcesStand}
 
 -- handles have layout one, and the gate has the phase of the state and its number of workers
 pub record IsAt (s : State) (g : Gate) : Type 0 where
@@ -29,8 +29,8 @@ with_lists_of t s = record s { mutexes = t.mutexes; sems = t.sems; rwls = t.rwls
 pub record Does (s : State) (who : ℕ) (op : Op) (r : Reply) (new : ResourceTable) : Type 0 where
   pub allowed : Allows (row s who op r) r
   pub others : after_row s (row s who op r) ≡ with_lists_of (after_row s (row s who op r)) s
-  pub stands : Stands (after_row s (row s who op r)) new
+  pub stands : ResourcesStand (after_row s (row s who op r)) new
 
 -- so from every state that the gate is at and for whose lists the resources stand
-abbrev pub Steps : ResourceTable → Gate → ℕ → Op → Reply → ResourceTable → Type 0
-Steps old g who op r new = (s : State) → IsAt s g → Stands s old → Does s who op r new
+abbrev pub ResourceSteps : ResourceTable → Gate → ℕ → Op → Reply → ResourceTable → Type 0
+ResourceSteps old g who op r new = (s : State) → IsAt s g → ResourcesStand s old → Does s who op r new

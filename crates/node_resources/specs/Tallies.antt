@@ -12,7 +12,7 @@ use Rattle.mtapi_machine.specs.Row.{Row, says, gives}
 use Rattle.mtapi_machine.specs.TallyRows.{gives_up, takes_both}
 use Rattle.node_resources.specs.declared.tally_ops.TallyLock.{TallyLock}
 use Rattle.node_resources.specs.declared.tally_ops.TallyLock.TheVariants.{Both, Owned, Absent}
-use Rattle.node_resources.specs.Holds.{ResourceTable, Stands}
+use Rattle.node_resources.specs.Holds.{ResourceTable, ResourcesStand}
 
 -- the row of a tally that wants the mutex and the segment of these ids
 abbrev pub both_row : State → ℕ → ℕ → ℕ → ℕ → ℕ → Row
@@ -36,4 +36,4 @@ after_lock who Absent s = s
 -- the row of every task is the answer's, and the resources stand for what it leaves
 pub record Locks (s : State) (who mutex segment cell : ℕ) (answer : TallyLock) (new : ResourceTable) : Type 0 where
   pub row : (t : ℕ) → both_row s who t mutex segment cell ≡ lock_row who t answer
-  pub stands : Stands (after_lock who answer s) new
+  pub stands : ResourcesStand (after_lock who answer s) new

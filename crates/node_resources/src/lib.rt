@@ -16,7 +16,7 @@ ghost use Rattle.std.specs.Prelude.{◌≡◌, IfOk, is_some};
 ghost use Rattle.handle_pool.specs.Slots.{slot_value, live_count};
 ghost use Rattle.mtapi_machine.specs.declared.terms.Terms.{Terms};
 ghost use Rattle.mtapi_machine.specs.State.{opening};
-ghost use Rattle.node_resources.specs.Holds.{Stands};
+ghost use Rattle.node_resources.specs.Holds.{ResourcesStand};
 
 pub use gate::Gate;
 use mrapi_counting::{Rwls, Sems};
@@ -62,7 +62,7 @@ impl Model for Resources {
 impl Resources {
     /// No object of any kind, and all the memory that as many of each will use as the settings allow.
     pub fn init(alloc: Global, settings: NodeAttr) -> Result<Resources, AllocError>
-        ensures { IfOk result (λ r. (t : Terms) → t.settings ≡ settings → Stands (opening t) r) }
+        ensures { IfOk result (λ r. (t : Terms) → t.settings ≡ settings → ResourcesStand (opening t) r) }
     {
         let max = settings.objects();
         let generations = settings.generations();

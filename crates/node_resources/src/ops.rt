@@ -3,7 +3,7 @@
 ghost use Rattle.std.specs.Prelude.{◌≡◌, ◌<◌, true};
 ghost use Rattle.mtapi_renaming.specs.Ops.{renamed_op};
 ghost use Rattle.mtapi_machine.specs.Answers.{is_mrapi};
-ghost use Rattle.node_resources.specs.Steps.{Steps};
+ghost use Rattle.node_resources.specs.Steps.{ResourceSteps};
 
 use crate::Resources;
 use crate::gate::Gate;
@@ -15,7 +15,7 @@ impl Resources {
     pub fn execute<R: Rename>(&mut self, names: &R, gate: Gate, who: u32, op: &Op) -> Reply
         requires seat { who < 25 }
         requires resource { is_mrapi op.now ≡ true }
-        ensures { Steps self.old gate who (renamed_op (R.renaming names.now) op.now) result self.new }
+        ensures { ResourceSteps self.old gate who (renamed_op (R.renaming names.now) op.now) result self.new }
     {
         match op {
             Op::MutexCreate { id, recursive } => self.mutex_create(gate, who, *id, *recursive),

@@ -4,9 +4,9 @@ ghost use Rattle.std.specs.Prelude.{◌≡◌, ◌<◌};
 ghost use Rattle.mtapi_machine.specs.declared.ops.Op.TheVariants as op;
 ghost use Rattle.mtapi_machine.specs.State.{State};
 ghost use Rattle.mtapi_values.specs.Conditions.{first};
-ghost use Rattle.node_resources.specs.Holds.{Stands};
+ghost use Rattle.node_resources.specs.Holds.{ResourcesStand};
 ghost use Rattle.node_resources.specs.Refusals.{shmem_refusals};
-ghost use Rattle.node_resources.specs.Steps.{Steps, IsAt};
+ghost use Rattle.node_resources.specs.Steps.{ResourceSteps, IsAt};
 
 use crate::Resources;
 use crate::gate::Gate;
@@ -18,7 +18,7 @@ impl Resources {
     /// Makes a segment of so many cells, all of them 0: PARAMETER where they aren't 1 to 4,096, SHM_EXISTS where a live one has the id,
     /// and SHM_LIMIT where there is no room.
     pub fn shmem_create(&mut self, gate: Gate, who: u32, id: u32, cells: u32) -> Reply
-        ensures { Steps self.old gate who (op.ShmemCreate id cells) result self.new }
+        ensures { ResourceSteps self.old gate who (op.ShmemCreate id cells) result self.new }
     {
         if let Some(status) = gate.open_refusal(who) {
             return Reply::Mrapi(status);
@@ -32,7 +32,7 @@ impl Resources {
     /// Tells why `shmem_create` refuses, whether there is room or not. None where only want of room
     /// can refuse it.
     pub fn shmem_refusal(&self, gate: Gate, who: u32, id: u32, cells: u32) -> Option<MrapiStatus>
-        ensures { (s : State) → IsAt s gate → Stands s self.now → first (shmem_refusals s who id cells) ≡ result }
+        ensures { (s : State) → IsAt s gate → ResourcesStand s self.now → first (shmem_refusals s who id cells) ≡ result }
     {
         if let Some(status) = gate.open_refusal(who) {
             return Some(status);
@@ -42,7 +42,7 @@ impl Resources {
 
     /// The handle of the live segment of an id, and SHM_ID_INVALID where there is none.
     pub fn shmem_get(&self, gate: Gate, who: u32, id: u32) -> Reply
-        ensures { Steps self.now gate who (op.ShmemGet id) result self.now }
+        ensures { ResourceSteps self.now gate who (op.ShmemGet id) result self.now }
     {
         if let Some(status) = gate.refusal(who) {
             return Reply::Mrapi(status);
@@ -55,7 +55,7 @@ impl Resources {
 
     /// Gives up a segment: SHM_INVALID where the handle names none, and SHM_ATTACHED while a seat is attached.
     pub fn shmem_delete(&mut self, gate: Gate, who: u32, shmem: ShmemHandle) -> Reply
-        ensures { Steps self.old gate who (op.ShmemDelete shmem) result self.new }
+        ensures { ResourceSteps self.old gate who (op.ShmemDelete shmem) result self.new }
     {
         if let Some(status) = gate.open_refusal(who) {
             return Reply::Mrapi(status);
@@ -66,7 +66,7 @@ impl Resources {
     /// Attaches a seat, below 25: SHM_ATTACHED where it is attached.
     pub fn shmem_attach(&mut self, gate: Gate, who: u32, shmem: ShmemHandle) -> Reply
         requires seat { who < 25 }
-        ensures { Steps self.old gate who (op.ShmemAttach shmem) result self.new }
+        ensures { ResourceSteps self.old gate who (op.ShmemAttach shmem) result self.new }
     {
         if let Some(status) = gate.refusal(who) {
             return Reply::Mrapi(status);
@@ -77,7 +77,7 @@ impl Resources {
     /// Detaches a seat, below 25: SHM_NOTATTACHED where it isn't attached.
     pub fn shmem_detach(&mut self, gate: Gate, who: u32, shmem: ShmemHandle) -> Reply
         requires seat { who < 25 }
-        ensures { Steps self.old gate who (op.ShmemDetach shmem) result self.new }
+        ensures { ResourceSteps self.old gate who (op.ShmemDetach shmem) result self.new }
     {
         if let Some(status) = gate.refusal(who) {
             return Reply::Mrapi(status);
@@ -89,7 +89,7 @@ impl Resources {
     /// no such cell.
     pub fn shmem_read(&self, gate: Gate, who: u32, shmem: ShmemHandle, cell: u32) -> Reply
         requires seat { who < 25 }
-        ensures { Steps self.now gate who (op.ShmemRead shmem cell) result self.now }
+        ensures { ResourceSteps self.now gate who (op.ShmemRead shmem cell) result self.now }
     {
         if let Some(status) = gate.refusal(who) {
             return Reply::Mrapi(status);
@@ -108,7 +108,7 @@ impl Resources {
         value: i64,
     ) -> Reply
         requires seat { who < 25 }
-        ensures { Steps self.old gate who (op.ShmemWrite shmem cell value) result self.new }
+        ensures { ResourceSteps self.old gate who (op.ShmemWrite shmem cell value) result self.new }
     {
         if let Some(status) = gate.refusal(who) {
             return Reply::Mrapi(status);

@@ -10,7 +10,7 @@ ghost use Rattle.mrapi_mutex.specs.Calls.{after_unlock};
 ghost use Rattle.mrapi_shmem.specs.Calls.{after_detach};
 ghost use Rattle.mtapi_machine.specs.State.{State};
 ghost use Rattle.mtapi_machine.specs.Moves.{Mutexes, Segments, alters, after_moves};
-ghost use Rattle.node_resources.specs.Holds.{Stands};
+ghost use Rattle.node_resources.specs.Holds.{ResourcesStand};
 ghost use Rattle.node_resources.specs.Tallies.{Locks};
 
 use crate::Resources;
@@ -31,7 +31,7 @@ impl Resources {
     /// Gives a tally on the worker `who`, below 25, the mutex and the segment of these ids; the segment has to have the cell.
     pub fn tally_lock(&mut self, who: u32, mutex_id: u64, segment_id: u64, cell: u64) -> TallyLock
         requires seat { who < 25 }
-        ensures { (s : State) → Stands s self.old → Locks s who mutex_id segment_id cell result self.new }
+        ensures { (s : State) → ResourcesStand s self.old → Locks s who mutex_id segment_id cell result self.new }
     {
         let Some(mutex) = self.tally_mutex(who, mutex_id) else {
             return TallyLock::Absent;
@@ -108,7 +108,7 @@ impl Resources {
     pub fn tally_read(&self, segment: ShmemHandle, cell: u64) -> i64
         ensures live { (y : Segment) → slot_value self.now.segments segment.0 ≡ Some y → result ≡ cell_of cell y }
         ensures gone { slot_value self.now.segments segment.0 ≡ None → result ≡ pos 0 }
-        ensures reads { (s : State) (y : Segment) → Stands s self.now → live_object s.segments segment.0 ≡ Some y
+        ensures reads { (s : State) (y : Segment) → ResourcesStand s self.now → live_object s.segments segment.0 ≡ Some y
             → result ≡ cell_of cell y }
     {
         self.segments.number(segment, cell).unwrap_or(0)
@@ -116,8 +116,8 @@ impl Resources {
 
     /// Puts a number into a cell of a tally's segment.
     pub fn tally_write(&mut self, segment: ShmemHandle, cell: u64, value: i64)
-        ensures { (s : State) → Stands s self.old
-            → Stands (after_moves (alters Segments segment.0 (with_cell cell value) ∷ []) s) self.new }
+        ensures { (s : State) → ResourcesStand s self.old
+            → ResourcesStand (after_moves (alters Segments segment.0 (with_cell cell value) ∷ []) s) self.new }
     {
         self.segments.set_number(segment, cell, value);
     }
@@ -127,9 +127,9 @@ impl Resources {
     pub fn tally_end(&mut self, who: u32, mutex: MutexHandle, segment: ShmemHandle)
         requires seat { who < 25 }
         ensures new { self.new ≡ record self.old { mutexes = changed self.old.mutexes mutex.0 (after_unlock who 1); segments = changed self.old.segments segment.0 (after_detach who) } }
-        ensures ends { (s : State) (x : Mutex) → Stands s self.old → live_object s.mutexes mutex.0 ≡ Some x
+        ensures ends { (s : State) (x : Mutex) → ResourcesStand s self.old → live_object s.mutexes mutex.0 ≡ Some x
             → x.owner ≡ Some who → x.depth ≡ 1
-            → Stands (after_moves (alters Segments segment.0 (with_attached who false) ∷ alters Mutexes mutex.0 unlocked ∷ []) s) self.new }
+            → ResourcesStand (after_moves (alters Segments segment.0 (with_attached who false) ∷ alters Mutexes mutex.0 unlocked ∷ []) s) self.new }
     {
         let _ = self.segments.detach(segment, who);
         let _ = self.mutexes.unlock(mutex, who, 1);

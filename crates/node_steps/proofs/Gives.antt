@@ -1,5 +1,5 @@
 -- What a row gives: a reply that it allows, and the state after it. One word for each part of a row.
-use Rattle.node_steps.proofs.Names.{nat_tests, ◌≡◌, ℕ, ◌+◌, ◌≤◌, Bool, true, false, List, [], ◌∷◌, Option, Some, None, refl, sym, ap, subst, arith, cond, MtapiStatus, first, Op, Reply, Mtapi, State, Move, after_moves, Row, unless, says, gives, only, Allows, after_row, mtapi_unless, live, row, IsHonest, Slots, Action, TaskTable, HeldQueue, QueueTable, SchedulerTable, Becomes, BecomesWith, records_of, group_slots, GroupTable, without_members, Regroups, PoolNode, Lists, Pools, Live, Steps, state_of, terms_of}
+use Rattle.node_steps.proofs.Names.{nat_tests, ◌≡◌, ℕ, ◌+◌, ◌≤◌, Bool, true, false, List, [], ◌∷◌, Option, Some, None, refl, sym, ap, subst, arith, cond, MtapiStatus, first, Op, Reply, Mtapi, State, Move, after_moves, Row, unless, says, gives, only, Allows, after_row, mtapi_unless, live, row, IsHonest, Slots, Action, TaskTable, HeldQueue, QueueTable, SchedulerTable, Becomes, BecomesWith, records_of, group_slots, GroupTable, without_members, Regroups, PoolNode, Lists, Pools, Live, PoolNodeSteps, state_of, terms_of}
 
 -- from the state s the row w gives the reply r and leads to t
 pub record Gives (s : State) (w : Row) (r : Reply) (t : State) : Type 0 where
@@ -52,36 +52,41 @@ module _ {T : Type 0} where
 -- a step of the node from what the row gives
 pub steps : (n m : PoolNode) (l k : Lists) (who : ℕ) (op : Op) (r : Reply) → Gives (state_of n l) (row (state_of n l) who op r) r (state_of m k)
     → Pools n.scheduler.settings m.scheduler.actions m.scheduler.tasks.pool (group_slots m.scheduler) (records_of m.scheduler.queues.pool) m.resources k
-    → terms_of m ≡ terms_of n → m.scheduler.tasks.starts ≤ n.scheduler.tasks.starts + 1 → IsHonest op → Steps n l who op r m
+    → terms_of m ≡ terms_of n → m.scheduler.tasks.starts ≤ n.scheduler.tasks.starts + 1 → IsHonest op → PoolNodeSteps n l who op r m
 steps n m l k who op r e1 e2 e3 e4 e5 = grind (arith, nat_tests)
 
 -- a step that leaves the node as it was
 pub stays : (n : PoolNode) (l : Lists) (who : ℕ) (op : Op) (r : Reply) → Live n l → IsHonest op
-    → Gives (state_of n l) (row (state_of n l) who op r) r (state_of n l) → Steps n l who op r n
+    → Gives (state_of n l) (row (state_of n l) who op r) r (state_of n l) → PoolNodeSteps n l who op r n
 stays n l who op r v h g = (l, record { allowed = g.allowed; leads = g.leads; live = v; terms = refl; starts = omega arith; honest = h })
 
 -- the same step, of a scheduler that has become so
 pub lands_to : (n m : PoolNode) (l : Lists) (who : ℕ) (op : Op) (r : Reply) (b : SchedulerTable) (a : Slots Action) (t : TaskTable) (q : Slots HeldQueue)
     (g : GroupTable) → m.scheduler.settings ≡ n.scheduler.settings → b.settings ≡ m.scheduler.settings → b.actions ≡ a → b.tasks ≡ t
     → records_of b.queues.pool ≡ records_of q → group_slots b ≡ without_members g.pool
-    → Steps n l who op r (record m { scheduler = record m.scheduler { actions = a; tasks = t; queues = record m.scheduler.queues { pool = q }; groups = g } })
-    → Steps n l who op r (record m { scheduler = b })
+    → PoolNodeSteps n l who op r (record m {
+      scheduler =
+          record m.scheduler { actions = a; tasks = t; queues = record m.scheduler.queues { pool = q }; groups = g };
+    })
+    → PoolNodeSteps n l who op r (record m { scheduler = b })
 lands_to n m l who op r b a t q g e1 e2 e3 e4 e5 e6 e7 = grind (arith, nat_tests)
 
 pub lands : (n : PoolNode) (l : Lists) (who : ℕ) (op : Op) (r : Reply) (b : SchedulerTable) (a : Slots Action) (q : TaskTable) → Becomes n.scheduler b a q
-    → Steps n l who op r (record n { scheduler = record n.scheduler { actions = a; tasks = q } }) → Steps n l who op r (record n { scheduler = b })
+    → PoolNodeSteps n l who op r (record n { scheduler = record n.scheduler { actions = a; tasks = q } })
+    → PoolNodeSteps n l who op r (record n { scheduler = b })
 lands n l who op r b a q e s = lands_to n n l who op r b a q n.scheduler.queues.pool n.scheduler.groups refl e.settings e.actions_are e.tasks_are e.queues_are
     e.groups_are s
 
 -- the same of the queues alone
 pub lands_with : (n : PoolNode) (l : Lists) (who : ℕ) (op : Op) (r : Reply) (b : SchedulerTable) (q : Slots HeldQueue) → BecomesWith n.scheduler b q
-    → Steps n l who op r (record n { scheduler = record n.scheduler { queues = record n.scheduler.queues { pool = q } } })
-    → Steps n l who op r (record n { scheduler = b })
+    → PoolNodeSteps n l who op r (record n { scheduler = record n.scheduler { queues = record n.scheduler.queues { pool = q } } })
+    → PoolNodeSteps n l who op r (record n { scheduler = b })
 lands_with n l who op r b q e s = lands_to n n l who op r b n.scheduler.actions n.scheduler.tasks q n.scheduler.groups refl e.settings e.actions_are e.tasks_are
     (ap records_of e.queues_are) (ap (λ (g : GroupTable). without_members g.pool) e.groups_are) s
 
 -- the same, where groups come or go
 pub regroups_to : (n : PoolNode) (l : Lists) (who : ℕ) (op : Op) (r : Reply) (b : SchedulerTable) (q : TaskTable) → Regroups n.scheduler b q
-    → Steps n l who op r (record n { scheduler = record n.scheduler { tasks = q; groups = b.groups } }) → Steps n l who op r (record n { scheduler = b })
+    → PoolNodeSteps n l who op r (record n { scheduler = record n.scheduler { tasks = q; groups = b.groups } })
+    → PoolNodeSteps n l who op r (record n { scheduler = b })
 regroups_to n l who op r b q e s = lands_to n n l who op r b n.scheduler.actions q n.scheduler.queues.pool b.groups refl e.settings e.actions_are e.tasks_are
     (ap (λ (z : QueueTable). records_of z.pool) e.queues_are) refl s

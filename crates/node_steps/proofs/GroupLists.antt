@@ -1,5 +1,5 @@
 -- The members of a group in the machine's words, and moves of all of them.
-use Rattle.node_steps.proofs.Names.{◌≡◌, ◌≢◌, ℕ, ◌<◌, Bool, true, false, cond, List, [], ◌∷◌, Option, Some, None, refl, sym, ◌∙◌, ap, subst, inl, inr, arith, ◌==◌, ◌&&◌, ◌||◌, nat_lt, eqb_tells, nat_tests, TaskEnd, Slots, slot_value, with_value, without, NoneLive, Listed, live_of, lookup, live_object, any_live, any_listed, change, change_all, with_fields, gone, Distinct, any-none, any-live, has_handle, without_handle, Task, end_of, is_unended, with_notes, Ending, is_member, is_unended_member, insert, insert_ended, endings, freed, let_go, in_no_group, without_group, Members, no_members, RisesBy, AreKeyed, membership, members_in, end_in, SchedulerTable, IsScheduler, is_ended_member, end_at, ending_of, endings_of, Each, frees, lets_go, has-self, or-right, unended-so, unended-member, ended-member, Holds, and_right, lt-ltb, none-some, same_Some, change_all-none}
+use Rattle.node_steps.proofs.Names.{◌≡◌, ◌≢◌, ℕ, ◌<◌, Bool, true, false, cond, List, [], ◌∷◌, Option, Some, None, refl, sym, ◌∙◌, ap, subst, inl, inr, arith, ◌==◌, ◌&&◌, ◌||◌, nat_lt, eqb_tells, nat_tests, TaskEnd, Slots, slot_value, with_value, without, NoneLive, Listed, live_of, lookup, live_object, any_live, any_listed, change, change_all, with_fields, gone, Distinct, any-none, any-live, has_handle, without_handle, Task, end_of, is_unended, with_notes, Ending, is_member, is_unended_member, insert, insert_ended, endings, freed, let_go, in_no_group, without_group, Members, no_members, RisesBy, AreKeyed, membership, members_seen, end_number_in, SchedulerTable, IsScheduler, is_ended_member, ends_numbered, ending_of, endings_of, Each, frees, lets_go, has-self, or-right, unended-so, unended-member, ended-member, Holds, and_right, lt-ltb, none-some, same_Some, change_all-none}
 use Rattle.std.proofs.lemmas.Bool.{false≢true}
 use Rattle.handle_pool.specs.Stands.{Stands as SlotsStand}
 use Rattle.task_board.proofs.KeyedLemmas.{keyed-same, keyed-leave}
@@ -87,10 +87,10 @@ more-test a b e = grind (arith, nat_tests)
 
 -- each handle has ended, and its number is that of its end
 abbrev HaveEnded : (ℕ → Option Task) → (ℕ → Option ℕ) → List ℕ → Type 0
-HaveEnded at key hs = (k : ℕ) → has_handle k hs ≡ true → (y : TaskEnd) × (m : ℕ) × (end_at (at k) ≡ Some (y, m)) × (key k ≡ Some m)
+HaveEnded at key hs = (k : ℕ) → has_handle k hs ≡ true → (y : TaskEnd) × (m : ℕ) × (ends_numbered (at k) ≡ Some (y, m)) × (key k ≡ Some m)
 
 insert-back : (at : ℕ → Option Task) (key : ℕ → Option ℕ) (h n : ℕ) (x : TaskEnd) (hs : List ℕ) → RisesBy key hs → HaveEnded at key hs → key h ≡ Some n
-    → end_at (at h) ≡ Some (x, n) → has_handle h hs ≡ true
+    → ends_numbered (at h) ≡ Some (x, n) → has_handle h hs ≡ true
     → insert (record { task = h; end = x; number = n }) (endings_of at (without_handle h hs)) ≡ endings_of at hs
 insert-back at key h n x [] o ended k e has = absurd (false≢true has)
 insert-back at key h n x (j ∷ js) o ended k e has = by_test (j == h) refl has (insert-back at key h n x js o.1 (λ i f. ended i (or-right (j == i) _ f)) k e)
@@ -106,7 +106,7 @@ insert-back at key h n x (j ∷ js) o ended k e has = by_test (j == h) refl has 
         ∷ endings_of at is) (record { task = i; end = y.0; number = y.1 } ∷ insert (record { task = h; end = x; number = n }) (endings_of at is)))
         ∙ (λ z. (record { task = h; end = x; number = n }) ∷ ending_of i (sym y.2 z) (endings_of at is)))
 
-    behind : (y : TaskEnd) (m : ℕ) → end_at (at j) ≡ Some (y, m) → m < n
+    behind : (y : TaskEnd) (m : ℕ) → ends_numbered (at j) ≡ Some (y, m) → m < n
         → insert (record { task = h; end = x; number = n }) (endings_of at (without_handle h js)) ≡ endings_of at js
         → insert (record { task = h; end = x; number = n }) (endings_of at (j ∷ without_handle h js)) ≡ endings_of at (j ∷ js)
     behind y m d less rest =
@@ -124,7 +124,7 @@ insert-back at key h n x (j ∷ js) o ended k e has = by_test (j == h) refl has 
     by_test true d f rest =
         let same : j ≡ h = grind (arith, nat_tests) in
         in_front js (λ i b f g. o.0 i n b f (ap key same ∙ k) g) (λ i f. ended i (or-right (j == i) _ f))
-        ∙ ((λ z. ending_of h (sym e z) (endings_of at js)) ∙ ap (λ (i : ℕ). ending_of i (end_at (at i)) (endings_of at js)) (sym same))
+        ∙ ((λ z. ending_of h (sym e z) (endings_of at js)) ∙ ap (λ (i : ℕ). ending_of i (ends_numbered (at i)) (endings_of at js)) (sym same))
     by_test false d f rest =
         let y = ended j (has-self j js) in
         behind y.0 y.1 y.2 (o.0 h y.1 n f y.3 k) (rest f)
@@ -141,41 +141,44 @@ record Front (g : ℕ) (t : Task) (n : ℕ) : Type 0 where
   e : TaskEnd
   end : end_of t.state ≡ Some (e, n)
 
-front : (g n : ℕ) (t : Task) → end_in g (membership (Some t)) ≡ Some n → Front g t n
+front : (g n : ℕ) (t : Task) → end_number_in g (membership (Some t)) ≡ Some n → Front g t n
 front g n t e1 = grind (arith, nat_tests)
 
 -- a task that isn't a member that has ended adds nothing
-not-added : (g h : ℕ) (t : Task) (es : List Ending) → end_in g (membership (Some t)) ≡ None → cond (is_member g t) (insert_ended h (end_of t.state) es) es ≡ es
+not-added : (g h : ℕ) (t : Task) (es : List Ending) → end_number_in g (membership (Some t)) ≡ None
+    → cond (is_member g t) (insert_ended h (end_of t.state) es) es ≡ es
 not-added g h t es e1 = grind (arith, nat_tests)
 
 endings-keyed : (at : ℕ → Option Task) (g : ℕ) (es : List (ℕ × Task)) (hs : List ℕ) → Distinct es → ((h : ℕ) (t : Task) → lookup es h ≡ Some t → at h ≡ Some t)
-    → AreKeyed (λ h. end_in g (membership (lookup es h))) hs → endings g es ≡ endings_of at hs
+    → AreKeyed (λ h. end_number_in g (membership (lookup es h))) hs → endings g es ≡ endings_of at hs
 unfolding endings
 endings-keyed at g [] [] d is keyed = refl
 endings-keyed at g [] (h ∷ hs) d is keyed = let a = keyed.has_key h (has-self h hs) in absurd (none-some _ a.1)
-endings-keyed at g (e ∷ es) hs d is keyed = by_key (end_in g (membership (Some e.1))) refl (endings-keyed at g es (without_handle e.0 hs) d.1 later fewer)
+endings-keyed at g (e ∷ es) hs d is keyed =
+    by_key (end_number_in g (membership (Some e.1))) refl (endings-keyed at g es (without_handle e.0 hs) d.1 later fewer)
   where
     later : (h : ℕ) (t : Task) → lookup es h ≡ Some t → at h ≡ Some t
     later h t f = is h t (lookup-away e es h (λ same. absurd (none-some _ (sym d.0 ∙ ap (lookup es) (sym same) ∙ f))) ∙ f)
 
-    fewer : AreKeyed (λ h. end_in g (membership (lookup es h))) (without_handle e.0 hs)
-    fewer = keyed-leave (λ h. end_in g (membership (lookup (e ∷ es) h))) (λ h. end_in g (membership (lookup es h))) e.0 hs
+    fewer : AreKeyed (λ h. end_number_in g (membership (lookup es h))) (without_handle e.0 hs)
+    fewer = keyed-leave (λ h. end_number_in g (membership (lookup (e ∷ es) h))) (λ h. end_number_in g (membership (lookup es h))) e.0 hs
         (record {
-          here = ap (λ (o : Option Task). end_in g (membership o)) d.0;
-          others = λ k away. ap (λ (o : Option Task). end_in g (membership o)) (sym (lookup-away e es k away));
+          here = ap (λ (o : Option Task). end_number_in g (membership o)) d.0;
+          others = λ k away. ap (λ (o : Option Task). end_number_in g (membership o)) (sym (lookup-away e es k away));
         }) keyed
 
-    have : HaveEnded at (λ h. end_in g (membership (lookup (e ∷ es) h))) hs
+    have : HaveEnded at (λ h. end_number_in g (membership (lookup (e ∷ es) h))) hs
     have k f =
         let a = keyed.has_key k f in
         by_found (lookup (e ∷ es) k) refl a.0 a.1
       where
-        by_found : (o : Option Task) → lookup (e ∷ es) k ≡ o → (m : ℕ) → end_in g (membership o) ≡ Some m
-            → (y : TaskEnd) × (n : ℕ) × (end_at (at k) ≡ Some (y, n)) × (end_in g (membership (lookup (e ∷ es) k)) ≡ Some n)
+        by_found : (o : Option Task) → lookup (e ∷ es) k ≡ o → (m : ℕ) → end_number_in g (membership o) ≡ Some m
+            → (y : TaskEnd) × (n : ℕ) × (ends_numbered (at k) ≡ Some (y, n)) × (end_number_in g (membership (lookup (e ∷ es) k)) ≡ Some n)
         by_found None l m b = absurd (none-some _ b)
-        by_found (Some t) l m b = let x = front g m t b in (x.e, m, ap end_at (is k t l) ∙ x.end, ap (λ (o : Option Task). end_in g (membership o)) l ∙ b)
+        by_found (Some t) l m b = let x = front g m t b in
+            (x.e, m, ap ends_numbered (is k t l) ∙ x.end, ap (λ (o : Option Task). end_number_in g (membership o)) l ∙ b)
 
-    by_key : (o : Option ℕ) → end_in g (membership (Some e.1)) ≡ o → endings g es ≡ endings_of at (without_handle e.0 hs)
+    by_key : (o : Option ℕ) → end_number_in g (membership (Some e.1)) ≡ o → endings g es ≡ endings_of at (without_handle e.0 hs)
         → cond (is_member g e.1) (insert_ended e.0 (end_of e.1.state) (endings g es)) (endings g es) ≡ endings_of at hs
     by_key None f rest =
         not-added g e.0 e.1 (endings g es) f ∙ rest
@@ -183,20 +186,22 @@ endings-keyed at g (e ∷ es) hs d is keyed = by_key (end_in g (membership (Some
       where
         absent : (b : Bool) → has_handle e.0 hs ≡ b → has_handle e.0 hs ≡ false
         absent true h = let a = keyed.has_key e.0 h in
-            absurd (none-some _ (sym f ∙ ap (λ (o : Option Task). end_in g (membership o)) (sym (lookup-here e es)) ∙ a.1))
+            absurd (none-some _ (sym f ∙ ap (λ (o : Option Task). end_number_in g (membership o)) (sym (lookup-here e es)) ∙ a.1))
         absent false h = h
     by_key (Some n) f rest =
         let x = front g n e.1 f in
-        let here : end_in g (membership (lookup (e ∷ es) e.0)) ≡ Some n = ap (λ (o : Option Task). end_in g (membership o)) (lookup-here e es) ∙ f in
+        let here : end_number_in g (membership (lookup (e ∷ es) e.0)) ≡ Some n =
+        ap (λ (o : Option Task). end_number_in g (membership o)) (lookup-here e es) ∙ f in
         (λ i. cond (x.member i) (insert_ended e.0 (x.end i) (endings g es)) (endings g es))
         ∙ (ap (insert (record { task = e.0; end = x.e; number = n })) rest
-        ∙ insert-back at (λ h. end_in g (membership (lookup (e ∷ es) h))) e.0 n x.e hs keyed.rises have here (ap end_at (is e.0 e.1 (lookup-here e es))
+        ∙ insert-back at (λ h. end_number_in g (membership (lookup (e ∷ es) h))) e.0 n x.e hs keyed.rises have here
+        (ap ends_numbered (is e.0 e.1 (lookup-here e es))
         ∙ x.end) (keyed.listed e.0 n here))
 
 -- the ends of a group's members, in the order of their numbers, are those of its list
 pub endings-are : (b : SchedulerTable) (l : List (Listed Task)) (g : ℕ) (m : Members) → IsScheduler b → SlotsStand b.tasks.pool l
     → slot_value b.groups.pool g ≡ Some m → endings g (live_of l) ≡ endings_of (slot_value b.tasks.pool) m.ended
-endings-are b l g m e1 e2 e3 = grind (arith, nat_tests, endings-keyed, slot_value, live_of, keyed-same, end_in, members_in)
+endings-are b l g m e1 e2 e3 = grind (arith, nat_tests, endings-keyed, slot_value, live_of, keyed-same, end_number_in, members_seen)
 
 -- whether members are left that haven't ended, and whether any are
 pub none-unended : (b : SchedulerTable) (l : List (Listed Task)) (g : ℕ) (m : Members) → IsScheduler b → SlotsStand b.tasks.pool l

@@ -1,11 +1,11 @@
 -- The ops on groups are steps of the machine.
-use Rattle.node_steps.proofs.Names.{nat_tests, ◌≡◌, ℕ, ◌+◌, ◌<◌, Bool, true, not, cond, List, [], ◌∷◌, length, Option, Some, None, Result, Ok, Err, refl, sym, ◌∙◌, ap, subst, arith, option_map, TaskEnd, GroupHandle, MtapiStatus, Slots, slot_value, without, NoneLive, live_of, live_object, change_all, issue, update, retire, TaskState, end_of, with_notes, Group, Ending, new_group, is_member, endings, first_fault, freed, let_go, in_no_group, Members, no_members, counts_of, Reply, State, is_open, is_up, row, QueueTable, SchedulerTable, group_slots, records_of, IsScheduler, without_members, is_ended_member, end_at, ending_of, endings_of, Regroups, NoneTaken, FreesAll, LetsAllGo, value-mapped, mapped-insert, mapped-without, IsFull-mapped, PoolNode, Lists, Holds, Live, Steps, state_of}
+use Rattle.node_steps.proofs.Names.{nat_tests, ◌≡◌, ℕ, ◌+◌, ◌<◌, Bool, true, not, cond, List, [], ◌∷◌, length, Option, Some, None, Result, Ok, Err, refl, sym, ◌∙◌, ap, subst, arith, option_map, TaskEnd, GroupHandle, MtapiStatus, Slots, slot_value, without, NoneLive, live_of, live_object, change_all, issue, update, retire, TaskState, end_of, with_notes, Group, Ending, new_group, is_member, endings, first_fault, freed, let_go, in_no_group, Members, no_members, counts_of, Reply, State, is_open, is_up, row, QueueTable, SchedulerTable, group_slots, records_of, IsScheduler, without_members, is_ended_member, ends_numbered, ending_of, endings_of, Regroups, NoneTaken, FreesAll, LetsAllGo, value-mapped, mapped-insert, mapped-without, IsFull-mapped, PoolNode, Lists, Holds, Live, PoolNodeSteps, state_of}
 use Rattle.mtapi_values.specs.declared.statuses.MtapiStatus.TheVariants as m
-use Rattle.group_core.specs.Members.{Creates}
+use Rattle.group_core.specs.Members.{CreatesGroup}
 use Rattle.mtapi_machine.specs.declared.ops.Op.TheVariants as op
 use Rattle.mtapi_machine.specs.declared.replies.Reply.TheVariants as reply
 use Rattle.mtapi_machine.specs.GroupRows.{verdict, gives_end, gives_first}
-use Rattle.task_board.specs.GroupMoves.{Takes}
+use Rattle.task_board.specs.GroupMoves.{TakesMember}
 use Rattle.node_steps.proofs.Gives.{Gives, allows, gives_this, says_this, met, past, at_some, at_none, then_row, else_row, steps, stays, lands, lands_to, regroups_to}
 use Rattle.node_steps.proofs.Moves.{found, full_list, room_in, may_be, holds_insert, holds_remove, holds_change_and_remove}
 use Rattle.node_steps.proofs.ActionSteps.{not_true}
@@ -53,8 +53,8 @@ create_reply (Ok g) = reply.Handle g.0
 create_reply (Err c) = reply.Mtapi c
 
 pub group_create_steps : (n : PoolNode) (l : Lists) (who : ℕ) (b : SchedulerTable) (r : Result GroupHandle MtapiStatus) → Live n l → is_open n.core.phase ≡ true
-    → Creates n.scheduler.groups r b.groups → Regroups n.scheduler b n.scheduler.tasks
-    → Steps n l who op.GroupCreate (create_reply r) (record n { scheduler = b })
+    → CreatesGroup n.scheduler.groups r b.groups → Regroups n.scheduler b n.scheduler.tasks
+    → PoolNodeSteps n l who op.GroupCreate (create_reply r) (record n { scheduler = b })
 group_create_steps n l who b (Ok g) v up c e =
     let i = mapped-insert (λ (y : Members). new_group) n.scheduler.groups.pool b.groups.pool g.0 no_members c.1 in
     regroups_to n l who op.GroupCreate (reply.Handle g.0) b n.scheduler.tasks e
@@ -82,7 +82,7 @@ group_create_steps n l who b (Err x) v up c e = absurd c
 
 pub group_delete_steps : (n : PoolNode) (l : Lists) (who : ℕ) (g : GroupHandle) (x : Members) (now b : SchedulerTable) → Live n l → is_open n.core.phase ≡ true
     → slot_value n.scheduler.groups.pool g.0 ≡ Some x → LetsAllGo n.scheduler now g.0 → NoneLive (slot_value now.tasks.pool) (λ t. is_member g.0 t ≡ true)
-    → b.groups.pool ≡ without now.groups.pool g.0 → Regroups now b now.tasks → Steps n l who (op.GroupDelete g) reply.Ok (record n { scheduler = b })
+    → b.groups.pool ≡ without now.groups.pool g.0 → Regroups now b now.tasks → PoolNodeSteps n l who (op.GroupDelete g) reply.Ok (record n { scheduler = b })
 group_delete_steps n l who g x now b v up live go none gone e =
     lands_to n n l who (op.GroupDelete g) reply.Ok b n.scheduler.actions
     (record n.scheduler.tasks { pool = now.tasks.pool }) n.scheduler.queues.pool b.groups refl (e.settings ∙ go.becomes.settings) (e.actions_are
@@ -115,7 +115,7 @@ early last = cond last (reply.Mtapi m.Timeout) reply.Pending
 module _ (n : PoolNode) (l : Lists) (who : ℕ) (g : GroupHandle) (last : Bool) (v : Live n l) (up : is_up n.core.phase ≡ true) where
   module _ (k : IsScheduler n.scheduler) (x : Members) (live : slot_value n.scheduler.groups.pool g.0 ≡ Some x) where
     -- some member hasn't ended
-    pub all_look_early : 0 < length x.unended → Steps n l who (op.AllLook g last) (early last) n
+    pub all_look_early : 0 < length x.unended → PoolNodeSteps n l who (op.AllLook g last) (early last) n
     all_look_early some =
         let i = some-items x.unended some in
         stays n l who (op.AllLook g last) (early last) v tt
@@ -125,7 +125,7 @@ module _ (n : PoolNode) (l : Lists) (who : ℕ) (g : GroupHandle) (last : Bool) 
     -- all have ended
     pub all_look_freed : (b : SchedulerTable) (fault : Option MtapiStatus) → length x.unended ≡ 0 → FreesAll n.scheduler b g.0 fault
         → NoneLive (slot_value b.tasks.pool) (λ t. is_ended_member g.0 t ≡ true)
-        → Steps n l who (op.AllLook g last) (verdict fault) (record n { scheduler = b })
+        → PoolNodeSteps n l who (op.AllLook g last) (verdict fault) (record n { scheduler = b })
     all_look_freed b fault none f left = rw same
         (lands n l who (op.AllLook g last) _ b n.scheduler.actions (record n.scheduler.tasks { pool = b.tasks.pool }) f.becomes
         (task_steps n l (record n.scheduler.tasks { pool = b.tasks.pool }) (change_all (is_ended_member g.0) freed l.tasks) who (op.AllLook g last)
@@ -139,7 +139,7 @@ module _ (n : PoolNode) (l : Lists) (who : ℕ) (g : GroupHandle) (last : Bool) 
 
     -- Looking at any
 
-    pub any_look_done : length x.unended + length x.ended ≡ 0 → Steps n l who (op.AnyLook g last) (reply.Mtapi m.GroupCompleted) n
+    pub any_look_done : length x.unended + length x.ended ≡ 0 → PoolNodeSteps n l who (op.AnyLook g last) (reply.Mtapi m.GroupCompleted) n
     any_look_done none =
         stays n l who (op.AnyLook g last) (reply.Mtapi m.GroupCompleted) v tt
         (past _ _ _ _ _ _ (not_true _ up) (at_some _ _ _ new_group _ _ _ (group_found n l g.0 x v live)
@@ -153,14 +153,15 @@ module _ (n : PoolNode) (l : Lists) (who : ℕ) (g : GroupHandle) (last : Bool) 
         → Gives (state_of n l) (gives_first (state_of n l) last es) r t → Gives (state_of n l) (row (state_of n l) who (op.AnyLook g last) r) r t
     any_row r t es less is w = grind (arith, nat_tests, past, not_true, at_some, group_found, some-listed, some)
 
-    pub any_look_early : 0 < length x.unended + length x.ended → NoneTaken n.scheduler n.scheduler g.0 → Steps n l who (op.AnyLook g last) (early last) n
+    pub any_look_early : 0 < length x.unended + length x.ended → NoneTaken n.scheduler n.scheduler g.0
+        → PoolNodeSteps n l who (op.AnyLook g last) (early last) n
     any_look_early less none =
         stays n l who (op.AnyLook g last) (early last) v tt
         (any_row (early last) (state_of n l) [] less (endings-are n.scheduler l.tasks g.0 x k v.tasks.stands live
         ∙ ap (endings_of (slot_value n.scheduler.tasks.pool)) (none.1 x live)) (says_this _ _))
 
-    pub any_look_taken : (b : SchedulerTable) (h : ℕ) (e : TaskEnd) → 0 < length x.unended + length x.ended → Takes n.scheduler b g.0 h e
-        → Steps n l who (op.AnyLook g last) (reply.Given (record { 0 = h }) e) (record n { scheduler = b })
+    pub any_look_taken : (b : SchedulerTable) (h : ℕ) (e : TaskEnd) → 0 < length x.unended + length x.ended → TakesMember n.scheduler b g.0 h e
+        → PoolNodeSteps n l who (op.AnyLook g last) (reply.Given (record { 0 = h }) e) (record n { scheduler = b })
     any_look_taken b h e less f = lands n l who (op.AnyLook g last) (reply.Given (record { 0 = h }) e) b n.scheduler.actions
         (record n.scheduler.tasks { pool = without n.scheduler.tasks.pool h }) f.parts.becomes
         (task_steps n l (record n.scheduler.tasks { pool = without n.scheduler.tasks.pool h }) (retire h (update h (with_notes in_no_group) l.tasks)) who
@@ -173,4 +174,4 @@ module _ (n : PoolNode) (l : Lists) (who : ℕ) (g : GroupHandle) (last : Bool) 
         list =
             endings-are n.scheduler l.tasks g.0 f.members k v.tasks.stands f.parts.group
             ∙ (ap (endings_of (slot_value n.scheduler.tasks.pool)) f.list
-            ∙ ap (λ (o : Option _). ending_of h o (endings_of (slot_value n.scheduler.tasks.pool) f.rest)) (ap end_at f.parts.task ∙ ap end_of f.state))
+            ∙ ap (λ (o : Option _). ending_of h o (endings_of (slot_value n.scheduler.tasks.pool) f.rest)) (ap ends_numbered f.parts.task ∙ ap end_of f.state))

@@ -1,5 +1,5 @@
 -- What a scheduler keeps is what the machine's state says.
-use Rattle.node_steps.proofs.Names.{nat_tests, ◌≡◌, ◌↔◌, ℕ, zero, suc, ◌^◌, ◌<◌, Bool, true, List, [], ◌∷◌, Option, Some, None, slice_get, refl, sym, ◌∙◌, ap, subst, arith, ◌&&◌, ◌==◌, map, holds, TaskHandle, TaskEnd, Slot, slot_of, slot_value, used_at, live_of, live_object, same_tests, list_at, has_handle, Task, end_of, is_unstarted, is_unended, runs_on, Ending, is_member, is_unended_member, endings, is_unended_in, HeldQueue, Members, RisesBy, membership, members_in, start_in, end_at, ending_of, endings_of, Seen, seen, seen_in, InOrder, begins_in, SchedulerTable, IsScheduler, running_on, some_same, seen-as, unstarted-seen, seen-live, takes-from, takes-to, has-self, or-right, order-index, Member, member-from, ended-so, unended-so, can_take, PoolNode, Lists, Live, state_of, ListsByStart, Keeps, and_from, and_parts}
+use Rattle.node_steps.proofs.Names.{nat_tests, ◌≡◌, ◌↔◌, ℕ, zero, suc, ◌^◌, ◌<◌, Bool, true, List, [], ◌∷◌, Option, Some, None, slice_get, refl, sym, ◌∙◌, ap, subst, arith, ◌&&◌, ◌==◌, map, holds, TaskHandle, TaskEnd, Slot, slot_of, slot_value, used_at, live_of, live_object, same_tests, list_at, has_handle, Task, end_of, is_unstarted, is_unended, runs_on, Ending, is_member, is_unended_member, endings, is_unended_in, HeldQueue, Members, RisesBy, membership, members_seen, start_in, ends_numbered, ending_of, endings_of, Seen, seen, seen_in, ListInOrder, begins_in, SchedulerTable, IsScheduler, running_on, some_same, seen-as, unstarted-seen, seen-live, takes-from, takes-to, has-self, or-right, order-index, Member, member-from, ended-so, unended-so, can_take, PoolNode, Lists, Live, state_of, ListsByStart, Keeps, and_from, and_parts}
 use Rattle.std.proofs.lemmas.Option.{slice_get_within}
 use Rattle.handle_pool.proofs.WalkLemmas.{used_at-live, live-used_at}
 use Rattle.linked_places.proofs.NextLemmas.{index-has}
@@ -45,15 +45,15 @@ unended-at b g h m e1 e2 e3 = grind (arith, nat_tests)
 
 -- the tasks of the ends are those of the list
 ended-at : (b : SchedulerTable) (g h : ℕ) (m : Members) → IsScheduler b → slot_value b.groups.pool g ≡ Some m → has_handle h m.ended ≡ true
-    → (e : TaskEnd × ℕ) × (end_at (slot_value b.tasks.pool h) ≡ Some e)
+    → (e : TaskEnd × ℕ) × (ends_numbered (slot_value b.tasks.pool h) ≡ Some e)
 ended-at b g h m k live e =
     let a = (k.members.ended g m live).has_key h e in
-    let x = end-tells g a.0 (members_in b.tasks.pool h) a.1 in
+    let x = end-tells g a.0 (members_seen b.tasks.pool h) a.1 in
     let y = member-from b.tasks.pool g h x.e x.is x.group in
     let z = ended-so y.t.state a.0 (y.end ∙ x.end) in
-    ((z.e, a.0), ap end_at y.live ∙ ap end_of z.is)
+    ((z.e, a.0), ap ends_numbered y.live ∙ ap end_of z.is)
 
-names-back : (at : ℕ → Option Task) (hs : List ℕ) → ((h : ℕ) → has_handle h hs ≡ true → (e : TaskEnd × ℕ) × (end_at (at h) ≡ Some e))
+names-back : (at : ℕ → Option Task) (hs : List ℕ) → ((h : ℕ) → has_handle h hs ≡ true → (e : TaskEnd × ℕ) × (ends_numbered (at h) ≡ Some e))
     → map (λ (e : Ending). e.task) (endings_of at hs) ≡ hs
 names-back at [] all = refl
 names-back at (h ∷ hs) all =
@@ -118,7 +118,7 @@ module _ (n : PoolNode) (l : Lists) (v : Live n l) (k : IsScheduler n.scheduler)
 
   -- tasks that were started one after the other, as the scheduler sees them
   seen-order : (hs : List ℕ) → ((h : ℕ) → has_handle h hs ≡ true → (s : Seen) × (seen_in n.scheduler.tasks.pool h ≡ Some s))
-      → InOrder (seen_in n.scheduler.tasks.pool) hs → (i j h m : ℕ) (x y : Task) → i < j → slice_get hs i ≡ Some h → slice_get hs j ≡ Some m
+      → ListInOrder (seen_in n.scheduler.tasks.pool) hs → (i j h m : ℕ) (x y : Task) → i < j → slice_get hs i ≡ Some h → slice_get hs j ≡ Some m
       → slot_value n.scheduler.tasks.pool h ≡ Some x → slot_value n.scheduler.tasks.pool m ≡ Some y → x.start < y.start
   seen-order hs sees ordered i j h m x y less e f a b =
       let s = sees h (index-has h i hs e) in
@@ -156,7 +156,7 @@ module _ (n : PoolNode) (l : Lists) (v : Live n l) (k : IsScheduler n.scheduler)
       ∙ ((k.members.unended g m live).has_key z at).1) in
       let first = has h x (index-has h i m.unended e) a in
       let last = has u y (index-has u j m.unended f) b in
-      let less-key = rises-index (λ z. start_in g (members_in n.scheduler.tasks.pool z)) m.unended i j h u _ _ (k.members.unended g m live).rises less e f
+      let less-key = rises-index (λ z. start_in g (members_seen n.scheduler.tasks.pool z)) m.unended i j h u _ _ (k.members.unended g m live).rises less e f
       ((k.members.unended g m live).has_key h (index-has h i m.unended e)).1 ((k.members.unended g m live).has_key u (index-has u j m.unended f)).1 in
       omega (arith, less-key, first, last))
 

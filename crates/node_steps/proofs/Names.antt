@@ -63,10 +63,10 @@ pub use Rattle.node_resources.specs.Steps.{Does, IsAt}
 pub use Rattle.node_steps.specs.Keeps.{Keeps, ListsByStart}
 pub use Rattle.node_steps.specs.Picks.{IsToward, MayPick}
 pub use Rattle.node_steps.specs.Sound.{Sound}
-pub use Rattle.node_steps.specs.Stands.{Holds, Lists, Live, Pools, Steps, seat_count, state_of, terms_of}
-pub use Rattle.node_steps.specs.Tallies.{GivesBack, NoTally, RunsTally, noted_in}
+pub use Rattle.node_steps.specs.Stands.{Holds, Lists, Live, Pools, PoolNodeSteps, seat_count, state_of, terms_of}
+pub use Rattle.node_steps.specs.Tallies.{GivesBack, NoTally, RunsTally, tally_number}
 pub use Rattle.node_steps.specs.declared.node.PoolNode.{PoolNode}
-pub use Rattle.queue_core.specs.Held.{Finds, HasId, HeldQueue, QueueTable, facts_of, held, live_reply, with_opened}
+pub use Rattle.queue_core.specs.Held.{Finds, HasQueueId, HeldQueue, QueueTable, facts_of, held, live_reply, with_opened}
 pub use Rattle.queue_core.specs.declared.facts.QueueFacts.{QueueFacts}
 pub use Rattle.task_board.proofs.SchedulerLemmas.{job-found}
 pub use Rattle.task_board.proofs.MappedLemmas.{IsFull-mapped, mapped-changed, mapped-insert, mapped-new, mapped-without, value-mapped}
@@ -75,15 +75,15 @@ pub use Rattle.task_board.proofs.PartLemmas.{Member, ended-member, ended-so, mem
 pub use Rattle.task_board.proofs.SeenLemmas.{seen-as, seen-live, some_same, takes-from, takes-to, unstarted-seen}
 pub use Rattle.task_board.specs.Scheduler.{AreWaiting, Becomes, BecomesWith, SchedulerTable, IsScheduler, group_slots, records_of, running_on}
 pub use Rattle.task_board.specs.Ends.{AreServed, EndsUnserved, EndsWaiting, ended_each, ended_if, is_shut, is_unserved}
-pub use Rattle.task_board.specs.GroupMoves.{Each, FreesAll, LetsAllGo, NoneTaken, Regroups, end_at, ending_of, endings_of, frees, is_ended_member, lets_go}
+pub use Rattle.task_board.specs.GroupMoves.{Each, FreesAll, LetsAllGo, NoneTaken, Regroups, ends_numbered, ending_of, endings_of, frees, is_ended_member, lets_go}
 pub use Rattle.task_board.specs.Keyed.{AreKeyed, RisesBy}
 pub use Rattle.task_board.specs.Mapped.{mapped_slot}
-pub use Rattle.task_board.specs.Members.{MayJoin, end_in, members_in, membership, names_dead, start_in, without_members}
+pub use Rattle.task_board.specs.Members.{MayJoin, end_number_in, members_seen, membership, names_dead, start_in, without_members}
 pub use Rattle.task_board.specs.Picks.{IsBest, IsChoice, IsChoiceOf, NoneBetter, NoneTakeable, RunsBy, Takeable}
-pub use Rattle.task_board.specs.Queued.{InOrder, begins_in}
+pub use Rattle.task_board.specs.Queued.{ListInOrder, begins_in}
 pub use Rattle.task_board.specs.Seen.{Seen, seen, seen_as, seen_in}
 pub use Rattle.task_board.specs.declared.scheduler.Choice.{Choice}
-pub use Rattle.task_core.specs.Answers.{after_asked, look_at_end, look_reply, look_unless, unless_refused, waiter_after, watch_end_of, without_group}
+pub use Rattle.task_core.specs.Answers.{after_asked, look_at_end, task_look_reply, look_unless, unless_refused, waiter_after, watch_end_of, without_group}
 pub use Rattle.task_core.specs.Table.{IsLiveAnd, TaskTable, ended_in, looked_in, unended_count}
 pub use Rattle.task_core.specs.Tallies.{adds_of, notes_of, tallied}
 pub use Rattle.task_core.specs.declared.tallies.TallyState.TheVariants.{Begun, Locked, Read, Written}

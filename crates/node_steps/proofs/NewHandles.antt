@@ -1,9 +1,9 @@
 -- The handle of a new object names a slot of its pool, so it is small.
-use Rattle.node_steps.proofs.Names.{nat_tests, ℕ, ◌≤◌, true, false, List, [], ◌∷◌, Option, sym, subst, arith, eq-eqb, Slots, Listed, live_object, listed, issue, Op, Reply, Handle, State, Objects, actions, tasks, groups, queues, mutexes, sems, rwls, segments, new_action, new_task, new_group, new_mutex, new_sem, new_rwl, new_segment, Move, Groups, Queues, Mutexes, Sems, Rwls, Segments, makes_action, starts_task, makes, is_fresh, apply, after_moves, asked_for, new_queue, Row, unless, gives, never, only, live, handle_of, Allows, after_row, row, HandleIsSmall, IssuesSmall, PoolNode, Lists, Holds, Steps, state_of}
+use Rattle.node_steps.proofs.Names.{nat_tests, ℕ, ◌≤◌, true, false, List, [], ◌∷◌, Option, sym, subst, arith, eq-eqb, Slots, Listed, live_object, listed, issue, Op, Reply, Handle, State, Objects, actions, tasks, groups, queues, mutexes, sems, rwls, segments, new_action, new_task, new_group, new_mutex, new_sem, new_rwl, new_segment, Move, Groups, Queues, Mutexes, Sems, Rwls, Segments, makes_action, starts_task, makes, is_fresh, apply, after_moves, asked_for, new_queue, Row, unless, gives, never, only, live, handle_of, Allows, after_row, row, HandleIsSmall, IssuesSmall, PoolNode, Lists, Holds, PoolNodeSteps, state_of}
 use Rattle.handle_pool.proofs.ListedLemmas.{listed-issue}
 use Rattle.mtapi_machine.specs.declared.ops.Op.TheVariants as op
 use Rattle.mtapi_machine.specs.TaskRows.{asked_of}
-use Rattle.mtapi_layouts.specs.Inward.{HasRoom}
+use Rattle.mtapi_layouts.specs.Inward.{HasKindRoom}
 
 -- P of the handle that the reply gives, if it gives one, and of the state then
 abbrev OfHandle : (ℕ → State → Type 0) → Reply → State → Type 0
@@ -41,20 +41,20 @@ new_made : {T : Type 0} (k : Objects T) (s : State) (r : Reply) (make : ℕ → 
 new_made k s r make e1 = grind (arith, nat_tests)
 
 -- each handle that is listed names a slot of the pool
-has_room : {T : Type 0} {size turns : ℕ} {p : Slots T} {l : List (Listed T)} (h : ℕ) → Holds size turns p l → 1 ≤ listed h l → HasRoom h
+has_room : {T : Type 0} {size turns : ℕ} {p : Slots T} {l : List (Listed T)} (h : ℕ) → Holds size turns p l → 1 ≤ listed h l → HasKindRoom h
 has_room h holds made = let slot = (holds.stands.turns h made).has_slot in let few = holds.stands.few in omega (arith, slot, few)
 
 -- the handle of a new object is small, once the list that it was added to has room
-module _ (n m : PoolNode) (l : Lists) (who : ℕ) (o : Op) (r : Reply) (s : Steps n l who o r m) where
+module _ (n m : PoolNode) (l : Lists) (who : ℕ) (o : Op) (r : Reply) (s : PoolNodeSteps n l who o r m) where
   small : {T : Type 0} (k : Objects T) → AllOfHandle (Made k) (state_of n l) (row (state_of n l) who o r)
-      → ((h : ℕ) → 1 ≤ listed h (k.list (state_of m s.0)) → HasRoom h) → HandleIsSmall r
+      → ((h : ℕ) → 1 ≤ listed h (k.list (state_of m s.0)) → HasKindRoom h) → HandleIsSmall r
   small k all room = by_reply r (of_allowed (Made k) (state_of n l) (row (state_of n l) who o r) r all s.1.allowed)
     where
       by_reply : (q : Reply) → OfHandle (Made k) q (after_row (state_of n l) (row (state_of n l) who o r)) → HandleIsSmall q
       by_reply (Handle h) made = room h (subst (λ (t : State). 1 ≤ listed h (k.list t)) s.1.leads made)
       by_reply q made = tt
 
-pub issues_small : (n m : PoolNode) (l : Lists) (who : ℕ) (o : Op) (r : Reply) → Steps n l who o r m → IssuesSmall o r
+pub issues_small : (n m : PoolNode) (l : Lists) (who : ℕ) (o : Op) (r : Reply) → PoolNodeSteps n l who o r m → IssuesSmall o r
 issues_small n m l who (op.ActionCreate job x cores) r s =
     small n m l who (op.ActionCreate job x cores) r s actions
     (new_made actions (state_of n l) r (λ h. makes_action h (new_action job x cores.0)) (issued _ _ l.actions)) (λ h. has_room h s.1.live.actions)

@@ -1,5 +1,5 @@
 -- The ops on phases are steps of the machine.
-use Rattle.node_steps.proofs.Names.{nat_tests, ◌≡◌, ℕ, Bool, false, not, refl, sym, subst, arith, ◌&&◌, Cancelled, holds, Closing, is_past_open, end_tasks, Task, is_unstarted, end_each, is_shut_in, TaskTable, records_of, is_shut, EndsWaiting, PoolNode, Lists, Live, Steps, state_of, Sound}
+use Rattle.node_steps.proofs.Names.{nat_tests, ◌≡◌, ℕ, Bool, false, not, refl, sym, subst, arith, ◌&&◌, Cancelled, holds, Closing, is_past_open, end_tasks, Task, is_unstarted, end_each, is_shut_in, TaskTable, records_of, is_shut, EndsWaiting, PoolNode, Lists, Live, PoolNodeSteps, state_of, Sound}
 use Rattle.mtapi_machine.specs.declared.ops.Op.TheVariants as op
 use Rattle.mtapi_machine.specs.declared.replies.Reply.TheVariants as reply
 use Rattle.node_steps.proofs.Gives.{past, steps}
@@ -29,7 +29,7 @@ module _ (n : PoolNode) (l : Lists) (who : ℕ) (v : Live n l) (k : Sound (state
   unfolding closed to
   leads i = record (state_of closed to) { starts = sym once.starts i; ends = sym once.ends i }
 
-  pub close_steps : Steps n l who op.Close reply.Ok (record (closing n) { scheduler = record n.scheduler { tasks = t } })
+  pub close_steps : PoolNodeSteps n l who op.Close reply.Ok (record (closing n) { scheduler = record n.scheduler { tasks = t } })
   unfolding closed to
   close_steps =
       steps n closed l to who op.Close reply.Ok

@@ -1,10 +1,10 @@
 -- A pick is a step of the machine.
-use Rattle.node_steps.proofs.Names.{◌≡◌, ℕ, ◌<◌, Bool, true, false, not, cond, [], ◌∷◌, Option, Some, None, sym, ◌∙◌, ap, subst, arith, ◌&&◌, nat_lt, nat_tests, in_mask, slot_value, changed, SomeLive, NoneLive, any_listed, update, any-none, any-live, any-some, Action, has_enabled_job, is_eligible, Passes, Task, Running, is_unstarted, is_unended, runs_on, with_state, Reply, State, workers, is_new, is_stop, Row, gives, is_ready, can_take, has_better, picks, Kind, PoolNode, Choice, Lists, Live, Steps, state_of, begins_in, IsScheduler, RunsBy, Takeable, NoneTakeable, NoneBetter, IsChoice, IsBest, and_from, and_parts}
+use Rattle.node_steps.proofs.Names.{◌≡◌, ℕ, ◌<◌, Bool, true, false, not, cond, [], ◌∷◌, Option, Some, None, sym, ◌∙◌, ap, subst, arith, ◌&&◌, nat_lt, nat_tests, in_mask, slot_value, changed, SomeLive, NoneLive, any_listed, update, any-none, any-live, any-some, Action, has_enabled_job, is_eligible, Passes, Task, Running, is_unstarted, is_unended, runs_on, with_state, Reply, State, workers, is_new, is_stop, Row, gives, is_ready, can_take, has_better, picks, Kind, PoolNode, Choice, Lists, Live, PoolNodeSteps, state_of, begins_in, IsScheduler, RunsBy, Takeable, NoneTakeable, NoneBetter, IsChoice, IsBest, and_from, and_parts}
 use Rattle.std.specs.Bool.{OnTrue, OnFalse}
 use Rattle.mtapi_machine.specs.declared.ops.Op.TheVariants as op
 use Rattle.mtapi_machine.specs.declared.replies.Reply.TheVariants as reply
 use Rattle.mtapi_machine.specs.Moves.{runs_task as runs_task}
-use Rattle.node_steps.specs.Picks.{Takes}
+use Rattle.node_steps.specs.Picks.{TakesChoice}
 use Rattle.node_steps.proofs.Gives.{Gives, gives_this, says_this, past, allows, at_some, lands}
 use Rattle.node_steps.proofs.Moves.{found, holds_changed}
 use Rattle.node_steps.proofs.StartSteps.{eligible_in, runs_in}
@@ -93,15 +93,15 @@ not_stopped b s t r u v e1 e2 = grind (arith, nat_tests)
 module _ (n : PoolNode) (l : Lists) (w : ℕ) (v : Live n l) (kept : IsScheduler n.scheduler) (less : w
     < n.scheduler.settings.workers) (runs : any_listed (runs_on w) l.tasks ≡ false) (new : is_new n.core.phase ≡ false) (stop : is_stop (state_of n l)
     ≡ false) where
-  pub pick_idle : IsBest n.scheduler.actions n.scheduler.tasks.pool n.scheduler.queues.pool w None → Steps n l w op.Pick reply.Idle n
+  pub pick_idle : IsBest n.scheduler.actions n.scheduler.tasks.pool n.scheduler.queues.pool w None → PoolNodeSteps n l w op.Pick reply.Idle n
   pick_idle e1 = grind (arith, nat_tests, is_worker, not_stopped, is_stop, state_of, none_takes, says_this)
 
   pub pick_takes : (c : Choice) (r : Reply) (m : PoolNode) → IsBest n.scheduler.actions n.scheduler.tasks.pool n.scheduler.queues.pool w (Some c)
-      → Takes n w c r m → Steps n l w op.Pick r m
+      → TakesChoice n w c r m → PoolNodeSteps n l w op.Pick r m
   pick_takes c r m best t =
-      subst (λ (k : PoolNode). Steps n l w op.Pick r k) (λ i. record { core = sym t.core i; scheduler = m.scheduler; resources = sym t.resources i })
+      subst (λ (k : PoolNode). PoolNodeSteps n l w op.Pick r k) (λ i. record { core = sym t.core i; scheduler = m.scheduler; resources = sym t.resources i })
       (lands n l w op.Pick r m.scheduler n.scheduler.actions (with_pool n (changed n.scheduler.tasks.pool c.task.0 (with_state (Running w c.kind)))) t.scheduler
-      (subst (λ (y : Reply). Steps n l w op.Pick y
+      (subst (λ (y : Reply). PoolNodeSteps n l w op.Pick y
       (record n { scheduler = record n.scheduler { tasks = with_pool n (changed n.scheduler.tasks.pool c.task.0 (with_state (Running w c.kind))) } }))
       (sym said)
       (task_steps n l (with_pool n (changed n.scheduler.tasks.pool c.task.0 (with_state (Running w c.kind))))

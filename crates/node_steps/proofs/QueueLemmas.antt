@@ -1,5 +1,5 @@
 -- The queues of a scheduler as the machine's list says them.
-use Rattle.node_steps.proofs.Names.{◌≡◌, ℕ, ◌+◌, ◌<◌, Bool, true, false, not, cond, List, [], ◌∷◌, length, Option, Some, None, refl, sym, ◌∙◌, ap, subst, arith, ◌&&◌, ◌||◌, ◌==◌, nat_lt, is_none, option_map, nat_tests, holds, Slots, slot_value, Listed, live_of, lookup, live_object, count_listed, how_many, any_live, Distinct, any-none, any-live, same_tests, pairs_without, lookup-without, Distinct-without, how_many-without, passing, has_handle, Task, TaskState, Scheduled, Running, Ended, end_of, is_unended, Queue, is_in, is_unended_in, is_head, lets, HeldQueue, Seen, seen_as, seen, seen_in, InOrder, begins_in, IsScheduler, records_of, some_same, seen-as, value-mapped, PoolNode, Lists, Live, and_from, and_parts, eq-eqb, eqb-true, none-some, or_right}
+use Rattle.node_steps.proofs.Names.{◌≡◌, ℕ, ◌+◌, ◌<◌, Bool, true, false, not, cond, List, [], ◌∷◌, length, Option, Some, None, refl, sym, ◌∙◌, ap, subst, arith, ◌&&◌, ◌||◌, ◌==◌, nat_lt, is_none, option_map, nat_tests, holds, Slots, slot_value, Listed, live_of, lookup, live_object, count_listed, how_many, any_live, Distinct, any-none, any-live, same_tests, pairs_without, lookup-without, Distinct-without, how_many-without, passing, has_handle, Task, TaskState, Scheduled, Running, Ended, end_of, is_unended, Queue, is_in, is_unended_in, is_head, lets, HeldQueue, Seen, seen_as, seen, seen_in, ListInOrder, begins_in, IsScheduler, records_of, some_same, seen-as, value-mapped, PoolNode, Lists, Live, and_from, and_parts, eq-eqb, eqb-true, none-some, or_right}
 use Rattle.queue_ready.specs.Ready.{is_first, may_begin}
 use Rattle.node_steps.proofs.StartSteps.{false≢true}
 
@@ -62,7 +62,8 @@ module _ (n : PoolNode) (l : Lists) (v : Live n l) (k : IsScheduler n.scheduler)
   so-less a b e = grind (arith, nat_tests)
 
   -- the first of the list has none before it
-  first-head : (h : ℕ) (t : Task) → slot_value n.scheduler.tasks.pool h ≡ Some t → (hs : List ℕ) → x.tasks ≡ hs → InOrder (seen_in n.scheduler.tasks.pool) hs
+  first-head : (h : ℕ) (t : Task) → slot_value n.scheduler.tasks.pool h ≡ Some t → (hs : List ℕ) → x.tasks ≡ hs
+      → ListInOrder (seen_in n.scheduler.tasks.pool) hs
       → is_first h hs ≡ true → is_head q t (live_of l.tasks) ≡ true
   first-head h t g [] is o e = false≢true e
   first-head h t g (a ∷ hs) is o e = ap not (any-none n.scheduler.tasks.pool l.tasks (earlier t.start) v.tasks.stands none)
@@ -96,7 +97,7 @@ module _ (n : PoolNode) (l : Lists) (v : Live n l) (k : IsScheduler n.scheduler)
 
   -- what has none before it is the first
   head-first : (h : ℕ) (t : Task) → slot_value n.scheduler.tasks.pool h ≡ Some t → is_unended_in q t ≡ true → (hs : List ℕ) → x.tasks ≡ hs
-      → InOrder (seen_in n.scheduler.tasks.pool) hs → is_head q t (live_of l.tasks) ≡ true → is_first h hs ≡ true
+      → ListInOrder (seen_in n.scheduler.tasks.pool) hs → is_head q t (live_of l.tasks) ≡ true → is_first h hs ≡ true
   head-first h t g p [] is o e = false≢true (sym (ap (has_handle h) is) ∙ in-list h t g p)
   head-first h t g p (a ∷ hs) is o e = by_handle (a == h) refl
     where
@@ -144,7 +145,7 @@ Once : List ℕ → Type 0
 Once [] = Unit {0}
 Once (h ∷ hs) = (has_handle h hs ≡ false) × Once hs
 
-order-once : (at : ℕ → Option Seen) (hs : List ℕ) → ((h : ℕ) → has_handle h hs ≡ true → (s : Seen) × (at h ≡ Some s)) → InOrder at hs → Once hs
+order-once : (at : ℕ → Option Seen) (hs : List ℕ) → ((h : ℕ) → has_handle h hs ≡ true → (s : Seen) × (at h ≡ Some s)) → ListInOrder at hs → Once hs
 unfolding Once
 order-once at [] live o = tt
 order-once at (h ∷ hs) live o = (by_test (has_handle h hs) refl, order-once at hs (λ j e. live j (or_right (h == j) _ e)) o.1)

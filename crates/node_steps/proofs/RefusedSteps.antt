@@ -1,5 +1,5 @@
 -- Why an op that makes an object is refused before it is asked whether there is room, by the conditions of its row.
-use Rattle.node_steps.proofs.Names.{arith, nat_tests, ◌≡◌, ℕ, Bool, true, false, not, cond, List, [], ◌∷◌, ◌++◌, Option, Some, None, refl, sym, ◌∙◌, ap, subst, ◌&&◌, ◌||◌, ◌==◌, nat_lt, nat_le, ℤ, IsNone, option_map, IfSome, first, GroupHandle, QueueHandle, Kind, Mask, MtapiStatus, slot_value, SomeLive, NoneLive, any_listed, live_object, count_listed, any-none, any-live, new_action, has_job, action_create_refusals, new_group, Queue, is_unended_in, put_refusals, Op, Reply, State, Objects, is_open, actions, tasks, groups, queues, Move, Groups, Queues, makes_action, starts_task, makes, Row, says, live, creates, mtapi_unless, Allows, row, new_queue, asked_for, start_refusals, is_detached_member, IsHonest, makes_or_not, refusal_in, refusal_of, CanAnswer, HeldQueue, HasId, facts_of, QueueFacts, IsScheduler, records_of, PoolNode, Lists, Live, Steps, state_of, not-false}
+use Rattle.node_steps.proofs.Names.{arith, nat_tests, ◌≡◌, ℕ, Bool, true, false, not, cond, List, [], ◌∷◌, ◌++◌, Option, Some, None, refl, sym, ◌∙◌, ap, subst, ◌&&◌, ◌||◌, ◌==◌, nat_lt, nat_le, ℤ, IsNone, option_map, IfSome, first, GroupHandle, QueueHandle, Kind, Mask, MtapiStatus, slot_value, SomeLive, NoneLive, any_listed, live_object, count_listed, any-none, any-live, new_action, has_job, action_create_refusals, new_group, Queue, is_unended_in, put_refusals, Op, Reply, State, Objects, is_open, actions, tasks, groups, queues, Move, Groups, Queues, makes_action, starts_task, makes, Row, says, live, creates, mtapi_unless, Allows, row, new_queue, asked_for, start_refusals, is_detached_member, IsHonest, makes_or_not, refusal_in, refusal_of, CanAnswer, HeldQueue, HasQueueId, facts_of, QueueFacts, IsScheduler, records_of, PoolNode, Lists, Live, PoolNodeSteps, state_of, not-false}
 use Rattle.mtapi_values.specs.declared.handles.ObjectKind.{ObjectKind}
 use Rattle.mtapi_values.specs.declared.statuses.MtapiStatus.TheVariants as m
 use Rattle.mtapi_values.specs.declared.statuses.MrapiStatus.{MrapiStatus}
@@ -10,7 +10,7 @@ use Rattle.mtapi_machine.specs.TaskRows.{asked_of}
 use Rattle.mtapi_renaming.specs.Kinds.{made_kind}
 use Rattle.mtapi_renaming.proofs.Refusals.{creates_none, refusals_stay}
 use Rattle.mtapi_renaming.proofs.Tells.{refusals_tell}
-use Rattle.node_steps.specs.Refusals.{open_refusals, task_refusals, queue_causes, queue_refusals, MayPut}
+use Rattle.node_steps.specs.Refusals.{phase_refusals, task_refusals, queue_causes, queue_refusals, MayPut}
 use Rattle.node_steps.proofs.Gives.{stays}
 use Rattle.node_steps.proofs.Moves.{found}
 use Rattle.node_steps.proofs.QueueLemmas.{record-value, record-none, record-found}
@@ -66,7 +66,7 @@ none_found o e1 = grind (arith, nat_tests)
 -- A step that is refused
 
 pub refused : (n : PoolNode) (l : Lists) (who : ℕ) (o : Op) (k : ObjectKind) (c : MtapiStatus) → Live n l → made_kind o ≡ Some k → IsHonest o
-    → refusal_of (state_of n l) who o ≡ Some (reply.Mtapi c) → Steps n l who o (reply.Mtapi c) n
+    → refusal_of (state_of n l) who o ≡ Some (reply.Mtapi c) → PoolNodeSteps n l who o (reply.Mtapi c) n
 refused n l who o k c v made honest e =
     let s = state_of n l in
     let said : CanAnswer (refusal_of s who o) k s (reply.Mtapi c) = subst (λ (x : Option Reply). CanAnswer x k s (reply.Mtapi c)) (sym e) refl in
@@ -80,15 +80,15 @@ module _ (n : PoolNode) (l : Lists) (who : ℕ) where
   s = state_of n l
 
   pub action_told : (job : ℕ) (kind : Kind) (cores : Mask)
-      → refusal_of s who (op.ActionCreate job kind cores) ≡ option_map reply.Mtapi (first (open_refusals n.core.phase (action_create_refusals job)))
+      → refusal_of s who (op.ActionCreate job kind cores) ≡ option_map reply.Mtapi (first (phase_refusals n.core.phase (action_create_refusals job)))
   action_told job kind cores =
       let make : ℕ → Move = λ h. makes_action h (new_action job kind cores.0) in
-      in_mtapi (open_refusals n.core.phase (action_create_refusals job)) (creates actions s reply.Ok make) refl (creates_none actions s make)
+      in_mtapi (phase_refusals n.core.phase (action_create_refusals job)) (creates actions s reply.Ok make) refl (creates_none actions s make)
 
-  pub group_told : refusal_of s who op.GroupCreate ≡ option_map reply.Mtapi (first (open_refusals n.core.phase []))
+  pub group_told : refusal_of s who op.GroupCreate ≡ option_map reply.Mtapi (first (phase_refusals n.core.phase []))
   group_told =
       let make : ℕ → Move = λ h. makes Groups h new_group in
-      in_mtapi (open_refusals n.core.phase []) (creates groups s reply.Ok make) refl (creates_none groups s make)
+      in_mtapi (phase_refusals n.core.phase []) (creates groups s reply.Ok make) refl (creates_none groups s make)
 
   pub task_told : (job : ℕ) (args : List ℤ) (priority : ℕ) (cores : Mask) (detached : Bool) (group : Option GroupHandle)
       → refusal_of s who (op.TaskStart job args priority cores detached group)
@@ -159,7 +159,7 @@ module _ (n : PoolNode) (l : Lists) (who : ℕ) where
     put_row (Some x) = grind (arith, nat_tests, goes_on, tasks, in_mtapi, creates_none)
 
     abbrev earlier : List (Bool × MtapiStatus)
-    earlier = open_refusals n.core.phase ((is_detached_member detached group, m.ErrParameter) ∷ [])
+    earlier = phase_refusals n.core.phase ((is_detached_member detached group, m.ErrParameter) ∷ [])
 
     told_by : (o : Option Queue) → live_object l.queues q.0 ≡ o → refusal_of s who enqueue ≡ before reply.Mtapi (first earlier) (put_told o)
     told_by o e =
@@ -206,8 +206,8 @@ module _ (n : PoolNode) (l : Lists) (who : ℕ) where
     abbrev by_id : List (Bool × MtapiStatus)
     by_id = (any_listed (λ x. x.id == id) l.queues, m.ErrQueueExists) ∷ []
 
-    pub id_told : (o : Option MtapiStatus) → IfSome o (λ c. (c ≡ m.ErrQueueExists) × SomeLive (slot_value n.scheduler.queues.pool) (HasId id))
-        → (IsNone o → NoneLive (slot_value n.scheduler.queues.pool) (HasId id)) → first by_id ≡ o
+    pub id_told : (o : Option MtapiStatus) → IfSome o (λ c. (c ≡ m.ErrQueueExists) × SomeLive (slot_value n.scheduler.queues.pool) (HasQueueId id))
+        → (IsNone o → NoneLive (slot_value n.scheduler.queues.pool) (HasQueueId id)) → first by_id ≡ o
     id_told (Some c) some none =
         ap (λ (b : Bool). cond b (Some m.ErrQueueExists) None)
         (any-live (records_of n.scheduler.queues.pool) l.queues (λ x. x.id == id) some.1.0 some.1.1.queue v.queues.stands

@@ -1,9 +1,9 @@
 -- The ops on resources are steps of the machine.
-use Rattle.node_steps.proofs.Names.{nat_tests, ◌≡◌, ℕ, true, refl, sym, ap, subst, arith, NodeSettings, Op, Reply, State, after_row, row, IsHonest, renamed_op, ResourceTable, HoldsAll, resource_lists, Does, IsAt, is_mrapi, PoolNode, Lists, Live, Steps, state_of}
+use Rattle.node_steps.proofs.Names.{nat_tests, ◌≡◌, ℕ, true, refl, sym, ap, subst, arith, NodeSettings, Op, Reply, State, after_row, row, IsHonest, renamed_op, ResourceTable, HoldsAll, resource_lists, Does, IsAt, is_mrapi, PoolNode, Lists, Live, PoolNodeSteps, state_of}
 use Rattle.mtapi_machine.specs.declared.ops.Op.TheVariants as op
 use Rattle.mtapi_renaming.specs.Renaming.{Renaming}
 use Rattle.node_resources.specs.declared.gate.Gate.{Gate}
-use Rattle.node_resources.specs.Steps.{Steps as ResourceSteps}
+use Rattle.node_resources.specs.Steps.{ResourceSteps}
 
 -- a seat tells nothing with such an op that it could not know
 honest : (o : Op) → is_mrapi o ≡ true → IsHonest o
@@ -19,7 +19,7 @@ is_at n l g phase workers = record { layout = refl; phase = sym phase; workers =
 
 -- a step of the resources is one of the node
 pub carries : (n : PoolNode) (l : Lists) (who : ℕ) (o : Op) (r : Reply) (g : Gate) (new : ResourceTable) → Live n l → is_mrapi o ≡ true → g.phase ≡ n.core.phase
-    → g.workers ≡ n.scheduler.settings.workers → ResourceSteps n.resources g who o r new → Steps n l who o r (record n { resources = new })
+    → g.workers ≡ n.scheduler.settings.workers → ResourceSteps n.resources g who o r new → PoolNodeSteps n l who o r (record n { resources = new })
 carries n l who o r g new v is phase workers s = (
   record l { resources = resource_lists (after_row (state_of n l) (row (state_of n l) who o r)) },
   record {

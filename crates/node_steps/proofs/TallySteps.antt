@@ -1,5 +1,5 @@
 -- The ops of tallies are steps of the machine.
-use Rattle.node_steps.proofs.Names.{◌≡◌, ℕ, ◌+◌, ◌≤◌, Bool, true, false, not, cond, List, [], ◌∷◌, Option, Some, None, refl, sym, ◌∙◌, ap, subst, arith, length, ◌&&◌, ◌||◌, ◌==◌, nat_lt, ℤ, ◌+ℤ◌, ◌-ℤ◌, int_eq, option_map, nat_tests, Decides-int_eq, holds, TaskHandle, MtapiStatus, TaskEnd, Completed, fits, fitting, Slots, slot_value, changed, live_object, update, change, Task, TaskState, runner, TallyNotes, no_tally, is_unended, runs_as, kind_number, ended, with_notes, with_tally, tally_args, cell_in, added, tally_failed, tally_has, tally_read, tally_written, Mutex, locked_by, unlocked, Segment, cell_of, with_attached, with_cell, adds_of, notes_of, tallied, IsLiveAnd, Begun, Locked, Read, Written, SchedulerTable, Becomes, Op, Reply, State, Mutexes, Segments, alters, notes, ends_task, after_moves, Row, never, gives, row, IsHonest, ResourceTable, HoldsAll, resource_lists, PoolNode, Lists, Holds, Live, Steps, state_of, Sound, RunsTally, NoTally, GivesBack}
+use Rattle.node_steps.proofs.Names.{◌≡◌, ℕ, ◌+◌, ◌≤◌, Bool, true, false, not, cond, List, [], ◌∷◌, Option, Some, None, refl, sym, ◌∙◌, ap, subst, arith, length, ◌&&◌, ◌||◌, ◌==◌, nat_lt, ℤ, ◌+ℤ◌, ◌-ℤ◌, int_eq, option_map, nat_tests, Decides-int_eq, holds, TaskHandle, MtapiStatus, TaskEnd, Completed, fits, fitting, Slots, slot_value, changed, live_object, update, change, Task, TaskState, runner, TallyNotes, no_tally, is_unended, runs_as, kind_number, ended, with_notes, with_tally, tally_args, cell_in, added, tally_failed, tally_has, tally_read, tally_written, Mutex, locked_by, unlocked, Segment, cell_of, with_attached, with_cell, adds_of, notes_of, tallied, IsLiveAnd, Begun, Locked, Read, Written, SchedulerTable, Becomes, Op, Reply, State, Mutexes, Segments, alters, notes, ends_task, after_moves, Row, never, gives, row, IsHonest, ResourceTable, HoldsAll, resource_lists, PoolNode, Lists, Holds, Live, PoolNodeSteps, state_of, Sound, RunsTally, NoTally, GivesBack}
 use Rattle.std.proofs.Math.IntN.{+ℤ-neg_ℤ_cancel, -ℤ-+ℤ_cancel}
 use Rattle.mtapi_values.specs.declared.kinds.Kind.TheVariants as kinds
 use Rattle.mtapi_values.specs.declared.handles.MutexHandle.{MutexHandle}
@@ -14,7 +14,7 @@ use Rattle.mtapi_machine.specs.declared.ops.Op.TheVariants as op
 use Rattle.mtapi_machine.specs.declared.replies.Reply.TheVariants as reply
 use Rattle.mtapi_machine.specs.TallyRows.{on_tally, locks}
 use Rattle.history_law.specs.TallyHolds.{got_both, IsOwned, IsAttached, HoldsBoth}
-use Rattle.node_resources.specs.Holds.{Stands}
+use Rattle.node_resources.specs.Holds.{ResourcesStand}
 use Rattle.node_resources.specs.Tallies.{after_lock, Locks}
 use Rattle.node_resources.specs.declared.tally_ops.TallyLock.TheVariants.{Both, Owned, Absent}
 use Rattle.node_resources.proofs.TallyLemmas.{changed_as}
@@ -32,7 +32,7 @@ no_worker : (who workers : ℕ) → workers ≤ who → not (nat_lt who workers)
 no_worker who workers l = grind (arith, nat_tests)
 
 pub refused : (n : PoolNode) (l : Lists) (who : ℕ) (o : Op) (t : ℕ) (f : Task → Row) (c : MtapiStatus) → Live n l → IsHonest o
-    → ((r : Reply) → row (state_of n l) who o r ≡ on_tally (state_of n l) who t f) → NoTally n who t c → Steps n l who o (reply.Mtapi c) n
+    → ((r : Reply) → row (state_of n l) who o r ≡ on_tally (state_of n l) who t f) → NoTally n who t c → PoolNodeSteps n l who o (reply.Mtapi c) n
 refused n l who o t f c e1 e2 e3 e4 = grind (arith, nat_tests)
 
 -- Stages
@@ -84,7 +84,7 @@ module _ (n : PoolNode) (l : Lists) (who : ℕ) (t : TaskHandle) (r : RunningTal
         segments = z.segments;
       })
       → Becomes n.scheduler b n.scheduler.actions (record n.scheduler.tasks { pool = changed pool t.0 (tallied q) })
-      → Steps n l who o y (record n { scheduler = b; resources = new })
+      → PoolNodeSteps n l who o y (record n { scheduler = b; resources = new })
   noted o y q f new z b e h i g d =
       lands_to n (record n { resources = new }) l who o y b n.scheduler.actions
       (with_pool n (changed pool t.0 (tallied q))) n.scheduler.queues.pool n.scheduler.groups refl d.settings d.actions_are d.tasks_are d.queues_are
@@ -122,7 +122,7 @@ module _ (n : PoolNode) (l : Lists) (who : ℕ) (t : TaskHandle) (r : RunningTal
 
     pub lock_fault : (c : MtapiStatus) (b : SchedulerTable) → r.args ≡ None → c ≡ cond r.is_four m.ErrActionFailed m.ErrArgSize
         → Becomes n.scheduler b n.scheduler.actions (record n.scheduler.tasks { pool = changed pool t.0 (tallied (Failed c)) })
-        → Steps n l who (op.TallyLock t) (reply.Asked false) (record n { scheduler = b })
+        → PoolNodeSteps n l who (op.TallyLock t) (reply.Asked false) (record n { scheduler = b })
     lock_fault c b e f d =
         noted (op.TallyLock t) (reply.Asked false) (Failed c) (tally_failed (cond (length x.args == 4) m.ErrActionFailed m.ErrArgSize)) n.resources s b
         (fails_so c ∙ ap (λ (i : MtapiStatus). tally_failed i x.notes.tally) (f
@@ -142,18 +142,18 @@ module _ (n : PoolNode) (l : Lists) (who : ℕ) (t : TaskHandle) (r : RunningTal
 
       pub lock_both : (p : MutexHandle) (q : ShmemHandle) (new : ResourceTable) (b : SchedulerTable) → Locks s who a.mutex a.segment a.cell (Both p q) new
           → Becomes n.scheduler b n.scheduler.actions (record n.scheduler.tasks { pool = changed pool t.0 (tallied (Locked p q)) })
-          → Steps n l who (op.TallyLock t) (reply.Asked true) (record n { scheduler = b; resources = new })
+          → PoolNodeSteps n l who (op.TallyLock t) (reply.Asked true) (record n { scheduler = b; resources = new })
       lock_both p q new b h d = noted (op.TallyLock t) (reply.Asked true) (Locked p q) (tally_has p.0 q.0) new (after_lock who (Both p q) s) b
           (ap (tally_has p.0 q.0) (sym (notes_are Begun begun))) h.stands tt
           (locking (Some (adds_of a)) (reply.Asked true) (got p q) args_are (rw (h.row t.0) (gives_this _ _ _))) d
 
       pub lock_owned : (new : ResourceTable) → Locks s who a.mutex a.segment a.cell Owned new
-          → Steps n l who (op.TallyLock t) reply.Pending (record n { resources = new })
+          → PoolNodeSteps n l who (op.TallyLock t) reply.Pending (record n { resources = new })
       lock_owned new h = grind (arith, nat_tests, steps, locking, args_are, gives_this)
 
       pub lock_absent : (new : ResourceTable) (b : SchedulerTable) → Locks s who a.mutex a.segment a.cell Absent new
           → Becomes n.scheduler b n.scheduler.actions (record n.scheduler.tasks { pool = changed pool t.0 (tallied (Failed m.ErrActionFailed)) })
-          → Steps n l who (op.TallyLock t) (reply.Asked false) (record n { scheduler = b; resources = new })
+          → PoolNodeSteps n l who (op.TallyLock t) (reply.Asked false) (record n { scheduler = b; resources = new })
       lock_absent new b h d = noted (op.TallyLock t) (reply.Asked false) (Failed m.ErrActionFailed) (tally_failed m.ErrActionFailed) new s b
           (fails_so m.ErrActionFailed) h.stands tt (locking (Some (adds_of a)) (reply.Asked false) gave_up args_are (rw (h.row t.0) (gives_this _ _ _))) d
 
@@ -182,7 +182,7 @@ module _ (n : PoolNode) (l : Lists) (who : ℕ) (t : TaskHandle) (r : RunningTal
   pub reads : Sound s → (p : MutexHandle) (q : ShmemHandle) (cell : ℕ) (z : ℤ) (b : SchedulerTable) → r.state ≡ Locked p q
       → cell ≡ cell_in (option_map adds_of r.args) → ((y : Segment) → live_object s.segments q.0 ≡ Some y → z ≡ cell_of cell y)
       → Becomes n.scheduler b n.scheduler.actions (record n.scheduler.tasks { pool = changed pool t.0 (tallied (Read p q z)) })
-      → Steps n l who (op.TallyRead t) (reply.Number z) (record n { scheduler = b })
+      → PoolNodeSteps n l who (op.TallyRead t) (reply.Number z) (record n { scheduler = b })
   reads sound p q cell z b is c told d = rw same
       (noted (op.TallyRead t) (reply.Number number) (Read p q z) (tally_read number) n.resources s b
       (λ i. tally_read (same i) (sym (notes_are (Locked p q) is) i)) v.resources tt
@@ -205,7 +205,7 @@ module _ (n : PoolNode) (l : Lists) (who : ℕ) (t : TaskHandle) (r : RunningTal
     added_is : added x ≡ kept +ℤ number
     added_is = (λ i. (notes_are (Read p q kept) is i).kept +ℤ number_in (sym k.args i)) ∙ ap (λ (z : ℤ). kept +ℤ z) (sym adds)
 
-    pub write_other : (value : ℤ) → (value ≡ kept +ℤ number → ⊥) → Steps n l who (op.TallyWrite t value) (reply.Mtapi m.ErrParameter) n
+    pub write_other : (value : ℤ) → (value ≡ kept +ℤ number → ⊥) → PoolNodeSteps n l who (op.TallyWrite t value) (reply.Mtapi m.ErrParameter) n
     write_other value h =
         stays n l who (op.TallyWrite t value) (reply.Mtapi m.ErrParameter) v tt
         (on_it _ _ _ (met _ _ _ _ ((λ i. not (stage_of (Read p q kept) is 2 i) || not (differs (int_eq value (added x)) refl i)))))
@@ -215,9 +215,9 @@ module _ (n : PoolNode) (l : Lists) (who : ℕ) (t : TaskHandle) (r : RunningTal
         differs false e = refl
 
     pub writes : Sound s → (cell : ℕ) (value : ℤ) (new : ResourceTable) (b : SchedulerTable) → cell ≡ cell_in (option_map adds_of r.args)
-        → value ≡ kept +ℤ number → Stands (after_moves (alters Segments q.0 (with_cell cell value) ∷ []) s) new
+        → value ≡ kept +ℤ number → ResourcesStand (after_moves (alters Segments q.0 (with_cell cell value) ∷ []) s) new
         → Becomes n.scheduler b n.scheduler.actions (record n.scheduler.tasks { pool = changed pool t.0 (tallied (Written p q value)) })
-        → Steps n l who (op.TallyWrite t value) reply.Ok (record n { scheduler = b; resources = new })
+        → PoolNodeSteps n l who (op.TallyWrite t value) reply.Ok (record n { scheduler = b; resources = new })
     writes sound cell value new b c h stand d =
         noted (op.TallyWrite t value) reply.Ok (Written p q value) tally_written new
         (after_moves (alters Segments x.notes.tally.segment (with_cell (cell_in (tally_args x.args)) value) ∷ []) s) b wrote
@@ -244,7 +244,7 @@ module _ (n : PoolNode) (l : Lists) (who : ℕ) (t : TaskHandle) (r : RunningTal
       → Gives s (row s who (op.TallyEnd t) y) y
       (record s { tasks = change t.0 (ended e s.ends) l.tasks; ends = s.ends + 1; mutexes = z.mutexes; sems = z.sems; rwls = z.rwls; segments = z.segments })
       → Becomes n.scheduler b n.scheduler.actions (ended_tasks n t.0 e (slot_value pool t.0))
-      → Steps n l who (op.TallyEnd t) y (record n { scheduler = b; resources = new })
+      → PoolNodeSteps n l who (op.TallyEnd t) y (record n { scheduler = b; resources = new })
   ended_so y e new z b h g d =
       lands_to n (record n { resources = new }) l who (op.TallyEnd t) y b n.scheduler.actions
       (ended_tasks n t.0 e (Some x)) n.scheduler.queues.pool n.scheduler.groups refl d.settings d.actions_are (d.tasks_are
@@ -261,7 +261,7 @@ module _ (n : PoolNode) (l : Lists) (who : ℕ) (t : TaskHandle) (r : RunningTal
 
   pub end_failed : (c : MtapiStatus) (b : SchedulerTable) → r.state ≡ Failed c
       → Becomes n.scheduler b n.scheduler.actions (ended_tasks n t.0 (EndFailed c) (slot_value pool t.0))
-      → Steps n l who (op.TallyEnd t) (reply.Ended (EndFailed c)) (record n { scheduler = b })
+      → PoolNodeSteps n l who (op.TallyEnd t) (reply.Ended (EndFailed c)) (record n { scheduler = b })
   end_failed c b is d = ended_so (reply.Ended (EndFailed c)) (EndFailed c) n.resources s b v.resources
       (on_it _ _ _ (past _ _ _ _ _ _ (λ i. nat_lt (notes_are (Failed c) is i).stage 2
       || (stage_of (Failed c) is 2 i && fits (added x)))
@@ -272,10 +272,10 @@ module _ (n : PoolNode) (l : Lists) (who : ℕ) (t : TaskHandle) (r : RunningTal
       ≡ true) (late : (nat_lt x.notes.tally.stage 2 || ((x.notes.tally.stage == 2) && fits (added x))) ≡ false) (a b : ℕ) (mutex_is : (notes_of x.args y).mutex
       ≡ a) (segment_is : (notes_of x.args y).segment ≡ b) where
     back : (e : TaskEnd) (z : Reply) (o : PoolNode) → cond (x.notes.tally.stage == 2) (EndFailed m.ErrActionFailed) (Completed (added x ∷ [])) ≡ e
-        → (x.notes.tally.stage == 4) ≡ false → GivesBack n who t.0 a b e z o → Steps n l who (op.TallyEnd t) z o
+        → (x.notes.tally.stage == 4) ≡ false → GivesBack n who t.0 a b e z o → PoolNodeSteps n l who (op.TallyEnd t) z o
     back e z o so four g =
-        subst (λ (i : Reply). Steps n l who (op.TallyEnd t) i o) (sym g.reply)
-        (subst (λ (i : PoolNode). Steps n l who (op.TallyEnd t) (reply.Ended e) i) (λ i. record o { core = sym g.core i })
+        subst (λ (i : Reply). PoolNodeSteps n l who (op.TallyEnd t) i o) (sym g.reply)
+        (subst (λ (i : PoolNode). PoolNodeSteps n l who (op.TallyEnd t) (reply.Ended e) i) (λ i. record o { core = sym g.core i })
         (ended_so (reply.Ended e) e o.resources after o.scheduler stand
         (on_it _ _ _ (past _ _ _ _ _ _ late (else_row _ _ _ _ _ _ four
         (at_some _ _ _ (segment_live sound y is both).0 never _ _ (segment_live sound y is both).1
@@ -310,12 +310,12 @@ module _ (n : PoolNode) (l : Lists) (who : ℕ) (t : TaskHandle) (r : RunningTal
             (g.resources s q.0 v.resources (ap (λ (i : ℕ). live_object s.mutexes i) (sym mutex_same) ∙ q.1) q.2 q.3)
 
   pub end_fits : (p : MutexHandle) (q : ShmemHandle) (kept number sum : ℤ) → r.state ≡ Read p q kept → number ≡ number_in (option_map adds_of r.args)
-      → Some sum ≡ fitting (kept +ℤ number) → Steps n l who (op.TallyEnd t) (reply.Mtapi m.ErrParameter) n
+      → Some sum ≡ fitting (kept +ℤ number) → PoolNodeSteps n l who (op.TallyEnd t) (reply.Mtapi m.ErrParameter) n
   end_fits p q kept number sum e1 e2 e3 = grind (arith, nat_tests)
 
   pub end_too_large : Sound s → (p : MutexHandle) (q : ShmemHandle) (kept number : ℤ) (z : Reply) (o : PoolNode) → r.state ≡ Read p q kept
       → number ≡ number_in (option_map adds_of r.args) → None ≡ fitting (kept +ℤ number)
-      → GivesBack n who t.0 p.0 q.0 (EndFailed m.ErrActionFailed) z o → Steps n l who (op.TallyEnd t) z o
+      → GivesBack n who t.0 p.0 q.0 (EndFailed m.ErrActionFailed) z o → PoolNodeSteps n l who (op.TallyEnd t) z o
   end_too_large sound p q kept number z o is c h g =
       back sound (Read p q kept) is refl (λ i. nat_lt (notes_are (Read p q kept) is i).stage 2
       || (stage_of (Read p q kept) is 2 i && (ap fits (added_is p q kept number is c) ∙ unfit (fits (kept +ℤ number)) h) i)) p.0 q.0 refl refl
@@ -327,7 +327,7 @@ module _ (n : PoolNode) (l : Lists) (who : ℕ) (t : TaskHandle) (r : RunningTal
       unfit false e = refl
 
   pub end_written : Sound s → (p : MutexHandle) (q : ShmemHandle) (sum : ℤ) (z : Reply) (o : PoolNode) → r.state ≡ Written p q sum
-      → GivesBack n who t.0 p.0 q.0 (Completed (sum ∷ [])) z o → Steps n l who (op.TallyEnd t) z o
+      → GivesBack n who t.0 p.0 q.0 (Completed (sum ∷ [])) z o → PoolNodeSteps n l who (op.TallyEnd t) z o
   end_written sound p q sum z o is g =
       back sound (Written p q sum) is refl (λ i. nat_lt (notes_are (Written p q sum) is i).stage 2
       || (stage_of (Written p q sum) is 2 i && fits (added x))) p.0 q.0 refl refl

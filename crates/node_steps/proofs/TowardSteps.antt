@@ -3,7 +3,7 @@ use Rattle.node_steps.proofs.Names.{nat_tests, ◌≡◌, ℕ, ◌<◌, Bool, tr
 use Rattle.mtapi_values.specs.declared.statuses.MtapiStatus.TheVariants as m
 use Rattle.mtapi_machine.specs.declared.replies.Reply.TheVariants as reply
 use Rattle.mtapi_machine.specs.Moves.{runs_task as begins_task}
-use Rattle.node_steps.specs.Picks.{Takes}
+use Rattle.node_steps.specs.Picks.{TakesChoice}
 use Rattle.node_steps.proofs.PickSteps.{better_if, choice_if}
 
 -- What a worker that may take this task by this action is told of it
@@ -89,7 +89,7 @@ module _ (n : PoolNode) (l : Lists) (w : ℕ) (v : Live n l) (k : IsScheduler n.
   is_found o toward = toward choice refl refl it_may none_better
 
   -- and what the worker takes
-  pub is_taken : (c : Choice) (r : Reply) (m : PoolNode) → IsToward n w t a (Some c) → Takes n w c r m → r ≡ reply.Picked t a kind args
+  pub is_taken : (c : Choice) (r : Reply) (m : PoolNode) → IsToward n w t a (Some c) → TakesChoice n w c r m → r ≡ reply.Picked t a kind args
   is_taken c r m e1 e2 = grind (arith, nat_tests, is_found, found_task)
 
 -- What is chosen toward them

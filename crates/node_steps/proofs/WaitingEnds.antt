@@ -1,5 +1,5 @@
 -- The waiting tasks that pass end in the pool as they end at once in the list.
-use Rattle.node_steps.proofs.Names.{nat_tests, ◌≡◌, ℕ, ◌+◌, ◌<◌, Bool, true, false, cond, List, [], ◌∷◌, Option, Some, None, refl, sym, ◌∙◌, ap, subst, arith, ◌==◌, TaskEnd, holds, Slots, slot_value, Listed, live_of, lookup, live_object, handles_of, count_listed, change, Distinct, Task, is_unstarted, ended, end_each, TaskTable, ended_in, Seen, seen, seen_in, InOrder, AreWaiting, ended_if, ended_each, EndsWaiting, some_same, seen-as, seen-live, unstarted-seen, start_numbers, AreAbove, Rises, Holds, eq-eqb, none-some}
+use Rattle.node_steps.proofs.Names.{nat_tests, ◌≡◌, ℕ, ◌+◌, ◌<◌, Bool, true, false, cond, List, [], ◌∷◌, Option, Some, None, refl, sym, ◌∙◌, ap, subst, arith, ◌==◌, TaskEnd, holds, Slots, slot_value, Listed, live_of, lookup, live_object, handles_of, count_listed, change, Distinct, Task, is_unstarted, ended, end_each, TaskTable, ended_in, Seen, seen, seen_in, ListInOrder, AreWaiting, ended_if, ended_each, EndsWaiting, some_same, seen-as, seen-live, unstarted-seen, start_numbers, AreAbove, Rises, Holds, eq-eqb, none-some}
 use Rattle.task_board.proofs.OrderLemmas.{waiting-once}
 use Rattle.node_steps.proofs.Changes.{holds_ended}
 use Rattle.node_steps.proofs.ListedEnds.{passes-listed, listed-passes, step_listed, each_listed, both_pass, at-once}
@@ -63,17 +63,17 @@ shows-behind : (at : ℕ → Option Seen) (x : ℕ × Task) (es : List (ℕ × T
 shows-behind at x es e1 e2 = grind (arith, nat_tests)
 
 waiting-order : (at : ℕ → Option Seen) (l : List (Listed Task)) → Distinct (live_of l) → Rises (start_numbers l) → Shows at (live_of l)
-    → InOrder at (handles_of is_unstarted (live_of l))
+    → ListInOrder at (handles_of is_unstarted (live_of l))
 unfolding live_of
 waiting-order at [] d k w = tt
 waiting-order at (r ∷ rs) d k w = by_live r.live d w (waiting-order at rs)
   where
     Rest : Type 0
-    Rest = Distinct (live_of rs) → Rises (start_numbers rs) → Shows at (live_of rs) → InOrder at (handles_of is_unstarted (live_of rs))
+    Rest = Distinct (live_of rs) → Rises (start_numbers rs) → Shows at (live_of rs) → ListInOrder at (handles_of is_unstarted (live_of rs))
 
     by_test : (b : Bool) → (lookup (live_of rs) r.handle ≡ None) × Distinct (live_of rs) → Shows at ((r.handle, r.fields) ∷ live_of rs)
-        → InOrder at (handles_of is_unstarted (live_of rs))
-        → InOrder at (cond b (r.handle ∷ handles_of is_unstarted (live_of rs)) (handles_of is_unstarted (live_of rs)))
+        → ListInOrder at (handles_of is_unstarted (live_of rs))
+        → ListInOrder at (cond b (r.handle ∷ handles_of is_unstarted (live_of rs)) (handles_of is_unstarted (live_of rs)))
     by_test false d w m = m
     by_test true d w m = (
       λ h s u e f g.
@@ -89,7 +89,7 @@ waiting-order at (r ∷ rs) d k w = by_live r.live d w (waiting-order at rs)
 
     by_live : (a : Bool) → Distinct (cond a ((r.handle, r.fields) ∷ live_of rs) (live_of rs))
         → Shows at (cond a ((r.handle, r.fields) ∷ live_of rs) (live_of rs)) → Rest
-        → InOrder at (handles_of is_unstarted (cond a ((r.handle, r.fields) ∷ live_of rs) (live_of rs)))
+        → ListInOrder at (handles_of is_unstarted (cond a ((r.handle, r.fields) ∷ live_of rs) (live_of rs)))
     by_live true d w m = by_test (is_unstarted r.fields) d w (m d.1 k.1 (shows-behind at (r.handle, r.fields) (live_of rs) d.0 w))
     by_live false d w m = m d k.1 w
 

@@ -1,5 +1,5 @@
 -- An action that goes ends the tasks that no worker can take any more.
-use Rattle.node_steps.proofs.Names.{nat_tests, ◌≡◌, ℕ, ◌+◌, Bool, true, false, not, cond, List, [], ◌∷◌, Some, None, Ok, refl, sym, ◌∙◌, ap, subst, arith, ◌==◌, ◌&&◌, TaskEnd, ActionHandle, Mask, MtapiStatus, in_mask, Slots, slot_value, without, changed, Listed, live_of, lookup, live_object, any_listed, count_listed, change, with_fields, gone, Distinct, any-live, any-some, same_tests, Action, with_enabled, is_eligible, has_worker, some_below, Task, is_unstarted, end_each, job_of, IsUnion, TaskTable, SchedulerTable, Becomes, is_unserved, AreServed, EndsUnserved, job-found, Op, State, is_open, withdraws, apply, row, IsHonest, PoolNode, Lists, Holds, Live, Steps, state_of, Sound, eq-eqb, none-some}
+use Rattle.node_steps.proofs.Names.{nat_tests, ◌≡◌, ℕ, ◌+◌, Bool, true, false, not, cond, List, [], ◌∷◌, Some, None, Ok, refl, sym, ◌∙◌, ap, subst, arith, ◌==◌, ◌&&◌, TaskEnd, ActionHandle, Mask, MtapiStatus, in_mask, Slots, slot_value, without, changed, Listed, live_of, lookup, live_object, any_listed, count_listed, change, with_fields, gone, Distinct, any-live, any-some, same_tests, Action, with_enabled, is_eligible, has_worker, some_below, Task, is_unstarted, end_each, job_of, IsUnion, TaskTable, SchedulerTable, Becomes, is_unserved, AreServed, EndsUnserved, job-found, Op, State, is_open, withdraws, apply, row, IsHonest, PoolNode, Lists, Holds, Live, PoolNodeSteps, state_of, Sound, eq-eqb, none-some}
 use Rattle.mtapi_values.specs.declared.ends.TaskEnd.TheVariants.{Failed}
 use Rattle.mtapi_values.specs.declared.statuses.MtapiStatus.TheVariants as m
 use Rattle.task_board.proofs.RemarkLemmas.{SameBut, same-changed, same-without}
@@ -105,7 +105,7 @@ module _ (n : PoolNode) (l : Lists) (who job : ℕ) (v : Live n l) (k : Sound (s
       → Holds n.scheduler.settings.actions n.scheduler.settings.generations q (change h f l.actions) → SameBut job n.scheduler.actions q
       → EndsUnserved n.scheduler.settings.workers q job (Failed c) n.scheduler.tasks t
       → Gives (state_of n l) (row (state_of n l) who o reply.Ok) reply.Ok (apply (withdraws h f c) (state_of n l)) → IsHonest o
-      → Steps n l who o reply.Ok (record n { scheduler = record n.scheduler { actions = q; tasks = t } })
+      → PoolNodeSteps n l who o reply.Ok (record n { scheduler = record n.scheduler { actions = q; tasks = t } })
   withdrawn o h f c q t held same u g honest =
       steps n m l to who o reply.Ok (subst (λ (s : State). Gives (state_of n l) (row (state_of n l) who o reply.Ok) reply.Ok s) leads g)
       (record {
@@ -161,7 +161,7 @@ module _ (n : PoolNode) (l : Lists) (who job : ℕ) (a : ActionHandle) (v : Live
     ≡ job_of (slot_value n.scheduler.actions a.0)) where
   pub disable_steps : (t : TaskTable) → EndsUnserved n.scheduler.settings.workers (changed n.scheduler.actions a.0 (with_enabled false)) job
       (Failed m.ErrActionDisabled) n.scheduler.tasks t
-      → Steps n l who (op.ActionDisable a) reply.Ok
+      → PoolNodeSteps n l who (op.ActionDisable a) reply.Ok
       (record n { scheduler = record n.scheduler { actions = changed n.scheduler.actions a.0 (with_enabled false); tasks = t } })
   disable_steps t u =
       let x = job-found (slot_value n.scheduler.actions a.0) job is in
@@ -172,7 +172,8 @@ module _ (n : PoolNode) (l : Lists) (who job : ℕ) (a : ActionHandle) (v : Live
 
   pub delete_steps : (t : TaskTable) → EndsUnserved n.scheduler.settings.workers (without n.scheduler.actions a.0) job
       (Failed m.ErrActionDeleted) n.scheduler.tasks t
-      → Steps n l who (op.ActionDelete a) reply.Ok (record n { scheduler = record n.scheduler { actions = without n.scheduler.actions a.0; tasks = t } })
+      → PoolNodeSteps n l who (op.ActionDelete a) reply.Ok
+      (record n { scheduler = record n.scheduler { actions = without n.scheduler.actions a.0; tasks = t } })
   delete_steps t u =
       let x = job-found (slot_value n.scheduler.actions a.0) job is in
       withdrawn n l who job v k (op.ActionDelete a) a.0 gone m.ErrActionDeleted (without n.scheduler.actions a.0) t

@@ -1,8 +1,8 @@
 -- The ops of workers are steps of the machine.
-use Rattle.node_steps.proofs.Names.{◌≡◌, ℕ, ◌<◌, Bool, true, false, not, cond, List, Option, Some, None, Result, Ok, Err, refl, sym, ◌∙◌, ap, subst, arith, ◌&&◌, nat_lt, is_none, int_eq, nat_tests, TaskHandle, MtapiStatus, TaskEnd, first, Answered, IsAnswered, slot_value, with_value, put, changed, Listed, update, Task, with_notes, runs_as, finish_refusals, asked_refusals, asked_once, watch_end_refusals, watch_end, after_asked, watch_end_of, unless_refused, TaskTable, Op, Reply, task_end, option_map, PoolNode, Lists, Holds, Live, Steps}
+use Rattle.node_steps.proofs.Names.{◌≡◌, ℕ, ◌<◌, Bool, true, false, not, cond, List, Option, Some, None, Result, Ok, Err, refl, sym, ◌∙◌, ap, subst, arith, ◌&&◌, nat_lt, is_none, int_eq, nat_tests, TaskHandle, MtapiStatus, TaskEnd, first, Answered, IsAnswered, slot_value, with_value, put, changed, Listed, update, Task, with_notes, runs_as, finish_refusals, asked_refusals, asked_once, watch_end_refusals, watch_end, after_asked, watch_end_of, unless_refused, TaskTable, Op, Reply, task_end, option_map, PoolNode, Lists, Holds, Live, PoolNodeSteps}
 use Rattle.std.specs.Cmp.Lexicographic.{pointwise}
 use Rattle.mtapi_values.specs.declared.statuses.MtapiStatus.TheVariants as m
-use Rattle.task_core.specs.Answers.{asked_of}
+use Rattle.task_core.specs.Answers.{cancel_asked}
 use Rattle.mtapi_machine.specs.declared.ops.Op.TheVariants as op
 use Rattle.mtapi_machine.specs.declared.replies.Reply.TheVariants as reply
 use Rattle.mtapi_machine.proofs.Changes.{update-same}
@@ -23,7 +23,7 @@ pub finish_steps : (n : PoolNode) (l : Lists) (who : ℕ) (t : TaskHandle) (done
     → who < n.scheduler.settings.workers → slot_value n.scheduler.tasks.pool t.0 ≡ Some x
     → (runs_as who done.kind x && pointwise int_eq x.args done.args) ≡ true → e ≡ task_end done.end → IsAnswered done
     → q ≡ ended_tasks n t.0 e (slot_value n.scheduler.tasks.pool t.0)
-    → Steps n l who (op.Finish t done) reply.Ok (record n { scheduler = record n.scheduler { tasks = q } })
+    → PoolNodeSteps n l who (op.Finish t done) reply.Ok (record n { scheduler = record n.scheduler { tasks = q } })
 finish_steps n l who t done x e q v w g r d a new =
     reported n l q (ended_tasks n t.0 (task_end done.end) (Some x)) who _ _ (new ∙ (λ i. ended_tasks n t.0 (d i) (g i)))
     (end_steps n l who (op.Finish t done) reply.Ok t.0 (task_end done.end) x v g a
@@ -35,12 +35,12 @@ finish_steps n l who t done x e q v w g r d a new =
 
 -- what doesn't run so
 pub finish_absent : (n : PoolNode) (l : Lists) (who : ℕ) (t : TaskHandle) (done : Answered) → Live n l → who < n.scheduler.settings.workers
-    → slot_value n.scheduler.tasks.pool t.0 ≡ None → IsAnswered done → Steps n l who (op.Finish t done) (reply.Mtapi m.ErrTaskInvalid) n
+    → slot_value n.scheduler.tasks.pool t.0 ≡ None → IsAnswered done → PoolNodeSteps n l who (op.Finish t done) (reply.Mtapi m.ErrTaskInvalid) n
 finish_absent n l who t done e1 e2 e3 e4 = grind (arith, nat_tests)
 
 pub finish_other : (n : PoolNode) (l : Lists) (who : ℕ) (t : TaskHandle) (done : Answered) (x : Task) → Live n l → who < n.scheduler.settings.workers
     → slot_value n.scheduler.tasks.pool t.0 ≡ Some x → (runs_as who done.kind x && pointwise int_eq x.args done.args) ≡ false → IsAnswered done
-    → Steps n l who (op.Finish t done) (reply.Mtapi m.ErrTaskInvalid) n
+    → PoolNodeSteps n l who (op.Finish t done) (reply.Mtapi m.ErrTaskInvalid) n
 finish_other n l who t done x e1 e2 e3 e4 e5 = grind (arith, nat_tests)
 
 -- Asking
@@ -53,15 +53,15 @@ module _ (n : PoolNode) (l : Lists) (who : ℕ) (t : TaskHandle) (v : Live n l) 
   abbrev asks : Op
   asks = op.Asked t
 
-  asked_none : slot_value n.scheduler.tasks.pool t.0 ≡ None → Steps n l who asks (reply.Mtapi m.ErrTaskInvalid) n
+  asked_none : slot_value n.scheduler.tasks.pool t.0 ≡ None → PoolNodeSteps n l who asks (reply.Mtapi m.ErrTaskInvalid) n
   asked_none g = grind (arith, nat_tests, stays, past, is_worker, at_none, found)
 
   asked_refused : (x : Task) (c : MtapiStatus) → slot_value n.scheduler.tasks.pool t.0 ≡ Some x → first (asked_refusals who x) ≡ Some c
-      → Steps n l who asks (reply.Mtapi c) n
+      → PoolNodeSteps n l who asks (reply.Mtapi c) n
   asked_refused x c e1 e2 = grind (arith, nat_tests)
 
   asked_told : (x : Task) → slot_value n.scheduler.tasks.pool t.0 ≡ Some x → first (asked_refusals who x) ≡ None
-      → Steps n l who asks (reply.Asked x.notes.requested)
+      → PoolNodeSteps n l who asks (reply.Asked x.notes.requested)
       (record n { scheduler = record n.scheduler { tasks = with_pool n (changed n.scheduler.tasks.pool t.0 (with_notes asked_once)) } })
   asked_told x g f =
       task_steps n l (with_pool n (changed n.scheduler.tasks.pool t.0 (with_notes asked_once))) (update t.0 (with_notes asked_once) l.tasks) who asks
@@ -71,7 +71,7 @@ module _ (n : PoolNode) (l : Lists) (who : ℕ) (t : TaskHandle) (v : Live n l) 
       (holds_changed _ _ n.scheduler.tasks.pool l.tasks t.0 (with_notes asked_once) v.tasks) (omega arith) tt
 
   asked_at : (x : Task) (f : Option MtapiStatus) → slot_value n.scheduler.tasks.pool t.0 ≡ Some x → first (asked_refusals who x) ≡ f
-      → Steps n l who asks (asked_said (unless_refused f x.notes.requested))
+      → PoolNodeSteps n l who asks (asked_said (unless_refused f x.notes.requested))
       (record n { scheduler = record n.scheduler { tasks = with_pool n (changed n.scheduler.tasks.pool t.0 (after_asked who)) } })
   asked_at x (Some c) g f = task_steps n l (with_pool n (changed n.scheduler.tasks.pool t.0 (after_asked who))) l.tasks who asks (reply.Mtapi c) v
       (past _ _ _ _ _ _ (is_worker who _ w) (at_some _ _ _ x _ _ _ (found _ _ n.scheduler.tasks.pool l.tasks t.0 (Some x) v.tasks g)
@@ -94,15 +94,15 @@ module _ (n : PoolNode) (l : Lists) (who : ℕ) (t : TaskHandle) (v : Live n l) 
       same = becomes (after_asked who) ∙ (ap (with_value n.scheduler.tasks.pool t.0) once ∙ sym (becomes (with_notes asked_once)))
 
   asked_steps : (o : Option Task) → slot_value n.scheduler.tasks.pool t.0 ≡ o
-      → Steps n l who asks (asked_said (asked_of who o))
+      → PoolNodeSteps n l who asks (asked_said (cancel_asked who o))
       (record n { scheduler = record n.scheduler { tasks = with_pool n (changed n.scheduler.tasks.pool t.0 (after_asked who)) } })
   asked_steps None g = grind (arith, nat_tests, reported, put, asked_none)
   asked_steps (Some x) g = asked_at x (first (asked_refusals who x)) g refl
 
   -- what the tasks told of an ask
-  pub asked_says : (q : TaskTable) (x : Result Bool MtapiStatus) → x ≡ asked_of who (slot_value n.scheduler.tasks.pool t.0)
+  pub asked_says : (q : TaskTable) (x : Result Bool MtapiStatus) → x ≡ cancel_asked who (slot_value n.scheduler.tasks.pool t.0)
       → q ≡ with_pool n (changed n.scheduler.tasks.pool t.0 (after_asked who))
-      → Steps n l who asks (asked_said x) (record n { scheduler = record n.scheduler { tasks = q } })
+      → PoolNodeSteps n l who asks (asked_said x) (record n { scheduler = record n.scheduler { tasks = q } })
   asked_says q x e d = reported n l q _ who asks _ d (rw e (asked_steps (slot_value n.scheduler.tasks.pool t.0) refl))
 
 -- Ending a watch
@@ -116,11 +116,11 @@ module _ (n : PoolNode) (l : Lists) (who : ℕ) (t : TaskHandle) (v : Live n l) 
   ends = op.WatchEnd t
 
   pub watch_failed : (c : MtapiStatus) (o : Option Task) → slot_value n.scheduler.tasks.pool t.0 ≡ o → watch_end_of who o ≡ Err c
-      → Steps n l who ends (reply.Mtapi c) n
+      → PoolNodeSteps n l who ends (reply.Mtapi c) n
   watch_failed c o e1 e2 = grind (arith, nat_tests)
 
   pub watch_ended : (e : TaskEnd) (q : TaskTable) (o : Option Task) → slot_value n.scheduler.tasks.pool t.0 ≡ o → watch_end_of who o ≡ Ok e
-      → q ≡ ended_tasks n t.0 e o → Steps n l who ends (reply.Ended e) (record n { scheduler = record n.scheduler { tasks = q } })
+      → q ≡ ended_tasks n t.0 e o → PoolNodeSteps n l who ends (reply.Ended e) (record n { scheduler = record n.scheduler { tasks = q } })
   watch_ended e q None g k d = absurd (cc)
   watch_ended e q (Some x) g k d =
       let s = watch_told who x e (first (watch_end_refusals who x)) refl k in

@@ -14,6 +14,6 @@ pub use Rattle.mtapi_values.specs.Conditions.{first, holds}
 pub use Rattle.mtapi_values.specs.declared.handles.TaskHandle.{TaskHandle}
 pub use Rattle.mtapi_values.specs.declared.statuses.MtapiStatus.{MtapiStatus}
 pub use Rattle.mtapi_values.specs.declared.statuses.MtapiStatus.TheVariants.{ErrJobInvalid, ErrNodeNotinit, ErrParameter, ErrQueueDisabled, ErrQueueExists, ErrQueueLimit, ErrTaskInvalid}
-pub use Rattle.node_resources.specs.Holds.{HoldsAll, ResourceLists, ResourceTable, Stands}
+pub use Rattle.node_resources.specs.Holds.{HoldsAll, ResourceLists, ResourceTable, ResourcesStand}
 pub use Rattle.queue_core.specs.Held.{HeldQueue, facts_of}
 pub use Rattle.task_board.specs.Scheduler.{Becomes, SchedulerTable, group_slots, records_of, running_on}

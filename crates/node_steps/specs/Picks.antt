@@ -9,7 +9,7 @@ use Rattle.mtapi_machine.specs.declared.ops.Op.TheVariants.{Pick}
 use Rattle.node_steps.specs.declared.node.PoolNode.{PoolNode}
 
 -- the worker takes what was chosen: the reply says what it is, and the task runs on the worker; all else is as it was
-pub record Takes (n : PoolNode) (w : ℕ) (c : Choice) (r : Reply) (m : PoolNode) : Type 0 where
+pub record TakesChoice (n : PoolNode) (w : ℕ) (c : Choice) (r : Reply) (m : PoolNode) : Type 0 where
   pub t : Task
   pub task : slot_value n.scheduler.tasks.pool c.task.0 ≡ Some t
   pub reply : r ≡ Picked c.task c.action c.kind t.args

@@ -12,20 +12,20 @@ use Rattle.node_steps.specs.declared.node.PoolNode.{PoolNode}
 use Rattle.node_steps.specs.Stands.{Lists, Live, state_of}
 
 -- that the node isn't open, and then these
-abbrev pub open_refusals : Phase → List (Bool × MtapiStatus) → List (Bool × MtapiStatus)
-open_refusals phase causes = (not (is_open phase), ErrNodeNotinit) ∷ causes
+abbrev pub phase_refusals : Phase → List (Bool × MtapiStatus) → List (Bool × MtapiStatus)
+phase_refusals phase causes = (not (is_open phase), ErrNodeNotinit) ∷ causes
 
 -- a start of a task
 abbrev pub task_refusals : State → ℕ → List ℤ → ℕ → Mask → Bool → Option GroupHandle → List (Bool × MtapiStatus)
 task_refusals s job args priority cores detached group =
-    open_refusals s.phase
+    phase_refusals s.phase
     ((not (nat_lt priority s.terms.settings.priorities) || is_detached_member detached group, ErrParameter)
     ∷ start_refusals s (asked_for job args priority cores detached group))
 
 -- a create of a queue, but for its id
 abbrev pub queue_causes : State → ℕ → ℕ → ℕ → List (Bool × MtapiStatus)
 queue_causes s job priority limit =
-    open_refusals s.phase
+    phase_refusals s.phase
     ((not (nat_lt priority s.terms.settings.priorities) || not (nat_le 1 limit && nat_le limit 65536), ErrParameter)
     ∷ (not (any_listed (has_job job) s.actions), ErrJobInvalid) ∷ [])
 

@@ -62,11 +62,11 @@ pub record StepsTo (n : PoolNode) (l : Lists) (who : ℕ) (op : Op) (r : Reply) 
   pub starts : m.scheduler.tasks.starts ≤ n.scheduler.tasks.starts + 1
   pub honest : IsHonest op
 
-abbrev pub Steps : PoolNode → Lists → ℕ → Op → Reply → PoolNode → Type 0
-Steps n l who op r m = (k : Lists) × StepsTo n l who op r m k
+abbrev pub PoolNodeSteps : PoolNode → Lists → ℕ → Op → Reply → PoolNode → Type 0
+PoolNodeSteps n l who op r m = (k : Lists) × StepsTo n l who op r m k
 
 -- the node stands for the list: it is legal, and leads to what the node holds
-pub record Stands (n : PoolNode) (L : List NodeEntry) : Type 0 where
+pub record PoolNodeStands (n : PoolNode) (L : List NodeEntry) : Type 0 where
   pub legal : Legal (terms_of n) L
   pub lists : Lists
   pub state : after (terms_of n) L ≡ state_of n lists
@@ -75,7 +75,7 @@ pub record Stands (n : PoolNode) (L : List NodeEntry) : Type 0 where
   pub keeps : Keeps (after (terms_of n) L) n.scheduler
 
 -- a node stands for legal histories alone
-abbrev pub history_of : (n : PoolNode) (L : List NodeEntry) → Stands n L → Legal (terms_of n) L
+abbrev pub history_of : (n : PoolNode) (L : List NodeEntry) → PoolNodeStands n L → Legal (terms_of n) L
 history_of n L s = s.legal
 
 -- how many seats these terms give

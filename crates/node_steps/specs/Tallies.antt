@@ -2,7 +2,7 @@
 use Rattle.std.specs.Prelude.{◌≡◌, ◌⊎◌, ℕ, ◌+◌, ◌<◌, ◌≤◌, true, false, ◌==◌, [], ◌∷◌, length, Some, ℤ, pos}
 use Rattle.std.specs.Option.{option_map}
 use Rattle.mtapi_values.specs.declared.kinds.Kind.TheVariants.{Tally}
-use Rattle.node_steps.specs.Names.{MtapiStatus, ErrParameter, ErrTaskInvalid, slot_value, live_object, Task, runs_as, tally_args, Becomes, Reply, Ended, State, Stands}
+use Rattle.node_steps.specs.Names.{MtapiStatus, ErrParameter, ErrTaskInvalid, slot_value, live_object, Task, runs_as, tally_args, Becomes, Reply, Ended, State, ResourcesStand}
 use Rattle.mtapi_values.specs.declared.ends.TaskEnd.{TaskEnd}
 use Rattle.mtapi_objects.specs.Mutexes.{Mutex, unlocked}
 use Rattle.mtapi_objects.specs.Segments.{with_attached}
@@ -15,10 +15,10 @@ use Rattle.node_steps.specs.declared.node.PoolNode.{PoolNode}
 use Rattle.node_steps.specs.declared.tally_ops.RunningTally.{RunningTally}
 
 -- the number that it has read or written last
-abbrev pub noted_in : TallyState → ℤ
-noted_in (Read mutex segment kept) = kept
-noted_in (Written mutex segment sum) = sum
-noted_in _ = pos 0
+abbrev pub tally_number : TallyState → ℤ
+tally_number (Read mutex segment kept) = kept
+tally_number (Written mutex segment sum) = sum
+tally_number _ = pos 0
 
 -- the task of this handle runs as a tally on the worker, has come so far, and has these arguments
 pub record RunsTally (n : PoolNode) (who t : ℕ) (r : RunningTally) : Type 0 where
@@ -45,5 +45,5 @@ pub record GivesBack (n : PoolNode) (who t mutex segment : ℕ) (e : TaskEnd) (r
         pool = ended_in n.scheduler.tasks.pool t e n.scheduler.tasks.ends (slot_value n.scheduler.tasks.pool t);
         ends = n.scheduler.tasks.ends + 1;
       })
-  pub resources : (s : State) (x : Mutex) → Stands s n.resources → live_object s.mutexes mutex ≡ Some x → x.owner ≡ Some who → x.depth ≡ 1
-      → Stands (after_moves (alters Segments segment (with_attached who false) ∷ alters Mutexes mutex unlocked ∷ []) s) m.resources
+  pub resources : (s : State) (x : Mutex) → ResourcesStand s n.resources → live_object s.mutexes mutex ≡ Some x → x.owner ≡ Some who → x.depth ≡ 1
+      → ResourcesStand (after_moves (alters Segments segment (with_attached who false) ∷ alters Mutexes mutex unlocked ∷ []) s) m.resources

@@ -4,9 +4,9 @@ ghost use Rattle.std.specs.Prelude.{◌≡◌, ℕ};
 ghost use Rattle.handle_pool.specs.Issued.{any_listed};
 ghost use Rattle.mtapi_objects.specs.Actions.{has_job, action_create_refusals};
 ghost use Rattle.mtapi_values.specs.Conditions.{first};
-ghost use Rattle.node_steps.specs.Refusals.{open_refusals};
+ghost use Rattle.node_steps.specs.Refusals.{phase_refusals};
 ghost use Rattle.mtapi_machine.specs.declared.ops.Op.TheVariants as op;
-ghost use Rattle.node_steps.specs.Stands.{Lists, Live, Steps, state_of};
+ghost use Rattle.node_steps.specs.Stands.{Lists, Live, PoolNodeSteps, state_of};
 ghost use Rattle.node_steps.specs.Sound.{Sound};
 
 use crate::node::PoolNode;
@@ -27,7 +27,7 @@ impl PoolNode {
     }
 
     pub(crate) fn job_get(&self, job: u32) -> Reply
-        ensures { (l : Lists) (who : ℕ) → Live self.now l → Steps self.now l who (op.JobGet job) result self.now }
+        ensures { (l : Lists) (who : ℕ) → Live self.now l → PoolNodeSteps self.now l who (op.JobGet job) result self.now }
     {
         if !is_up(self.core.phase) {
             return Reply::Mtapi(MtapiStatus::ErrNodeNotinit);
@@ -40,7 +40,7 @@ impl PoolNode {
 
     // Why no action of this job is made, whether there is room or not.
     pub(crate) fn action_refusal(&self, job: u32) -> Option<MtapiStatus>
-        ensures { result ≡ first (open_refusals self.now.core.phase (action_create_refusals job)) }
+        ensures { result ≡ first (phase_refusals self.now.core.phase (action_create_refusals job)) }
     {
         if !is_open(self.core.phase) {
             return Some(MtapiStatus::ErrNodeNotinit);
@@ -50,7 +50,7 @@ impl PoolNode {
 
     pub(crate) fn action_create(&mut self, job: u32, kind: Kind, cores: Mask) -> Reply
         ensures { (l : Lists) (who : ℕ) → Live self.old l
-            → Steps self.old l who (op.ActionCreate job kind cores) result self.new }
+            → PoolNodeSteps self.old l who (op.ActionCreate job kind cores) result self.new }
     {
         if let Some(status) = self.action_refusal(job) {
             return Reply::Mtapi(status);
@@ -63,7 +63,7 @@ impl PoolNode {
 
     pub(crate) fn action_enable(&mut self, action: ActionHandle) -> Reply
         ensures { (l : Lists) (who : ℕ) → Live self.old l
-            → Steps self.old l who (op.ActionEnable action) result self.new }
+            → PoolNodeSteps self.old l who (op.ActionEnable action) result self.new }
     {
         if !is_open(self.core.phase) {
             return Reply::Mtapi(MtapiStatus::ErrNodeNotinit);
@@ -77,7 +77,7 @@ impl PoolNode {
     // The action goes on, and the tasks that no worker can take any more fail.
     pub(crate) fn action_disable(&mut self, action: ActionHandle) -> Reply
         ensures { (l : Lists) (who : ℕ) → Live self.old l → Sound (state_of self.old l)
-            → Steps self.old l who (op.ActionDisable action) result self.new }
+            → PoolNodeSteps self.old l who (op.ActionDisable action) result self.new }
     {
         if !is_open(self.core.phase) {
             return Reply::Mtapi(MtapiStatus::ErrNodeNotinit);
@@ -96,7 +96,7 @@ impl PoolNode {
     // The action is given up, and the tasks that no worker can take any more fail.
     pub(crate) fn action_delete(&mut self, action: ActionHandle) -> Reply
         ensures { (l : Lists) (who : ℕ) → Live self.old l → Sound (state_of self.old l)
-            → Steps self.old l who (op.ActionDelete action) result self.new }
+            → PoolNodeSteps self.old l who (op.ActionDelete action) result self.new }
     {
         if !is_open(self.core.phase) {
             return Reply::Mtapi(MtapiStatus::ErrNodeNotinit);

@@ -11,7 +11,7 @@ ghost use Rattle.mtapi_machine.specs.Rows.{row};
 ghost use Rattle.mtapi_machine.specs.Legal.{NodeEntry, after};
 ghost use Rattle.mtapi_renaming.specs.Kinds.{made_kind, live_in, is_live_of};
 ghost use Rattle.mtapi_renaming.specs.Refusals.{refusal_of};
-ghost use Rattle.node_steps.specs.Stands.{Lists, Live, Stands, state_of, terms_of, seat_count};
+ghost use Rattle.node_steps.specs.Stands.{Lists, Live, PoolNodeStands, state_of, terms_of, seat_count};
 
 use crate::node::PoolNode;
 use mtapi_machine::{Op, Reply};
@@ -36,7 +36,7 @@ fn mrapi(status: Option<MrapiStatus>) -> Option<Reply>
 impl PoolNode {
     /// Tells how many objects of a kind are live.
     pub fn live(&self, kind: ObjectKind) -> u32
-        ensures { (L : List NodeEntry) → Stands self.now L → live_in kind (after (terms_of self.now) L) ≡ result }
+        ensures { (L : List NodeEntry) → PoolNodeStands self.now L → live_in kind (after (terms_of self.now) L) ≡ result }
     {
         match kind {
             ObjectKind::Action => self.scheduler.live_actions(),
@@ -52,7 +52,7 @@ impl PoolNode {
 
     /// Whether a handle names a live object of a kind.
     pub fn is_live(&self, kind: ObjectKind, handle: u64) -> bool
-        ensures { (L : List NodeEntry) → Stands self.now L
+        ensures { (L : List NodeEntry) → PoolNodeStands self.now L
             → is_live_of kind (after (terms_of self.now) L) handle ≡ result }
     {
         match kind {
@@ -71,7 +71,7 @@ impl PoolNode {
     /// only want of room can refuse it.
     pub fn refusal(&self, who: u32, op: &Op) -> Option<Reply>
         requires makes { IsSome (made_kind op.now) }
-        ensures { (L : List NodeEntry) → Stands self.now L
+        ensures { (L : List NodeEntry) → PoolNodeStands self.now L
             → refusal_of (after (terms_of self.now) L) who op.now ≡ result }
     {
         self.create_refusal(who, op)
@@ -120,11 +120,11 @@ impl PoolNode {
     /// task by this action wherever it may.
     pub fn pick_toward(&mut self, who: u32, task: TaskHandle, action: ActionHandle) -> Reply
         requires seat { who < seat_count (terms_of self.old) }
-        requires room { (L : List NodeEntry) × Stands self.old L × (length L < 2 ^ 62 + 16) }
+        requires room { (L : List NodeEntry) × PoolNodeStands self.old L × (length L < 2 ^ 62 + 16) }
         ensures terms { terms_of self.new ≡ terms_of self.old }
-        ensures stands { (L : List NodeEntry) → Stands self.old L
-            → Stands self.new (L ++ entry who op.Pick result ∷ []) }
-        ensures toward { (L : List NodeEntry) (kind : Kind) (args : List ℤ) → Stands self.old L
+        ensures stands { (L : List NodeEntry) → PoolNodeStands self.old L
+            → PoolNodeStands self.new (L ++ entry who op.Pick result ∷ []) }
+        ensures toward { (L : List NodeEntry) (kind : Kind) (args : List ℤ) → PoolNodeStands self.old L
             → Allows (row (after (terms_of self.old) L) who op.Pick (reply.Picked task action kind args)) (reply.Picked task action kind args)
             → result ≡ reply.Picked task action kind args }
     {

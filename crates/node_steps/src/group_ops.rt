@@ -2,12 +2,12 @@
 
 ghost use Rattle.std.specs.Prelude.{◌≡◌, ℕ, [], if◌then◌else◌};
 ghost use Rattle.mtapi_values.specs.Conditions.{first};
-ghost use Rattle.node_steps.specs.Refusals.{open_refusals};
+ghost use Rattle.node_steps.specs.Refusals.{phase_refusals};
 ghost use Rattle.mtapi_values.specs.declared.statuses.MtapiStatus.TheVariants as status;
 ghost use Rattle.mtapi_machine.specs.declared.replies.Reply.TheVariants as reply;
 ghost use Rattle.mtapi_machine.specs.GroupRows.{verdict};
 ghost use Rattle.mtapi_machine.specs.declared.ops.Op.TheVariants as op;
-ghost use Rattle.node_steps.specs.Stands.{Lists, Live, Steps};
+ghost use Rattle.node_steps.specs.Stands.{Lists, Live, PoolNodeSteps};
 
 use crate::node::PoolNode;
 use crate::phase_ops::{is_open, is_up};
@@ -39,7 +39,7 @@ fn early(last: bool) -> Reply
 impl PoolNode {
     // Why no group is made, whether there is room or not.
     pub(crate) fn group_refusal(&self) -> Option<MtapiStatus>
-        ensures { result ≡ first (open_refusals self.now.core.phase []) }
+        ensures { result ≡ first (phase_refusals self.now.core.phase []) }
     {
         if is_open(self.core.phase) {
             None
@@ -49,7 +49,7 @@ impl PoolNode {
     }
 
     pub(crate) fn group_create(&mut self) -> Reply
-        ensures { (l : Lists) (who : ℕ) → Live self.old l → Steps self.old l who op.GroupCreate result self.new }
+        ensures { (l : Lists) (who : ℕ) → Live self.old l → PoolNodeSteps self.old l who op.GroupCreate result self.new }
     {
         if let Some(status) = self.group_refusal() {
             return Reply::Mtapi(status);
@@ -62,7 +62,7 @@ impl PoolNode {
 
     pub(crate) fn group_delete(&mut self, group: GroupHandle) -> Reply
         ensures { (l : Lists) (who : ℕ) → Live self.old l
-            → Steps self.old l who (op.GroupDelete group) result self.new }
+            → PoolNodeSteps self.old l who (op.GroupDelete group) result self.new }
     {
         if !is_open(self.core.phase) {
             return Reply::Mtapi(MtapiStatus::ErrNodeNotinit);
@@ -77,7 +77,7 @@ impl PoolNode {
 
     pub(crate) fn all_look(&mut self, group: GroupHandle, last: bool) -> Reply
         ensures { (l : Lists) (who : ℕ) → Live self.old l
-            → Steps self.old l who (op.AllLook group last) result self.new }
+            → PoolNodeSteps self.old l who (op.AllLook group last) result self.new }
     {
         if !is_up(self.core.phase) {
             return Reply::Mtapi(MtapiStatus::ErrNodeNotinit);
@@ -94,7 +94,7 @@ impl PoolNode {
 
     pub(crate) fn any_look(&mut self, group: GroupHandle, last: bool) -> Reply
         ensures { (l : Lists) (who : ℕ) → Live self.old l
-            → Steps self.old l who (op.AnyLook group last) result self.new }
+            → PoolNodeSteps self.old l who (op.AnyLook group last) result self.new }
     {
         if !is_up(self.core.phase) {
             return Reply::Mtapi(MtapiStatus::ErrNodeNotinit);

@@ -3,7 +3,7 @@
 ghost use Rattle.std.specs.Prelude.{◌≡◌, ◌^◌, ◌<◌, ◌≤◌, [], IfOk};
 ghost use Rattle.mtapi_values.specs.declared.handles.Layout.TheVariants.{One};
 ghost use Rattle.mtapi_renaming.specs.Ops.{renamed_op};
-ghost use Rattle.node_steps.specs.Stands.{Lists, Live, Steps, Stands, state_of, terms_of};
+ghost use Rattle.node_steps.specs.Stands.{Lists, Live, PoolNodeSteps, PoolNodeStands, state_of, terms_of};
 ghost use Rattle.node_steps.specs.Sound.{Sound};
 
 use mtapi_machine::{Op, Phase, Reply};
@@ -40,7 +40,7 @@ impl PoolNode {
         requires some_caller { 1 ≤ callers }
         requires few_callers { callers ≤ 9 }
         ensures terms { IfOk result (λ n. terms_of n ≡ record { layout = One; settings = attr; callers = callers }) }
-        ensures stands { IfOk result (λ n. Stands n []) }
+        ensures stands { IfOk result (λ n. PoolNodeStands n []) }
     {
         attr.is_kept();
         let scheduler = Scheduler::new(alloc, attr)?;
@@ -70,7 +70,7 @@ impl PoolNode {
         requires few_starts { self.old.scheduler.tasks.starts < 2 ^ 63 }
         requires seat { who < 25 }
         ensures { (l : Lists) → Live self.old l → Sound (state_of self.old l)
-            → Steps self.old l who (renamed_op (R.renaming names.now) op.now) result self.new }
+            → PoolNodeSteps self.old l who (renamed_op (R.renaming names.now) op.now) result self.new }
     {
         match op {
             Op::Initialize => self.initialize(),

@@ -4,7 +4,7 @@ ghost use Rattle.std.specs.Prelude.{◌≡◌, ℕ};
 ghost use Rattle.mtapi_values.specs.Seats.{all_marked};
 ghost use Rattle.mtapi_machine.specs.State.{is_new, is_open, is_up, is_past_open};
 ghost use Rattle.mtapi_machine.specs.declared.ops.Op.TheVariants as op;
-ghost use Rattle.node_steps.specs.Stands.{Lists, Live, Steps, state_of};
+ghost use Rattle.node_steps.specs.Stands.{Lists, Live, PoolNodeSteps, state_of};
 ghost use Rattle.node_steps.specs.Sound.{Sound};
 
 use crate::node::PoolNode;
@@ -56,7 +56,7 @@ fn all_marked(n: u32, marks: &[bool]) -> bool
 
 impl PoolNode {
     pub(crate) fn initialize(&mut self) -> Reply
-        ensures { (l : Lists) (who : ℕ) → Live self.old l → Steps self.old l who op.Initialize result self.new }
+        ensures { (l : Lists) (who : ℕ) → Live self.old l → PoolNodeSteps self.old l who op.Initialize result self.new }
     {
         if !is_new(self.core.phase) {
             return Reply::Mtapi(MtapiStatus::ErrNodeInitialized);
@@ -66,7 +66,7 @@ impl PoolNode {
     }
 
     pub(crate) fn release(&mut self) -> Reply
-        ensures { (l : Lists) (who : ℕ) → Live self.old l → Steps self.old l who op.Release result self.new }
+        ensures { (l : Lists) (who : ℕ) → Live self.old l → PoolNodeSteps self.old l who op.Release result self.new }
     {
         if !is_open(self.core.phase) {
             return Reply::Mtapi(MtapiStatus::ErrNodeNotinit);
@@ -76,7 +76,7 @@ impl PoolNode {
     }
 
     pub(crate) fn enter(&self) -> Reply
-        ensures { (l : Lists) (who : ℕ) → Live self.now l → Steps self.now l who op.Enter result self.now }
+        ensures { (l : Lists) (who : ℕ) → Live self.now l → PoolNodeSteps self.now l who op.Enter result self.now }
     {
         if is_past_open(self.core.phase) {
             return Reply::Mtapi(MtapiStatus::ErrNodeNotinit);
@@ -90,7 +90,7 @@ impl PoolNode {
     // The tasks of disabled queues that haven't begun are cancelled.
     pub(crate) fn close(&mut self) -> Reply
         ensures { (l : Lists) (who : ℕ) → Live self.old l → Sound (state_of self.old l)
-            → Steps self.old l who op.Close result self.new }
+            → PoolNodeSteps self.old l who op.Close result self.new }
     {
         if is_past_open(self.core.phase) {
             return Reply::Mtapi(MtapiStatus::ErrNodeNotinit);
@@ -101,7 +101,7 @@ impl PoolNode {
     }
 
     pub(crate) fn finalize(&mut self) -> Reply
-        ensures { (l : Lists) (who : ℕ) → Live self.old l → Steps self.old l who op.Final result self.new }
+        ensures { (l : Lists) (who : ℕ) → Live self.old l → PoolNodeSteps self.old l who op.Final result self.new }
     {
         if !is_up(self.core.phase) {
             return Reply::Mtapi(MtapiStatus::ErrNodeNotinit);

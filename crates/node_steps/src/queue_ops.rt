@@ -10,7 +10,7 @@ ghost use Rattle.mtapi_machine.specs.declared.ops.Op.TheVariants as op;
 ghost use Rattle.mtapi_machine.specs.declared.replies.Reply.TheVariants as reply;
 ghost use Rattle.mtapi_renaming.specs.Refusals.{refusal_of};
 ghost use Rattle.node_steps.specs.Refusals.{queue_causes, queue_refusals, MayPut};
-ghost use Rattle.node_steps.specs.Stands.{Lists, Live, Steps, state_of};
+ghost use Rattle.node_steps.specs.Stands.{Lists, Live, PoolNodeSteps, state_of};
 ghost use Rattle.node_steps.specs.Sound.{Sound};
 
 use crate::node::PoolNode;
@@ -108,7 +108,7 @@ impl PoolNode {
         retain: bool,
     ) -> Reply
         ensures { (l : Lists) (who : ℕ) → Live self.old l
-            → Steps self.old l who (op.QueueCreate id job priority limit ordered retain) result self.new }
+            → PoolNodeSteps self.old l who (op.QueueCreate id job priority limit ordered retain) result self.new }
     {
         if let Some(status) = self.queue_cause(job, priority, limit) {
             return Reply::Mtapi(status);
@@ -121,7 +121,7 @@ impl PoolNode {
     }
 
     pub(crate) fn queue_get(&self, id: u32) -> Reply
-        ensures { (l : Lists) (who : ℕ) → Live self.now l → Steps self.now l who (op.QueueGet id) result self.now }
+        ensures { (l : Lists) (who : ℕ) → Live self.now l → PoolNodeSteps self.now l who (op.QueueGet id) result self.now }
     {
         if !is_up(self.core.phase) {
             return Reply::Mtapi(MtapiStatus::ErrNodeNotinit);
@@ -134,7 +134,7 @@ impl PoolNode {
 
     pub(crate) fn queue_enable(&mut self, queue: QueueHandle) -> Reply
         ensures { (l : Lists) (who : ℕ) → Live self.old l
-            → Steps self.old l who (op.QueueEnable queue) result self.new }
+            → PoolNodeSteps self.old l who (op.QueueEnable queue) result self.new }
     {
         if !is_open(self.core.phase) {
             return Reply::Mtapi(MtapiStatus::ErrNodeNotinit);
@@ -148,7 +148,7 @@ impl PoolNode {
     // Where the queue doesn't retain its tasks, those that haven't begun are cancelled.
     pub(crate) fn queue_disable(&mut self, queue: QueueHandle) -> Reply
         ensures { (l : Lists) (who : ℕ) → Live self.old l → Sound (state_of self.old l)
-            → Steps self.old l who (op.QueueDisable queue) result self.new }
+            → PoolNodeSteps self.old l who (op.QueueDisable queue) result self.new }
     {
         if !is_open(self.core.phase) {
             return Reply::Mtapi(MtapiStatus::ErrNodeNotinit);
@@ -167,7 +167,7 @@ impl PoolNode {
     // The tasks of the queue that haven't begun fail.
     pub(crate) fn queue_delete(&mut self, queue: QueueHandle) -> Reply
         ensures { (l : Lists) (who : ℕ) → Live self.old l → Sound (state_of self.old l)
-            → Steps self.old l who (op.QueueDelete queue) result self.new }
+            → PoolNodeSteps self.old l who (op.QueueDelete queue) result self.new }
     {
         if !is_open(self.core.phase) {
             return Reply::Mtapi(MtapiStatus::ErrNodeNotinit);
@@ -265,7 +265,7 @@ impl PoolNode {
     ) -> Reply
         requires { self.old.scheduler.tasks.starts < 2 ^ 63 }
         ensures { (l : Lists) (who : ℕ) → Live self.old l
-            → Steps self.old l who (op.TaskEnqueue queue args.now cores detached group) result self.new }
+            → PoolNodeSteps self.old l who (op.TaskEnqueue queue args.now cores detached group) result self.new }
     {
         self.scheduler.is_kept();
         let facts = match self.enqueue_facts(queue, cores, detached, group) {

@@ -5,7 +5,7 @@ ghost use Rattle.mtapi_machine.specs.Answers.{is_mrapi};
 ghost use Rattle.mtapi_renaming.specs.Ops.{renamed_op};
 ghost use Rattle.mtapi_values.specs.Conditions.{first};
 ghost use Rattle.node_resources.specs.Refusals.{mutex_refusals, sem_refusals, rwl_refusals, shmem_refusals};
-ghost use Rattle.node_steps.specs.Stands.{Lists, Live, Steps, state_of};
+ghost use Rattle.node_steps.specs.Stands.{Lists, Live, PoolNodeSteps, state_of};
 
 use crate::node::PoolNode;
 use mtapi_machine::{Op, Reply};
@@ -30,7 +30,7 @@ impl PoolNode {
         requires seat { who < 25 }
         requires resource { is_mrapi op.now ≡ true }
         ensures { (l : Lists) → Live self.old l
-            → Steps self.old l who (renamed_op (R.renaming names.now) op.now) result self.new }
+            → PoolNodeSteps self.old l who (renamed_op (R.renaming names.now) op.now) result self.new }
     {
         let gate = self.gate();
         self.resources.execute(names, gate, who, op)

@@ -5,7 +5,7 @@ ghost use Rattle.history.specs.Histories.{entry};
 ghost use Rattle.mtapi_machine.specs.Legal.{NodeEntry, after};
 ghost use Rattle.mtapi_machine.specs.Kept.{pends_alike};
 ghost use Rattle.mtapi_layouts.specs.Ops.{IssuesSmall, inward_op};
-ghost use Rattle.node_steps.specs.Stands.{Lists, Live, Stands, state_of, terms_of, seat_count};
+ghost use Rattle.node_steps.specs.Stands.{Lists, Live, PoolNodeStands, state_of, terms_of, seat_count};
 
 use crate::node::PoolNode;
 use crate::running::is_seat;
@@ -50,9 +50,9 @@ impl PoolNode {
     /// it says in its reply. The slot in the handle of a new object is below 2^24.
     pub fn step(&mut self, who: u32, op: Op) -> Reply
         requires seat { who < seat_count (terms_of self.old) }
-        requires room { (L : List NodeEntry) × Stands self.old L × (length L < 2 ^ 62 + 16) }
+        requires room { (L : List NodeEntry) × PoolNodeStands self.old L × (length L < 2 ^ 62 + 16) }
         ensures terms { terms_of self.new ≡ terms_of self.old }
-        ensures stands { (L : List NodeEntry) → Stands self.old L → Stands self.new (L ++ entry who op result ∷ []) }
+        ensures stands { (L : List NodeEntry) → PoolNodeStands self.old L → PoolNodeStands self.new (L ++ entry who op result ∷ []) }
         ensures small { IssuesSmall op result }
     {
         let reply = self.dispatch(&Same, who, &op);
@@ -64,10 +64,10 @@ impl PoolNode {
     /// what `step` does with that op. The op is read where it stands, and the reply put where it is wanted.
     pub fn step_inward(&mut self, who: u32, op: &Op, reply: &mut Reply)
         requires seat { who < seat_count (terms_of self.old) }
-        requires room { (L : List NodeEntry) × Stands self.old L × (length L < 2 ^ 62 + 16) }
+        requires room { (L : List NodeEntry) × PoolNodeStands self.old L × (length L < 2 ^ 62 + 16) }
         ensures terms { terms_of self.new ≡ terms_of self.old }
-        ensures stands { (L : List NodeEntry) → Stands self.old L
-            → Stands self.new (L ++ entry who (inward_op op.now) reply.new ∷ []) }
+        ensures stands { (L : List NodeEntry) → PoolNodeStands self.old L
+            → PoolNodeStands self.new (L ++ entry who (inward_op op.now) reply.new ∷ []) }
         ensures small { IssuesSmall (inward_op op.now) reply.new }
     {
         *reply = self.dispatch(&Inwards, who, op);
@@ -76,7 +76,7 @@ impl PoolNode {
 
     /// Tells whether the state would stay as it is, were this op answered Pending.
     pub fn pends_alike(&self, who: u32, op: &Op) -> bool
-        ensures { (L : List NodeEntry) → Stands self.now L
+        ensures { (L : List NodeEntry) → PoolNodeStands self.now L
             → pends_alike (after (terms_of self.now) L) who op.now ≡ result }
     {
         self.looks_alike(who, op)

@@ -10,9 +10,9 @@ ghost use Rattle.mtapi_objects.specs.Tasks.{is_unended, cell_in, number_in};
 ghost use Rattle.task_core.specs.Tallies.{adds_of};
 ghost use Rattle.task_core.specs.Table.{IsLiveAnd};
 ghost use Rattle.mtapi_machine.specs.declared.ops.Op.TheVariants as op;
-ghost use Rattle.node_steps.specs.Stands.{Lists, Live, Steps, state_of};
+ghost use Rattle.node_steps.specs.Stands.{Lists, Live, PoolNodeSteps, state_of};
 ghost use Rattle.node_steps.specs.Sound.{Sound};
-ghost use Rattle.node_steps.specs.Tallies.{RunsTally, NoTally, GivesBack, noted_in};
+ghost use Rattle.node_steps.specs.Tallies.{RunsTally, NoTally, GivesBack, tally_number};
 
 use crate::node::PoolNode;
 use crate::running::runs_as;
@@ -81,7 +81,7 @@ impl RunningTally {
 
     // The number that it has read or written last.
     fn noted(&self) -> i64
-        ensures { result ≡ noted_in self.now.state }
+        ensures { result ≡ tally_number self.now.state }
     {
         match self.state {
             TallyState::Read { kept, .. } => kept,
@@ -127,7 +127,7 @@ impl PoolNode {
     // It gets the mutex and the segment that its arguments name, or fails; while a seat owns the mutex it is to ask again.
     pub(crate) fn tally_lock(&mut self, who: u32, task: TaskHandle) -> Reply
         requires seat { who < 25 }
-        ensures { (l : Lists) → Live self.old l → Steps self.old l who (op.TallyLock task) result self.new }
+        ensures { (l : Lists) → Live self.old l → PoolNodeSteps self.old l who (op.TallyLock task) result self.new }
     {
         match self.running_tally(who, task) {
             Ok(tally) => self.lock_both(who, task, tally),
@@ -138,7 +138,7 @@ impl PoolNode {
     fn lock_both(&mut self, who: u32, task: TaskHandle, tally: RunningTally) -> Reply
         requires seat { who < 25 }
         requires tally { RunsTally self.old who task.0 tally }
-        ensures { (l : Lists) → Live self.old l → Steps self.old l who (op.TallyLock task) result self.new }
+        ensures { (l : Lists) → Live self.old l → PoolNodeSteps self.old l who (op.TallyLock task) result self.new }
     {
         let TallyState::Begun = tally.state else {
             return Reply::Mtapi(MtapiStatus::ErrParameter);
@@ -169,7 +169,7 @@ impl PoolNode {
     // It reads its cell.
     pub(crate) fn tally_read(&mut self, who: u32, task: TaskHandle) -> Reply
         ensures { (l : Lists) → Live self.old l → Sound (state_of self.old l)
-            → Steps self.old l who (op.TallyRead task) result self.new }
+            → PoolNodeSteps self.old l who (op.TallyRead task) result self.new }
     {
         match self.running_tally(who, task) {
             Ok(tally) => self.read_cell(who, task, tally),
@@ -180,7 +180,7 @@ impl PoolNode {
     fn read_cell(&mut self, who: u32, task: TaskHandle, tally: RunningTally) -> Reply
         requires tally { RunsTally self.old who task.0 tally }
         ensures { (l : Lists) → Live self.old l → Sound (state_of self.old l)
-            → Steps self.old l who (op.TallyRead task) result self.new }
+            → PoolNodeSteps self.old l who (op.TallyRead task) result self.new }
     {
         let TallyState::Locked { mutex, segment } = tally.state else {
             return Reply::Mtapi(MtapiStatus::ErrParameter);
@@ -200,7 +200,7 @@ impl PoolNode {
     // It writes the sum of what it read and what it adds, and nothing else.
     pub(crate) fn tally_write(&mut self, who: u32, task: TaskHandle, value: i64) -> Reply
         ensures { (l : Lists) → Live self.old l → Sound (state_of self.old l)
-            → Steps self.old l who (op.TallyWrite task value) result self.new }
+            → PoolNodeSteps self.old l who (op.TallyWrite task value) result self.new }
     {
         match self.running_tally(who, task) {
             Ok(tally) => self.write_cell(who, task, tally, value),
@@ -211,7 +211,7 @@ impl PoolNode {
     fn write_cell(&mut self, who: u32, task: TaskHandle, tally: RunningTally, value: i64) -> Reply
         requires tally { RunsTally self.old who task.0 tally }
         ensures { (l : Lists) → Live self.old l → Sound (state_of self.old l)
-            → Steps self.old l who (op.TallyWrite task value) result self.new }
+            → PoolNodeSteps self.old l who (op.TallyWrite task value) result self.new }
     {
         let TallyState::Read {
             mutex,
@@ -240,7 +240,7 @@ impl PoolNode {
     pub(crate) fn tally_end(&mut self, who: u32, task: TaskHandle) -> Reply
         requires seat { who < 25 }
         ensures { (l : Lists) → Live self.old l → Sound (state_of self.old l)
-            → Steps self.old l who (op.TallyEnd task) result self.new }
+            → PoolNodeSteps self.old l who (op.TallyEnd task) result self.new }
     {
         match self.running_tally(who, task) {
             Ok(tally) => self.end_tally(who, task, tally),
@@ -252,7 +252,7 @@ impl PoolNode {
         requires seat { who < 25 }
         requires tally { RunsTally self.old who task.0 tally }
         ensures { (l : Lists) → Live self.old l → Sound (state_of self.old l)
-            → Steps self.old l who (op.TallyEnd task) result self.new }
+            → PoolNodeSteps self.old l who (op.TallyEnd task) result self.new }
     {
         match tally.state {
             TallyState::Begun | TallyState::Locked { .. } => {

@@ -8,7 +8,7 @@ ghost use Rattle.mtapi_objects.specs.Actions.{some_below};
 ghost use Rattle.task_board.specs.Members.{names_dead};
 ghost use Rattle.mtapi_machine.specs.declared.ops.Op.TheVariants as op;
 ghost use Rattle.node_steps.specs.Refusals.{task_refusals};
-ghost use Rattle.node_steps.specs.Stands.{Lists, Live, Steps, state_of};
+ghost use Rattle.node_steps.specs.Stands.{Lists, Live, PoolNodeSteps, state_of};
 
 use crate::node::PoolNode;
 use crate::phase_ops::{is_open, is_up};
@@ -101,7 +101,7 @@ impl PoolNode {
     ) -> Reply
         requires { self.old.scheduler.tasks.starts < 2 ^ 63 }
         ensures { (l : Lists) (who : ℕ) → Live self.old l
-            → Steps self.old l who (op.TaskStart job args.now priority cores detached group) result self.new }
+            → PoolNodeSteps self.old l who (op.TaskStart job args.now priority cores detached group) result self.new }
     {
         if let Some(status) = self.task_refusal(job, priority, cores, detached, group) {
             return Reply::Mtapi(status);
@@ -122,7 +122,7 @@ impl PoolNode {
     }
 
     pub(crate) fn task_look(&mut self, who: u32, task: TaskHandle, last: bool) -> Reply
-        ensures { (l : Lists) → Live self.old l → Steps self.old l who (op.TaskLook task last) result self.new }
+        ensures { (l : Lists) → Live self.old l → PoolNodeSteps self.old l who (op.TaskLook task last) result self.new }
     {
         if !is_up(self.core.phase) {
             return Reply::Mtapi(MtapiStatus::ErrNodeNotinit);
@@ -135,7 +135,7 @@ impl PoolNode {
     }
 
     pub(crate) fn task_cancel(&mut self, task: TaskHandle) -> Reply
-        ensures { (l : Lists) (who : ℕ) → Live self.old l → Steps self.old l who (op.TaskCancel task) result self.new }
+        ensures { (l : Lists) (who : ℕ) → Live self.old l → PoolNodeSteps self.old l who (op.TaskCancel task) result self.new }
     {
         if !is_up(self.core.phase) {
             return Reply::Mtapi(MtapiStatus::ErrNodeNotinit);

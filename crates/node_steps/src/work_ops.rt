@@ -10,8 +10,8 @@ ghost use Rattle.mtapi_objects.specs.Tasks.{runs_on};
 ghost use Rattle.mtapi_machine.specs.WorkRows.{task_end};
 ghost use Rattle.mtapi_machine.specs.State.{is_stop};
 ghost use Rattle.mtapi_machine.specs.declared.ops.Op.TheVariants as op;
-ghost use Rattle.node_steps.specs.Stands.{Lists, Live, Steps, state_of};
-ghost use Rattle.node_steps.specs.Picks.{Takes, IsToward, MayPick};
+ghost use Rattle.node_steps.specs.Stands.{Lists, Live, PoolNodeSteps, state_of};
+ghost use Rattle.node_steps.specs.Picks.{TakesChoice, IsToward, MayPick};
 ghost use Rattle.task_board.specs.Picks.{IsBest, IsChoice};
 ghost use Rattle.mtapi_values.specs.declared.kinds.Kind.{Kind};
 ghost use Rattle.mtapi_machine.specs.declared.replies.Reply.TheVariants as reply;
@@ -77,7 +77,7 @@ impl PoolNode {
         who: u32,
         wanted: Option<(TaskHandle, ActionHandle)>,
     ) -> Reply
-        ensures steps { (l : Lists) → Live self.old l → Steps self.old l who op.Pick result self.new }
+        ensures steps { (l : Lists) → Live self.old l → PoolNodeSteps self.old l who op.Pick result self.new }
         ensures toward { (task : TaskHandle) (action : ActionHandle) (l : Lists) (kind : Kind) (args : List ℤ)
             → wanted ≡ Some (task, action) → Live self.old l → MayPick (state_of self.old l) who task action kind args
             → result ≡ reply.Picked task action kind args }
@@ -104,7 +104,7 @@ impl PoolNode {
         requires worker { who < self.old.scheduler.settings.workers }
         requires free { NoneLive (slot_value self.old.scheduler.tasks.pool) (Passes (runs_on who)) }
         requires choice { IsChoice self.old.scheduler.actions self.old.scheduler.tasks.pool self.old.scheduler.queues.pool who choice }
-        ensures { Takes self.old who choice result self.new }
+        ensures { TakesChoice self.old who choice result self.new }
     {
         Reply::Picked {
             task: choice.task,
@@ -115,7 +115,7 @@ impl PoolNode {
     }
 
     pub(crate) fn finish(&mut self, who: u32, task: TaskHandle, done: &Finished) -> Reply
-        ensures { (l : Lists) → Live self.old l → Steps self.old l who (op.Finish task done.now) result self.new }
+        ensures { (l : Lists) → Live self.old l → PoolNodeSteps self.old l who (op.Finish task done.now) result self.new }
     {
         is_answered(done);
         if who >= self.scheduler.workers() {
@@ -130,7 +130,7 @@ impl PoolNode {
     }
 
     pub(crate) fn asked(&mut self, who: u32, task: TaskHandle) -> Reply
-        ensures { (l : Lists) → Live self.old l → Steps self.old l who (op.Asked task) result self.new }
+        ensures { (l : Lists) → Live self.old l → PoolNodeSteps self.old l who (op.Asked task) result self.new }
     {
         if who >= self.scheduler.workers() {
             return Reply::Mtapi(MtapiStatus::ErrParameter);
@@ -142,7 +142,7 @@ impl PoolNode {
     }
 
     pub(crate) fn watch_end(&mut self, who: u32, task: TaskHandle) -> Reply
-        ensures { (l : Lists) → Live self.old l → Steps self.old l who (op.WatchEnd task) result self.new }
+        ensures { (l : Lists) → Live self.old l → PoolNodeSteps self.old l who (op.WatchEnd task) result self.new }
     {
         if who >= self.scheduler.workers() {
             return Reply::Mtapi(MtapiStatus::ErrParameter);

@@ -1,5 +1,5 @@
 -- What a caller's calls come to, and what a node's history says of its clients.
-use Rattle.node_with_workers.proofs.Names.{nat_tests, ◌≡◌, ℕ, zero, suc, true, ◌+◌, ◌-◌, ◌≤◌, ◌<◌, ◌^◌, List, length, take, drop, [], ◌∷◌, ◌++◌, None, Result, Ok, Err, inl, inr, refl, sym, ◌∙◌, ap, subst, append_assoc, arith, append-nil, take-append-drop, map, length-map, StartsWith, entry, entries_of, NodeSettings, MtapiStatus, Op, Initialize, Release, Close, Final, Reply, Terms, NodeEntry, Legal, Journal, JournaledTerms, KeptAs, Entrance, Seat, SameSeat, Answers, Waited, mtapi, done, GoesOn, MainOpens, CallerEnters, HasCalled, IfRefused, IsRefused, IsNotOpened, IsKeptOut, SaysOf, Opens, Enters, HasThreads, IfFailed, IfNoThread, IsUnbegun, IsUnopened, MadeNoCall, is_no_thread, AreRefused, terms_among, IsRunBy, IsRunOfAllBy, HaveCalled, HasEndedBy, Refuses, RefusesOne, IsNotEnded}
+use Rattle.node_with_workers.proofs.Names.{nat_tests, ◌≡◌, ℕ, zero, suc, true, ◌+◌, ◌-◌, ◌≤◌, ◌<◌, ◌^◌, List, length, take, drop, [], ◌∷◌, ◌++◌, None, Result, Ok, Err, inl, inr, refl, sym, ◌∙◌, ap, subst, append_assoc, arith, append-nil, take-append-drop, map, length-map, StartsWith, entry, entries_of, NodeSettings, MtapiStatus, Op, Initialize, Release, Close, Final, Reply, Terms, NodeEntry, Legal, Journal, JournaledTerms, KeptAs, Entrance, Seat, SameNodeSeat, AnswersReply, Waited, mtapi_standard, done, SeatGoesOn, MainOpens, CallerEnters, HasCalled, IfRefused, IsCallRefused, IsNotOpened, IsKeptOut, SaysOf, Opens, Enters, HasThreads, IfFailed, IfNoThread, IsUnbegun, IsUnopened, MadeNoCall, is_no_thread, AreRefused, terms_among, IsRunBy, IsRunOfAllBy, HaveCalled, HasEndedBy, Refuses, RefusesOne, IsNotEnded}
 use Rattle.history.proofs.Growth.{entries_append}
 use Rattle.turn_looks.proofs.OwnEntries.{entries-append}
 use Rattle.mtapi_machine.proofs.Lists.{Legal-prefix, Legal-rest}
@@ -10,7 +10,7 @@ use Rattle.mtapi_values.specs.declared.handles.Layout.TheVariants.{Two}
 use Rattle.mtapi_machine.specs.declared.replies.Reply.TheVariants as reply
 use Rattle.sched_workers.specs.Answers.{Called as Asked}
 use Rattle.sched_workers.proofs.CallAnswers.{fits_by}
-use Rattle.workload_runners.specs.Replies.{says}
+use Rattle.workload_runners.specs.Replies.{says_something}
 use Rattle.workload_runners.proofs.OwnParts.{own_one}
 use Rattle.workload_runners.specs.Ran.{EachCalled, MainEnds, RanAs, StandsIn}
 use Rattle.workload_runners.specs.declared.crew.holder.Held.{Held}
@@ -30,35 +30,35 @@ refused_weaker P Q f e1 e2 = grind (arith, nat_tests)
 
 -- The calls of one seat
 
-pub same_then : (a b c : Seat) → SameSeat a b → SameSeat b c → SameSeat a c
+pub same_then : (a b c : Seat) → SameNodeSeat a b → SameNodeSeat b c → SameNodeSeat a c
 same_then a b c x y = record { cell = y.cell ∙ x.cell; number = y.number ∙ x.number; terms = y.terms ∙ x.terms }
 
 -- the seat made one more call, which was done
 pub record MadeOne (o : Op) (old new : Seat) : Type 0 where
-  pub same : SameSeat old new
+  pub same : SameNodeSeat old new
   pub mine : new.mine ≡ old.mine ++ entry old.number o reply.Ok ∷ []
 
-asked_same : (o : Op) (old new : Seat) (x : Result (Unit {0}) MtapiStatus) → Asked mtapi done o old new x → SameSeat old new
+asked_same : (o : Op) (old new : Seat) (x : Result (Unit {0}) MtapiStatus) → Asked mtapi_standard done o old new x → SameNodeSeat old new
 asked_same o old new x e1 = grind (arith, nat_tests)
 
 -- the seat's entries begin with those that it had
-goes_on : (old new : Seat) → GoesOn old new → StartsWith new.mine old.mine
+goes_on : (old new : Seat) → SeatGoesOn old new → StartsWith new.mine old.mine
 goes_on old new g =
     (drop (length old.mine) new.mine, sym (take-append-drop (length old.mine) new.mine) ∙ ap (λ (l : List NodeEntry). l ++ drop (length old.mine) new.mine) g)
 
 -- a call that was done, and one that was refused
-made_one : (o : Op) (old new : Seat) (x : Result (Unit {0}) MtapiStatus) (u : Unit {0}) → Asked mtapi done o old new x → x ≡ Ok u → MadeOne o old new
+made_one : (o : Op) (old new : Seat) (x : Result (Unit {0}) MtapiStatus) (u : Unit {0}) → Asked mtapi_standard done o old new x → x ≡ Ok u → MadeOne o old new
 made_one o old new x u e1 e2 = grind (arith, nat_tests)
 
-read_refusal : (r : Reply) (e : MtapiStatus) → Answers mtapi done r (Err e) → r ≡ reply.Mtapi e
+read_refusal : (r : Reply) (e : MtapiStatus) → AnswersReply mtapi_standard done r (Err e) → r ≡ reply.Mtapi e
 read_refusal r e e1 = grind (arith, nat_tests)
 
-turn_refused : (o : Op) (old new : Seat) (x : Result (Unit {0}) MtapiStatus) (status : MtapiStatus) → Asked mtapi done o old new x → x ≡ Err status
-    → new.shown < 2 ^ 62 → IsRefused old.terms.node old.number old.mine o status
+turn_refused : (o : Op) (old new : Seat) (x : Result (Unit {0}) MtapiStatus) (status : MtapiStatus) → Asked mtapi_standard done o old new x → x ≡ Err status
+    → new.shown < 2 ^ 62 → IsCallRefused old.terms.node old.number old.mine o status
 turn_refused o old new (Ok v) status c is few = absurd (cc)
 turn_refused o old new (Err e) status (inr c) is few = let shown = c.0.shown in absurd (omega arith)
 turn_refused o old new (Err e) status (inl c) is few =
-    let says : c.0 ≡ reply.Mtapi status = read_refusal c.0 e c.2 ∙ cc in
+    let says_something : c.0 ≡ reply.Mtapi status = read_refusal c.0 e c.2 ∙ cc in
     let turn = c.1 in
     record {
       history = old.seen ++ turn.between;
@@ -66,31 +66,32 @@ turn_refused o old new (Err e) status (inl c) is few =
           ∙ (ap (λ (l : List NodeEntry). entries_of old.number old.seen ++ l) turn.others ∙ (append-nil _ ∙ turn.before));
       legal =
           subst (λ (t : JournaledTerms). Legal t.node ((old.seen ++ turn.between) ++ entry old.number o (reply.Mtapi status) ∷ [])) turn.same.terms
-          (subst (λ (r : Reply). Legal new.terms.node ((old.seen ++ turn.between) ++ entry old.number o r ∷ [])) says
+          (subst (λ (r : Reply). Legal new.terms.node ((old.seen ++ turn.between) ++ entry old.number o r ∷ [])) says_something
           (subst (Legal new.terms.node) turn.seen turn.legal));
     }
 
 -- the same of a caller that is made of the seat and gives it back
 pub says_of : (o : Op) (seat start tried given : Seat) (x : Result (Unit {0}) MtapiStatus) (status : MtapiStatus) (f : Failure)
-    → start ≡ seat → Asked mtapi done o start tried x → x ≡ Err status → given ≡ tried → SaysOf given status f
-    → IfRefused f (IsRefused seat.terms.node seat.number seat.mine o)
-says_of o seat start tried given x status (failure.Refused s) first called is back says =
-    subst (IsRefused seat.terms.node seat.number seat.mine o) (sym says.0)
-    (subst (λ (q : Seat). IsRefused q.terms.node q.number q.mine o status) first
-    (turn_refused o start tried x status called is (subst (λ (q : Seat). q.shown < 2 ^ 62) back says.1)))
-says_of o seat start tried given x status _ first called is back says = tt
+    → start ≡ seat → Asked mtapi_standard done o start tried x → x ≡ Err status → given ≡ tried → SaysOf given status f
+    → IfRefused f (IsCallRefused seat.terms.node seat.number seat.mine o)
+says_of o seat start tried given x status (failure.Refused s) first called is back says_something =
+    subst (IsCallRefused seat.terms.node seat.number seat.mine o) (sym says_something.0)
+    (subst (λ (q : Seat). IsCallRefused q.terms.node q.number q.mine o status) first
+    (turn_refused o start tried x status called is (subst (λ (q : Seat). q.shown < 2 ^ 62) back says_something.1)))
+says_of o seat start tried given x status _ first called is back says_something = tt
 
 -- Main opens the node, and lets the others in
 
 pub not_opened : (seat start tried given : Seat) (x : Result (Unit {0}) MtapiStatus) (status : MtapiStatus) (f : Failure)
-    → seat.mine ≡ [] → start ≡ seat → Asked mtapi done Initialize start tried x → x ≡ Err status → given ≡ tried → SaysOf given status f
+    → seat.mine ≡ [] → start ≡ seat → Asked mtapi_standard done Initialize start tried x → x ≡ Err status → given ≡ tried → SaysOf given status f
     → IfRefused f (IsNotOpened seat.terms.node seat.number)
-not_opened seat start tried given x status f new first called is back says =
-    refused_weaker (IsRefused seat.terms.node seat.number seat.mine Initialize) (IsNotOpened seat.terms.node seat.number) f
-    (λ s r. inl (subst (λ (l : List NodeEntry). IsRefused seat.terms.node seat.number l Initialize s) new r))
-    (says_of Initialize seat start tried given x status f first called is back says)
+not_opened seat start tried given x status f new first called is back says_something =
+    refused_weaker (IsCallRefused seat.terms.node seat.number seat.mine Initialize) (IsNotOpened seat.terms.node seat.number) f
+    (λ s r. inl (subst (λ (l : List NodeEntry). IsCallRefused seat.terms.node seat.number l Initialize s) new r))
+    (says_of Initialize seat start tried given x status f first called is back says_something)
 
-opened_once : (seat start one : Seat) (x : Result (Unit {0}) MtapiStatus) (u : Unit {0}) → start ≡ seat → Asked mtapi done Initialize start one x → x ≡ Ok u
+opened_once : (seat start one : Seat) (x : Result (Unit {0}) MtapiStatus) (u : Unit {0}) → start ≡ seat → Asked mtapi_standard done Initialize start one x
+    → x ≡ Ok u
     → MadeOne Initialize seat one
 opened_once seat start one x u first called is = subst (λ (s : Seat). MadeOne Initialize s one) first (made_one Initialize start one x u called is)
 
@@ -98,45 +99,49 @@ entry_first : (seat one : Seat) → seat.mine ≡ [] → MadeOne Initialize seat
 entry_first seat one new p = p.mine ∙ ap (λ (l : List NodeEntry). l ++ entry seat.number Initialize reply.Ok ∷ []) new
 
 pub not_released : (seat start one two given : Seat) (x y : Result (Unit {0}) MtapiStatus) (u : Unit {0}) (status : MtapiStatus) (f : Failure)
-    → seat.mine ≡ [] → start ≡ seat → Asked mtapi done Initialize start one x → x ≡ Ok u → Asked mtapi done Release one two y → y ≡ Err status → given ≡ two
+    → seat.mine ≡ [] → start ≡ seat → Asked mtapi_standard done Initialize start one x → x ≡ Ok u → Asked mtapi_standard done Release one two y → y ≡ Err status
+    → given ≡ two
     → SaysOf given status f
     → IfRefused f (IsNotOpened seat.terms.node seat.number)
-not_released seat start one two given x y u status f new first a ai b bi back says =
+not_released seat start one two given x y u status f new first a ai b bi back says_something =
     let p : MadeOne Initialize seat one = opened_once seat start one x u first a ai in
-    refused_weaker (IsRefused one.terms.node one.number one.mine Release) (IsNotOpened seat.terms.node seat.number) f
+    refused_weaker (IsCallRefused one.terms.node one.number one.mine Release) (IsNotOpened seat.terms.node seat.number) f
     (λ s r. inr (
-    subst (λ (l : List NodeEntry). IsRefused seat.terms.node seat.number l Release s) (entry_first seat one new p)
-    (subst (λ (n : ℕ). IsRefused seat.terms.node n one.mine Release s) p.same.number
-    (subst (λ (t : JournaledTerms). IsRefused t.node one.number one.mine Release s) p.same.terms r))
+    subst (λ (l : List NodeEntry). IsCallRefused seat.terms.node seat.number l Release s) (entry_first seat one new p)
+    (subst (λ (n : ℕ). IsCallRefused seat.terms.node n one.mine Release s) p.same.number
+    (subst (λ (t : JournaledTerms). IsCallRefused t.node one.number one.mine Release s) p.same.terms r))
     ))
-    (says_of Release one one two given y status f refl b bi back says)
+    (says_of Release one one two given y status f refl b bi back says_something)
 
 pub main_opened : (seat start one two : Seat) (x y : Result (Unit {0}) MtapiStatus) (u v : Unit {0})
-    → seat.mine ≡ [] → start ≡ seat → Asked mtapi done Initialize start one x → x ≡ Ok u → Asked mtapi done Release one two y → y ≡ Ok v
-    → SameSeat seat two × MainOpens seat.number two.mine
+    → seat.mine ≡ [] → start ≡ seat → Asked mtapi_standard done Initialize start one x → x ≡ Ok u → Asked mtapi_standard done Release one two y → y ≡ Ok v
+    → SameNodeSeat seat two × MainOpens seat.number two.mine
 main_opened seat start one two x y u v e1 e2 e3 e4 e5 e6 = grind (arith, nat_tests)
 
 -- A further caller is let in
 
 pub entered : (seat start before : Seat) (x : Result (Unit {0}) MtapiStatus) (u : Unit {0})
-    → seat.mine ≡ [] → start ≡ seat → Waited mtapi done Entrance None start before x → x ≡ Ok u → SameSeat seat before × CallerEnters seat.number before.mine
+    → seat.mine ≡ [] → start ≡ seat → Waited mtapi_standard done Entrance None start before x → x ≡ Ok u
+    → SameNodeSeat seat before × CallerEnters seat.number before.mine
 entered seat start before x u e1 e2 e3 e4 = grind (arith, nat_tests)
 
 pub kept_out : (seat start tried given : Seat) (x : Result (Unit {0}) MtapiStatus) (status : MtapiStatus) (f : Failure)
-    → seat.mine ≡ [] → start ≡ seat → Waited mtapi done Entrance None start tried x → x ≡ Err status → given ≡ tried → Legal given.terms.node given.seen
+    → seat.mine ≡ [] → start ≡ seat → Waited mtapi_standard done Entrance None start tried x → x ≡ Err status → given ≡ tried
+    → Legal given.terms.node given.seen
     → entries_of given.number given.seen ≡ given.mine
     → SaysOf given status f → IfRefused f (IsKeptOut seat.terms.node seat.number)
 kept_out seat start tried given x status f e1 e2 e3 e4 e5 e6 e7 e8 = grind (arith, nat_tests)
 
-pub waited_same : (seat start tried given : Seat) (x : Result (Unit {0}) MtapiStatus) → start ≡ seat → Waited mtapi done Entrance None start tried x
-    → given ≡ tried → SameSeat seat given
+pub waited_same : (seat start tried given : Seat) (x : Result (Unit {0}) MtapiStatus) → start ≡ seat → Waited mtapi_standard done Entrance None start tried x
+    → given ≡ tried → SameNodeSeat seat given
 waited_same seat start tried given x e1 e2 e3 = grind (arith, nat_tests)
 
 -- Whoever came in has its client call
 
 pub has_called : {C T : Type 0} (opens : ℕ → List NodeEntry → Type 0) (promise : C → Seat → Seat → T
     → Type 0) (client : C) (told : T) (seat before worked back : Seat)
-    → SameSeat seat before × opens seat.number before.mine → SameSeat before worked → GoesOn before worked → promise client before worked told → back ≡ worked
+    → SameNodeSeat seat before × opens seat.number before.mine → SameNodeSeat before worked → SeatGoesOn before worked → promise client before worked told
+    → back ≡ worked
     → HasCalled opens promise client seat.terms.node seat.number told back.mine
 has_called opens promise client told seat before worked back came same goes promised kept = record {
   before = before;
@@ -150,13 +155,13 @@ has_called opens promise client told seat before worked back came same goes prom
   all = ap (λ (s : Seat). s.mine) kept;
 }
 
-pub same_back : (seat before worked back : Seat) → SameSeat seat before → SameSeat before worked → back ≡ worked → SameSeat seat back
+pub same_back : (seat before worked back : Seat) → SameNodeSeat seat before → SameNodeSeat before worked → back ≡ worked → SameNodeSeat seat back
 same_back seat before worked back e1 e2 e3 = grind (arith, nat_tests)
 
 -- Main's seat comes back where the node wasn't opened
 
 pub first_refused : {C T : Type 0} (promise : C → Seat → Seat → T → Type 0) (client : C) (seat start tried given : Seat) (x : Result (Unit {0}) MtapiStatus)
-    (status : MtapiStatus) (h : Held (Result T Failure)) → seat.mine ≡ [] → start ≡ seat → Asked mtapi done Initialize start tried x → x ≡ Err status
+    (status : MtapiStatus) (h : Held (Result T Failure)) → seat.mine ≡ [] → start ≡ seat → Asked mtapi_standard done Initialize start tried x → x ≡ Err status
     → given ≡ tried → IsUnopened given status h → Opens promise client seat.terms.node seat.number h.told h.seat.mine
 first_refused {T = T} promise client seat start tried given x status h new first called is back u =
     subst (λ (r : Result T Failure). Opens promise client seat.terms.node seat.number r h.seat.mine) (sym u.told)
@@ -164,25 +169,26 @@ first_refused {T = T} promise client seat start tried given x status h new first
 
 pub second_refused : {C T : Type 0} (promise : C → Seat → Seat → T → Type 0) (client : C) (seat start one two given : Seat)
     (x y : Result (Unit {0}) MtapiStatus) (v : Unit {0}) (status : MtapiStatus) (h : Held (Result T Failure)) → seat.mine ≡ [] → start ≡ seat
-    → Asked mtapi done Initialize start one x → x ≡ Ok v → Asked mtapi done Release one two y → y ≡ Err status → given ≡ two → IsUnopened given status h
+    → Asked mtapi_standard done Initialize start one x → x ≡ Ok v → Asked mtapi_standard done Release one two y → y ≡ Err status → given ≡ two
+    → IsUnopened given status h
     → Opens promise client seat.terms.node seat.number h.told h.seat.mine
 second_refused {T = T} promise client seat start one two given x y v status h new first a ai b bi back u =
     subst (λ (r : Result T Failure). Opens promise client seat.terms.node seat.number r h.seat.mine) (sym u.told)
     (u.started, not_released seat start one two given x y v status u.failure new first a ai b bi back u.says)
 
 pub first_same : {T : Type 0} (seat start tried given : Seat) (x : Result (Unit {0}) MtapiStatus) (status : MtapiStatus) (h : Held (Result T Failure))
-    → start ≡ seat → Asked mtapi done Initialize start tried x → given ≡ tried → IsUnopened given status h → SameSeat seat h.seat
+    → start ≡ seat → Asked mtapi_standard done Initialize start tried x → given ≡ tried → IsUnopened given status h → SameNodeSeat seat h.seat
 first_same seat start tried given x status h first called back u =
-    same_then seat tried h.seat (subst (λ (s : Seat). SameSeat s tried) first (asked_same Initialize start tried x called))
-    (subst (λ (s : Seat). SameSeat s h.seat) back u.same)
+    same_then seat tried h.seat (subst (λ (s : Seat). SameNodeSeat s tried) first (asked_same Initialize start tried x called))
+    (subst (λ (s : Seat). SameNodeSeat s h.seat) back u.same)
 
 pub second_same : {T : Type 0} (seat start one two given : Seat) (x y : Result (Unit {0}) MtapiStatus) (status : MtapiStatus) (h : Held (Result T Failure))
-    → start ≡ seat → Asked mtapi done Initialize start one x → Asked mtapi done Release one two y → given ≡ two → IsUnopened given status h
-    → SameSeat seat h.seat
+    → start ≡ seat → Asked mtapi_standard done Initialize start one x → Asked mtapi_standard done Release one two y → given ≡ two → IsUnopened given status h
+    → SameNodeSeat seat h.seat
 second_same seat start one two given x y status h first a b back u =
-    same_then seat two h.seat (same_then seat one two (subst (λ (s : Seat). SameSeat s one) first (asked_same Initialize start one x a))
+    same_then seat two h.seat (same_then seat one two (subst (λ (s : Seat). SameNodeSeat s one) first (asked_same Initialize start one x a))
     (asked_same Release one two y b))
-    (subst (λ (s : Seat). SameSeat s h.seat) back u.same)
+    (subst (λ (s : Seat). SameNodeSeat s h.seat) back u.same)
 
 -- What the history says of main
 
@@ -210,7 +216,7 @@ main_all w H own a b x =
     ∙ append_assoc own (entry w Close a ∷ []) (entry w Final b ∷ [])))
 
 -- main's last call is answered with Ok or a status
-last_says : (t : Terms) (S R : List NodeEntry) (w : ℕ) (last : Reply) → Legal t (S ++ entry w Final last ∷ R) → says mtapi done last ≡ true
+last_says : (t : Terms) (S R : List NodeEntry) (w : ℕ) (last : Reply) → Legal t (S ++ entry w Final last ∷ R) → says_something mtapi_standard done last ≡ true
 unfolding LegalFrom after_from
 last_says t S R w last l =
     let n = Legal-rest (opening t) S (entry w Final last ∷ R) l.from in
@@ -262,7 +268,8 @@ module _ {D B U : Type 0} (of : B → D) (Q : D → Seat → Seat → U → Type
 
 -- What a node that ended gives, from what its callers were told
 
-module _ {C D B E T U A : Type 0} (rounds : ℕ → List NodeEntry → Type 0) (main_of : E → C) (of : B → D) (P : C → Seat → Seat → T → Type 0) (Q : D → Seat → Seat → U → Type 0) (m : E) (bs : List B)
+module _ {C D B E T U A : Type 0} (rounds : ℕ → List NodeEntry → Type 0) (main_of : E → C) (of : B → D) (P : C → Seat → Seat → T → Type 0) (Q : D → Seat → Seat
+    → U → Type 0) (m : E) (bs : List B)
     (settings : NodeSettings) (r : RanNode (Result T Failure) (Result U Failure) A) where
   abbrev MainAs : E → Terms → ℕ → Result T Failure → List NodeEntry → Type 0
   MainAs o t who told es = Opens P (main_of o) t who told es
@@ -271,7 +278,7 @@ module _ {C D B E T U A : Type 0} (rounds : ℕ → List NodeEntry → Type 0) (
     abbrev w : ℕ
     w = t.settings.workers
 
-    pub says_last : says mtapi done r.last ≡ true
+    pub says_last : says_something mtapi_standard done r.last ≡ true
     says_last =
         last_says t (x.ends.before ++ entry w Close x.close ∷ x.ends.behind) x.ends.rest w r.last
         (subst (Legal t) (parted w x.history x.own x.close r.last x.ends) x.legal)
@@ -282,17 +289,20 @@ module _ {C D B E T U A : Type 0} (rounds : ℕ → List NodeEntry → Type 0) (
       main = x.ends;
       further = λ k low high.
           let at : (w + 1) + (k - (w + 1)) ≡ k = omega arith in
-          subst (λ (n : ℕ). StandsIn n x.ends.before (entry w Close x.close ∷ (x.ends.behind ++ entry w Final r.last ∷ x.ends.rest)) (entries_of n x.history)) at
+          subst (λ (n : ℕ). StandsIn n x.ends.before (entry w Close x.close
+          ∷ (x.ends.behind ++ entry w Final r.last ∷ x.ends.rest)) (entries_of n x.history)) at
           (each_stands of Q t x.history x.ends.before _ (w + 1) bs r.others.items x.called (k - (w + 1)) (omega arith));
       worked = x.worked;
     }
 
-  pub run_is : (n : ℕ) (x : RanAs rounds MainAs (Held_as of Q) m bs (terms_among settings n) r) (ds : List D) (d : AllDone T U A) → n ≡ length ds → map of bs ≡ ds
+  pub run_is : (n : ℕ) (x : RanAs rounds MainAs (Held_as of Q) m bs (terms_among settings n) r) (ds : List D) (d : AllDone T U A) → n ≡ length ds → map of
+      bs ≡ ds
       → IsUnpacked r d → IsRunOfAllBy rounds P Q (main_of m) ds settings d.told d.others.items d.journal
   run_is n x ds d count are u =
       let long : length bs ≡ length ds = sym (length-map bs of) ∙ ap (λ (l : List D). length l) are in
       let t = terms_among settings n in
-      let ended : HasEndedBy rounds t x.history x.own reply.Ok = subst (λ (y : Reply). HasEndedBy rounds t x.history x.own y) u.last (ends_so t x (omega arith)) in
+      let ended : HasEndedBy rounds t x.history x.own reply.Ok =
+      subst (λ (y : Reply). HasEndedBy rounds t x.history x.own y) u.last (ends_so t x (omega arith)) in
       let each = each_told of Q t x.history x.ends.before _ (settings.workers + 1) bs d.others.items
       (subst (λ (rs : List (Result U Failure)). EachCalled (Held_as of Q) t x.history x.ends.before
       (entry settings.workers Close x.close ∷ (x.ends.behind ++ entry settings.workers Final r.last ∷ x.ends.rest)) (settings.workers + 1) bs rs)
@@ -345,7 +355,8 @@ module _ {C D B E T U A : Type 0} (rounds : ℕ → List NodeEntry → Type 0) (
   causes_are n x f count (inr (inl (inr l))) =
       let k = out_at of Q (terms_among settings n) x.history x.ends.before _ (settings.workers + 1) bs l.told l.rest f
       (subst (λ (rs : List (Result U Failure)). EachCalled (Held_as of Q) (terms_among settings n) x.history x.ends.before
-      (entry settings.workers Close x.close ∷ (x.ends.behind ++ entry settings.workers Final r.last ∷ x.ends.rest)) (settings.workers + 1) bs rs) l.all x.called) in
+      (entry settings.workers Close x.close ∷ (x.ends.behind ++ entry settings.workers Final r.last ∷ x.ends.rest)) (settings.workers
+      + 1) bs rs) l.all x.called) in
       let low = k.few in (
         k.started,
         refused_weaker (IsKeptOut (terms_among settings n) (settings.workers + 1 + k.place)) (RefusesOne P (main_of m) n settings) f

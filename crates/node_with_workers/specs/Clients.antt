@@ -7,7 +7,7 @@ use Rattle.mtapi_machine.specs.declared.ops.Op.TheVariants.{Initialize, Release,
 use Rattle.mtapi_machine.specs.declared.replies.Reply.TheVariants as reply
 use Rattle.mtapi_machine.specs.declared.terms.Terms.{Terms}
 use Rattle.mtapi_machine.specs.Legal.{NodeEntry, Legal}
-use Rattle.workload_runners.specs.Turns.{Seat, SameSeat}
+use Rattle.workload_runners.specs.Turns.{Seat, SameNodeSeat}
 use Rattle.workload_runners.specs.Runs.{MadeNone}
 use Rattle.workload_runners.specs.declared.crew.holder.Held.{Held}
 use Rattle.node_with_workers.specs.declared.failure.Failure.{Failure}
@@ -16,8 +16,8 @@ use Rattle.node_with_workers.specs.declared.failure.NodeFailure.{NodeFailure}
 use Rattle.node_with_workers.specs.declared.failure.NodeFailure.TheVariants as node
 
 -- the seat's entries begin with those that it had
-abbrev pub GoesOn : Seat → Seat → Type 0
-GoesOn old new = take (length old.mine) new.mine ≡ old.mine
+abbrev pub SeatGoesOn : Seat → Seat → Type 0
+SeatGoesOn old new = take (length old.mine) new.mine ≡ old.mine
 
 -- whatever the seat's entries began with, they begin with still: what a function of a client says that is passed the caller
 abbrev pub StillBegins : Seat → Seat → Type 0
@@ -40,20 +40,20 @@ pub record HasCalled {C T : Type 0} (opens : ℕ → List NodeEntry → Type 0) 
   pub terms : before.terms.node ≡ t
   pub opened : opens who before.mine
   pub after : Seat
-  pub same : SameSeat before after
+  pub same : SameNodeSeat before after
   pub goes_on : StartsWith after.mine before.mine
   pub promised : promise client before after told
   pub all : es ≡ after.mine
 
 -- a caller that has made these calls asked this and was answered the status, in a legal history of a node with these terms
-pub record IsRefused (t : Terms) (who : ℕ) (es : List NodeEntry) (o : Op) (status : MtapiStatus) : Type 0 where
+pub record IsCallRefused (t : Terms) (who : ℕ) (es : List NodeEntry) (o : Op) (status : MtapiStatus) : Type 0 where
   pub history : List NodeEntry
   pub own : entries_of who history ≡ es
   pub legal : Legal t (history ++ entry who o (reply.Mtapi status) ∷ [])
 
 -- main asked this node to open, or to let the further callers in once it was open, and was answered the status
 abbrev pub IsNotOpened : Terms → ℕ → MtapiStatus → Type 0
-IsNotOpened t who status = IsRefused t who [] Initialize status ⊎ IsRefused t who (entry who Initialize reply.Ok ∷ []) Release status
+IsNotOpened t who status = IsCallRefused t who [] Initialize status ⊎ IsCallRefused t who (entry who Initialize reply.Ok ∷ []) Release status
 
 -- a further caller looked until it was answered the status, in a legal history of a node with these terms, and made no other call
 pub record IsKeptOut (t : Terms) (who : ℕ) (status : MtapiStatus) : Type 0 where
@@ -88,7 +88,7 @@ Enters promise client t who (Err f) es = HasThreads f × IfRefused f (IsKeptOut 
 
 -- main's seat came back, and why the node wasn't opened
 pub record IsUnopened {T : Type 0} (seat : Seat) (status : MtapiStatus) (h : Held (Result T Failure)) : Type 0 where
-  pub same : SameSeat seat h.seat
+  pub same : SameNodeSeat seat h.seat
   pub failure : Failure
   pub told : h.told ≡ Err failure
   pub started : HasThreads failure
@@ -119,6 +119,6 @@ is_no_thread (node.NoThread main) = true
 is_no_thread (node.Failed f) = false
 
 -- the answer is that a thread was refused
-abbrev pub is_unstarted : {A : Type 0} → Result A NodeFailure → Bool
-is_unstarted (Ok done) = false
-is_unstarted (Err e) = is_no_thread e
+abbrev pub is_thread_refused : {A : Type 0} → Result A NodeFailure → Bool
+is_thread_refused (Ok done) = false
+is_thread_refused (Err e) = is_no_thread e

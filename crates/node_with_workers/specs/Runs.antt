@@ -15,15 +15,15 @@ use Rattle.node_core.specs.Keeping.{KeptAs}
 use Rattle.workload_runners.specs.Turns.{Seat}
 use Rattle.workload_runners.specs.Rounds.{WorkerAs}
 use Rattle.workload_runners.specs.Ran.{MainEnds, StandsIn}
-use Rattle.node_with_workers.specs.Clients.{MainOpens, CallerEnters, HasCalled, IsRefused, IsNotOpened, IsKeptOut}
+use Rattle.node_with_workers.specs.Clients.{MainOpens, CallerEnters, HasCalled, IsCallRefused, IsNotOpened, IsKeptOut}
 
 -- the terms of a node with these settings, main and so many further callers
 abbrev pub terms_among : NodeSettings → ℕ → Terms
 terms_among settings others = terms_with Two settings (others + 1)
 
 -- and main alone
-abbrev pub terms_for : NodeSettings → Terms
-terms_for settings = terms_with Two settings 1
+abbrev pub terms_of_main : NodeSettings → Terms
+terms_of_main settings = terms_with Two settings 1
 
 -- In this history of a node with these terms main made these calls; then it began the end, later it ended the node, which was answered `last`,
 -- and it made no other call. All calls of the further callers stand before main began the end. The entries of each worker are such rounds, all
@@ -37,29 +37,30 @@ pub record HasEndedBy (rounds : ℕ → List NodeEntry → Type 0) (t : Terms) (
       × StandsIn k (main.before ++ entry t.settings.workers Close close ∷ main.behind) (entry t.settings.workers Final last ∷ main.rest) (entries_of k history)
 
 -- the same, where each worker made rounds and was told to stop
-abbrev pub HasEnded : Terms → List NodeEntry → List NodeEntry → Reply → Type 0
-HasEnded t history mine last = HasEndedBy WorkerAs t history mine last
+abbrev pub RunHasEnded : Terms → List NodeEntry → List NodeEntry → Reply → Type 0
+RunHasEnded t history mine last = HasEndedBy WorkerAs t history mine last
 
 -- main's entries are those of its client, one that begins the end, and one that ends the node
 abbrev pub MainEndsOnce : Type 0
-MainEndsOnce = (t : Terms) (history mine : List NodeEntry) (last : Reply) (x : HasEnded t history mine last)
+MainEndsOnce = (t : Terms) (history mine : List NodeEntry) (last : Reply) (x : RunHasEnded t history mine last)
     → entries_of t.settings.workers history
     ≡ mine ++ entry t.settings.workers Close x.close ∷ entry t.settings.workers Final last ∷ []
 
 -- There is one legal history of such a node. The journal is what is kept of it. In it main opened the node, the client's promise holds of main's
 -- seat before its calls and after them, and of what it was told; and behind these calls main ended the node, and the workers' entries are such
 -- rounds.
-pub record IsRunBy {C T : Type 0} (rounds : ℕ → List NodeEntry → Type 0) (promise : C → Seat → Seat → T → Type 0) (client : C) (settings : NodeSettings) (told : T) (j : Journal) : Type 0 where
+pub record IsRunBy {C T : Type 0} (rounds : ℕ → List NodeEntry → Type 0) (promise : C → Seat → Seat → T
+    → Type 0) (client : C) (settings : NodeSettings) (told : T) (j : Journal) : Type 0 where
   pub history : List NodeEntry
-  pub legal : Legal (terms_for settings) history
-  pub kept : KeptAs (terms_for settings) j history
+  pub legal : Legal (terms_of_main settings) history
+  pub kept : KeptAs (terms_of_main settings) j history
   pub mine : List NodeEntry
-  pub called : HasCalled MainOpens promise client (terms_for settings) settings.workers told mine
-  pub ended : HasEndedBy rounds (terms_for settings) history mine reply.Ok
+  pub called : HasCalled MainOpens promise client (terms_of_main settings) settings.workers told mine
+  pub ended : HasEndedBy rounds (terms_of_main settings) history mine reply.Ok
 
 -- the same, where each worker made rounds and was told to stop
-abbrev pub IsRun : {C T : Type 0} → (C → Seat → Seat → T → Type 0) → C → NodeSettings → T → Journal → Type 0
-IsRun promise client settings told j = IsRunBy WorkerAs promise client settings told j
+abbrev pub IsClientRun : {C T : Type 0} → (C → Seat → Seat → T → Type 0) → C → NodeSettings → T → Journal → Type 0
+IsClientRun promise client settings told j = IsRunBy WorkerAs promise client settings told j
 
 -- In this history of a node with these terms the callers with the numbers from this one on were let in, and the promises of these clients hold,
 -- one for each caller, of its seat before its calls and after them, and of what it was told.
@@ -96,11 +97,12 @@ AreRefused t others status = IsNotOpened t t.settings.workers status ⊎ ((k : �
 abbrev pub IsNotEnded : {C T : Type 0} → (C → Seat → Seat → T → Type 0) → C → Terms → MtapiStatus → Type 0
 IsNotEnded {C} {T} promise client t status =
     (told : T) × (mine : List NodeEntry) × HasCalled MainOpens promise client t t.settings.workers told mine
-    × (close : Reply) × IsRefused t t.settings.workers (mine ++ entry t.settings.workers Close close ∷ []) Final status
+    × (close : Reply) × IsCallRefused t t.settings.workers (mine ++ entry t.settings.workers Close close ∷ []) Final status
 
 -- Main's opening of such a node was refused with this status; or its end was, after the client's calls.
 abbrev pub Refuses : {C T : Type 0} → (C → Seat → Seat → T → Type 0) → C → NodeSettings → MtapiStatus → Type 0
-Refuses promise client settings status = IsNotOpened (terms_for settings) settings.workers status ⊎ IsNotEnded promise client (terms_for settings) status
+Refuses promise client settings status =
+    IsNotOpened (terms_of_main settings) settings.workers status ⊎ IsNotEnded promise client (terms_of_main settings) status
 
 -- The same of a node with so many further callers, or one of them wasn't let in.
 abbrev pub RefusesOne : {C T : Type 0} → (C → Seat → Seat → T → Type 0) → C → ℕ → NodeSettings → MtapiStatus → Type 0

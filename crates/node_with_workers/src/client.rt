@@ -1,8 +1,8 @@
 //! The callers of the node.
 
 ghost use Rattle.std.specs.Prelude.{◌≡◌, ◌≤◌, []};
-ghost use Rattle.workload_runners.specs.Turns.{Seat, SameSeat};
-ghost use Rattle.node_with_workers.specs.Clients.{Enters, GoesOn, HasThreads, IsUnopened, Opens, SaysOf};
+ghost use Rattle.workload_runners.specs.Turns.{Seat, SameNodeSeat};
+ghost use Rattle.node_with_workers.specs.Clients.{Enters, SeatGoesOn, HasThreads, IsUnopened, Opens, SaysOf};
 
 use crate::failure::Failure;
 use mtapi_values::MtapiStatus;
@@ -23,8 +23,8 @@ pub trait Client: Drop {
 
     /// Calls the node, which is open. It may leave tasks that haven't ended, and needn't end the node.
     fn call<R: Wait>(self, rt: &R, caller: &mut Caller) -> Self::Told
-        ensures same { SameSeat caller.old caller.new }
-        ensures goes_on { GoesOn caller.old caller.new }
+        ensures same { SameNodeSeat caller.old caller.new }
+        ensures goes_on { SeatGoesOn caller.old caller.new }
         ensures kept { promise self caller.old caller.new result };
 }
 
@@ -66,7 +66,7 @@ fn call<R: Wait, C: Client>(
     requires cell { seat.cell ≡ cell.now.id }
     requires caller { seat.terms.node.settings.workers ≤ seat.number }
     requires new { seat.mine ≡ [] }
-    ensures same { SameSeat seat result.seat }
+    ensures same { SameNodeSeat seat result.seat }
     ensures told { Opens C.promise client seat.terms.node seat.number result.told result.seat.mine }
 {
     let mut caller = Caller::new(cell, seat);
@@ -96,7 +96,7 @@ fn call_inside<R: Wait, D: Client>(
     requires cell { seat.cell ≡ cell.now.id }
     requires caller { seat.terms.node.settings.workers ≤ seat.number }
     requires new { seat.mine ≡ [] }
-    ensures same { SameSeat seat result.seat }
+    ensures same { SameNodeSeat seat result.seat }
     ensures told { Enters D.promise client seat.terms.node seat.number result.told result.seat.mine }
 {
     let mut caller = Caller::new(cell, seat);

@@ -1,7 +1,7 @@
 //! What the clients of a node were told.
 
 ghost use Rattle.std.specs.Prelude.{◌≡◌, true, Ok, IfOk, IfErr, map};
-ghost use Rattle.workload_runners.specs.Replies.{done, mtapi, says};
+ghost use Rattle.workload_runners.specs.Replies.{done, mtapi_standard, says_something};
 ghost use Rattle.node_with_workers.specs.Ends.{IsLostOf, IsRefusal, IsUnpacked, IsUnpackedTo};
 ghost use Rattle.mtapi_machine.specs.declared.replies.Reply.TheVariants as reply;
 
@@ -32,7 +32,7 @@ fn all_told<U: Drop>(alloc: Global, others: Vec<Result<U, Failure>>) -> Result<V
 
 // Whether main ended the node.
 fn ended(last: Reply) -> Result<(), Failure>
-    requires { says mtapi done last ≡ true }
+    requires { says_something mtapi_standard done last ≡ true }
     ensures done { IfOk result (λ _. last ≡ reply.Ok) }
     ensures refused { IfErr result (IsRefusal last) }
 {
@@ -48,7 +48,7 @@ pub(crate) fn unpacked<T: Drop, U: Drop, A: Drop>(
     alloc: Global,
     ran: RanNode<Result<T, Failure>, Result<U, Failure>, A>,
 ) -> Result<AllDone<T, U, A>, Failure>
-    requires { says mtapi done ran.last ≡ true }
+    requires { says_something mtapi_standard done ran.last ≡ true }
     ensures all { IfOk result (IsUnpacked ran) }
     ensures lost { IfErr result (IsUnpackedTo ran) }
 {

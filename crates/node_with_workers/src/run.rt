@@ -3,8 +3,8 @@
 ghost use Rattle.std.specs.Prelude.{◌≡◌, ◌≤◌, ◌<◌, true, Err, map, IfOk, IfErr, vec_len};
 ghost use Rattle.run_beside.specs.Pairs.{Counts};
 ghost use Rattle.workload_runners.specs.Runs.{Causes, GivesMain, is_refused};
-ghost use Rattle.node_with_workers.specs.Clients.{IfFailed, IfNoThread, IfRefused, IsUnbegun, is_no_thread, is_unstarted};
-ghost use Rattle.node_with_workers.specs.Runs.{IsRun, IsRunBy, IsRunOfAll, IsRunOfAllBy, Refuses, RefusesOne};
+ghost use Rattle.node_with_workers.specs.Clients.{IfFailed, IfNoThread, IfRefused, IsUnbegun, is_no_thread, is_thread_refused};
+ghost use Rattle.node_with_workers.specs.Runs.{IsClientRun, IsRunBy, IsRunOfAll, IsRunOfAllBy, Refuses, RefusesOne};
 ghost use Rattle.node_with_workers.specs.Ends.{IsFailureOf, IsShownAs};
 
 use crate::client::{Client, Entering, Opening};
@@ -103,7 +103,7 @@ where
     ensures run { IfOk result (λ d. IsRunOfAllBy S.Set.rounds C.promise D.promise client others.items settings d.told d.others.items d.journal) }
     ensures causes { IfErr result (λ e. IfFailed e (λ f. IfRefused f (RefusesOne C.promise client (vec_len others) settings))) }
     ensures sets { IfOk result (λ d. vec_len d.sets ≡ settings.workers) }
-    ensures counts { Counts (is_unstarted result) (B.refusals beside.old) (B.refusals beside.new) }
+    ensures counts { Counts (is_thread_refused result) (B.refusals beside.old) (B.refusals beside.new) }
     ensures unbegun { IfErr result (IsUnbegun settings.workers) }
 {
     let count = others.len();
@@ -159,7 +159,7 @@ where
     ensures run { IfOk result (λ d. IsRunOfAll C.promise D.promise client others.items settings d.told d.others.items d.journal) }
     ensures causes { IfErr result (λ e. IfFailed e (λ f. IfRefused f (RefusesOne C.promise client (vec_len others) settings))) }
     ensures sets { IfOk result (λ d. vec_len d.sets ≡ settings.workers) }
-    ensures counts { Counts (is_unstarted result) (B.refusals beside.old) (B.refusals beside.new) }
+    ensures counts { Counts (is_thread_refused result) (B.refusals beside.old) (B.refusals beside.new) }
     ensures unbegun { IfErr result (IsUnbegun settings.workers) }
 {
     let mut workers = Acting { acts };
@@ -283,7 +283,7 @@ pub fn with_workers<R: StartsThreads + Wait + Sync, S: ActionSource, C: Client>(
     acts: &mut S,
     client: C,
 ) -> Result<Done<C::Told, S::Set>, Failure>
-    ensures run { IfOk result (λ d. IsRun C.promise client settings d.told d.journal) }
+    ensures run { IfOk result (λ d. IsClientRun C.promise client settings d.told d.journal) }
     ensures causes { IfErr result (λ e. IfRefused e (Refuses C.promise client settings)) }
     ensures sets { IfOk result (λ d. vec_len d.sets ≡ settings.workers) }
     ensures unbegun { IfErr result (λ e. IfNoThread e settings.workers) }

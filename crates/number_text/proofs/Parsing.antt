@@ -13,7 +13,7 @@ use Rattle.std.specs.Int.{w64}
 use Rattle.std.proofs.lemmas.Nat.{one_shl}
 use Rattle.std.proofs.Math.Nat.{pow-le-pow_right}
 use Rattle.std.proofs.Common.{rules}
-use Rattle.number_text.specs.Numbers.{is_decimal, number, whole, number_within}
+use Rattle.number_text.specs.Numbers.{is_decimal, number, whole_number, number_within}
 use Rattle.number_text.specs.Lists.{◌>>=◌, between, list_of, wholes}
 use Rattle.number_text.specs.Cores.{bits_from}
 
@@ -100,12 +100,12 @@ step : (prefix : List ℤ) (z : ℤ) (rest : Option (List ℤ)) → with_front p
 step prefix z None = refl
 step prefix z (Some zs) = ap Some (simp append_assoc)
 
-pub args_more : (prefix : List ℤ) (part : List ℕ) (rest : List (List ℕ)) (z : ℤ) (total : Option (List ℤ)) → Some z ≡ whole part
+pub args_more : (prefix : List ℤ) (part : List ℕ) (rest : List (List ℕ)) (z : ℤ) (total : Option (List ℤ)) → Some z ≡ whole_number part
     → with_front prefix (wholes (part ∷ rest)) ≡ total → with_front (prefix ++ z ∷ []) (wholes rest) ≡ total
 unfolding wholes
 args_more prefix part rest z total e h = sym (step prefix z (wholes rest)) ∙ (rw (← e) at h)
 
-pub args_end : (prefix : List ℤ) (part : List ℕ) (rest : List (List ℕ)) (total : Option (List ℤ)) → None ≡ whole part
+pub args_end : (prefix : List ℤ) (part : List ℕ) (rest : List (List ℕ)) (total : Option (List ℤ)) → None ≡ whole_number part
     → with_front prefix (wholes (part ∷ rest)) ≡ total → total ≡ None
 unfolding wholes
 args_end prefix part rest total e h = sym (rw (← e) at h)

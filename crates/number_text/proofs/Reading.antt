@@ -9,9 +9,9 @@ use Rattle.std.proofs.lemmas.Bool.{and_parts, leb-true, ltb-true, cases_Bool}
 use Rattle.std.proofs.lemmas.List.Splits.{length-slice_split}
 use Rattle.std.proofs.Math.Nat.{pow-le-pow_right}
 use Rattle.number_text.proofs.Parsing.{some_cond}
-use Rattle.number_text.specs.Numbers.{number, number_within, whole}
+use Rattle.number_text.specs.Numbers.{number, number_within, whole_number}
 use Rattle.number_text.specs.Lists.{◌>>=◌, between, wholes, list_of}
-use Rattle.number_text.specs.Cores.{bits_from, cores_of}
+use Rattle.number_text.specs.Cores.{bits_from, cores_in_text}
 
 -- ---- steps that gave something
 
@@ -46,8 +46,8 @@ neg_fits n e1 = grind (arith, nat_tests)
 pos_fits : (n : ℕ) → n < 2 ^ 63 → FitsSigned w64 (pos n)
 pos_fits n lt = record { sfits = lt }
 
-pub whole_fits : (text : List ℕ) (z : ℤ) → whole text ≡ Some z → FitsSigned w64 z
-unfolding whole
+pub whole_fits : (text : List ℕ) (z : ℤ) → whole_number text ≡ Some z → FitsSigned w64 z
+unfolding whole_number
 whole_fits text z e =
     elim (cases_Bool (eqb (slice_index text 0) 45)) [
       | inl t ↦
@@ -101,5 +101,5 @@ bits_some (text ∷ texts) low bits h e =
     let p : 2 ^ 0 ≤ 2 ^ a.0 = pow-le-pow_right (lit< tt) from in
     omega (arith, same, p)
 
-pub cores_fit : (text : List ℕ) (mask : ℕ) → cores_of text ≡ Some mask → (0 < mask) × (mask < 2 ^ 64)
+pub cores_fit : (text : List ℕ) (mask : ℕ) → cores_in_text text ≡ Some mask → (0 < mask) × (mask < 2 ^ 64)
 cores_fit text mask e1 = grind (arith, nat_tests, length-slice_split, bits_some, bits_fit)

@@ -12,9 +12,9 @@ use Rattle.std.proofs.lemmas.List.{append-nil}
 use Rattle.std.proofs.lemmas.List.Splits.{join_with_byte-slice_split}
 use Rattle.std.proofs.lemmas.Nat.Bits.{bit_at-zero, bit_at-pow_same, bit_at_cat_low, bit_at_cat_high}
 use Rattle.mtapi_values.specs.Masks.{in_mask}
-use Rattle.number_text.specs.Numbers.{is_decimal, number, number_within, whole}
-use Rattle.number_text.specs.Lists.{between, wholes, list_of, listed}
-use Rattle.number_text.specs.Cores.{bits_from, cores_of, cores_below, cores_text}
+use Rattle.number_text.specs.Numbers.{is_decimal, number, number_within, whole_number}
+use Rattle.number_text.specs.Lists.{between, wholes, list_of, with_commas}
+use Rattle.number_text.specs.Cores.{bits_from, cores_in_text, cores_below, cores_text}
 use Rattle.number_text.proofs.Parsing.{own, some_cond}
 use Rattle.number_text.proofs.CoreSteps.{cores_none, cores_next}
 use Rattle.number_text.proofs.Reading.{bind_some, just_is, list_cond, within_is, pow_double}
@@ -48,8 +48,8 @@ neg_text v ds e1 e2 = grind (arith, nat_tests)
 pub second : (text : List ℕ) → slice_index text 1 ≡ get_or (drop 1 text) 0 0
 second text = grind (arith, nat_tests)
 
-pub whole_spelled : (text : List ℕ) (z : ℤ) → whole text ≡ Some z → signed_decimal z ≡ text
-unfolding whole
+pub whole_spelled : (text : List ℕ) (z : ℤ) → whole_number text ≡ Some z → signed_decimal z ≡ text
+unfolding whole_number
 whole_spelled text z e =
     elim (cases_Bool (eqb (slice_index text 0) 45)) [
       | inl t ↦
@@ -77,11 +77,11 @@ unfolding wholes
 wholes_text [] zs e = let same : [] ≡ zs = just_is [] zs e in rw (← same) refl
 wholes_text (text ∷ texts) zs e = grind (arith, nat_tests, wholes_text texts, bind_some, just_is, whole_spelled)
 
-pub list_spelled : (text : List ℕ) (zs : List ℤ) → list_of text ≡ Some zs → listed (map signed_decimal zs) ≡ text
+pub list_spelled : (text : List ℕ) (zs : List ℤ) → list_of text ≡ Some zs → with_commas (map signed_decimal zs) ≡ text
 unfolding list_of
 list_spelled text zs e =
     let g = list_cond _ (wholes (between 44 text)) zs e in
-    ap (λ (l : List (List ℕ)). listed l) (wholes_text (between 44 text) zs g.1) ∙ join_with_byte-slice_split 44 text
+    ap (λ (l : List (List ℕ)). with_commas l) (wholes_text (between 44 text) zs g.1) ∙ join_with_byte-slice_split 44 text
 
 -- ---- cores
 
@@ -189,7 +189,7 @@ cores_listed (suc k) low bits texts sum e =
       | later next ↦ cores_later k low bits texts (cores_listed k (low + 1) bits texts (omega arith) next)
     ]
 
-pub cores_spelled : (text : List ℕ) (mask : ℕ) → cores_of text ≡ Some mask → cores_text mask ≡ text
+pub cores_spelled : (text : List ℕ) (mask : ℕ) → cores_in_text text ≡ Some mask → cores_text mask ≡ text
 cores_spelled text mask e =
     let l = cores_listed 64 0 mask (between 44 text) (omega arith) e in
-    ap (λ (l : List ℕ). listed (map decimal l)) (cores_all mask) ∙ (ap (λ (l : List (List ℕ)). listed l) l.1 ∙ join_with_byte-slice_split 44 text)
+    ap (λ (l : List ℕ). with_commas (map decimal l)) (cores_all mask) ∙ (ap (λ (l : List (List ℕ)). with_commas l) l.1 ∙ join_with_byte-slice_split 44 text)

@@ -12,9 +12,9 @@ use Rattle.std.proofs.lemmas.Fmt.{digits_value-decimal, digits_decimal, decimal_
 use Rattle.std.proofs.lemmas.List.{length-map}
 use Rattle.std.proofs.lemmas.List.Elements.{All-from_recursion}
 use Rattle.mtapi_values.specs.Masks.{in_mask}
-use Rattle.number_text.specs.Numbers.{is_decimal, number, number_within, whole}
-use Rattle.number_text.specs.Lists.{between, wholes, list_of, listed, list_text}
-use Rattle.number_text.specs.Cores.{bits_from, cores_of, cores_text}
+use Rattle.number_text.specs.Numbers.{is_decimal, number, number_within, whole_number}
+use Rattle.number_text.specs.Lists.{between, wholes, list_of, with_commas, list_text}
+use Rattle.number_text.specs.Cores.{bits_from, cores_in_text, cores_text}
 use Rattle.number_text.proofs.Parsing.{own}
 use Rattle.number_text.proofs.Pieces.{between_joined}
 unfoldable use Rattle.number_text.proofs.Pieces.{Lacks}
@@ -49,16 +49,16 @@ first_digit : (n : ℕ) → n < 2 ^ 64 → 48 ≤ get_or (decimal n) 0 0
 first_digit n e1 = grind (arith, nat_tests, cases_eq, decimal_digit, first_decimal)
 
 whole_of_pos : (text : List ℕ) (n : ℕ) → is_decimal text ≡ true → eqb (slice_index text 0) 45 ≡ false → digits_value 10 text ≡ n → n < 2 ^ 63
-    → whole text ≡ Some (pos n)
-unfolding whole
+    → whole_number text ≡ Some (pos n)
+unfolding whole_number
 whole_of_pos text n d f v lt = rw (f, d, v, lt-ltb n (2 ^ 63) lt) refl
 
 whole_of_neg : (ds : List ℕ) (n : ℕ) → is_decimal ds ≡ true → eqb (slice_index ds 0) 48 ≡ false → digits_value 10 ds ≡ n → n ≤ 2 ^ 63
-    → whole (45 ∷ ds) ≡ Some (neg_ℤ (pos n))
-unfolding whole
+    → whole_number (45 ∷ ds) ≡ Some (neg_ℤ (pos n))
+unfolding whole_number
 whole_of_neg ds n d f v le = rw (d, f, v, le-leb n (2 ^ 63) le) refl
 
-pub whole_written : (z : ℤ) → FitsSigned w64 z → whole (signed_decimal z) ≡ Some z
+pub whole_written : (z : ℤ) → FitsSigned w64 z → whole_number (signed_decimal z) ≡ Some z
 whole_written (pos n) f =
     let lt : n < 2 ^ 63 = omega (arith, f.sfits) in
     let wide : n < 2 ^ 64 = omega arith in
@@ -154,20 +154,20 @@ cores_bits (suc k) low m r mask sum e rl ml =
     elim (cases_eq (m % 2) 1) [
       | inl one ↦
           let is : m ≡ 2 * n + 1 = omega arith in
-          let whole : m * 2 ^ low ≡ 2 * n * 2 ^ low + 2 ^ low = ap (λ (x : ℕ). x * 2 ^ low) is ∙ (add-mul (2 * n) 1 (2 ^ low) ∙ omega arith) in
-          let split : mask ≡ n * 2 ^ (low + 1) + (2 ^ low + r) = omega (arith, e, whole, twice n low) in
+          let whole_number : m * 2 ^ low ≡ 2 * n * 2 ^ low + 2 ^ low = ap (λ (x : ℕ). x * 2 ^ low) is ∙ (add-mul (2 * n) 1 (2 ^ low) ∙ omega arith) in
+          let split : mask ≡ n * 2 ^ (low + 1) + (2 ^ low + r) = omega (arith, e, whole_number, twice n low) in
           let rest = cores_bits k (low + 1) n (2 ^ low + r) mask (omega arith) split (omega (arith, rl, pow_double low)) less in
           let bit : in_mask low mask ≡ true = eq-eqb _ _ (lowest m low r mask e rl ∙ one) in
           subst (λ (ts : List (List ℕ)). bits_from low ts ≡ Some (m * 2 ^ low)) (sym (cores_yes mask low k bit))
           (bits_first low (n * 2 ^ (low + 1)) (m * 2 ^ low) (decimal low) (map decimal (cores_from mask (low + 1) k))
-          (within_written low 63 low (omega arith) (omega arith) (omega arith)) rest (omega (arith, whole, twice n low)))
+          (within_written low 63 low (omega arith) (omega arith) (omega arith)) rest (omega (arith, whole_number, twice n low)))
       | inr other ↦
           let is : m ≡ 2 * n = omega arith in
-          let whole : m * 2 ^ low ≡ 2 * n * 2 ^ low = ap (λ (x : ℕ). x * 2 ^ low) is in
-          let split : mask ≡ n * 2 ^ (low + 1) + r = omega (arith, e, whole, twice n low) in
+          let whole_number : m * 2 ^ low ≡ 2 * n * 2 ^ low = ap (λ (x : ℕ). x * 2 ^ low) is in
+          let split : mask ≡ n * 2 ^ (low + 1) + r = omega (arith, e, whole_number, twice n low) in
           let rest = cores_bits k (low + 1) n r mask (omega arith) split (omega (arith, rl, pow_double low)) less in
           let bit : in_mask low mask ≡ false = ne_eqb _ _ (λ (t : bit_at mask low ≡ 1). other (sym (lowest m low r mask e rl) ∙ t)) in
-          let same : n * 2 ^ (low + 1) ≡ m * 2 ^ low = twice n low ∙ sym whole in
+          let same : n * 2 ^ (low + 1) ≡ m * 2 ^ low = twice n low ∙ sym whole_number in
           subst (λ (ts : List (List ℕ)). bits_from low ts ≡ Some (m * 2 ^ low)) (sym (cores_no mask low k bit))
           (bits_weaker (map decimal (cores_from mask (low + 1) k)) low (m * 2 ^ low) (rest ∙ ap Some same))
     ]
@@ -181,13 +181,13 @@ unfolding bits_from
 none_bits mask e = just_is 0 mask e
 
 listed_bits : (texts : List (List ℕ)) (mask : ℕ) → bits_from 0 texts ≡ Some mask → 0 < mask → AllByRecursion (Lacks 44) texts
-    → bits_from 0 (between 44 (listed texts)) ≡ Some mask
+    → bits_from 0 (between 44 (with_commas texts)) ≡ Some mask
 listed_bits [] mask e some h = absurd (let z = none_bits mask e in omega (arith, z))
 listed_bits (text ∷ texts) mask e some h = subst (λ (ts : List (List ℕ)). bits_from 0 ts ≡ Some mask) (sym (between_joined 44 text texts h)) e
 
-pub cores_written : (mask : ℕ) → 0 < mask → mask < 2 ^ 64 → cores_of (cores_text mask) ≡ Some mask
+pub cores_written : (mask : ℕ) → 0 < mask → mask < 2 ^ 64 → cores_in_text (cores_text mask) ≡ Some mask
 cores_written mask some lt =
     let unit : mask * 2 ^ 0 ≡ mask = omega arith in
     let all = cores_bits 64 0 mask 0 mask (omega arith) (omega (arith, unit)) (omega arith) lt ∙ ap Some unit in
     let read = listed_bits (map decimal (cores_from mask 0 64)) mask all some (cores_lack 64 0 mask (omega arith)) in
-    subst (λ (cs : List ℕ). bits_from 0 (between 44 (listed (map decimal cs))) ≡ Some mask) (sym (cores_all mask)) read
+    subst (λ (cs : List ℕ). bits_from 0 (between 44 (with_commas (map decimal cs))) ≡ Some mask) (sym (cores_all mask)) read

@@ -3,7 +3,7 @@ use Rattle.std.specs.Prelude.{ℕ, zero, suc, ◌+◌, ◌^◌, List, [], ◌∷
 use Rattle.std.specs.Fmt.{decimal}
 use Rattle.mtapi_values.specs.Masks.{in_mask}
 use Rattle.number_text.specs.Numbers.{number_within}
-use Rattle.number_text.specs.Lists.{◌>>=◌, between, listed}
+use Rattle.number_text.specs.Lists.{◌>>=◌, between, with_commas}
 
 -- ascending numbers below 64 and from low on, as bits
 unfoldable pub bits_from : ℕ → List (List ℕ) → Option ℕ
@@ -14,8 +14,8 @@ bits_from low (text ∷ texts) = do
   Some (2 ^ core + bits)
 
 -- the mask of the cores that a text lists
-abbrev pub cores_of : List ℕ → Option ℕ
-cores_of text = bits_from 0 (between 44 text)
+abbrev pub cores_in_text : List ℕ → Option ℕ
+cores_in_text text = bits_from 0 (between 44 text)
 
 -- the cores below n that are in the mask, ascending
 unfoldable pub cores_below : ℕ → ℕ → List ℕ
@@ -24,4 +24,4 @@ cores_below mask (suc n) = cores_below mask n ++ (if in_mask n mask then n ∷ [
 
 -- the cores of a mask with commas
 abbrev pub cores_text : ℕ → List ℕ
-cores_text mask = listed (map decimal (cores_below mask 64))
+cores_text mask = with_commas (map decimal (cores_below mask 64))

@@ -3,7 +3,7 @@ use Rattle.std.specs.Prelude.{ℕ, ℤ, ◌==◌, nat_le, List, [], ◌∷◌, �
 use Rattle.std.specs.List.{slice_split, join_with_byte}
 use Rattle.std.specs.Fmt.{signed_decimal}
 use denote.Ref.{Bor}
-use Rattle.number_text.specs.Numbers.{whole}
+use Rattle.number_text.specs.Numbers.{whole_number}
 
 -- the texts between such bytes
 abbrev pub between : ℕ → List ℕ → List (List ℕ)
@@ -24,7 +24,7 @@ None >>= f = None
 unfoldable pub wholes : List (List ℕ) → Option (List ℤ)
 wholes [] = Some []
 wholes (text ∷ texts) = do
-  z ← whole text
+  z ← whole_number text
   zs ← wholes texts
   Some (z ∷ zs)
 
@@ -33,12 +33,12 @@ unfoldable pub list_of : List ℕ → Option (List ℤ)
 list_of text = if nat_le (length (between 44 text)) 16 then wholes (between 44 text) else None
 
 -- texts with commas between them
-abbrev pub listed : List (List ℕ) → List ℕ
-listed texts = join_with_byte 44 texts
+abbrev pub with_commas : List (List ℕ) → List ℕ
+with_commas texts = join_with_byte 44 texts
 
 -- numbers with commas
 abbrev pub list_text : List ℤ → List ℕ
-list_text zs = listed (map signed_decimal zs)
+list_text zs = with_commas (map signed_decimal zs)
 
 -- each text behind this byte
 abbrev pub led : ℕ → List (List ℕ) → List ℕ

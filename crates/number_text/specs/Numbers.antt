@@ -17,8 +17,8 @@ unfoldable pub number_within : ℕ → ℕ → List ℕ → Option ℕ
 number_within low high text = option_and_then (λ n. if nat_le low n && nat_le n high then Some n else None) (number text)
 
 -- the number of i64 that a text is: a minus stands only before a number that is not 0
-unfoldable pub whole : List ℕ → Option ℤ
-whole text =
+unfoldable pub whole_number : List ℕ → Option ℤ
+whole_number text =
     if slice_index text 0 == 45
     then (if is_decimal (drop 1 text) && not (slice_index text 1 == 48) && nat_le (digits_value 10 (drop 1 text)) (2 ^ 63)
     then Some (neg_ℤ (pos (digits_value 10 (drop 1 text)))) else None)

@@ -2,8 +2,8 @@
 ghost use Rattle.std.specs.Prelude.{◌≡◌, ◌<◌, ◌++◌, OnOk, map};
 ghost use Rattle.std.specs.Fmt.{decimal};
 ghost use Rattle.mtapi_values.specs.Masks.{in_mask};
-ghost use Rattle.number_text.specs.Lists.{led, listed};
-ghost use Rattle.number_text.specs.Cores.{cores_of, cores_below, cores_text};
+ghost use Rattle.number_text.specs.Lists.{led, with_commas};
+ghost use Rattle.number_text.specs.Cores.{cores_in_text, cores_below, cores_text};
 
 use crate::cut::cut_at;
 use crate::numbers::{number_within, push_number};
@@ -17,7 +17,7 @@ use std::alloc::{AllocError, Global};
 /// - `None`: an item between two commas is no number from 0 to 63 in the one spelling,
 ///   or isn't greater than the one before.
 pub fn cores_of(text: &[u8]) -> Option<u64>
-    ensures { result ≡ cores_of text.now }
+    ensures { result ≡ cores_in_text text.now }
 {
     let mut mask = 0u64;
     let mut low = 0u64;
@@ -69,7 +69,7 @@ fn push_more(alloc: Global, out: &mut Vec<u8>, numbers: &[u64]) -> Result<(), Al
 
 #[tactic(auto, using(crate::proofs::Pieces::joined))]
 fn push_numbers(alloc: Global, out: &mut Vec<u8>, numbers: &[u64]) -> Result<(), AllocError>
-    ensures { OnOk result (out.new.items ≡ out.old.items ++ listed (map decimal numbers.now)) }
+    ensures { OnOk result (out.new.items ≡ out.old.items ++ with_commas (map decimal numbers.now)) }
 {
     match numbers {
         [] => Ok(()),

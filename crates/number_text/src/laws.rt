@@ -3,9 +3,9 @@ ghost use Rattle.std.specs.Prelude.{◌≡◌, ◌<◌, ◌≤◌, ◌^◌, List
 ghost use Rattle.std.specs.List.{AllByRecursion};
 ghost use Rattle.std.specs.Int.{w64};
 ghost use Rattle.std.specs.Fmt.{decimal, signed_decimal};
-ghost use Rattle.number_text.specs.Numbers.{number, whole};
+ghost use Rattle.number_text.specs.Numbers.{number, whole_number};
 ghost use Rattle.number_text.specs.Lists.{list_of, list_text};
-ghost use Rattle.number_text.specs.Cores.{cores_of, cores_text};
+ghost use Rattle.number_text.specs.Cores.{cores_in_text, cores_text};
 ghost use Rattle.number_text.specs.Worked.{WorkedNumbers};
 
 /// A text is the number that it spells, and each number of u64 has one text.
@@ -19,9 +19,9 @@ pub fn law_number()
 /// The same of i64.
 #[tactic(auto, using(crate::proofs::Writing::whole_written, crate::proofs::Spelling::whole_spelled, crate::proofs::Reading::whole_fits))]
 pub fn law_whole()
-    ensures written { (z : ℤ) → FitsSigned w64 z → whole (signed_decimal z) ≡ Some z }
-    ensures read { (text : List ℕ) (z : ℤ) → whole text ≡ Some z → signed_decimal z ≡ text }
-    ensures range { (text : List ℕ) (z : ℤ) → whole text ≡ Some z → FitsSigned w64 z }
+    ensures written { (z : ℤ) → FitsSigned w64 z → whole_number (signed_decimal z) ≡ Some z }
+    ensures read { (text : List ℕ) (z : ℤ) → whole_number text ≡ Some z → signed_decimal z ≡ text }
+    ensures range { (text : List ℕ) (z : ℤ) → whole_number text ≡ Some z → FitsSigned w64 z }
 {}
 
 /// The same of lists of 1 to 16 numbers.
@@ -37,9 +37,9 @@ pub fn law_list()
 /// The same of sets of cores that aren't empty.
 #[tactic(auto, using(crate::proofs::Writing::cores_written, crate::proofs::Spelling::cores_spelled, crate::proofs::Reading::cores_fit))]
 pub fn law_cores()
-    ensures written { (mask : ℕ) → 0 < mask → mask < 2 ^ 64 → cores_of (cores_text mask) ≡ Some mask }
-    ensures read { (text : List ℕ) (mask : ℕ) → cores_of text ≡ Some mask → cores_text mask ≡ text }
-    ensures range { (text : List ℕ) (mask : ℕ) → cores_of text ≡ Some mask → (0 < mask) × (mask < 2 ^ 64) }
+    ensures written { (mask : ℕ) → 0 < mask → mask < 2 ^ 64 → cores_in_text (cores_text mask) ≡ Some mask }
+    ensures read { (text : List ℕ) (mask : ℕ) → cores_in_text text ≡ Some mask → cores_text mask ≡ text }
+    ensures range { (text : List ℕ) (mask : ℕ) → cores_in_text text ≡ Some mask → (0 < mask) × (mask < 2 ^ 64) }
 {}
 
 /// Worked texts of numbers, lists and sets of cores.

@@ -5,7 +5,7 @@ ghost use Rattle.std.specs.Int.{w64};
 ghost use Rattle.std.specs.Char.{is_ascii_digit};
 ghost use Rattle.std.specs.Str.Parse.{digits_value};
 ghost use Rattle.std.specs.Fmt.{decimal, signed_decimal};
-ghost use Rattle.number_text.specs.Numbers.{is_decimal, number, number_within, whole};
+ghost use Rattle.number_text.specs.Numbers.{is_decimal, number, number_within, whole_number};
 
 use itoa::Buffer;
 use std::alloc::{AllocError, Global};
@@ -97,9 +97,9 @@ fn negative(digits: &[u8]) -> Option<i64>
 /// # Errors
 ///
 /// - `None`: the text is no number from -2^63 to 2^63 - 1, or isn't in the one spelling.
-#[tactic(auto, unfolding(crate::specs::Numbers::whole))]
+#[tactic(auto, unfolding(crate::specs::Numbers::whole_number))]
 pub fn whole(text: &[u8]) -> Option<i64>
-    ensures value { result ≡ whole text.now }
+    ensures value { result ≡ whole_number text.now }
     ensures fits { IfSome result (λ z. FitsSigned w64 z) }
 {
     match text {

@@ -9,10 +9,10 @@ pub use Rattle.atomic_table.specs.Seated.{TableId}
 pub use Rattle.atomic_table.specs.Table.{Allows, Final, Joins, Seen, Splits, State, keeps, step}
 pub use Rattle.history.specs.Histories.{Extends, StartsWith, entry}
 pub use Rattle.mtapi_values.specs.declared.handles.TaskHandle.{TaskHandle}
-pub use Rattle.peek_board.specs.Marks.{AreSeen, CellSeat, EndsSo, Gathered, HasEndedSo, IsMarksOf, IsOf, MarksView, TellsEnd, seat_of}
-pub use Rattle.peek_board.specs.Numbers.{OnBoard, Pair, class_number, class_of, class_of_end, ended_so, generation_of, number_of, peek_of, slot_of}
-pub use Rattle.peek_board.specs.Rule.{Among, Has, M, Rule, heard_of, loaded, loading, nothing, one_less, one_new, part_of, posted, seats_in, telling, together}
-pub use Rattle.peek_board.specs.Seats.{JoinedView, ShowsEnd, fresh_seat, joined_of, with_seat}
+pub use Rattle.peek_board.specs.Marks.{AreEndsSeen, CellSeat, EndsSo, Gathered, HasEndedSo, IsMarksOf, IsOf, MarksView, TellsEnd, seat_of_marks}
+pub use Rattle.peek_board.specs.Numbers.{OnBoard, Pair, class_number, class_of, class_of_end, ended_so, generation_in_two, number_of_pair, peek_of, slot_in_two}
+pub use Rattle.peek_board.specs.Rule.{Among, Has, BoardKnown, Rule, heard_of, loaded, loading, left_by_join, one_less, one_new, part_of, posted, seats_in, telling, together}
+pub use Rattle.peek_board.specs.Seats.{JoinedView, ShowsEnd, fresh_board_seat, joined_of, with_seat}
 pub use Rattle.peek_board.specs.declared.views.SeatLists.{SeatLists}
 pub use Rattle.peek_board.specs.declared.words.BoardTerms.{BoardTerms}
-pub use Rattle.turn_cell.specs.Lists.{all_of, one_if}
+pub use Rattle.turn_cell.specs.Lists.{AllItems, one_if}

@@ -7,11 +7,11 @@ use Rattle.mtapi_values.specs.declared.handles.TaskHandle.{TaskHandle}
 use Rattle.mtapi_values.specs.declared.ends.TaskEnd.TheVariants as end
 use Rattle.mtapi_machine.specs.declared.ops.Op.TheVariants as op
 use Rattle.mtapi_machine.specs.declared.replies.Reply.TheVariants as reply
-use Rattle.mtapi_machine.specs.Worked.{finishes_first, first_handle, task}
+use Rattle.mtapi_machine.specs.Worked.{finishes_first, worked_first_handle, task_handle}
 use Rattle.peek_board.specs.declared.classes.EndClass.TheVariants.{Completed, Cancelled, Error}
 use Rattle.peek_board.specs.declared.classes.Peek.TheVariants.{Ended, NotYet, Gone, Foreign}
 use Rattle.peek_board.specs.declared.views.SeatLists.{SeatLists}
-use Rattle.peek_board.specs.Numbers.{class_of_end, class_number, class_of, generation_of, slot_of, OnBoard, number_of, peek_of}
+use Rattle.peek_board.specs.Numbers.{class_of_end, class_number, class_of, generation_in_two, slot_in_two, OnBoard, number_of_pair, peek_of}
 use Rattle.peek_board.specs.Rule.{part_of, one_less, one_new, together, heard_of, telling, loading, seats_in}
 use Rattle.peek_board.specs.Seats.{BoardSeatView, JoinedView, ShowsEnd, joined_of, with_seat}
 use Rattle.peek_board.specs.Marks.{CellSeat, HasEndedSo, TellsEnd}
@@ -37,9 +37,9 @@ pub record WorkedClasses : Type 0 where
   pub of_ends : map class_of_end (end.Completed (pos 4 ∷ []) ∷ end.Cancelled ∷ end.Failed ErrActionFailed ∷ []) ≡ (Completed ∷ Cancelled ∷ Error ∷ [])
   pub numbers : map class_number (Completed ∷ Cancelled ∷ Error ∷ []) ≡ (1 ∷ 2 ∷ 3 ∷ [])
   pub classes : map class_of (0 ∷ 1 ∷ 2 ∷ 3 ∷ 4 ∷ []) ≡ (None ∷ Some Completed ∷ Some Cancelled ∷ Some Error ∷ None ∷ [])
-  pub generation : generation_of in_slot_7 ≡ 5
-  pub slot : slot_of in_slot_7 ≡ 7
-  pub pairs : map number_of ((here, Completed) ∷ (here, Cancelled) ∷ (here, Error) ∷ (other, Cancelled) ∷ []) ≡ (21 ∷ 22 ∷ 23 ∷ 26 ∷ [])
+  pub generation : generation_in_two in_slot_7 ≡ 5
+  pub slot : slot_in_two in_slot_7 ≡ 7
+  pub pairs : map number_of_pair ((here, Completed) ∷ (here, Cancelled) ∷ (here, Error) ∷ (other, Cancelled) ∷ []) ≡ (21 ∷ 22 ∷ 23 ∷ 26 ∷ [])
   -- words of nothing, of an earlier task, of no class, of each class, and of a later task
   pub peeks : map (peek_of in_slot_7) (0 ∷ 18 ∷ 20 ∷ 21 ∷ 22 ∷ 23 ∷ 24 ∷ 26 ∷ [])
       ≡ (NotYet ∷ NotYet ∷ NotYet ∷ Ended Completed ∷ Ended Cancelled ∷ Ended Error ∷ Gone ∷ Gone ∷ [])
@@ -82,18 +82,18 @@ seat_on z = record { board = z; told = (here, Completed) ∷ []; heard = (other,
 abbrev pub joined_on : TableId → JoinedView
 joined_on z = record { board = z; count = 4; told = (other, Cancelled) ∷ []; heard = (here, Completed) ∷ [] }
 
-pub record WorkedSeats : Type 0 where
+pub record WorkedBoardSeats : Type 0 where
   pub one : (z : TableId) → joined_of (seat_on z) ≡ record { board = z; count = 1; told = (here, Completed) ∷ []; heard = (other, Error) ∷ [] }
   pub more : (z : TableId) → with_seat (joined_on z) (seat_on z)
       ≡ record { board = z; count = 5; told = (other, Cancelled) ∷ (here, Completed) ∷ []; heard = (here, Completed) ∷ (other, Error) ∷ [] }
   -- what the replies to calls tell of the ends of tasks
   pub look : (s : CellSeat) → TellsEnd s (op.TaskLook here false) (reply.Ended end.Cancelled) → HasEndedSo s (here, Cancelled)
   pub any : (s : CellSeat) → TellsEnd s (op.AnyLook (record { 0 = 9 }) false) (reply.Given here (end.Completed [])) → HasEndedSo s (here, Completed)
-  pub finish : (s : CellSeat) → TellsEnd s finishes_first.op reply.Ok → HasEndedSo s (task first_handle, Completed)
+  pub finish : (s : CellSeat) → TellsEnd s finishes_first.op reply.Ok → HasEndedSo s (task_handle worked_first_handle, Completed)
   pub watch : (s : CellSeat) → TellsEnd s (op.WatchEnd here) (reply.Ended end.Cancelled) → HasEndedSo s (here, Cancelled)
   pub tally : (s : CellSeat) → TellsEnd s (op.TallyEnd here) (reply.Ended (end.Failed ErrActionFailed)) → HasEndedSo s (here, Error)
 
-pub record WorkedNumbers : Type 0 where
+pub record WorkedSlotNumbers : Type 0 where
   pub classes : WorkedClasses
   pub tokens : WorkedTokens
-  pub seats : WorkedSeats
+  pub seats : WorkedBoardSeats

@@ -12,7 +12,7 @@ use Rattle.linked_places.specs.Lists.{HandleLists, list_at, has_handle, NowhereA
 use Rattle.linked_places.specs.Beside.{slot_beside, pool_beside}
 use Rattle.linked_places.proofs.BesideLemmas.{slice_get-beside, get-beside, list-beside, with_value-beside, without-beside, beside-fresh, IsFull-beside, Inserts-beside, AreBeside-new, AreBeside-insert, AreBeside-value, AreBeside-list, AreBeside-remove, NowhereAt-beside}
 use Rattle.mtapi_objects.specs.Queues.{Queue, put_refusals}
-use Rattle.queue_core.specs.Held.{HeldQueue, QueueTable, held, HasId, Creates, Finds, put_reply, NoTaskAt, IsUnendedTask, tasks_of, table_of, AreQueues, AreRetiredEmpty}
+use Rattle.queue_core.specs.Held.{HeldQueue, QueueTable, held, HasQueueId, CreatesQueue, Finds, put_reply, NoTaskAt, IsUnendedTask, tasks_of, table_of, AreQueues, AreRetiredEmpty}
 
 -- an unended task is one of a live queue
 pub record Unended (pool : Slots Queue) (tasks : HandleLists) (q task : ℕ) : Type 0 where
@@ -108,11 +108,11 @@ module _ (pool : Slots Queue) (tasks : HandleLists) where
 
   -- no live queue of the slots has the id, so none has it with its tasks; and a live one with it is one with its tasks
   pub none_held : (old : QueueTable) (id : ℕ) → table_of pool tasks ≡ old → NoneLive (slot_value pool) (λ (v : Queue). v.id ≡ id)
-      → NoneLive (slot_value old.pool) (HasId id)
+      → NoneLive (slot_value old.pool) (HasQueueId id)
   none_held old id is none q h found has = let v = unheld old q h is found in none q v.0 v.1 (ap (λ (x : Queue). x.id) v.2 ∙ eqb-true h.queue.id id has)
 
   pub some_held : (old : QueueTable) (id : ℕ) → table_of pool tasks ≡ old → SomeLive (slot_value pool) (λ (v : Queue). v.id ≡ id)
-      → SomeLive (slot_value old.pool) (HasId id)
+      → SomeLive (slot_value old.pool) (HasQueueId id)
   some_held old id is (q, v, live, same) = (q, held v (list_at tasks.lists (slot_of q)), get-live pool tasks q old v is live, eq-eqb v.id id same)
 
   pub found_held : (old : QueueTable) (id q : ℕ) → OneEach (λ (x : Queue). x.id) pool → table_of pool tasks ≡ old → HasLive pool q (λ (v : Queue). v.id ≡ id)
@@ -157,7 +157,7 @@ module _ (pool : Slots Queue) (tasks : HandleLists) where
   -- what an insert into the slots is for a create
   pub created : (old : QueueTable) (new : Slots Queue) (q : ℕ) (v : Queue) → AreQueues pool tasks → table_of pool tasks ≡ old
       → NoneLive (slot_value pool) (λ (x : Queue). x.id ≡ v.id) → (IsFull pool → ⊥) → Inserts pool new q v
-      → Creates old v (Ok (record { 0 = q })) (table_of new tasks)
+      → CreatesQueue old v (Ok (record { 0 = q })) (table_of new tasks)
   created old new q v are is none room inserts =
       (none_held old v.id is none, room_held old is room, Inserts-held old new q v is inserts are, ap (λ (t : QueueTable). t.tasks) is)
 
@@ -165,11 +165,11 @@ module _ (pool : Slots Queue) (tasks : HandleLists) where
   unchanged old new is same = ap (λ p. table_of p tasks) same ∙ is
 
   pub not_created_taken : (old : QueueTable) (new : Slots Queue) (v : Queue) → table_of pool tasks ≡ old
-      → SomeLive (slot_value pool) (λ (x : Queue). x.id ≡ v.id) → new ≡ pool → Creates old v (Err ErrQueueExists) (table_of new tasks)
+      → SomeLive (slot_value pool) (λ (x : Queue). x.id ≡ v.id) → new ≡ pool → CreatesQueue old v (Err ErrQueueExists) (table_of new tasks)
   not_created_taken old new v is some same = (some_held old v.id is some, unchanged old new is same)
 
   pub not_created_full : (old : QueueTable) (new : Slots Queue) (v : Queue) → table_of pool tasks ≡ old
-      → NoneLive (slot_value pool) (λ (x : Queue). x.id ≡ v.id) × IsFull pool → new ≡ pool → Creates old v (Err ErrQueueLimit) (table_of new tasks)
+      → NoneLive (slot_value pool) (λ (x : Queue). x.id ≡ v.id) × IsFull pool → new ≡ pool → CreatesQueue old v (Err ErrQueueLimit) (table_of new tasks)
   not_created_full old new v is (none, full) same = (none_held old v.id is none, full_held old is full, unchanged old new is same)
 
   -- a slot that no task has stands in no list

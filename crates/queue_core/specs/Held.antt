@@ -23,8 +23,8 @@ pub record QueueTable : Type 0 where
   pub tasks : ℕ
 
 -- a new queue is enabled, and has the id, the job and what its attributes say
-abbrev pub new_queue : ℕ → ℕ → QueueAttributes → Queue
-new_queue id job attr = record {
+abbrev pub new_queue_of : ℕ → ℕ → QueueAttributes → Queue
+new_queue_of id job attr = record {
   id = id;
   job = job;
   priority = attr.priority;
@@ -42,22 +42,22 @@ held queue tasks = record { queue = queue; tasks = tasks }
 abbrev pub has_id : ℕ → Queue → Bool
 has_id id q = q.id == id
 
-abbrev pub HasId : ℕ → HeldQueue → Type 0
-HasId id h = has_id id h.queue ≡ true
+abbrev pub HasQueueId : ℕ → HeldQueue → Type 0
+HasQueueId id h = has_id id h.queue ≡ true
 
 -- a create: an id that is live first, then no room; else a new queue with no tasks under a handle
-abbrev pub Creates : QueueTable → Queue → Result QueueHandle MtapiStatus → QueueTable → Type 0
-Creates old queue (Ok q) new = NoneLive (slot_value old.pool) (HasId queue.id) × (IsFull old.pool → ⊥) × Inserts old.pool new.pool q.0 (held queue [])
+abbrev pub CreatesQueue : QueueTable → Queue → Result QueueHandle MtapiStatus → QueueTable → Type 0
+CreatesQueue old queue (Ok q) new = NoneLive (slot_value old.pool) (HasQueueId queue.id) × (IsFull old.pool → ⊥) × Inserts old.pool new.pool q.0 (held queue [])
     × (new.tasks ≡ old.tasks)
-Creates old queue (Err ErrQueueExists) new = SomeLive (slot_value old.pool) (HasId queue.id) × (new ≡ old)
-Creates old queue (Err ErrQueueLimit) new = NoneLive (slot_value old.pool) (HasId queue.id) × IsFull old.pool × (new ≡ old)
-Creates old queue (Err _) new = ⊥
+CreatesQueue old queue (Err ErrQueueExists) new = SomeLive (slot_value old.pool) (HasQueueId queue.id) × (new ≡ old)
+CreatesQueue old queue (Err ErrQueueLimit) new = NoneLive (slot_value old.pool) (HasQueueId queue.id) × IsFull old.pool × (new ≡ old)
+CreatesQueue old queue (Err _) new = ⊥
 
 -- the one live queue of this id, or none has it
 abbrev pub Finds : Slots HeldQueue → ℕ → Result QueueHandle MtapiStatus → Type 0
-Finds pool id (Ok q) = ((h : HeldQueue) × (slot_value pool q.0 ≡ Some h) × HasId id h)
-    × ((k : ℕ) (h : HeldQueue) → slot_value pool k ≡ Some h → HasId id h → k ≡ q.0)
-Finds pool id (Err ErrQueueInvalid) = NoneLive (slot_value pool) (HasId id)
+Finds pool id (Ok q) = ((h : HeldQueue) × (slot_value pool q.0 ≡ Some h) × HasQueueId id h)
+    × ((k : ℕ) (h : HeldQueue) → slot_value pool k ≡ Some h → HasQueueId id h → k ≡ q.0)
+Finds pool id (Err ErrQueueInvalid) = NoneLive (slot_value pool) (HasQueueId id)
 Finds pool id (Err _) = ⊥
 
 -- refused exactly where the queue isn't live

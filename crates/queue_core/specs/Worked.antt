@@ -19,16 +19,16 @@ abbrev pub disabled : Bool → HeldQueue
 disabled retain = with_opened false (new_of_two retain)
 
 -- the disabled queue that retains, with two tasks
-abbrev pub full : HeldQueue
-full = with_task later (with_task earlier (disabled true))
+abbrev pub full_queue : HeldQueue
+full_queue = with_task later (with_task earlier (disabled true))
 
 -- A disabled queue takes tasks exactly where it retains, a full one takes none, and the head is the task that was put first.
 pub record WorkedPuts : Type 0 where
   pub enabled_takes : put_reply (Some (new_of_two false)) ≡ Ok tt
   pub disabled_refuses : put_reply (Some (disabled false)) ≡ Err ErrQueueDisabled
   pub retaining_takes : put_reply (Some (with_task earlier (disabled true))) ≡ Ok tt
-  pub third_is_refused : put_reply (Some full) ≡ Err ErrQueueLimit
+  pub third_is_refused : put_reply (Some full_queue) ≡ Err ErrQueueLimit
   pub none_is_head : first_task (Some (disabled true)) ≡ None
-  pub put_first : first_task (Some full) ≡ Some earlier
-  pub next_after_an_end : first_task (Some (without_task earlier full)) ≡ Some later
-  pub room_after_an_end : put_reply (Some (without_task later full)) ≡ Ok tt
+  pub put_first : first_task (Some full_queue) ≡ Some earlier
+  pub next_after_an_end : first_task (Some (without_task earlier full_queue)) ≡ Some later
+  pub room_after_an_end : put_reply (Some (without_task later full_queue)) ≡ Ok tt

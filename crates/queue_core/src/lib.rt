@@ -10,7 +10,7 @@ ghost use Rattle.mtapi_values.specs.declared.statuses.MtapiStatus.TheVariants.{E
 ghost use Rattle.handle_pool.specs.Walks.{SomeLive, NoneLive};
 ghost use Rattle.std.specs.Option.{option_map};
 ghost use Rattle.handle_pool.specs.Slots.{slot_value, slot_of, free_slot, without, changed, live_count};
-ghost use Rattle.queue_core.specs.Held.{new_queue, Creates, Finds, live_reply, with_opened, with_task, without_task, put_reply, NoTaskAt, IsUnendedTask, first_task, tasks_of, facts_of, AreRetiredEmpty, HasId};
+ghost use Rattle.queue_core.specs.Held.{new_queue_of, CreatesQueue, Finds, live_reply, with_opened, with_task, without_task, put_reply, NoTaskAt, IsUnendedTask, first_task, tasks_of, facts_of, AreRetiredEmpty, HasQueueId};
 
 pub use facts::QueueFacts;
 use handle_pool::slot_of;
@@ -75,7 +75,7 @@ impl Queues {
     /// - `ErrQueueExists`: a live queue has the id.
     /// - `ErrQueueLimit`: every place is in use or has retired.
     pub fn create(&mut self, id: u32, job: u32, attr: QueueAttr) -> Result<QueueHandle, MtapiStatus>
-        ensures { Creates self.old (new_queue id job attr) result self.new }
+        ensures { CreatesQueue self.old (new_queue_of id job attr) result self.new }
     {
         match self.pool.insert(StoredQueue::new(id, job, &attr)) {
             Ok(handle) => Ok(QueueHandle(handle)),
@@ -87,8 +87,8 @@ impl Queues {
     /// Tells why a create of this id is refused, whether there is room or not: `ErrQueueExists`
     /// where a live queue has the id, else None.
     pub fn create_refusal(&self, id: u32) -> Option<MtapiStatus>
-        ensures exists { IfSome result (λ c. (c ≡ ErrQueueExists) × SomeLive (slot_value self.now.pool) (HasId id)) }
-        ensures new_id { IsNone result → NoneLive (slot_value self.now.pool) (HasId id) }
+        ensures exists { IfSome result (λ c. (c ≡ ErrQueueExists) × SomeLive (slot_value self.now.pool) (HasQueueId id)) }
+        ensures new_id { IsNone result → NoneLive (slot_value self.now.pool) (HasQueueId id) }
     {
         match self.get(id) {
             Ok(_) => Some(MtapiStatus::ErrQueueExists),

@@ -1,7 +1,7 @@
 ghost use Rattle.std.specs.Prelude.{◌≡◌};
 ghost use Rattle.mtapi_values.specs.Conditions.{first};
 ghost use Rattle.mtapi_objects.specs.Queues.{opened, put_refusals};
-ghost use Rattle.queue_core.specs.Held.{new_queue, facts_with};
+ghost use Rattle.queue_core.specs.Held.{new_queue_of, facts_with};
 
 use crate::facts::QueueFacts;
 use keyed_pool::HasId;
@@ -46,7 +46,7 @@ impl HasId for StoredQueue {
 
 impl StoredQueue {
     pub fn new(id: u32, job: u32, attr: &QueueAttr) -> StoredQueue
-        ensures { result ≡ new_queue id job attr.now }
+        ensures { result ≡ new_queue_of id job attr.now }
     {
         StoredQueue {
             id,

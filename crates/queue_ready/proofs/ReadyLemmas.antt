@@ -8,7 +8,7 @@ use Rattle.handle_pool.specs.Issued.{lookup, any_live}
 use Rattle.mtapi_objects.specs.Tasks.{Task}
 use Rattle.mtapi_objects.specs.Queues.{is_unended_in, is_head}
 use Rattle.handle_pool.specs.Issued.{handles_of}
-use Rattle.queue_ready.specs.Ready.{InOrder, is_first, QueueReady}
+use Rattle.queue_ready.specs.Ready.{StartsInOrder, is_first, QueueReady}
 
 not-less : (n : ℕ) → nat_lt n n ≡ false
 not-less n = grind (arith, nat_tests)
@@ -17,9 +17,9 @@ not-after : (m n : ℕ) → n < m → nat_lt m n ≡ false
 not-after m n l = grind (arith, nat_tests)
 
 -- no task behind was started earlier
-none-before : (q : ℕ) (start : ℕ) (es : List (ℕ × Task)) → ((h : ℕ) (t : Task) → lookup es h ≡ Some t → start < t.start) → InOrder es
+none-before : (q : ℕ) (start : ℕ) (es : List (ℕ × Task)) → ((h : ℕ) (t : Task) → lookup es h ≡ Some t → start < t.start) → StartsInOrder es
     → any_live (λ u. is_unended_in q u && nat_lt u.start start) es ≡ false
-unfolding InOrder
+unfolding StartsInOrder
 none-before q start [] after order = refl
 none-before q start (e ∷ es) after order =
     let here : start < e.1.start = after e.0 e.1 (ap (λ (b : Bool). cond b (Some e.1) (lookup es e.0)) (self e.0)) in
@@ -34,9 +34,9 @@ none-before q start (e ∷ es) after order =
     later h t found here b is = let x = order.0 h t found in omega (arith, here, x)
 
 -- the two tests of the head agree
-head-first : (q h : ℕ) (t : Task) (es : List (ℕ × Task)) → InOrder es → lookup es h ≡ Some t → is_unended_in q t ≡ true
+head-first : (q h : ℕ) (t : Task) (es : List (ℕ × Task)) → StartsInOrder es → lookup es h ≡ Some t → is_unended_in q t ≡ true
     → is_head q t es ≡ is_first h (handles_of (is_unended_in q) es)
-unfolding InOrder
+unfolding StartsInOrder
 head-first q h t [] order found in_queue = absurd (cc)
 head-first q h t (e ∷ es) order found in_queue =
     by_handle (e.0 == h) refl found (none-before q e.1.start es order.0 order.1) (λ f. head-first q h t es order.1 f in_queue)

@@ -1,7 +1,7 @@
 //! A job runs beside the calling thread.
 ghost use Rattle.std.specs.Prelude.{◌≡◌, ℕ, ◌+◌, ◌≤◌, Bool, true, not, IfOk, IfErr, IsErr};
 ghost use Rattle.std.specs.Bool.{OnTrue, OnFalse};
-ghost use Rattle.run_beside.specs.Pairs.{Rose, IsOutcome, MayRun, Ran};
+ghost use Rattle.run_beside.specs.Pairs.{HasRisen, IsOutcome, MayRun, Ran};
 
 use std::snapshot::Snapshot;
 use std::sync::Wait;
@@ -40,13 +40,13 @@ pub trait Beside {
         ensures follows { (n : ℕ) → refuses self.new n ≡ refuses self.old (n + 1) }
         ensures grows { refusals self.old ≤ refusals self.new }
         ensures stays { OnTrue result (refusals self.new ≡ refusals self.old) }
-        ensures refused { OnFalse result (Rose (refusals self.old) (refusals self.new)) };
+        ensures refused { OnFalse result (HasRisen (refusals self.old) (refusals self.new)) };
 
     /// Counts a pair for which the system had no thread.
     fn count_refusal(&mut self, refused: ThreadRefused)
         ensures same { (n : ℕ) → refuses self.new n ≡ refuses self.old n }
         ensures grows { refusals self.old ≤ refusals self.new }
-        ensures rose { Rose (refusals self.old) (refusals self.new) };
+        ensures rose { HasRisen (refusals self.old) (refusals self.new) };
 }
 
 /// What the closure of a job's thread promises: the result of the job, or the job itself, unrun.
@@ -86,7 +86,7 @@ pub fn pair<
     ensures planned { B.refuses beside.old 0 ≡ true → IsErr result }
     ensures ran { IfOk result (λ r. Ran F.FnOnce B.refusals b carry (B.refusals beside.old) r.1 (B.refusals beside.new)) }
     ensures unrun { IfErr result (λ e. e.0 ≡ a) }
-    ensures refused { IfErr result (λ e. Rose (B.refusals beside.old) (B.refusals beside.new) × (e.1 ≡ carry) × (e.2 ≡ b)) }
+    ensures refused { IfErr result (λ e. HasRisen (B.refusals beside.old) (B.refusals beside.new) × (e.1 ≡ carry) × (e.2 ≡ b)) }
 {
     if !beside.admits() {
         return Err((a, carry, b));
@@ -103,7 +103,7 @@ pub fn pair<
             ensures done { IfOk result.1 (λ r. A.promise a r.0) }
             ensures ran { IfOk result.1 (λ r. Ran F.FnOnce B.refusals b carry (B.refusals beside.entry.now) r.1 (B.refusals result.0.now)) }
             ensures unrun { IfErr result.1 (λ e. e.0 ≡ a) }
-            ensures refused { IfErr result.1 (λ e. Rose (B.refusals beside.entry.now) (B.refusals result.0.now) × (e.1 ≡ carry) × (e.2 ≡ b)) }
+            ensures refused { IfErr result.1 (λ e. HasRisen (B.refusals beside.entry.now) (B.refusals result.0.now) × (e.1 ≡ carry) × (e.2 ≡ b)) }
         {
             let promise = Kept(Snapshot::of(&a));
             let job = move || -> Result<A::Done, A>

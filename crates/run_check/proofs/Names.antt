@@ -16,10 +16,10 @@ pub use Rattle.run_check.specs.Takes.{DecidesAs, Takes}
 pub use Rattle.workload_file.specs.declared.workload.Part.{Part}
 pub use Rattle.workload_file.specs.declared.workload.Statement.{Statement}
 pub use Rattle.workload_runs.specs.Calls.{Call, IsOnce, Looking, Once, call_of}
-pub use Rattle.workload_runs.specs.Lines.{Line, Made, before_it, head_of, in_lines, line, looks_before, tail_of_main}
+pub use Rattle.workload_runs.specs.Lines.{Line, MadeLines, before_it, head_lines, in_lines, line_with, looks_before, tail_of_main}
 pub use Rattle.workload_runs.specs.Parts.{CallerRan, MainRan, PartsRan, has_begin}
 pub use Rattle.workload_runs.specs.RunOf.{ClosesAtEnd, WorkerRan, is_work}
-pub use Rattle.workload_runs.specs.Wants.{IsTimed, Stated, op_of, shape, waits}
+pub use Rattle.workload_runs.specs.Wants.{IsTimed, Stated, op_of_look, shape, waits}
 pub use Rattle.workload_runs.specs.declared.calls.Wanted.{Wanted}
 pub use Rattle.workload_runs.specs.declared.calls.Wanted.TheVariants.{AllMembers, Entrance, FirstMember, Mutex, Rwl, Sem, Task}
 unfoldable pub use Rattle.run_check.specs.Takes.{CarriedTo}

@@ -1,6 +1,6 @@
 -- The lines of a seat, one more entry on.
 use Rattle.std.proofs.lemmas.Bool.Decides.{nat_tests}
-use Rattle.run_check.proofs.Names.{◌≡◌, ℕ, ◌+◌, ◌<◌, cond, List, [], ◌∷◌, ◌++◌, refl, ◌∙◌, length, get_or, take, arith, ◌==◌, length-take-le, take_at_read, NodeEntry, Line, line, lines_of}
+use Rattle.run_check.proofs.Names.{◌≡◌, ℕ, ◌+◌, ◌<◌, cond, List, [], ◌∷◌, ◌++◌, refl, ◌∙◌, length, get_or, take, arith, ◌==◌, length-take-le, take_at_read, NodeEntry, Line, line_with, lines_of}
 
 pub own_none : (who : ℕ) → [] ≡ lines_of who [] []
 unfolding lines_of
@@ -8,7 +8,7 @@ own_none who = refl
 
 -- the line of an entry, where it is one of this seat
 abbrev pub own : ℕ → NodeEntry → ℕ → List Line
-own who e n = cond (e.who == who) (line e.op e.reply n ∷ []) []
+own who e n = cond (e.who == who) (line_with e.op e.reply n ∷ []) []
 
 pub own_more : (who : ℕ) (L : List NodeEntry) (ns : List ℕ) (e : NodeEntry) (n : ℕ) → length L ≡ length ns
     → lines_of who (L ++ e ∷ []) (ns ++ n ∷ []) ≡ lines_of who L ns ++ own who e n

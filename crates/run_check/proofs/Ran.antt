@@ -1,14 +1,14 @@
 -- The lines of a part, from what its statements leave behind.
 use Rattle.std.proofs.lemmas.Bool.Decides.{nat_tests}
-use Rattle.run_check.proofs.Names.{◌≡◌, ℕ, ◌+◌, ◌<◌, ◌≤◌, Bool, true, false, List, [], ◌∷◌, ◌++◌, refl, sym, ◌∙◌, ap, subst, length, get_or, drop, Option, None, arith, append_assoc, length-drop, ◌&&◌, ◌==◌, ◌↔◌, IsTrue, IfSome, IfNone, append-nil, nil_from_length, drop_more, Decides-eqb, Statement, Op, Reply, handle_of, call_of, Carried, MainRan, CallerRan, has_begin, Line, line, Made, head_of, tail_of_main, in_lines, is_work, all_work, CarriedTo}
+use Rattle.run_check.proofs.Names.{◌≡◌, ℕ, ◌+◌, ◌<◌, ◌≤◌, Bool, true, false, List, [], ◌∷◌, ◌++◌, refl, sym, ◌∙◌, ap, subst, length, get_or, drop, Option, None, arith, append_assoc, length-drop, ◌&&◌, ◌==◌, ◌↔◌, IsTrue, IfSome, IfNone, append-nil, nil_from_length, drop_more, Decides-eqb, Statement, Op, Reply, handle_of, call_of, Carried, MainRan, CallerRan, has_begin, Line, line_with, MadeLines, head_lines, tail_of_main, in_lines, is_work, all_work, CarriedTo}
 use Rattle.std.proofs.Common.{Some}
 use Rattle.mtapi_machine.specs.declared.replies.Reply.TheVariants as replies
 use Rattle.mtapi_machine.specs.declared.ops.Op.TheVariants as ops
-use Rattle.run_check.specs.Starts.{Enters}
+use Rattle.run_check.specs.Starts.{EntersLine}
 use Rattle.run_check.proofs.Same.{takes_same}
 
 -- what the statements made, with anything behind it
-pub to_rest : (bound : List ℕ) (ss : List Statement) (body rest : List Line) (rs : List Reply) → Carried Made bound ss body rs
+pub to_rest : (bound : List ℕ) (ss : List Statement) (body rest : List Line) (rs : List Reply) → Carried MadeLines bound ss body rs
     → CarriedTo bound ss (body ++ rest) rest
 unfolding Carried CarriedTo
 to_rest bound [] body rest [] c = ap (λ l. l ++ rest) c
@@ -30,7 +30,7 @@ pub record Body (bound : List ℕ) (ss : List Statement) (lines rest : List Line
   pub body : List Line
   pub replies : List Reply
   pub is : lines ≡ body ++ rest
-  pub carried : Carried Made bound ss body replies
+  pub carried : Carried MadeLines bound ss body replies
 
 pub from_rest : (bound : List ℕ) (ss : List Statement) (lines rest : List Line) → CarriedTo bound ss lines rest → Body bound ss lines rest
 unfolding Carried CarriedTo
@@ -63,23 +63,23 @@ module _ (ss : List Statement) (lines : List Line) where
   SomeCaller = (rs : List Reply) × CallerRan in_lines ss lines rs
 
   -- main's lines behind their head
-  pub main_left : (left : List Line) → lines ≡ head_of (has_begin ss) ++ left → SomeMain → CarriedTo [] ss left tail_of_main
-  main_left left e1 e2 = grind (arith, nat_tests, head_of, has_begin, tail_of_main, to_rest)
+  pub main_left : (left : List Line) → lines ≡ head_lines (has_begin ss) ++ left → SomeMain → CarriedTo [] ss left tail_of_main
+  main_left left e1 e2 = grind (arith, nat_tests, head_lines, has_begin, tail_of_main, to_rest)
 
-  pub main_is : (left : List Line) → lines ≡ head_of (has_begin ss) ++ left → CarriedTo [] ss left tail_of_main → SomeMain
-  main_is left e1 e2 = grind (arith, nat_tests, from_rest, tail_of_main, head_of, has_begin)
+  pub main_is : (left : List Line) → lines ≡ head_lines (has_begin ss) ++ left → CarriedTo [] ss left tail_of_main → SomeMain
+  main_is left e1 e2 = grind (arith, nat_tests, from_rest, tail_of_main, head_lines, has_begin)
 
   pub caller_left : (first : Line) (rest : List Line) → lines ≡ first ∷ rest → SomeCaller → CarriedTo [] ss rest []
   caller_left first rest is m =
-      let e : first ∷ rest ≡ line ops.Enter replies.Ok m.1.entered.0 ∷ m.1.body = sym is ∙ (m.1.is ∙ ap (λ f. f ++ m.1.body) m.1.entered.1) in
+      let e : first ∷ rest ≡ line_with ops.Enter replies.Ok m.1.entered.0 ∷ m.1.body = sym is ∙ (m.1.is ∙ ap (λ f. f ++ m.1.body) m.1.entered.1) in
       let behind : rest ≡ m.1.body = cc in
       subst (λ (z : List Line). CarriedTo [] ss z []) (append-nil m.1.body ∙ sym behind) (to_rest [] ss m.1.body [] m.0 m.1.carried)
 
-  pub caller_is : (first : Line) (rest : List Line) → lines ≡ first ∷ rest → Enters first → CarriedTo [] ss rest [] → SomeCaller
+  pub caller_is : (first : Line) (rest : List Line) → lines ≡ first ∷ rest → EntersLine first → CarriedTo [] ss rest [] → SomeCaller
   caller_is first rest is enters c =
       let b = from_rest [] ss rest [] c in
-      let here : first ≡ line ops.Enter replies.Ok first.beside =
-      ap (λ o. line o first.reply first.beside) enters.0 ∙ ap (λ r. line ops.Enter r first.beside) enters.1 in (
+      let here : first ≡ line_with ops.Enter replies.Ok first.beside =
+      ap (λ o. line_with o first.reply first.beside) enters.0 ∙ ap (λ r. line_with ops.Enter r first.beside) enters.1 in (
         b.replies,
         record {
           front = first ∷ [];
@@ -90,14 +90,16 @@ module _ (ss : List Statement) (lines : List Line) where
         },
       )
 
-  pub main_some : (left rest : List Line) (b : Bool) → lines ≡ head_of (has_begin ss) ++ left → CarriedTo [] ss left rest → IsTrue b ↔ (rest ≡ tail_of_main)
+  pub main_some : (left rest : List Line) (b : Bool) → lines ≡ head_lines (has_begin ss) ++ left → CarriedTo [] ss left rest → IsTrue b ↔ (rest ≡ tail_of_main)
       → IsTrue b ↔ SomeMain
   main_some left rest b e1 e2 e3 = grind (arith, nat_tests, main_is, rest_same, tail_of_main, main_left)
 
-  pub main_none : (left : List Line) → lines ≡ head_of (has_begin ss) ++ left → ((rest : List Line) → CarriedTo [] ss left rest → ⊥) → IsTrue false ↔ SomeMain
+  pub main_none : (left : List Line) → lines ≡ head_lines (has_begin ss) ++ left → ((rest : List Line) → CarriedTo [] ss left rest → ⊥)
+      → IsTrue false ↔ SomeMain
   main_none left is none = (λ t. absurd (let x = t in cc), λ m. absurd (none tail_of_main (main_left left is m)))
 
-  pub caller_some : (first : Line) (left rest : List Line) (b : Bool) → lines ≡ first ∷ left → Enters first → CarriedTo [] ss left rest → IsTrue b ↔ (rest ≡ [])
+  pub caller_some : (first : Line) (left rest : List Line) (b : Bool) → lines ≡ first ∷ left → EntersLine first → CarriedTo [] ss left rest
+      → IsTrue b ↔ (rest ≡ [])
       → IsTrue b ↔ SomeCaller
   caller_some first left rest b is enters c same = (
     λ t. caller_is first left is enters (subst (λ (z : List Line). CarriedTo [] ss left z) (same.0 t) c),

@@ -5,8 +5,8 @@ use Rattle.mtapi_machine.specs.declared.replies.Reply.TheVariants as replies
 use Rattle.workload_runs.specs.Lines.{Line}
 
 -- a further caller enters
-abbrev pub Enters : Line → Type 0
-Enters l = (l.op ≡ ops.Enter) × (l.reply ≡ replies.Ok)
+abbrev pub EntersLine : Line → Type 0
+EntersLine l = (l.op ≡ ops.Enter) × (l.reply ≡ replies.Ok)
 
 -- a worker is told to stop
 abbrev pub Stops : Line → Type 0

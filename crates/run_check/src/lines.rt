@@ -1,6 +1,6 @@
 //! The lines of one seat.
 ghost use Rattle.std.specs.Prelude.{◌≡◌, ◌++◌, ◌∷◌, [], ◌==◌, OnOk, IfOk, length, if◌then◌else◌};
-ghost use Rattle.workload_runs.specs.Lines.{line, lines_of};
+ghost use Rattle.workload_runs.specs.Lines.{line_with, lines_of};
 
 use mtapi_machine::{Entry, Op, Reply};
 use std::alloc::{AllocError, Global};
@@ -15,11 +15,11 @@ pub struct Line {
 }
 
 impl Model for Line {
-    ghost use Rattle.workload_runs.specs.Lines.{Line, line};
+    ghost use Rattle.workload_runs.specs.Lines.{Line, line_with};
 
     ghost Value = { Line };
 
-    ghost view = { λ l. line l.op l.reply l.beside };
+    ghost view = { λ l. line_with l.op l.reply l.beside };
 }
 
 impl Line {
@@ -52,7 +52,7 @@ fn push_if_own(
     entry: &Entry,
     beside: u64,
 ) -> Result<(), AllocError>
-    ensures { OnOk result (lines.new.items ≡ lines.old.items ++ (if entry.now.who == who then line entry.now.op entry.now.reply beside ∷ [] else [])) }
+    ensures { OnOk result (lines.new.items ≡ lines.old.items ++ (if entry.now.who == who then line_with entry.now.op entry.now.reply beside ∷ [] else [])) }
 {
     if entry.who == who {
         lines.push(Line {

@@ -5,7 +5,7 @@ ghost use Rattle.mtapi_machine.specs.declared.replies.Reply.{Reply};
 ghost use Rattle.mtapi_machine.specs.Row.{handle_of};
 ghost use Rattle.mtapi_machine.specs.Kept.{is_pending};
 ghost use Rattle.workload_runs.specs.Calls.{Once, Looking, call_of};
-ghost use Rattle.workload_runs.specs.Wants.{op_of, waits, shape, IsTimed, Stated};
+ghost use Rattle.workload_runs.specs.Wants.{op_of_look, waits, shape, IsTimed, Stated};
 ghost use Rattle.workload_runs.specs.Lines.{Line, KeepsTimeout, is_timeout};
 ghost use Rattle.run_check.specs.Same.{IsStated};
 ghost use Rattle.run_check.specs.Takes.{Takes, DecidesAs, Decides, CarriedTo};
@@ -70,8 +70,8 @@ fn keeps_timeout(timeout: Timeout, last: bool, looks: u128) -> bool
 // Which look of the wanted thing an op is: the last one or not.
 fn last_of(op: &Op, wanted: Wanted) -> Option<bool>
     requires timed { IsTimed wanted }
-    ensures some { IfSome result (λ last. op.now ≡ op_of wanted last) }
-    ensures none { IfNone result ((last : Bool) → op.now ≡ op_of wanted last → ⊥) }
+    ensures some { IfSome result (λ last. op.now ≡ op_of_look wanted last) }
+    ensures none { IfNone result ((last : Bool) → op.now ≡ op_of_look wanted last → ⊥) }
 {
     if same_op(op, &wanted.op(true)) {
         return Some(true);
@@ -110,9 +110,9 @@ fn decides(wanted: Wanted, timeout: Timeout, before: u128, line: &Line) -> bool
 fn looking(wanted: Wanted, timeout: Timeout, lines: &[Line]) -> Option<(&Reply, &[Line])>
     requires timed { IsTimed wanted }
     ensures some { IfSome result (λ m.
-        Takes (Looking (waits wanted) (op_of wanted) timeout) lines.now m.1.now m.0.now) }
+        Takes (Looking (waits wanted) (op_of_look wanted) timeout) lines.now m.1.now m.0.now) }
     ensures none { IfNone result ((rest : List Line) (r : Reply)
-        → Takes (Looking (waits wanted) (op_of wanted) timeout) lines.now rest r → ⊥) }
+        → Takes (Looking (waits wanted) (op_of_look wanted) timeout) lines.now rest r → ⊥) }
 {
     let [line, rest @ ..] = lines else {
         return None;

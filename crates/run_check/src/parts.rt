@@ -4,9 +4,9 @@ ghost use Rattle.mtapi_machine.specs.declared.ops.Op.TheVariants as ops;
 ghost use Rattle.mtapi_machine.specs.declared.replies.Reply.{Reply};
 ghost use Rattle.mtapi_machine.specs.declared.replies.Reply.TheVariants as replies;
 ghost use Rattle.workload_runs.specs.Parts.{MainRan, CallerRan};
-ghost use Rattle.workload_runs.specs.Lines.{Line, line, head_of, tail_of_main, in_lines};
+ghost use Rattle.workload_runs.specs.Lines.{Line, line_with, head_lines, tail_of_main, in_lines};
 ghost use Rattle.workload_runs.specs.RunOf.{is_work, all_work, WorkerRan};
-ghost use Rattle.run_check.specs.Starts.{Enters, Stops};
+ghost use Rattle.run_check.specs.Starts.{EntersLine, Stops};
 
 use crate::lines::Line;
 use crate::made::carried;
@@ -22,31 +22,31 @@ fn is_ok(reply: &Reply) -> bool
 }
 
 fn opens(own: &Line) -> bool
-    ensures { IsTrue result ↔ (own.now ≡ line ops.Initialize replies.Ok 0) }
+    ensures { IsTrue result ↔ (own.now ≡ line_with ops.Initialize replies.Ok 0) }
 {
     matches!(own.op(), Op::Initialize) && is_ok(own.reply()) && own.beside() == 0
 }
 
 fn releases(own: &Line) -> bool
-    ensures { IsTrue result ↔ (own.now ≡ line ops.Release replies.Ok 0) }
+    ensures { IsTrue result ↔ (own.now ≡ line_with ops.Release replies.Ok 0) }
 {
     matches!(own.op(), Op::Release) && is_ok(own.reply()) && own.beside() == 0
 }
 
 fn closes(own: &Line) -> bool
-    ensures { IsTrue result ↔ (own.now ≡ line ops.Close replies.Ok 0) }
+    ensures { IsTrue result ↔ (own.now ≡ line_with ops.Close replies.Ok 0) }
 {
     matches!(own.op(), Op::Close) && is_ok(own.reply()) && own.beside() == 0
 }
 
 fn finalizes(own: &Line) -> bool
-    ensures { IsTrue result ↔ (own.now ≡ line ops.Final replies.Ok 0) }
+    ensures { IsTrue result ↔ (own.now ≡ line_with ops.Final replies.Ok 0) }
 {
     matches!(own.op(), Op::Final) && is_ok(own.reply()) && own.beside() == 0
 }
 
 fn enters(line: &Line) -> bool
-    ensures { IsTrue result ↔ Enters line.now }
+    ensures { IsTrue result ↔ EntersLine line.now }
 {
     matches!(line.op(), Op::Enter) && is_ok(line.reply())
 }
@@ -69,8 +69,8 @@ fn is_tail(lines: &[Line]) -> bool
 
 // What stands behind the head of main's lines.
 fn behind_head(begins: bool, lines: &[Line]) -> Option<&[Line]>
-    ensures some { IfSome result (λ rest. lines.now ≡ head_of begins ++ rest.now) }
-    ensures none { IfNone result ((rest : List Line) → lines.now ≡ head_of begins ++ rest → ⊥) }
+    ensures some { IfSome result (λ rest. lines.now ≡ head_lines begins ++ rest.now) }
+    ensures none { IfNone result ((rest : List Line) → lines.now ≡ head_lines begins ++ rest → ⊥) }
 {
     let [first, rest @ ..] = lines else {
         return None;

@@ -5,7 +5,7 @@ use Rattle.mtapi_machine.specs.Worked.{one_task}
 use Rattle.workload_file.specs.Deeds.{is_begin}
 use Rattle.run_report.specs.Tasks.{numbers_text, end_text}
 use Rattle.run_report.specs.Worked.{WorkedReports}
-use Rattle.run_report.specs.WorkedLines.{WorkedShown, WorkedEnds, WorkedReplies, WorkedLines}
+use Rattle.run_report.specs.WorkedLines.{WorkedShown, WorkedTaskEnds, WorkedReplies, WorkedReportLines}
 unfoldable use Rattle.run_report.specs.Summary.{with_tasks}
 
 pub worked_reports : WorkedReports
@@ -17,7 +17,7 @@ worked_shown : WorkedShown
 unfolding digits numbers_text end_text shown_of task_lines_of task_name call_lines_of
 worked_shown = search rules
 
-worked_ends : WorkedEnds
+worked_ends : WorkedTaskEnds
 unfolding digits numbers_text end_text shown_of task_lines_of totals_text with_parts with_tasks
 worked_ends = search rules
 
@@ -25,5 +25,5 @@ worked_replies : WorkedReplies
 unfolding is_begin has_begin decided further_told
 worked_replies = search rules
 
-pub worked_lines : WorkedLines
+pub worked_lines : WorkedReportLines
 worked_lines = record { shown = worked_shown; ends = worked_ends; replies = worked_replies }

@@ -31,13 +31,13 @@ pub use Rattle.mtapi_values.specs.declared.ends.TaskEnd.{TaskEnd}
 pub use Rattle.mtapi_values.specs.declared.ends.TaskEnd.TheVariants.{Cancelled, Failed}
 pub use Rattle.mtapi_values.specs.declared.handles.Layout.{Layout}
 pub use Rattle.run_report.specs.Calls.{call_line, call_lines, is_task, task_line, task_lines}
-pub use Rattle.run_report.specs.Changes.{change_of}
-pub use Rattle.run_report.specs.Places.{ShowsNames, first_of_two, is_found, is_given, name_at, name_of, names_by, place_if, shows_given}
-pub use Rattle.run_report.specs.Replies.{Told, all_told, calls_before, decides, nows, reported}
+pub use Rattle.run_report.specs.Changes.{effect_of}
+pub use Rattle.run_report.specs.Places.{ShowsNames, first_or_second, is_found, is_shown_given, name_bound_at, name_bound, names_by, place_if, shows_given}
+pub use Rattle.run_report.specs.Replies.{Told, all_told, calls_before, decides, nows, reported_part}
 pub use Rattle.run_report.specs.Report.{parts_told, report_by, run_terms}
-pub use Rattle.run_report.specs.Seen.{Follows, Seen, action_of, ends_where, enqueued, is_left, is_of, is_shut, nothing_seen, opened, pairs, put, queue_at, queue_of, unstarted_in, unstarted_of, with_action, with_change, with_end, with_open, withdrawn, without_action}
-pub use Rattle.run_report.specs.Standings.{SameAs, can_run, passes, place_of, seen_in}
-pub use Rattle.run_report.specs.Summary.{AreTotals, IsNear, counted, no_totals, statements_in, with_number, with_numbers, with_tasks}
+pub use Rattle.run_report.specs.Seen.{FollowsSeen, SeenRun, machine_action, ends_where, enqueued, is_left, is_of, is_queue_shut, nothing_seen, opened_live, live_pairs, put_at, live_queue_at, live_queue_of, unstarted_in, unstarted_of, with_action, with_effect, with_end, with_open, withdrawn, without_action}
+pub use Rattle.run_report.specs.Standings.{SameAs, can_run, passes_unstarted, place_of_action, seen_in_standings}
+pub use Rattle.run_report.specs.Summary.{AreTotals, IsNear, counted_line, no_totals, statements_in, with_summand, with_numbers, with_tasks}
 pub use Rattle.run_report.specs.declared.changes.EndEffect.{EndEffect}
 pub use Rattle.run_report.specs.declared.changes.EndEffect.TheVariants.{Nothing}
 pub use Rattle.run_report.specs.declared.changes.LiveQueue.{LiveQueue}

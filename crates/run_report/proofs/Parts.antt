@@ -1,5 +1,5 @@
 -- The lines of the parts, one part after another.
-use Rattle.run_report.proofs.Names.{nat_tests, ◌≡◌, ℕ, ◌+◌, ◌-◌, ◌≤◌, List, [], ◌∷◌, ◌++◌, Result, sym, ◌∙◌, ap, arith, length, get_or, take, drop, append_assoc, IfOk, Option, flat_map, take_all, TaskEnd, Part, NodeEntry, Legal, Workload, task_lines, call_lines, nothing_seen, seen_from, Layout, terms_with, run_terms, parts_told, report_by, report, Told, reported, further_told, all_told, calls_before}
+use Rattle.run_report.proofs.Names.{nat_tests, ◌≡◌, ℕ, ◌+◌, ◌-◌, ◌≤◌, List, [], ◌∷◌, ◌++◌, Result, sym, ◌∙◌, ap, arith, length, get_or, take, drop, append_assoc, IfOk, Option, flat_map, take_all, TaskEnd, Part, NodeEntry, Legal, Workload, task_lines, call_lines, nothing_seen, seen_from, Layout, terms_with, run_terms, parts_told, report_by, report, Told, reported_part, further_told, all_told, calls_before}
 use Rattle.std.specs.Global.{Vec}
 use Rattle.mtapi_values.specs.Attributes.{NodeSettings}
 use Rattle.run_report.proofs.History.{ends_by_entries}
@@ -19,13 +19,13 @@ two_pieces now mid out a b whole is first second = second ∙ ap (λ x. x ++ b) 
 
 -- what the parts of further callers show is what the first shows, and then what the others show
 pub further_more : (f : Told → List ℕ) (who : ℕ) (es : List NodeEntry) (p : Part) (ps : List Part) → 1 ≤ length ps → p ≡ get_or ps 0 p
-    → flat_map f (further_told who es ps) ≡ f (reported who 1 es p) ++ flat_map f (further_told (who + 1) es (rest_of ps))
+    → flat_map f (further_told who es ps) ≡ f (reported_part who 1 es p) ++ flat_map f (further_told (who + 1) es (rest_of ps))
 unfolding further_told
 further_more f who es p ps h is = ap (λ l. flat_map f (further_told who es l)) (first_with ps p h is)
 
 pub all_more : (f : Told → List ℕ) (main : ℕ) (es : List NodeEntry) (p : Part) (ps : List Part) (before : ℕ) → 1 ≤ length ps → p ≡ get_or ps 0 p
     → before ≡ calls_before p.statements
-    → flat_map f (all_told main es ps) ≡ f (reported main before es p) ++ flat_map f (further_told (main + 1) es (rest_of ps))
+    → flat_map f (all_told main es ps) ≡ f (reported_part main before es p) ++ flat_map f (further_told (main + 1) es (rest_of ps))
 all_more f main es p ps before e1 e2 e3 = grind (arith, nat_tests, flat_map, all_told, first_with, further_told)
 
 -- The whole report

@@ -1,5 +1,5 @@
 -- After each entry that may come next, what is seen is what stands in the state.
-use Rattle.run_report.proofs.Names.{arith, nat_tests, ◌≡◌, ℕ, ℤ, ◌≤◌, Bool, true, false, ◌&&◌, cond, List, [], ◌∷◌, Option, Some, refl, sym, ◌∙◌, ap, subst, not, option_map, is_some, TaskEnd, Cancelled, Failed, holds, Listed, live_of, live_object, change, with_fields, gone, listed, Action, new_action, with_enabled, Queue, is_shut_in, is_in, Task, NewTask, is_unstarted, is_unended, scheduled, watch_end, cancel_requested, Op, Reply, State, workers, end_tasks, Move, Queues, makes_action, enables, withdraws, starts_task, runs_task, ends_task, ends_waiting, notes, leaves, frees_members, lets_members_go, alters, removes, is_fresh, apply, after_moves, is_ready, task_end, NodeEntry, IsNext, next, fst_true, snd_true, IsKeptBy, by_moves, EndEffect, Nothing, change_of, Seen, Follows, unstarted_of, unstarted_in, unstarted_at, queue_of, queue_at, ends_where, with_end, withdrawn, is_left, is_of, is_shut, enqueued, with_open, with_change}
+use Rattle.run_report.proofs.Names.{arith, nat_tests, ◌≡◌, ℕ, ℤ, ◌≤◌, Bool, true, false, ◌&&◌, cond, List, [], ◌∷◌, Option, Some, refl, sym, ◌∙◌, ap, subst, not, option_map, is_some, TaskEnd, Cancelled, Failed, holds, Listed, live_of, live_object, change, with_fields, gone, listed, Action, new_action, with_enabled, Queue, is_shut_in, is_in, Task, NewTask, is_unstarted, is_unended, scheduled, watch_end, cancel_requested, Op, Reply, State, workers, end_tasks, Move, Queues, makes_action, enables, withdraws, starts_task, runs_task, ends_task, ends_waiting, notes, leaves, frees_members, lets_members_go, alters, removes, is_fresh, apply, after_moves, is_ready, task_end, NodeEntry, IsNext, next, fst_true, snd_true, IsKeptBy, by_moves, EndEffect, Nothing, effect_of, SeenRun, FollowsSeen, unstarted_of, unstarted_in, unstarted_at, live_queue_of, live_queue_at, ends_where, with_end, withdrawn, is_left, is_of, is_queue_shut, enqueued, with_open, with_effect}
 use Rattle.mtapi_values.specs.declared.statuses.MrapiStatus.{MrapiStatus}
 use Rattle.mtapi_values.specs.declared.statuses.MtapiStatus.{MtapiStatus}
 use Rattle.mtapi_values.specs.declared.statuses.MtapiStatus.TheVariants as m
@@ -42,7 +42,7 @@ changes_nothing (op.WatchEnd t) = false
 changes_nothing (op.TallyEnd t) = false
 changes_nothing _ = true
 
-nothing_of : (o : Op) (r : Reply) → changes_nothing o ≡ true → change_of o r ≡ Nothing
+nothing_of : (o : Op) (r : Reply) → changes_nothing o ≡ true → effect_of o r ≡ Nothing
 nothing_of o r e1 = grind (arith, nat_tests)
 
 -- so it makes none of the moves that do
@@ -69,14 +69,14 @@ there o e1 = grind (arith, nat_tests)
 found : {T : Type 0} (q : T → Bool) (o : Option T) → holds q o ≡ true → (t : T) × ((o ≡ Some t) × (q t ≡ true))
 found q o e1 = grind (arith, nat_tests)
 
-module _ (n : ℕ) (v : Seen) where
+module _ (n : ℕ) (v : SeenRun) where
   abbrev Both : State → Type 0
-  Both s = Sound n s × Follows v s
+  Both s = Sound n s × FollowsSeen v s
 
   quiet_move : (o : Op) → changes_nothing o ≡ true → IsKeptBy o Both
   quiet_move o p s x e i = (sound_move n o s x e i.0, by x e)
     where
-      by : (x : Move) → IsMade s o x → Follows v (apply x s)
+      by : (x : Move) → IsMade s o x → FollowsSeen v (apply x s)
       by (makes_action h a) e = absurd ((none_of o p).made a e.by)
       by (enables h) e = absurd ((none_of o p).enabled h e.by)
       by (withdraws h f c) e = absurd ((none_of o p).withdrawn h f e.by)
@@ -94,40 +94,42 @@ module _ (n : ℕ) (v : Seen) where
       by _ e = follows_same v s _ i.1 refl refl refl
 
 -- a refusal changes nothing of what is seen
-refused : (o : Op) (x : MtapiStatus) → change_of o (Mtapi x) ≡ Nothing
+refused : (o : Op) (x : MtapiStatus) → effect_of o (Mtapi x) ≡ Nothing
 refused o x = grind (arith, nat_tests)
 
-refused_caller : (o : Op) (x : MrapiStatus) → change_of o (Mrapi x) ≡ Nothing
+refused_caller : (o : Op) (x : MrapiStatus) → effect_of o (Mrapi x) ≡ Nothing
 refused_caller o x = grind (arith, nat_tests)
 
 -- The answers to the other ops, where what was seen stands in the state
 
 module _ (s : State) (i : Sound (workers s) s) where
   abbrev W : Op → Reply → State → Type 0
-  W o x t = Follows (with_change (workers s) (change_of o x) (seen_of s)) t
+  W o x t = FollowsSeen (with_effect (workers s) (effect_of o x) (seen_of s)) t
 
-  self : Follows (seen_of s) s
+  self : FollowsSeen (seen_of s) s
   self = follows_self s
 
   -- the phase
 
-  shut_same : (t : Task) → is_shut (queue_at s.queues) (unstarted_of t) ≡ is_shut_in s.queues t
+  shut_same : (t : Task) → is_queue_shut (live_queue_at s.queues) (unstarted_of t) ≡ is_shut_in s.queues t
   shut_same t = grind (arith, nat_tests)
 
   closes : (t : State) → t.tasks ≡ s.tasks → t.actions ≡ s.actions → t.queues ≡ s.queues
-      → Follows (ends_where (is_shut (queue_at s.queues)) Cancelled (seen_of s)) (end_tasks (λ u. is_unstarted u && is_shut_in s.queues u) Cancelled t)
+      → FollowsSeen (ends_where (is_queue_shut (live_queue_at s.queues)) Cancelled (seen_of s))
+      (end_tasks (λ u. is_unstarted u && is_shut_in s.queues u) Cancelled t)
   closes t a b c =
-      subst (λ (p : Task → Bool). Follows (ends_where (is_shut (queue_at s.queues)) Cancelled (seen_of s)) (end_tasks (λ u. is_unstarted u && p u) Cancelled t))
+      subst (λ (p : Task → Bool). FollowsSeen (ends_where (is_queue_shut (live_queue_at s.queues)) Cancelled (seen_of s))
+      (end_tasks (λ u. is_unstarted u && p u) Cancelled t))
       (λ j u. shut_same u j)
-      (follows_ends (seen_of s) t (is_shut (queue_at s.queues)) Cancelled (follows_same (seen_of s) s t self a b c))
+      (follows_ends (seen_of s) t (is_queue_shut (live_queue_at s.queues)) Cancelled (follows_same (seen_of s) s t self a b c))
 
   -- actions
 
   withdraws_so : (es : List (ℕ × Action)) (l : List (Listed Action)) (c : MtapiStatus) → es ≡ live_of l
-      → Follows (withdrawn (workers s) es c (seen_of s))
+      → FollowsSeen (withdrawn (workers s) es c (seen_of s))
       (end_tasks (λ u. is_unstarted u && is_left (workers s) (live_of l) (unstarted_of u)) (Failed c) (record s { actions = l }))
   withdraws_so es l c same =
-      subst (λ (fs : List (ℕ × Action)). Follows (ends_where (is_left (workers s) fs) (Failed c) (record (seen_of s) { actions = es }))
+      subst (λ (fs : List (ℕ × Action)). FollowsSeen (ends_where (is_left (workers s) fs) (Failed c) (record (seen_of s) { actions = es }))
       (end_tasks (λ u. is_unstarted u && is_left (workers s) (live_of l) (unstarted_of u)) (Failed c) (record s { actions = l }))) (sym same)
       (follows_ends (record (seen_of s) { actions = es }) (record s { actions = l }) (is_left (workers s) (live_of l)) (Failed c)
       (follows_actions (seen_of s) s es l self same))
@@ -141,7 +143,7 @@ module _ (s : State) (i : Sound (workers s) s) where
       → live_object s.queues q.0 ≡ Some x → is_fresh kinds.tasks s h ≡ true
       → W (op.TaskEnqueue q args cores detached group) (Handle h) (apply (starts_task h (asked_of q.0 x args cores detached group)) s)
   enqueues q args cores detached group x h at e =
-      subst (λ (o : Option Queue). Follows (enqueued h q.0 cores (option_map queue_of o) (seen_of s))
+      subst (λ (o : Option Queue). FollowsSeen (enqueued h q.0 cores (option_map live_queue_of o) (seen_of s))
       (apply (starts_task h (asked_of q.0 x args cores detached group)) s)) (sym at)
       (follows_starts (seen_of s) s h (asked_of q.0 x args cores detached group) self (fresh_tasks h e))
 
@@ -150,9 +152,9 @@ module _ (s : State) (i : Sound (workers s) s) where
 
   -- a cancel that leaves this state
   cancels_so : (k : TaskHandle) (t : Task) (u : State) (b : Bool) → live_object s.tasks k.0 ≡ Some t → is_unstarted t ≡ b
-      → Follows (cond b (with_end k.0 Cancelled (seen_of s)) (seen_of s)) u
+      → FollowsSeen (cond b (with_end k.0 Cancelled (seen_of s)) (seen_of s)) u
       → W (op.TaskCancel k) Ok u
-  cancels_so k t u b e d f = subst (λ c. Follows (cond c (with_end k.0 Cancelled (seen_of s)) (seen_of s)) u) (sym (waits k.0 t e ∙ d)) f
+  cancels_so k t u b e d f = subst (λ c. FollowsSeen (cond c (with_end k.0 Cancelled (seen_of s)) (seen_of s)) u) (sym (waits k.0 t e ∙ d)) f
 
   -- work
 
@@ -162,7 +164,7 @@ module _ (s : State) (i : Sound (workers s) s) where
 
   -- a task that ends after other objects changed
   ends_so : (h : ℕ) (e : TaskEnd) (t : Task) (u : State) → live_object s.tasks h ≡ Some t → u.tasks ≡ s.tasks → u.actions ≡ s.actions → u.queues ≡ s.queues
-      → Follows (with_end h e (seen_of s)) (apply (ends_task h e) u)
+      → FollowsSeen (with_end h e (seen_of s)) (apply (ends_task h e) u)
   ends_so h e t u at a b c =
       follows_end (seen_of s) u h e t (follows_same (seen_of s) s u self a b c) (λ j. subst (λ l. listed j l ≤ 1) (sym a) (i.once j))
       ((λ j. live_object (a j) h) ∙ at)
@@ -176,25 +178,25 @@ module _ (s : State) (i : Sound (workers s) s) where
       → W (op.QueueDisable q) Ok (after_moves (alters Queues q.0 (queues.opened false) ∷ cond keeps [] (ends_waiting (is_in q.0) Cancelled ∷ [])) s)
   disables q x e keeps is = by keeps test
     where
-      test : holds (λ y. not y.retain) (queue_at s.queues q.0) ≡ not keeps
-      test = (λ j. holds (λ y. not y.retain) (option_map queue_of (e j))) ∙ ap not is
+      test : holds (λ y. not y.retain) (live_queue_at s.queues q.0) ≡ not keeps
+      test = (λ j. holds (λ y. not y.retain) (option_map live_queue_of (e j))) ∙ ap not is
 
-      shut : Follows (with_open q.0 false (seen_of s)) (apply (alters Queues q.0 (queues.opened false)) s)
+      shut : FollowsSeen (with_open q.0 false (seen_of s)) (apply (alters Queues q.0 (queues.opened false)) s)
       shut = follows_queue_changed (seen_of s) s q.0 false x self e
 
-      by : (b : Bool) → holds (λ y. not y.retain) (queue_at s.queues q.0) ≡ not b
+      by : (b : Bool) → holds (λ y. not y.retain) (live_queue_at s.queues q.0) ≡ not b
           → W (op.QueueDisable q) Ok (after_moves (alters Queues q.0 (queues.opened false) ∷ cond b [] (ends_waiting (is_in q.0) Cancelled ∷ [])) s)
       by true t =
-          subst (λ c. Follows (cond c (ends_where (is_of q.0) Cancelled (with_open q.0 false (seen_of s))) (with_open q.0 false (seen_of s)))
+          subst (λ c. FollowsSeen (cond c (ends_where (is_of q.0) Cancelled (with_open q.0 false (seen_of s))) (with_open q.0 false (seen_of s)))
           (apply (alters Queues q.0 (queues.opened false)) s)) (sym t) shut
       by false t =
-          subst (λ c. Follows (cond c (ends_where (is_of q.0) Cancelled (with_open q.0 false (seen_of s))) (with_open q.0 false (seen_of s)))
+          subst (λ c. FollowsSeen (cond c (ends_where (is_of q.0) Cancelled (with_open q.0 false (seen_of s))) (with_open q.0 false (seen_of s)))
           (apply (ends_waiting (is_in q.0) Cancelled) (apply (alters Queues q.0 (queues.opened false)) s))) (sym t)
           (follows_ends _ _ (is_of q.0) Cancelled shut)
 
   by_answer : (who : ℕ) (o : Op) (r : Reply) (ms : List Move) → Answers s who o r ms → changes_nothing o ≡ false → W o r (after_moves ms s)
-  by_answer who _ _ _ (is.refuses o x e) p = subst (λ c. Follows (with_change (workers s) c (seen_of s)) s) (sym (refused o x)) self
-  by_answer who _ _ _ (is.refuses_caller o x e) p = subst (λ c. Follows (with_change (workers s) c (seen_of s)) s) (sym (refused_caller o x)) self
+  by_answer who _ _ _ (is.refuses o x e) p = subst (λ c. FollowsSeen (with_effect (workers s) c (seen_of s)) s) (sym (refused o x)) self
+  by_answer who _ _ _ (is.refuses_caller o x e) p = subst (λ c. FollowsSeen (with_effect (workers s) c (seen_of s)) s) (sym (refused_caller o x)) self
   by_answer who _ _ _ (is.closes_node a) p = closes _ refl refl refl
   by_answer who _ _ _ (is.creates_action job kind cores h f) p = follows_actions (seen_of s) s _ _ self (action_made h (new_action job kind cores.0) s.actions)
   by_answer who _ _ _ (is.enables_action a x e) p = follows_actions (seen_of s) s _ _ self (action_changed a.0 (with_enabled true) s.actions)
@@ -225,15 +227,15 @@ module _ (s : State) (i : Sound (workers s) s) where
   by_answer who _ _ _ _ p = absurd (cc)
 
 -- one entry on
-pub follows_next : (n : ℕ) (v : Seen) (s : State) (e : NodeEntry) → IsNext s e → Sound n s → Follows v s
-    → Follows (with_change n (change_of e.op e.reply) v) (next s e)
+pub follows_next : (n : ℕ) (v : SeenRun) (s : State) (e : NodeEntry) → IsNext s e → Sound n s → FollowsSeen v s
+    → FollowsSeen (with_effect n (effect_of e.op e.reply) v) (next s e)
 follows_next n v s e h i f = by (changes_nothing e.op) refl
   where
-    by : (b : Bool) → changes_nothing e.op ≡ b → Follows (with_change n (change_of e.op e.reply) v) (next s e)
+    by : (b : Bool) → changes_nothing e.op ≡ b → FollowsSeen (with_effect n (effect_of e.op e.reply) v) (next s e)
     by true p =
-        subst (λ (c : EndEffect). Follows (with_change n c v) (next s e)) (sym (nothing_of e.op e.reply p))
-        (by_moves (λ t. Sound n t × Follows v t) s e (quiet_move n v e.op p) (i, f)).1
+        subst (λ (c : EndEffect). FollowsSeen (with_effect n c v) (next s e)) (sym (nothing_of e.op e.reply p))
+        (by_moves (λ t. Sound n t × FollowsSeen v t) s e (quiet_move n v e.op p) (i, f)).1
     by false p =
-        subst (λ (k : ℕ). Follows (with_change k (change_of e.op e.reply) v) (next s e)) i.workers
-        (subst (λ (w : Seen). Follows (with_change (workers s) (change_of e.op e.reply) w) (next s e)) (sym (follows_path v s f))
+        subst (λ (k : ℕ). FollowsSeen (with_effect k (effect_of e.op e.reply) v) (next s e)) i.workers
+        (subst (λ (w : SeenRun). FollowsSeen (with_effect (workers s) (effect_of e.op e.reply) w) (next s e)) (sym (follows_path v s f))
         (by_answer s (record { once = i.once; distinct = i.distinct; workers = refl }) e.who e.op e.reply _ (answered s e.who e.op e.reply h.allowed) p))

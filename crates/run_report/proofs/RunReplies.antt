@@ -2,7 +2,7 @@
 use Rattle.run_report.proofs.Names.{nat_tests, ◌≡◌, ℕ, suc, ◌+◌, Bool, false, not, cond, List, [], ◌∷◌, ◌++◌, length, Option, refl, sym, ◌∙◌, ap, arith, take, drop, map, append-nil, Statement, Part, Op, Reply, handle_of, NodeEntry, has_begin, Carried, MainRan, CallerRan, CallersRan, PartsRan, Told, decided, calls_before, further_told, all_told}
 use Rattle.mtapi_machine.specs.Kept.{is_pending}
 use Rattle.workload_runs.specs.Calls.{Call, call_of}
-use Rattle.workload_runs.specs.Lines.{Line, line, lines_of, before_it, Made, head_of, tail_of_main, in_lines}
+use Rattle.workload_runs.specs.Lines.{Line, line_with, lines_of, before_it, MadeLines, head_lines, tail_of_main, in_lines}
 use Rattle.run_report.specs.RunReplies.{ReadsTheRun}
 
 -- the replies of these lines that decide
@@ -22,7 +22,7 @@ unfolding decided_in
 decided_append [] b = refl
 decided_append (l ∷ ls) b = grind (arith, nat_tests, decided_append ls b)
 
-one_reply : (o : Op) (r : Reply) (n : ℕ) → is_pending r ≡ false → decided_in (line o r n ∷ []) ≡ r ∷ []
+one_reply : (o : Op) (r : Reply) (n : ℕ) → is_pending r ≡ false → decided_in (line_with o r n ∷ []) ≡ r ∷ []
 unfolding decided_in
 one_reply o r n e = λ i. cond (not (e i)) (r ∷ []) []
 
@@ -31,11 +31,11 @@ unfolding decided_in
 before_none o first = grind (arith, nat_tests)
 
 -- the lines of a call have one such reply, the one to which it comes
-made_reads : (c : Call) (lines : List Line) (r : Reply) → Made c lines r → decided_in lines ≡ r ∷ []
+made_reads : (c : Call) (lines : List Line) (r : Reply) → MadeLines c lines r → decided_in lines ≡ r ∷ []
 made_reads c lines r e1 = grind (arith, nat_tests, one_reply, decided_append, before_it, before_none)
 
 -- the lines of statements have one for each
-carried_reads : (bound : List ℕ) (ss : List Statement) (lines : List Line) (rs : List Reply) → Carried Made bound ss lines rs → decided_in lines ≡ rs
+carried_reads : (bound : List ℕ) (ss : List Statement) (lines : List Line) (rs : List Reply) → Carried MadeLines bound ss lines rs → decided_in lines ≡ rs
 unfolding Carried decided_in
 carried_reads bound [] lines [] c = ap decided_in c
 carried_reads bound [] lines (r ∷ rs) c = absurd c
@@ -44,7 +44,7 @@ carried_reads bound (s ∷ ss) lines (r ∷ rs) c =
     grind (arith, nat_tests, carried_reads (bound ++ handle_of r ∷ []) ss c.1 rs c.4, decided_append, made_reads, call_of, handle_of)
 
 -- the first ones, as many as there are statements, are the replies to them
-carried_first : (bound : List ℕ) (ss : List Statement) (lines : List Line) (rs more : List Reply) → Carried Made bound ss lines rs
+carried_first : (bound : List ℕ) (ss : List Statement) (lines : List Line) (rs more : List Reply) → Carried MadeLines bound ss lines rs
     → take (length ss) (rs ++ more) ≡ rs
 unfolding Carried
 carried_first bound [] lines [] more c = refl
@@ -53,7 +53,7 @@ carried_first bound (s ∷ ss) lines [] more c = absurd c
 carried_first bound (s ∷ ss) lines (r ∷ rs) more c = ap (λ l. r ∷ l) (carried_first (bound ++ handle_of r ∷ []) ss c.1 rs more c.4)
 
 -- main's calls before those of its statements are left out
-head_reads : (b : Bool) (rest : List Line) → drop (cond b 1 2) (decided_in (head_of b ++ rest)) ≡ decided_in rest
+head_reads : (b : Bool) (rest : List Line) → drop (cond b 1 2) (decided_in (head_lines b ++ rest)) ≡ decided_in rest
 unfolding decided_in
 head_reads b rest = grind (arith, nat_tests)
 

@@ -1,5 +1,5 @@
 -- The totals of the parts, one part after another.
-use Rattle.run_report.proofs.Names.{nat_tests, ◌≡◌, ℕ, ◌+◌, ◌≤◌, List, [], ◌∷◌, ◌++◌, append_assoc, length, Result, sym, ◌∙◌, ap, arith, get_or, IfOk, Option, codes, signed_decimal, TaskEnd, NodeEntry, flat_map, length-append, length-map, Layout, Reply, Legal, Statement, Part, Workload, nothing_seen, seen_from, run_terms, parts_told, Totals, reported, further_told, all_told, calls_before, no_totals, with_tasks, with_parts, totals, counted, totals_text, statements_in}
+use Rattle.run_report.proofs.Names.{nat_tests, ◌≡◌, ℕ, ◌+◌, ◌≤◌, List, [], ◌∷◌, ◌++◌, append_assoc, length, Result, sym, ◌∙◌, ap, arith, get_or, IfOk, Option, codes, signed_decimal, TaskEnd, NodeEntry, flat_map, length-append, length-map, Layout, Reply, Legal, Statement, Part, Workload, nothing_seen, seen_from, run_terms, parts_told, Totals, reported_part, further_told, all_told, calls_before, no_totals, with_tasks, with_parts, totals, counted_line, totals_text, statements_in}
 use Rattle.std.specs.declared.alloc.AllocError.{AllocError}
 use Rattle.workload_file.specs.Formed.{WellFormed, part_lines, line_if_any}
 use Rattle.run_report.proofs.History.{ends_by_entries}
@@ -7,7 +7,7 @@ use Rattle.run_report.proofs.Parts.{rest_of, first_with}
 
 -- what the other parts add to what the first added
 pub further_with : (by : ℕ → Option TaskEnd) (t u : Totals) (who : ℕ) (es : List NodeEntry) (p : Part) (ps : List Part) → 1 ≤ length ps → p ≡ get_or ps 0 p
-    → u ≡ with_tasks by t p.statements (reported who 1 es p).replies
+    → u ≡ with_tasks by t p.statements (reported_part who 1 es p).replies
     → with_parts by u (further_told (who + 1) es (rest_of ps)) ≡ with_parts by t (further_told who es ps)
 unfolding further_told with_parts
 further_with by t u who es p ps h is made =
@@ -16,7 +16,7 @@ further_with by t u who es p ps h is made =
 
 pub all_with : (by : ℕ → Option TaskEnd) (t u : Totals) (main : ℕ) (es : List NodeEntry) (p : Part) (ps : List Part) (before : ℕ) → 1 ≤ length ps
     → p ≡ get_or ps 0 p → before ≡ calls_before p.statements
-    → u ≡ with_tasks by t p.statements (reported main before es p).replies
+    → u ≡ with_tasks by t p.statements (reported_part main before es p).replies
     → with_parts by u (further_told (main + 1) es (rest_of ps)) ≡ with_parts by t (all_told main es ps)
 unfolding with_parts
 all_with by t u main es p ps before e1 e2 e3 e4 = grind (arith, nat_tests, with_parts, further_told, rest_of, with_tasks, all_told, first_with)
@@ -31,17 +31,19 @@ onto : (out new piece rest whole : List ℕ) → new ≡ out ++ piece → out ++
 onto out new piece rest whole made so = ap (λ x. x ++ rest) made ∙ append_assoc out piece rest ∙ so
 
 -- the pieces of the line, one after another
-pub line_is : (t : Totals) (a b c d e f g h out : List ℕ) → a ≡ [] → b ≡ a ++ counted (codes "tasks ") t.tasks
-    → c ≡ b ++ counted (codes " completed ") t.completed → d ≡ c ++ counted (codes " cancelled ") t.cancelled
-    → e ≡ d ++ counted (codes " error ") t.failed → f ≡ e ++ counted (codes " refused ") t.refused → g ≡ f ++ codes " sum " → h ≡ g ++ signed_decimal t.sum
+pub line_is : (t : Totals) (a b c d e f g h out : List ℕ) → a ≡ [] → b ≡ a ++ counted_line (codes "tasks ") t.tasks
+    → c ≡ b ++ counted_line (codes " completed ") t.completed → d ≡ c ++ counted_line (codes " cancelled ") t.cancelled
+    → e ≡ d ++ counted_line (codes " error ") t.failed → f ≡ e ++ counted_line (codes " refused ") t.refused → g ≡ f ++ codes " sum "
+    → h ≡ g ++ signed_decimal t.sum
     → out ≡ h ++ 10 ∷ [] → out ≡ totals_text t
 unfolding totals_text
 line_is t a b c d e f g h out ia ib ic iid ie iff ig ih io =
     io
     ∙ onto g h (signed_decimal t.sum) _ _ ih
-    (onto f g (codes " sum ") _ _ ig (onto e f (counted (codes " refused ") t.refused) _ _ iff
-    (onto d e (counted (codes " error ") t.failed) _ _ ie (onto c d (counted (codes " cancelled ") t.cancelled) _ _ iid
-    (onto b c (counted (codes " completed ") t.completed) _ _ ic (onto a b (counted (codes "tasks ") t.tasks) _ _ ib (ap (λ x. x ++ totals_text t) ia)))))))
+    (onto f g (codes " sum ") _ _ ig (onto e f (counted_line (codes " refused ") t.refused) _ _ iff
+    (onto d e (counted_line (codes " error ") t.failed) _ _ ie (onto c d (counted_line (codes " cancelled ") t.cancelled) _ _ iid
+    (onto b c (counted_line (codes " completed ") t.completed) _ _ ic
+    (onto a b (counted_line (codes "tasks ") t.tasks) _ _ ib (ap (λ x. x ++ totals_text t) ia)))))))
 
 -- ---- the whole
 

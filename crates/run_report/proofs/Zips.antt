@@ -1,8 +1,8 @@
 -- Statements with their replies, one after another.
-use Rattle.run_report.proofs.Names.{subst, entry_of, ShortEntry, nat_tests, zero, suc, Some, None, Result, ◌≡◌, ℕ, ◌+◌, ◌<◌, ◌≤◌, Bool, false, cond, List, [], ◌∷◌, ◌++◌, Option, refl, sym, ◌∙◌, ap, arith, length, get_or, take, drop, append_assoc, length-drop, nows, map-append, length-map, get_or-map, drop-map, drop_more, append-nil, nil_from_length, drop-drop, slice_get, OnOk, TaskEnd, Statement, Reply, list_any, take-map, or_parts, first_of_two, place_if, is_found, place_from, name_at, names_by, is_given, shows_given, ShowsNames, shown_of, is_task, task_line, task_lines_of, task_name, call_line, call_lines_of}
+use Rattle.run_report.proofs.Names.{subst, entry_of, ShortEntry, nat_tests, zero, suc, Some, None, Result, ◌≡◌, ℕ, ◌+◌, ◌<◌, ◌≤◌, Bool, false, cond, List, [], ◌∷◌, ◌++◌, Option, refl, sym, ◌∙◌, ap, arith, length, get_or, take, drop, append_assoc, length-drop, nows, map-append, length-map, get_or-map, drop-map, drop_more, append-nil, nil_from_length, drop-drop, slice_get, OnOk, TaskEnd, Statement, Reply, list_any, take-map, or_parts, first_or_second, place_if, is_found, place_from, name_bound_at, names_by, is_shown_given, shows_given, ShowsNames, shown_of, is_task, task_line, task_lines_of, task_name, call_line, call_lines_of}
 use denote.Ref.{Bor}
 use Rattle.run_report.specs.declared.sorts.Shown.{Shown}
-use Rattle.run_report.specs.Calls.{makes}
+use Rattle.run_report.specs.Calls.{made_task}
 
 -- the replies behind references, one by one
 abbrev said : Bor ShortEntry → Reply
@@ -103,7 +103,7 @@ call_lines_past part name ss rs i out whole past so = ends out whole _ so (ap (�
 
 -- The places of tasks
 
-first_none : (x : Option ℕ) → first_of_two x None ≡ x
+first_none : (x : Option ℕ) → first_or_second x None ≡ x
 first_none x = grind (arith, nat_tests)
 
 no_place : (n : ℕ) (ss : List Statement) (h : ℕ) → place_from n ss [] h ≡ None
@@ -113,29 +113,29 @@ no_place n (s ∷ ss) h = refl
 
 -- where a handle was found, it has its first place
 place_step : (n h : ℕ) (found : Option ℕ) (b : Bool) (old rest : Option ℕ) → b ≡ is_found h found
-    → first_of_two (first_of_two old (place_if n h found)) rest ≡ first_of_two old (cond b (Some n) rest)
+    → first_or_second (first_or_second old (place_if n h found)) rest ≡ first_or_second old (cond b (Some n) rest)
 place_step n h found b old rest e1 = grind (arith, nat_tests)
 
 pub place_next : (ss : List Statement) (rs : List Reply) (h i : ℕ) (s : Statement) (r : Reply) (old new whole found : Option ℕ)
     → i < length ss → s ≡ get_or ss i s → i < length rs → r ≡ get_or rs i r
-    → first_of_two old (place_from i (drop i ss) (drop i rs) h) ≡ whole → new ≡ first_of_two old (place_if i h found) → makes h s r ≡ is_found h found
-    → first_of_two new (place_from (i + 1) (drop (i + 1) ss) (drop (i + 1) rs) h) ≡ whole
+    → first_or_second old (place_from i (drop i ss) (drop i rs) h) ≡ whole → new ≡ first_or_second old (place_if i h found) → made_task h s r ≡ is_found h found
+    → first_or_second new (place_from (i + 1) (drop (i + 1) ss) (drop (i + 1) rs) h) ≡ whole
 unfolding place_from
 place_next ss rs h i s r old new whole found l at m got so made is =
     let rest : Option ℕ = place_from (i + 1) (drop (i + 1) ss) (drop (i + 1) rs) h in
-    ap (λ x. first_of_two x rest) made
-    ∙ place_step i h found (makes h s r) old rest is
-    ∙ ap (first_of_two old) (sym (both_more (λ a b. place_from i a b h) ss rs i s r l at m got))
+    ap (λ x. first_or_second x rest) made
+    ∙ place_step i h found (made_task h s r) old rest is
+    ∙ ap (first_or_second old) (sym (both_more (λ a b. place_from i a b h) ss rs i s r l at m got))
     ∙ so
 
 pub place_past_replies : (ss : List Statement) (rs : List Reply) (h i : ℕ) (old whole : Option ℕ) → length rs ≤ i
-    → first_of_two old (place_from i (drop i ss) (drop i rs) h) ≡ whole → old ≡ whole
-place_past_replies ss rs h i old whole e1 e2 = grind (arith, nat_tests, first_none, first_of_two, place_from, nothing_left, no_place)
+    → first_or_second old (place_from i (drop i ss) (drop i rs) h) ≡ whole → old ≡ whole
+place_past_replies ss rs h i old whole e1 e2 = grind (arith, nat_tests, first_none, first_or_second, place_from, nothing_left, no_place)
 
 pub place_past : (ss : List Statement) (rs : List Reply) (h i : ℕ) (old whole : Option ℕ) → length ss ≤ i
-    → first_of_two old (place_from i (drop i ss) (drop i rs) h) ≡ whole → old ≡ whole
+    → first_or_second old (place_from i (drop i ss) (drop i rs) h) ≡ whole → old ≡ whole
 unfolding place_from
-place_past ss rs h i old whole e1 e2 = grind (arith, nat_tests, first_none, first_of_two, place_from, nothing_left)
+place_past ss rs h i old whole e1 e2 = grind (arith, nat_tests, first_none, first_or_second, place_from, nothing_left)
 
 -- The names of tasks
 
@@ -149,7 +149,8 @@ drop_next : (all : List Statement) (n : ℕ) (s : Statement) (ss : List Statemen
 drop_next all n s ss e = sym (drop-drop 1 n all) ∙ ap (drop 1) e
 
 -- the name at the place of a task is the task's
-named : (all : List Statement) (h n : ℕ) (ss : List Statement) (rs : List Reply) → drop n all ≡ ss → name_at all (place_from n ss rs h) ≡ task_name ss rs h
+named : (all : List Statement) (h n : ℕ) (ss : List Statement) (rs : List Reply) → drop n all ≡ ss
+    → name_bound_at all (place_from n ss rs h) ≡ task_name ss rs h
 unfolding place_from task_name
 named all h n [] rs left = refl
 named all h n (s ∷ ss) [] left = refl
@@ -160,10 +161,10 @@ on_ok r P Q e1 e2 = grind (arith, nat_tests)
 
 -- the lines of calls, where the names are found by places
 pub named_lines : (ss : List Statement) (rs : List Reply) (places : ℕ → Option ℕ) → ((h : ℕ) → places h ≡ place_from 0 ss rs h) → ShowsNames ss rs places
-named_lines ss rs places is part = ap (λ (f : ℕ → List ℕ). call_lines_of part f ss rs) (λ j h. (ap (name_at ss) (is h) ∙ named ss h 0 ss rs refl) j)
+named_lines ss rs places is part = ap (λ (f : ℕ → List ℕ). call_lines_of part f ss rs) (λ j h. (ap (name_bound_at ss) (is h) ∙ named ss h 0 ss rs refl) j)
 
 -- a line that shows no given task is the same whatever the names are
-unnamed_line : (part : List ℕ) (f g : ℕ → List ℕ) (line : ℕ) (shown : Shown) (r : Reply) → is_given shown ≡ false
+unnamed_line : (part : List ℕ) (f g : ℕ → List ℕ) (line : ℕ) (shown : Shown) (r : Reply) → is_shown_given shown ≡ false
     → call_line part f line shown r ≡ call_line part g line shown r
 unnamed_line part f g line shown r e1 = grind (arith, nat_tests)
 

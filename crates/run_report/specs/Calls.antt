@@ -49,30 +49,30 @@ task_lines ends t = task_lines_of t.name ends t.statements t.replies
 -- Calls
 
 -- the reply is this handle
-abbrev pub is_handle : ℕ → Reply → Bool
-is_handle h (reply.Handle k) = k == h
-is_handle h _ = false
+abbrev pub is_task_handle : ℕ → Reply → Bool
+is_task_handle h (reply.Handle k) = k == h
+is_task_handle h _ = false
 
 -- the statement made the task of this handle
-abbrev pub makes : ℕ → Statement → Reply → Bool
-makes h s r = is_task (shown_of s.deed) && is_handle h r
+abbrev pub made_task : ℕ → Statement → Reply → Bool
+made_task h s r = is_task (shown_of s.deed) && is_task_handle h r
 
 -- the name of the task of this handle, where one of these statements made it
 unfoldable pub task_name : List Statement → List Reply → ℕ → List ℕ
 task_name [] rs h = []
 task_name (s ∷ ss) [] h = []
-task_name (s ∷ ss) (r ∷ rs) h = if makes h s r then name_text s.name else task_name ss rs h
+task_name (s ∷ ss) (r ∷ rs) h = if made_task h s r then name_text s.name else task_name ss rs h
 
 -- the status that a reply is
-abbrev pub status_of : Reply → Option (List ℕ)
-status_of (reply.Mtapi status) = Some (mtapi_name status)
-status_of (reply.Mrapi status) = Some (mrapi_name status)
-status_of _ = None
+abbrev pub status_shown : Reply → Option (List ℕ)
+status_shown (reply.Mtapi status) = Some (mtapi_name status)
+status_shown (reply.Mrapi status) = Some (mrapi_name status)
+status_shown _ = None
 
 -- the number that it is, in decimal
-abbrev pub number_in : Reply → Option (List ℕ)
-number_in (reply.Number n) = Some (signed_decimal n)
-number_in _ = None
+abbrev pub number_shown : Reply → Option (List ℕ)
+number_shown (reply.Number n) = Some (signed_decimal n)
+number_shown _ = None
 
 -- the name of the task that it gives
 abbrev pub given_in : (ℕ → List ℕ) → Reply → Option (List ℕ)
@@ -80,10 +80,10 @@ given_in name (reply.Given t e) = Some (name t.0)
 given_in name _ = None
 
 -- what an Ok call shows: the key, the value, or the task's name
-abbrev pub answer_in : (ℕ → List ℕ) → Shown → Reply → Option (List ℕ)
-answer_in name shows.Number r = number_in r
-answer_in name shows.Given r = given_in name r
-answer_in name _ r = None
+abbrev pub answer_shown : (ℕ → List ℕ) → Shown → Reply → Option (List ℕ)
+answer_shown name shows.Number r = number_shown r
+answer_shown name shows.Given r = given_in name r
+answer_shown name _ r = None
 
 -- a line, where there is a text: its mark, the part, the statement's line and the text, with spaces between them
 abbrev pub marked_line : ℕ → List ℕ → ℕ → Option (List ℕ) → List ℕ
@@ -92,7 +92,8 @@ marked_line mark part line (Some text) = mark ∷ (32 ∷ (part ++ (32 ∷ (deci
 
 -- the line of a call, if it has one: a status stands behind `!`, and what an Ok call shows behind `=`
 abbrev pub call_line : List ℕ → (ℕ → List ℕ) → ℕ → Shown → Reply → List ℕ
-call_line part name line sort r = marked_line 33 part line (if has_status sort then status_of r else None) ++ marked_line 61 part line (answer_in name sort r)
+call_line part name line sort r = marked_line 33 part line (if has_status sort then status_shown r else None)
+    ++ marked_line 61 part line (answer_shown name sort r)
 
 -- the lines of the calls of these statements
 unfoldable pub call_lines_of : List ℕ → (ℕ → List ℕ) → List Statement → List Reply → List ℕ

@@ -33,13 +33,13 @@ change_by_queue (op.QueueDelete q) reply.Ok = DeletesQueue q.0
 change_by_queue o r = change_by_work o r
 
 -- what an entry with this op and this reply changes
-abbrev pub change_of : Op → Reply → EndEffect
-change_of op.Close reply.Ok = Closes
-change_of (op.ActionCreate job kind cores) (reply.Handle h) = action_made h job kind cores
-change_of (op.ActionEnable a) reply.Ok = EnablesAction a.0
-change_of (op.ActionDisable a) reply.Ok = DisablesAction a.0
-change_of (op.ActionDelete a) reply.Ok = DeletesAction a.0
-change_of (op.TaskStart job args priority cores detached group) (reply.Handle h) = StartsTask h (record { job = job; cores = cores; queue = None })
-change_of (op.TaskEnqueue q args cores detached group) (reply.Handle h) = EnqueuesTask h q.0 cores
-change_of (op.TaskCancel t) reply.Ok = CancelsTask t.0
-change_of o r = change_by_queue o r
+abbrev pub effect_of : Op → Reply → EndEffect
+effect_of op.Close reply.Ok = Closes
+effect_of (op.ActionCreate job kind cores) (reply.Handle h) = action_made h job kind cores
+effect_of (op.ActionEnable a) reply.Ok = EnablesAction a.0
+effect_of (op.ActionDisable a) reply.Ok = DisablesAction a.0
+effect_of (op.ActionDelete a) reply.Ok = DeletesAction a.0
+effect_of (op.TaskStart job args priority cores detached group) (reply.Handle h) = StartsTask h (record { job = job; cores = cores; queue = None })
+effect_of (op.TaskEnqueue q args cores detached group) (reply.Handle h) = EnqueuesTask h q.0 cores
+effect_of (op.TaskCancel t) reply.Ok = CancelsTask t.0
+effect_of o r = change_by_queue o r

@@ -2,7 +2,7 @@
 pub use Rattle.mtapi_machine.specs.Ends.{end_at}
 pub use Rattle.mtapi_machine.specs.Legal.{NodeEntry, after}
 pub use Rattle.mtapi_machine.specs.State.{State, terms_with}
-pub use Rattle.mtapi_machine.specs.Worked.{add_task, closed, every_core, finishes_first, first_handle, main, next_handle, one_task, picks_first, task}
+pub use Rattle.mtapi_machine.specs.Worked.{add_task, closed, every_core_mask, finishes_first, worked_first_handle, main_entry, next_handle, one_task, picks_first, task_handle}
 pub use Rattle.mtapi_machine.specs.declared.replies.Reply.{Reply}
 pub use Rattle.mtapi_objects.specs.Actions.{Action, has_worker, with_enabled}
 pub use Rattle.mtapi_values.specs.Statuses.{mrapi_name, mtapi_name}

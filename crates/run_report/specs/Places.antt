@@ -3,12 +3,12 @@ use Rattle.std.specs.Prelude.{◌≡◌, true, ℕ, ◌+◌, ◌==◌, List, [],
 use Rattle.run_report.specs.Names.{Statement, name_text, Reply}
 use Rattle.run_report.specs.declared.sorts.Shown.{Shown}
 use Rattle.run_report.specs.declared.sorts.Shown.TheVariants as shows
-use Rattle.run_report.specs.Calls.{makes, shown_of, task_name, call_lines_of}
+use Rattle.run_report.specs.Calls.{made_task, shown_of, task_name, call_lines_of}
 
 -- the first value, or else the second
-abbrev pub first_of_two : Option ℕ → Option ℕ → Option ℕ
-first_of_two (Some x) y = Some x
-first_of_two None y = y
+abbrev pub first_or_second : Option ℕ → Option ℕ → Option ℕ
+first_or_second (Some x) y = Some x
+first_or_second None y = y
 
 -- the place, where this handle was found
 abbrev pub place_if : ℕ → ℕ → Option ℕ → Option ℕ
@@ -24,29 +24,29 @@ is_found h (Some k) = k == h
 unfoldable pub place_from : ℕ → List Statement → List Reply → ℕ → Option ℕ
 place_from n [] rs h = None
 place_from n (s ∷ ss) [] h = None
-place_from n (s ∷ ss) (r ∷ rs) h = if makes h s r then Some n else place_from (n + 1) ss rs h
+place_from n (s ∷ ss) (r ∷ rs) h = if made_task h s r then Some n else place_from (n + 1) ss rs h
 
 -- the name that a statement binds, if there is one
-abbrev pub name_of : Option Statement → List ℕ
-name_of None = []
-name_of (Some s) = name_text s.name
+abbrev pub name_bound : Option Statement → List ℕ
+name_bound None = []
+name_bound (Some s) = name_text s.name
 
 -- the name that the statement at a place binds, if there is one
-abbrev pub name_at : List Statement → Option ℕ → List ℕ
-name_at ss None = []
-name_at ss (Some place) = name_of (slice_get ss place)
+abbrev pub name_bound_at : List Statement → Option ℕ → List ℕ
+name_bound_at ss None = []
+name_bound_at ss (Some place) = name_bound (slice_get ss place)
 
 -- the name of the task of a handle, by the place at which it was made
 abbrev pub names_by : List Statement → (ℕ → Option ℕ) → ℕ → List ℕ
-names_by ss places h = name_at ss (places h)
+names_by ss places h = name_bound_at ss (places h)
 
 -- it shows the task that it was given
-abbrev pub is_given : Shown → Bool
-is_given shows.Given = true
-is_given _ = false
+abbrev pub is_shown_given : Shown → Bool
+is_shown_given shows.Given = true
+is_shown_given _ = false
 
 abbrev pub shows_given : Statement → Bool
-shows_given s = is_given (shown_of s.deed)
+shows_given s = is_shown_given (shown_of s.deed)
 
 -- by these places the lines of the calls are as they have to be
 abbrev pub ShowsNames : List Statement → List Reply → (ℕ → Option ℕ) → Type 0

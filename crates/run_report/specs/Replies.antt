@@ -31,15 +31,15 @@ pub record Told : Type 0 where
   pub replies : List Reply
 
 -- a part whose caller has this seat and makes so many calls before those of its statements
-abbrev pub reported : ℕ → ℕ → List NodeEntry → Part → Told
-reported who before es p = record { name = p.name; statements = p.statements; replies = take (length p.statements) (drop before (decided who es)) }
+abbrev pub reported_part : ℕ → ℕ → List NodeEntry → Part → Told
+reported_part who before es p = record { name = p.name; statements = p.statements; replies = take (length p.statements) (drop before (decided who es)) }
 
 -- the parts of further callers, from this seat on: each caller makes one call before those of its statements, to enter
 unfoldable pub further_told : ℕ → List NodeEntry → List Part → List Told
 further_told who es [] = []
-further_told who es (p ∷ ps) = reported who 1 es p ∷ further_told (who + 1) es ps
+further_told who es (p ∷ ps) = reported_part who 1 es p ∷ further_told (who + 1) es ps
 
 -- all parts: main's is the first
 abbrev pub all_told : ℕ → List NodeEntry → List Part → List Told
 all_told main es [] = []
-all_told main es (p ∷ ps) = reported main (calls_before p.statements) es p ∷ further_told (main + 1) es ps
+all_told main es (p ∷ ps) = reported_part main (calls_before p.statements) es p ∷ further_told (main + 1) es ps

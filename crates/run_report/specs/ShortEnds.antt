@@ -5,8 +5,8 @@ use Rattle.run_report.specs.declared.short_ends.Short.{Short}
 use Rattle.run_report.specs.declared.short_ends.Short.TheVariants as short
 
 -- the end that a short form stands for
-abbrev pub in_full : Short → TaskEnd
-in_full (short.Number z) = Completed (z ∷ [])
-in_full short.Cancelled = Cancelled
-in_full (short.Failed status) = Failed status
-in_full (short.Full end) = end.value
+abbrev pub end_in_full : Short → TaskEnd
+end_in_full (short.Number z) = Completed (z ∷ [])
+end_in_full short.Cancelled = Cancelled
+end_in_full (short.Failed status) = Failed status
+end_in_full (short.Full end) = end.value

@@ -14,12 +14,12 @@ abbrev pub no_totals : Totals
 no_totals = record { tasks = 0; completed = 0; cancelled = 0; failed = 0; refused = 0; sum = pos 0 }
 
 -- with a number added to the sum
-abbrev pub with_number : Totals → ℤ → Totals
-with_number t z = record t { sum = t.sum +ℤ z }
+abbrev pub with_summand : Totals → ℤ → Totals
+with_summand t z = record t { sum = t.sum +ℤ z }
 
 -- and with numbers
 abbrev pub with_numbers : Totals → List ℤ → Totals
-with_numbers t zs = fold with_number t zs
+with_numbers t zs = fold with_summand t zs
 
 -- with a task that ended so
 abbrev pub with_end : Totals → Option TaskEnd → Totals
@@ -35,14 +35,14 @@ with_fate ends t (reply.Mtapi status) = record t { refused = t.refused + 1 }
 with_fate ends t _ = t
 
 -- with a task
-abbrev pub with_task : (ℕ → Option TaskEnd) → Totals → Reply → Totals
-with_task ends t r = record (with_fate ends t r) { tasks = t.tasks + 1 }
+abbrev pub with_task_total : (ℕ → Option TaskEnd) → Totals → Reply → Totals
+with_task_total ends t r = record (with_fate ends t r) { tasks = t.tasks + 1 }
 
 -- with the tasks among these statements
 unfoldable pub with_tasks : (ℕ → Option TaskEnd) → Totals → List Statement → List Reply → Totals
 with_tasks ends t [] rs = t
 with_tasks ends t (s ∷ ss) [] = t
-with_tasks ends t (s ∷ ss) (r ∷ rs) = with_tasks ends (if is_task (shown_of s.deed) then with_task ends t r else t) ss rs
+with_tasks ends t (s ∷ ss) (r ∷ rs) = with_tasks ends (if is_task (shown_of s.deed) then with_task_total ends t r else t) ss rs
 
 -- with the tasks of these parts
 unfoldable pub with_parts : (ℕ → Option TaskEnd) → Totals → List Told → Totals
@@ -50,17 +50,17 @@ with_parts ends t [] = t
 with_parts ends t (p ∷ ps) = with_parts ends (with_tasks ends t p.statements p.replies) ps
 
 -- a count behind its word
-abbrev pub counted : List ℕ → ℕ → List ℕ
-counted word n = word ++ decimal n
+abbrev pub counted_line : List ℕ → ℕ → List ℕ
+counted_line word n = word ++ decimal n
 
 -- the line of a summary
 unfoldable pub totals_text : Totals → List ℕ
 totals_text t =
-    counted (codes "tasks ") t.tasks
-    ++ (counted (codes " completed ") t.completed
-    ++ (counted (codes " cancelled ") t.cancelled
-    ++ (counted (codes " error ") t.failed
-    ++ (counted (codes " refused ") t.refused
+    counted_line (codes "tasks ") t.tasks
+    ++ (counted_line (codes " completed ") t.completed
+    ++ (counted_line (codes " cancelled ") t.cancelled
+    ++ (counted_line (codes " error ") t.failed
+    ++ (counted_line (codes " refused ") t.refused
     ++ (codes " sum " ++ (signed_decimal t.sum ++ 10 ∷ []))))))
 
 -- the totals of a run with this journal: a task's end is the one in its record in the journal's last state

@@ -4,7 +4,7 @@ use Rattle.mtapi_values.specs.declared.kinds.Kind.TheVariants as kind
 use Rattle.mtapi_values.specs.declared.timeouts.Timeout.TheVariants as timeout
 use Rattle.mtapi_values.specs.declared.statuses.MtapiStatus.TheVariants as mtapi
 use Rattle.mtapi_values.specs.declared.statuses.MrapiStatus.TheVariants as mrapi
-use Rattle.run_report.specs.Names.{TaskEnd, Completed, Cancelled, Failed, Deed, Statement, Workload, Reply, NodeEntry, task, every_core}
+use Rattle.run_report.specs.Names.{TaskEnd, Completed, Cancelled, Failed, Deed, Statement, Workload, Reply, NodeEntry, task_handle, every_core_mask}
 use Rattle.history.specs.Histories.{entry}
 use Rattle.workload_file.specs.declared.workload.Deed.TheVariants as deed
 use Rattle.mtapi_machine.specs.declared.ops.Op.TheVariants as op
@@ -21,12 +21,12 @@ use Rattle.run_report.specs.Worked.{statement, using, lines}
 abbrev pub every_deed : List Deed
 every_deed =
     deed.Begin
-    ∷ deed.Action 1 kind.Add every_core
+    ∷ deed.Action 1 kind.Add every_core_mask
     ∷ deed.ActionDelete 0
     ∷ deed.ActionEnable 0
     ∷ deed.ActionDisable 0
-    ∷ deed.Start 1 [] 0 every_core false None
-    ∷ deed.Enqueue 0 [] every_core false None
+    ∷ deed.Start 1 [] 0 every_core_mask false None
+    ∷ deed.Enqueue 0 [] every_core_mask false None
     ∷ deed.Wait 0 timeout.Infinite
     ∷ deed.Cancel 0
     ∷ deed.Group
@@ -103,7 +103,7 @@ pub record WorkedShown : Type 0 where
       ∷ codes "! main 36 MRAPI_ERR_SPENT" ∷ codes "! main 37 MRAPI_ERR_SPENT" ∷ codes "! main 38 MRAPI_ERR_SPENT" ∷ codes "! main 39 MRAPI_ERR_SPENT"
       ∷ codes "! main 40 MRAPI_ERR_SPENT" ∷ [])
   pub number : call_lines (all_answered (reply.Number (negsuc 8))) ≡ lines (codes "= main 22 -9" ∷ codes "= main 39 -9" ∷ [])
-  pub given : call_lines (record { name = codes "c"; statements = lined 1 every_deed; replies = map (λ d. reply.Given (task 5) Cancelled) every_deed })
+  pub given : call_lines (record { name = codes "c"; statements = lined 1 every_deed; replies = map (λ d. reply.Given (task_handle 5) Cancelled) every_deed })
       ≡ lines (codes "= c 12 " ∷ [])
   pub handle : call_lines (all_answered (reply.Handle 9)) ≡ []
   pub ok : call_lines (all_answered reply.Ok) ≡ []
@@ -114,8 +114,8 @@ pub record WorkedShown : Type 0 where
 -- How tasks end
 
 -- the ends of five tasks, by their handles
-abbrev pub ends : ℕ → Option TaskEnd
-ends h = if h == 71 then Some (Completed (pos 5 ∷ negsuc 6 ∷ []))
+abbrev pub ends_of_five : ℕ → Option TaskEnd
+ends_of_five h = if h == 71 then Some (Completed (pos 5 ∷ negsuc 6 ∷ []))
     else (if h == 72 then Some Cancelled
     else (if h == 73 then Some (Failed mtapi.ErrArgSize)
     else (if h == 74 then Some (Completed [])
@@ -123,22 +123,22 @@ ends h = if h == 71 then Some (Completed (pos 5 ∷ negsuc 6 ∷ []))
     else None))))
 
 -- a start
-abbrev pub asks : Deed
-asks = deed.Start 1 [] 0 every_core false None
+abbrev pub start_asked : Deed
+start_asked = deed.Start 1 [] 0 every_core_mask false None
 
 -- a part with a task of each end, one that has none, and two that are refused
 abbrev pub every_end : Told
 every_end = record {
   name = codes "main";
   statements =
-      statement 1 (codes "a") asks
-      ∷ statement 2 (codes "b") asks
-      ∷ statement 3 (codes "c") asks
-      ∷ statement 4 (codes "d") asks
-      ∷ statement 5 (codes "e") (deed.Enqueue 0 [] every_core false None)
-      ∷ statement 6 (codes "f") asks
-      ∷ statement 7 (codes "g") asks
-      ∷ statement 8 (codes "h") asks ∷ [];
+      statement 1 (codes "a") start_asked
+      ∷ statement 2 (codes "b") start_asked
+      ∷ statement 3 (codes "c") start_asked
+      ∷ statement 4 (codes "d") start_asked
+      ∷ statement 5 (codes "e") (deed.Enqueue 0 [] every_core_mask false None)
+      ∷ statement 6 (codes "f") start_asked
+      ∷ statement 7 (codes "g") start_asked
+      ∷ statement 8 (codes "h") start_asked ∷ [];
   replies =
       reply.Handle 71
       ∷ reply.Handle 72
@@ -154,16 +154,16 @@ every_end = record {
 abbrev pub one_end : Told
 one_end = record {
   name = codes "c";
-  statements = statement 12 (codes "a") asks ∷ statement 13 (codes "g") deed.Group ∷ [];
+  statements = statement 12 (codes "a") start_asked ∷ statement 13 (codes "g") deed.Group ∷ [];
   replies = reply.Handle 73 ∷ reply.Handle 72 ∷ [];
 }
 
-pub record WorkedEnds : Type 0 where
-  pub told : task_lines ends every_end ≡ lines (codes "main.a completed 5,-7" ∷ codes "main.b cancelled" ∷ codes "main.c error MTAPI_ERR_ARG_SIZE"
+pub record WorkedTaskEnds : Type 0 where
+  pub told : task_lines ends_of_five every_end ≡ lines (codes "main.a completed 5,-7" ∷ codes "main.b cancelled" ∷ codes "main.c error MTAPI_ERR_ARG_SIZE"
       ∷ codes "main.d completed" ∷ codes "main.e " ∷ codes "main.f completed -1,4,-30" ∷ codes "main.g refused MTAPI_ERR_TASK_LIMIT"
       ∷ codes "main.h refused MTAPI_ERR_QUEUE_DISABLED" ∷ [])
-  pub further : task_lines ends one_end ≡ lines (codes "c.a error MTAPI_ERR_ARG_SIZE" ∷ [])
-  pub counted : totals_text (with_parts ends no_totals (every_end ∷ one_end ∷ []))
+  pub further : task_lines ends_of_five one_end ≡ lines (codes "c.a error MTAPI_ERR_ARG_SIZE" ∷ [])
+  pub counted : totals_text (with_parts ends_of_five no_totals (every_end ∷ one_end ∷ []))
       ≡ lines (codes "tasks 9 completed 3 cancelled 1 error 2 refused 2 sum -29" ∷ [])
   pub written : totals_text (record { tasks = 21; completed = 22; cancelled = 23; failed = 24; refused = 25; sum = negsuc 25 })
       ≡ lines (codes "tasks 21 completed 22 cancelled 23 error 24 refused 25 sum -26" ∷ [])
@@ -220,7 +220,7 @@ pub record WorkedReplies : Type 0 where
       ≡ record { name = codes "main"; statements = without_begin; replies = reply.Handle 36 ∷ [] } ∷ further_told
 
 -- the lines of the report
-pub record WorkedLines : Type 0 where
+pub record WorkedReportLines : Type 0 where
   pub shown : WorkedShown
-  pub ends : WorkedEnds
+  pub ends : WorkedTaskEnds
   pub replies : WorkedReplies

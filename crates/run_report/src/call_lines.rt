@@ -3,8 +3,8 @@ ghost use Rattle.std.specs.List.{list_any};
 ghost use Rattle.std.specs.Prelude.{◌≡◌, ◌++◌, OnOk, IfOk, nat_eq};
 ghost use Rattle.std.specs.HashMap.{get};
 ghost use Rattle.run_report.specs.Replies.{nows};
-ghost use Rattle.run_report.specs.Calls.{shown_of, task_name, status_of, number_in, given_in, marked_line, call_line, call_lines_of};
-ghost use Rattle.run_report.specs.Places.{names_by, is_given, shows_given, ShowsNames};
+ghost use Rattle.run_report.specs.Calls.{shown_of, task_name, status_shown, number_shown, given_in, marked_line, call_line, call_lines_of};
+ghost use Rattle.run_report.specs.Places.{names_by, is_shown_given, shows_given, ShowsNames};
 
 use crate::deciding::reply_of;
 use crate::places::{places_of, task_name};
@@ -24,7 +24,7 @@ fn push_status(
     line: u64,
     reply: &Reply,
 ) -> Result<(), AllocError>
-    ensures { OnOk result (out.new.items ≡ out.old.items ++ marked_line 33 part.now line (status_of reply.now)) }
+    ensures { OnOk result (out.new.items ≡ out.old.items ++ marked_line 33 part.now line (status_shown reply.now)) }
 {
     match reply {
         Reply::Mtapi(status) => push_marked(alloc, out, b'!', part, line, status.name().as_bytes()),
@@ -40,7 +40,7 @@ fn push_number_in(
     line: u64,
     reply: &Reply,
 ) -> Result<(), AllocError>
-    ensures { OnOk result (out.new.items ≡ out.old.items ++ marked_line 61 part.now line (number_in reply.now)) }
+    ensures { OnOk result (out.new.items ≡ out.old.items ++ marked_line 61 part.now line (number_shown reply.now)) }
 {
     match reply {
         Reply::Number(number) => {
@@ -130,7 +130,7 @@ fn push_calls(
 }
 
 fn is_given(shown: Shown) -> bool
-    ensures { result ≡ is_given shown }
+    ensures { result ≡ is_shown_given shown }
 {
     matches!(shown, Shown::Given)
 }

@@ -1,7 +1,7 @@
 //! What an entry of a journal changes in what decides how tasks end.
 ghost use Rattle.std.specs.Prelude.{◌≡◌};
 ghost use Rattle.mtapi_machine.specs.WorkRows.{task_end};
-ghost use Rattle.run_report.specs.Changes.{change_of, action_made, queue_made, change_by_queue, change_by_work};
+ghost use Rattle.run_report.specs.Changes.{effect_of, action_made, queue_made, change_by_queue, change_by_work};
 
 use action_fn::ActEnd;
 use mtapi_machine::{Entry, Op, Reply};
@@ -134,7 +134,7 @@ fn change_by_work(op: &Op, reply: &Reply) -> EndEffect
 
 /// What an entry changes.
 pub fn change_of(entry: &Entry) -> EndEffect
-    ensures { result ≡ change_of entry.now.op entry.now.reply }
+    ensures { result ≡ effect_of entry.now.op entry.now.reply }
 {
     match (&entry.op, &entry.reply) {
         (Op::Close, Reply::Ok) => EndEffect::Closes,

@@ -3,8 +3,8 @@ ghost use Rattle.std.specs.Prelude.{◌≡◌, ◌≤◌, ℕ, IsTrue, IfOk, OnO
 ghost use Rattle.node_journals.specs.Shorts.{entry_of};
 ghost use Rattle.std.specs.HashMap.{get};
 ghost use Rattle.mtapi_machine.specs.WorkRows.{task_end};
-ghost use Rattle.run_report.specs.Changes.{change_of};
-ghost use Rattle.run_report.specs.Seen.{nothing_seen, put, seen_from};
+ghost use Rattle.run_report.specs.Changes.{effect_of};
+ghost use Rattle.run_report.specs.Seen.{nothing_seen, put_at, seen_from};
 ghost use Rattle.run_report.specs.Ends.{names_each_end, with_named_end, AreEnds};
 
 use crate::changes::{EndEffect, change_of};
@@ -50,7 +50,7 @@ fn note_finish(
     done: &Finished,
 ) -> Result<(), AllocError>
     ensures { OnOk result ((h : ℕ)
-        → get nat_eq ended.new h ≡ put task (Some (task_end done.now.end)) (get nat_eq ended.old) h) }
+        → get nat_eq ended.new h ≡ put_at task (Some (task_end done.now.end)) (get nat_eq ended.old) h) }
 {
     ended.insert(task, ShortEnd::answered(alloc, done.end())?)?;
     Ok(())
@@ -58,16 +58,16 @@ fn note_finish(
 
 // Notes the end that an entry names, if it names one. Whether the entry ends no other task. The three entries of a task that ran are looked
 // at first: of these the last alone names an end.
-#[tactic(auto, unfolding(crate::specs::Changes::change_of, crate::specs::Ends::names_each_end, crate::specs::Ends::with_named_end))]
+#[tactic(auto, unfolding(crate::specs::Changes::effect_of, crate::specs::Ends::names_each_end, crate::specs::Ends::with_named_end))]
 fn note_entry(
     alloc: Global,
     ended: &mut HashMap<u64, ShortEnd>,
     entry: &Entry,
 ) -> Result<bool, AllocError>
     ensures one { IfOk result (λ one. IsTrue one
-        → names_each_end (change_of entry.now.op entry.now.reply) ≡ true) }
+        → names_each_end (effect_of entry.now.op entry.now.reply) ≡ true) }
     ensures noted { IfOk result (λ one. IsTrue one
-        → (h : ℕ) → get nat_eq ended.new h ≡ with_named_end (change_of entry.now.op entry.now.reply) (get nat_eq ended.old) h) }
+        → (h : ℕ) → get nat_eq ended.new h ≡ with_named_end (effect_of entry.now.op entry.now.reply) (get nat_eq ended.old) h) }
 {
     match (&entry.op, &entry.reply) {
         (Op::Pick, Reply::Picked { .. }) => Ok(true),
@@ -87,9 +87,9 @@ fn note_change(
     entry: &Entry,
 ) -> Result<bool, AllocError>
     ensures one { IfOk result (λ one. IsTrue one
-        → names_each_end (change_of entry.now.op entry.now.reply) ≡ true) }
+        → names_each_end (effect_of entry.now.op entry.now.reply) ≡ true) }
     ensures noted { IfOk result (λ one. IsTrue one
-        → (h : ℕ) → get nat_eq ended.new h ≡ with_named_end (change_of entry.now.op entry.now.reply) (get nat_eq ended.old) h) }
+        → (h : ℕ) → get nat_eq ended.new h ≡ with_named_end (effect_of entry.now.op entry.now.reply) (get nat_eq ended.old) h) }
 {
     let change = change_of(entry);
     if !names_each_end(&change) {
@@ -100,16 +100,16 @@ fn note_change(
 }
 
 // The same of an entry in little room.
-#[tactic(auto, unfolding(crate::specs::Changes::change_of, crate::specs::Ends::names_each_end, crate::specs::Ends::with_named_end))]
+#[tactic(auto, unfolding(crate::specs::Changes::effect_of, crate::specs::Ends::names_each_end, crate::specs::Ends::with_named_end))]
 fn note_short(
     alloc: Global,
     ended: &mut HashMap<u64, ShortEnd>,
     short: &ShortEntry,
 ) -> Result<bool, AllocError>
     ensures one { IfOk result (λ one. IsTrue one
-        → names_each_end (change_of (entry_of short.now).op (entry_of short.now).reply) ≡ true) }
+        → names_each_end (effect_of (entry_of short.now).op (entry_of short.now).reply) ≡ true) }
     ensures noted { IfOk result (λ one. IsTrue one
-        → (h : ℕ) → get nat_eq ended.new h ≡ with_named_end (change_of (entry_of short.now).op (entry_of short.now).reply) (get nat_eq ended.old) h) }
+        → (h : ℕ) → get nat_eq ended.new h ≡ with_named_end (effect_of (entry_of short.now).op (entry_of short.now).reply) (get nat_eq ended.old) h) }
 {
     match short {
         ShortEntry::Start { .. } => Ok(true),
@@ -135,7 +135,7 @@ fn note_few(
     done: &FewFinished,
 ) -> Result<(), AllocError>
     ensures { OnOk result ((h : ℕ)
-        → get nat_eq ended.new h ≡ put task (Some (task_end done.now.end)) (get nat_eq ended.old) h) }
+        → get nat_eq ended.new h ≡ put_at task (Some (task_end done.now.end)) (get nat_eq ended.old) h) }
 {
     match done.number() {
         Some(number) => {

@@ -1,7 +1,7 @@
 //! The lines of the parts of a workload, put together.
 ghost use Rattle.std.specs.Prelude.{◌≡◌, ◌++◌, [], ◌+◌, ◌<◌, ◌^◌, ◌≤◌, length, OnOk, IfOk, nat_eq};
 ghost use Rattle.std.specs.List.{flat_map};
-ghost use Rattle.run_report.specs.Replies.{reported, further_told, all_told};
+ghost use Rattle.run_report.specs.Replies.{reported_part, further_told, all_told};
 ghost use Rattle.run_report.specs.Calls.{task_lines, call_lines};
 ghost use Rattle.std.specs.HashMap.{get};
 ghost use Rattle.run_report.specs.Seen.{nothing_seen, seen_from};
@@ -35,8 +35,8 @@ fn push_part(
     entries: &ShortList,
     ended: &HashMap<u64, ShortEnd>,
 ) -> Result<(), AllocError>
-    ensures tasks { OnOk result (page.new.tasks.items ≡ page.old.tasks.items ++ task_lines (get nat_eq ended.now) (reported who before entries.now.entries part.now)) }
-    ensures calls { OnOk result (page.new.calls.items ≡ page.old.calls.items ++ call_lines (reported who before entries.now.entries part.now)) }
+    ensures tasks { OnOk result (page.new.tasks.items ≡ page.old.tasks.items ++ task_lines (get nat_eq ended.now) (reported_part who before entries.now.entries part.now)) }
+    ensures calls { OnOk result (page.new.calls.items ≡ page.old.calls.items ++ call_lines (reported_part who before entries.now.entries part.now)) }
 {
     let all = decided(alloc, who, entries.shorts())?;
     let name = part.name.as_slice();

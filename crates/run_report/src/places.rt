@@ -2,8 +2,8 @@
 ghost use Rattle.std.specs.Prelude.{◌≡◌, ℕ, OnOk, IfOk, nat_eq};
 ghost use Rattle.std.specs.HashMap.{get};
 ghost use Rattle.run_report.specs.Replies.{nows};
-ghost use Rattle.run_report.specs.Calls.{makes};
-ghost use Rattle.run_report.specs.Places.{first_of_two, place_if, is_found, place_from, names_by};
+ghost use Rattle.run_report.specs.Calls.{made_task};
+ghost use Rattle.run_report.specs.Places.{first_or_second, place_if, is_found, place_from, names_by};
 
 use crate::deciding::reply_of;
 use crate::sorts::{Shown, shown_of};
@@ -16,7 +16,7 @@ use workload_file::Statement;
 
 /// The handle of the task that a statement made.
 fn made(statement: &Statement, reply: &Reply) -> Option<u64>
-    ensures { (h : ℕ) → makes h statement.now reply.now ≡ is_found h result }
+    ensures { (h : ℕ) → made_task h statement.now reply.now ≡ is_found h result }
 {
     match (shown_of(&statement.deed), reply) {
         (Shown::Task, Reply::Handle(handle)) => Some(*handle),
@@ -31,7 +31,7 @@ fn note(
     found: Option<u64>,
 ) -> Result<(), AllocError>
     ensures { OnOk result ((h : ℕ)
-        → get nat_eq places.new h ≡ first_of_two (get nat_eq places.old h) (place_if place h found)) }
+        → get nat_eq places.new h ≡ first_or_second (get nat_eq places.old h) (place_if place h found)) }
 {
     let Some(handle) = found else {
         return Ok(());

@@ -2,7 +2,7 @@
 ghost use Rattle.std.specs.Prelude.{◌≡◌, ◌∷◌, [], IfOk, IfSome};
 ghost use Rattle.mtapi_values.specs.declared.ends.TaskEnd.TheVariants.{Completed};
 ghost use Rattle.mtapi_machine.specs.WorkRows.{task_end};
-ghost use Rattle.run_report.specs.ShortEnds.{in_full};
+ghost use Rattle.run_report.specs.ShortEnds.{end_in_full};
 
 use action_fn::ActEnd;
 use mtapi_values::{Args, MtapiStatus, TaskEnd};
@@ -26,11 +26,11 @@ pub struct ShortEnd {
 
 impl Model for ShortEnd {
     ghost use Rattle.mtapi_values.specs.declared.ends.TaskEnd.{TaskEnd};
-    ghost use Rattle.run_report.specs.ShortEnds.{in_full};
+    ghost use Rattle.run_report.specs.ShortEnds.{end_in_full};
 
     ghost Value = { TaskEnd };
 
-    ghost view = { λ e. in_full e.short };
+    ghost view = { λ e. end_in_full e.short };
 }
 
 // The end of a task that answered one number.
@@ -54,7 +54,7 @@ fn only_number(numbers: &Args) -> Option<i64>
 
 // The end of a task that answered these numbers.
 fn short_answer(alloc: Global, numbers: Args) -> Result<Short, AllocError>
-    ensures { IfOk result (λ short. in_full short ≡ Completed numbers) }
+    ensures { IfOk result (λ short. end_in_full short ≡ Completed numbers) }
 {
     match only_number(&numbers) {
         Some(number) => Ok(Short::Number(number)),
@@ -63,7 +63,7 @@ fn short_answer(alloc: Global, numbers: Args) -> Result<Short, AllocError>
 }
 
 fn short_of(alloc: Global, end: TaskEnd) -> Result<Short, AllocError>
-    ensures { IfOk result (λ short. in_full short ≡ end) }
+    ensures { IfOk result (λ short. end_in_full short ≡ end) }
 {
     match end {
         TaskEnd::Cancelled => Ok(Short::Cancelled),

@@ -4,9 +4,9 @@ ghost use Rattle.std.specs.HashMap.{get, keys};
 ghost use Rattle.mtapi_values.specs.Conditions.{holds};
 ghost use Rattle.mtapi_values.specs.declared.ends.TaskEnd.TheVariants.{Cancelled, Failed};
 ghost use Rattle.mtapi_values.specs.declared.statuses.MtapiStatus.TheVariants.{ErrQueueDeleted};
-ghost use Rattle.run_report.specs.Seen.{is_shut, is_of, ends_where, with_end, with_open, enqueued, cancelled, queue_disabled, queue_deleted, withdrawn, with_action, without_action, with_change, nothing_seen, seen_from};
-ghost use Rattle.run_report.specs.Standings.{seen_in, SameAs, passes};
-ghost use Rattle.run_report.specs.Changes.{change_of};
+ghost use Rattle.run_report.specs.Seen.{is_queue_shut, is_of, ends_where, with_end, with_open, enqueued, cancelled, queue_disabled, queue_deleted, withdrawn, with_action, without_action, with_effect, nothing_seen, seen_from};
+ghost use Rattle.run_report.specs.Standings.{seen_in_standings, SameAs, passes_unstarted};
+ghost use Rattle.run_report.specs.Changes.{effect_of};
 
 use crate::actions::{has_worker, set_enabled, take_out};
 use crate::changes::{EndEffect, LiveAction, LiveQueue, Unstarted, change_of};
@@ -69,7 +69,7 @@ fn is_of(queue: u64, task: &Unstarted) -> bool
 }
 
 fn is_shut(queues: &HashMap<u64, LiveQueue>, task: &Unstarted) -> bool
-    ensures { result ≡ is_shut (get nat_eq queues.now) task.now }
+    ensures { result ≡ is_queue_shut (get nat_eq queues.now) task.now }
 {
     match task.queue {
         Some(own) => is_disabled(queues, own),
@@ -79,7 +79,7 @@ fn is_shut(queues: &HashMap<u64, LiveQueue>, task: &Unstarted) -> bool
 
 fn passes(table: &Standings, workers: u32, which: &Passing, task: &Unstarted) -> bool
     requires { workers ≤ 64 }
-    ensures { result ≡ passes workers which.now (seen_in table.now) task.now }
+    ensures { result ≡ passes_unstarted workers which.now (seen_in_standings table.now) task.now }
 {
     match which {
         Passing::Left => !has_worker(workers, task.job, task.cores, &table.actions),
@@ -91,7 +91,7 @@ fn passes(table: &Standings, workers: u32, which: &Passing, task: &Unstarted) ->
 // Whether the task of this handle hasn't begun, and passes.
 fn is_passing(table: &Standings, workers: u32, which: &Passing, handle: u64) -> bool
     requires { workers ≤ 64 }
-    ensures { result ≡ holds (passes workers which.now (seen_in table.now)) (get nat_eq table.now.unstarted handle) }
+    ensures { result ≡ holds (passes_unstarted workers which.now (seen_in_standings table.now)) (get nat_eq table.now.unstarted handle) }
 {
     match table.unstarted.get(&handle) {
         Some(task) => passes(table, workers, which, task),
@@ -105,7 +105,7 @@ fn end_one(
     handle: u64,
     end: TaskEnd,
 ) -> Result<(), AllocError>
-    ensures { OnOk result (SameAs (seen_in table.new) (with_end handle end (seen_in table.old))) }
+    ensures { OnOk result (SameAs (seen_in_standings table.new) (with_end handle end (seen_in_standings table.old))) }
 {
     let end = ShortEnd::new(alloc, end)?;
     table.unstarted.remove(&handle);
@@ -122,7 +122,7 @@ fn end_if_passing(
     end: &TaskEnd,
 ) -> Result<(), AllocError>
     requires { workers ≤ 64 }
-    ensures { OnOk result (SameAs (seen_in table.new) (if holds (passes workers which.now (seen_in table.old)) (get nat_eq table.old.unstarted handle) then with_end handle end.now (seen_in table.old) else seen_in table.old)) }
+    ensures { OnOk result (SameAs (seen_in_standings table.new) (if holds (passes_unstarted workers which.now (seen_in_standings table.old)) (get nat_eq table.old.unstarted handle) then with_end handle end.now (seen_in_standings table.old) else seen_in_standings table.old)) }
 {
     if is_passing(table, workers, which, handle) {
         return end_one(alloc, table, handle, end.again());
@@ -146,7 +146,7 @@ fn end_where(
     end: &TaskEnd,
 ) -> Result<(), AllocError>
     requires { workers ≤ 64 }
-    ensures { OnOk result (SameAs (seen_in table.new) (ends_where (passes workers which.now (seen_in table.old)) end.now (seen_in table.old))) }
+    ensures { OnOk result (SameAs (seen_in_standings table.new) (ends_where (passes_unstarted workers which.now (seen_in_standings table.old)) end.now (seen_in_standings table.old))) }
 {
     let handles = handles_of(alloc, &table.unstarted)?;
     for handle in handles.iter() {
@@ -156,7 +156,7 @@ fn end_where(
 }
 
 fn cancel(alloc: Global, table: &mut Standings, handle: u64) -> Result<(), AllocError>
-    ensures { OnOk result (SameAs (seen_in table.new) (cancelled handle (seen_in table.old))) }
+    ensures { OnOk result (SameAs (seen_in_standings table.new) (cancelled handle (seen_in_standings table.old))) }
 {
     if table.unstarted.contains_key(&handle) {
         return end_one(alloc, table, handle, TaskEnd::Cancelled);
@@ -165,7 +165,7 @@ fn cancel(alloc: Global, table: &mut Standings, handle: u64) -> Result<(), Alloc
 }
 
 fn enqueue(table: &mut Standings, handle: u64, queue: u64, cores: Mask) -> Result<(), AllocError>
-    ensures { OnOk result (SameAs (seen_in table.new) (enqueued handle queue cores (get nat_eq table.old.queues queue) (seen_in table.old))) }
+    ensures { OnOk result (SameAs (seen_in_standings table.new) (enqueued handle queue cores (get nat_eq table.old.queues queue) (seen_in_standings table.old))) }
 {
     let Some(found) = table.queues.get(&queue) else {
         return Ok(());
@@ -180,7 +180,7 @@ fn enqueue(table: &mut Standings, handle: u64, queue: u64, cores: Mask) -> Resul
 }
 
 fn set_open(table: &mut Standings, queue: u64, enabled: bool) -> Result<(), AllocError>
-    ensures { OnOk result (SameAs (seen_in table.new) (with_open queue enabled (seen_in table.old))) }
+    ensures { OnOk result (SameAs (seen_in_standings table.new) (with_open queue enabled (seen_in_standings table.old))) }
 {
     let Some(found) = table.queues.get(&queue) else {
         return Ok(());
@@ -201,7 +201,7 @@ fn disable_queue(
     queue: u64,
 ) -> Result<(), AllocError>
     requires { workers ≤ 64 }
-    ensures { OnOk result (SameAs (seen_in table.new) (queue_disabled queue (seen_in table.old))) }
+    ensures { OnOk result (SameAs (seen_in_standings table.new) (queue_disabled queue (seen_in_standings table.old))) }
 {
     let ends = lets_go(&table.queues, queue);
     set_open(table, queue, false)?;
@@ -224,7 +224,7 @@ fn delete_queue(
     queue: u64,
 ) -> Result<(), AllocError>
     requires { workers ≤ 64 }
-    ensures { OnOk result (SameAs (seen_in table.new) (queue_deleted queue (seen_in table.old))) }
+    ensures { OnOk result (SameAs (seen_in_standings table.new) (queue_deleted queue (seen_in_standings table.old))) }
 {
     let end = TaskEnd::Failed(MtapiStatus::ErrQueueDeleted);
     end_where(alloc, table, workers, &Passing::Of(queue), &end)?;
@@ -240,7 +240,7 @@ fn fail_left(
     status: MtapiStatus,
 ) -> Result<(), AllocError>
     requires { workers ≤ 64 }
-    ensures { OnOk result (SameAs (seen_in table.new) (withdrawn workers (seen_in table.old).actions status (seen_in table.old))) }
+    ensures { OnOk result (SameAs (seen_in_standings table.new) (withdrawn workers (seen_in_standings table.old).actions status (seen_in_standings table.old))) }
 {
     end_where(
         alloc,
@@ -260,7 +260,7 @@ fn note(
     change: EndEffect,
 ) -> Result<(), AllocError>
     requires { workers ≤ 64 }
-    ensures { OnOk result (SameAs (seen_in table.new) (with_change workers change (seen_in table.old))) }
+    ensures { OnOk result (SameAs (seen_in_standings table.new) (with_effect workers change (seen_in_standings table.old))) }
 {
     match change {
         EndEffect::Nothing => {}
@@ -300,7 +300,7 @@ fn note(
 ///
 /// - `AllocError`: memory ran out.
 pub fn no_standings(alloc: Global, tasks: usize) -> Result<Standings, AllocError>
-    ensures { IfOk result (λ t. SameAs (seen_in t) nothing_seen) }
+    ensures { IfOk result (λ t. SameAs (seen_in_standings t) nothing_seen) }
 {
     Ok(Standings {
         ended: HashMap::with_capacity(alloc, tasks)?,
@@ -322,7 +322,7 @@ pub fn follow_entry(
     entry: &Entry,
 ) -> Result<(), AllocError>
     requires { workers ≤ 64 }
-    ensures { OnOk result (SameAs (seen_in table.new) (with_change workers (change_of entry.now.op entry.now.reply) (seen_in table.old))) }
+    ensures { OnOk result (SameAs (seen_in_standings table.new) (with_effect workers (effect_of entry.now.op entry.now.reply) (seen_in_standings table.old))) }
 {
     note(alloc, table, workers, change_of(entry))
 }
@@ -334,7 +334,7 @@ pub fn follow_entry(
 /// looks through the live actions for each of them.
 pub fn standings_of(alloc: Global, workers: u32, entries: &[Entry]) -> Result<Standings, AllocError>
     requires { workers ≤ 64 }
-    ensures { IfOk result (λ t. SameAs (seen_in t) (seen_from workers nothing_seen entries.now)) }
+    ensures { IfOk result (λ t. SameAs (seen_in_standings t) (seen_from workers nothing_seen entries.now)) }
 {
     // A task that ran has three entries: its start, its pick and its end.
     let mut table = no_standings(alloc, entries.len() / 3)?;

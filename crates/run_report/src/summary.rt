@@ -5,10 +5,10 @@ ghost use Rattle.std.specs.HashMap.{get};
 ghost use Rattle.workload_file.specs.Formed.{WellFormed};
 ghost use Rattle.mtapi_machine.specs.Legal.{Legal};
 ghost use Rattle.mtapi_machine.specs.State.{terms_with};
-ghost use Rattle.run_report.specs.Replies.{reported, further_told, all_told};
+ghost use Rattle.run_report.specs.Replies.{reported_part, further_told, all_told};
 ghost use Rattle.run_report.specs.Report.{parts_told};
 ghost use Rattle.run_report.specs.Seen.{nothing_seen, seen_from};
-ghost use Rattle.run_report.specs.Summary.{no_totals, with_tasks, with_parts, counted, totals_text, summary, statements_in, AreTotals};
+ghost use Rattle.run_report.specs.Summary.{no_totals, with_tasks, with_parts, counted_line, totals_text, summary, statements_in, AreTotals};
 
 use crate::deciding::{calls_before, decided, replies_to};
 use crate::ends::ends_of;
@@ -34,7 +34,7 @@ fn with_part(
     requires totals { AreTotals totals.tasks totals }
     requires few { totals.tasks + length part.now.statements ≤ 20000 }
     ensures value { IfOk result (λ t.
-        t ≡ with_tasks (get nat_eq ended.now) totals part.now.statements (reported who before entries.now.entries part.now).replies) }
+        t ≡ with_tasks (get nat_eq ended.now) totals part.now.statements (reported_part who before entries.now.entries part.now).replies) }
     ensures totals { IfOk result (λ t. AreTotals t.tasks t) }
     ensures tasks { IfOk result (λ t. t.tasks ≤ totals.tasks + length part.now.statements) }
 {
@@ -118,7 +118,7 @@ fn totals_by_entries(
 
 /// A count behind its word.
 fn push_counted(alloc: Global, out: &mut Vec<u8>, word: &[u8], count: u64) -> Result<(), AllocError>
-    ensures { OnOk result (out.new.items ≡ out.old.items ++ counted word.now count) }
+    ensures { OnOk result (out.new.items ≡ out.old.items ++ counted_line word.now count) }
 {
     out.extend_from_slice(word)?;
     push_number(alloc, out, count)

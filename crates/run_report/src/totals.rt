@@ -3,7 +3,7 @@ ghost use Rattle.std.specs.Prelude.{◌≡◌, ◌≤◌, ◌<◌, ◌+◌, ◌*
 ghost use Rattle.std.specs.HashMap.{get};
 ghost use Rattle.run_report.specs.Replies.{nows};
 ghost use Rattle.run_report.specs.Calls.{shown_of, is_task};
-ghost use Rattle.run_report.specs.Summary.{no_totals, with_number, with_numbers, with_end, with_fate, with_task, with_tasks, IsNear, AreTotals};
+ghost use Rattle.run_report.specs.Summary.{no_totals, with_summand, with_numbers, with_end, with_fate, with_task_total, with_tasks, IsNear, AreTotals};
 
 use crate::deciding::reply_of;
 use crate::short_ends::ShortEnd;
@@ -31,7 +31,7 @@ pub struct Totals {
 fn with_number(totals: Totals, number: i64) -> Totals
     requires low { neg_ℤ (pos 1267650600228229401496703205376) ≤ℤ totals.sum }
     requires high { totals.sum ≤ℤ pos 1267650600228229401496703205376 }
-    ensures value { result ≡ with_number totals number }
+    ensures value { result ≡ with_summand totals number }
     ensures near { IsNear 1 totals.sum result.sum }
 {
     Totals {
@@ -109,7 +109,7 @@ fn with_fate(totals: Totals, ended: &HashMap<u64, ShortEnd>, reply: &Reply) -> T
 fn with_task(totals: Totals, ended: &HashMap<u64, ShortEnd>, reply: &Reply) -> Totals
     requires totals { AreTotals totals.tasks totals }
     requires few { totals.tasks < 20000 }
-    ensures value { result ≡ with_task (get nat_eq ended.now) totals reply.now }
+    ensures value { result ≡ with_task_total (get nat_eq ended.now) totals reply.now }
     ensures totals { AreTotals result.tasks result }
     ensures tasks { result.tasks ≡ totals.tasks + 1 }
 {
@@ -129,7 +129,7 @@ fn with_statement(
 ) -> Totals
     requires totals { AreTotals totals.tasks totals }
     requires few { totals.tasks < 20000 }
-    ensures value { result ≡ (if is_task (shown_of statement.now.deed) then with_task (get nat_eq ended.now) totals reply.now else totals) }
+    ensures value { result ≡ (if is_task (shown_of statement.now.deed) then with_task_total (get nat_eq ended.now) totals reply.now else totals) }
     ensures totals { AreTotals result.tasks result }
     ensures tasks { result.tasks ≤ totals.tasks + 1 }
 {

@@ -17,10 +17,10 @@ ghost use Rattle.mtapi_machine.specs.declared.ops.Op.TheVariants as op;
 ghost use Rattle.workload_runs.specs.declared.calls.Wanted.TheVariants.{Entrance};
 ghost use Rattle.mtapi_values.specs.Timeouts.{looks_of};
 ghost use Rattle.mtapi_machine.specs.declared.replies.Reply.{Reply};
-ghost use Rattle.workload_runners.specs.Turns.{Turned, Unturned};
-ghost use Rattle.workload_runners.specs.Looks.{Looked, StillLooking};
-ghost use Rattle.workload_runs.specs.Wants.{op_of, IsTimed};
-ghost use Rattle.workload_runners.specs.Replies.{done, handle, the_job, mtapi, mrapi, says, fits, found};
+ghost use Rattle.workload_runners.specs.Turns.{NodeTurned, NodeUnturned};
+ghost use Rattle.workload_runners.specs.Looks.{NodeLooked, NodeStillLooking};
+ghost use Rattle.workload_runs.specs.Wants.{op_of_look, IsTimed};
+ghost use Rattle.workload_runners.specs.Replies.{done, handle_told, the_job, mtapi_standard, mrapi_standard, says_something, fits_op, is_answer_found};
 ghost use Rattle.sched_workers.specs.Answers.{Called, Waited};
 
 use crate::callers::answers::{done, handle, resource_done, resource_handle, the_job};
@@ -91,9 +91,9 @@ impl<'a> Caller<'a> {
 
     // One turn. What was asked may be work for a worker that sleeps.
     fn once<R: Wait>(&mut self, rt: &R, op: Op) -> Result<Reply, Spent>
-        ensures turned { IfOk result (λ r. Turned self.old op r self.new) }
-        ensures spent { OnErr result (Unturned self.old self.new) }
-        ensures fits { IfOk result (λ r. fits op r ≡ true) }
+        ensures turned { IfOk result (λ r. NodeTurned self.old op r self.new) }
+        ensures spent { OnErr result (NodeUnturned self.old self.new) }
+        ensures fits { IfOk result (λ r. fits_op op r ≡ true) }
     {
         let affected = affected_by(&op);
         let reply = turn(rt, self.cell, &mut self.seat, op);
@@ -104,48 +104,48 @@ impl<'a> Caller<'a> {
     // As many looks as the timeout gives.
     fn within<R: Wait>(&mut self, rt: &R, wanted: Wanted, timeout: Timeout) -> Result<Reply, Spent>
         requires timed { IsTimed wanted }
-        ensures looked { IfOk result (λ r. Looked wanted (looks_of timeout) self.old self.new r) }
-        ensures spent { OnErr result (StillLooking wanted (looks_of timeout) self.old self.new) }
-        ensures found { IfOk result (λ r. found wanted r ≡ true) }
+        ensures looked { IfOk result (λ r. NodeLooked wanted (looks_of timeout) self.old self.new r) }
+        ensures spent { OnErr result (NodeStillLooking wanted (looks_of timeout) self.old self.new) }
+        ensures found { IfOk result (λ r. is_answer_found wanted r ≡ true) }
     {
         look(rt, self.cell, &mut self.seat, wanted, timeout)
     }
 
     // One turn for an op of MTAPI that is done.
     fn mtapi_done<R: Wait>(&mut self, rt: &R, op: Op) -> Result<(), MtapiStatus>
-        requires fits { (r : Reply) → fits op r ≡ says mtapi done r }
-        ensures { Called mtapi done op self.old self.new result }
+        requires fits { (r : Reply) → fits_op op r ≡ says_something mtapi_standard done r }
+        ensures { Called mtapi_standard done op self.old self.new result }
     {
         done(self.once(rt, op))
     }
 
     // One turn for an op of MTAPI that gives a handle.
     fn mtapi_handle<R: Wait>(&mut self, rt: &R, op: Op) -> Result<u64, MtapiStatus>
-        requires fits { (r : Reply) → fits op r ≡ says mtapi handle r }
-        ensures { Called mtapi handle op self.old self.new result }
+        requires fits { (r : Reply) → fits_op op r ≡ says_something mtapi_standard handle_told r }
+        ensures { Called mtapi_standard handle_told op self.old self.new result }
     {
         handle(self.once(rt, op))
     }
 
     // One turn that asks for a job.
     fn mtapi_job<R: Wait>(&mut self, rt: &R, job: u32) -> Result<u32, MtapiStatus>
-        ensures { Called mtapi (the_job job) (op.JobGet job) self.old self.new result }
+        ensures { Called mtapi_standard (the_job job) (op.JobGet job) self.old self.new result }
     {
         the_job(self.once(rt, Op::JobGet { job }), job)
     }
 
     // One turn for an op of MRAPI that is done.
     fn mrapi_done<R: Wait>(&mut self, rt: &R, op: Op) -> Result<(), MrapiStatus>
-        requires fits { (r : Reply) → fits op r ≡ says mrapi done r }
-        ensures { Called mrapi done op self.old self.new result }
+        requires fits { (r : Reply) → fits_op op r ≡ says_something mrapi_standard done r }
+        ensures { Called mrapi_standard done op self.old self.new result }
     {
         resource_done(self.once(rt, op))
     }
 
     // One turn for an op of MRAPI that gives a handle.
     fn mrapi_handle<R: Wait>(&mut self, rt: &R, op: Op) -> Result<u64, MrapiStatus>
-        requires fits { (r : Reply) → fits op r ≡ says mrapi handle r }
-        ensures { Called mrapi handle op self.old self.new result }
+        requires fits { (r : Reply) → fits_op op r ≡ says_something mrapi_standard handle_told r }
+        ensures { Called mrapi_standard handle_told op self.old self.new result }
     {
         resource_handle(self.once(rt, op))
     }
@@ -158,17 +158,17 @@ impl<'a> Caller<'a> {
         timeout: Timeout,
     ) -> Result<(), MrapiStatus>
         requires timed { IsTimed wanted }
-        requires found { (r : Reply) → found wanted r ≡ says mrapi done r }
-        ensures { Waited mrapi done wanted (looks_of timeout) self.old self.new result }
+        requires found { (r : Reply) → is_answer_found wanted r ≡ says_something mrapi_standard done r }
+        ensures { Waited mrapi_standard done wanted (looks_of timeout) self.old self.new result }
     {
         resource_done(self.within(rt, wanted, timeout))
     }
 
     // Looks until main has released.
     fn to_enter<R: Wait>(&mut self, rt: &R) -> Result<Reply, Spent>
-        ensures looked { IfOk result (λ r. Looked Entrance None self.old self.new r) }
-        ensures spent { OnErr result (StillLooking Entrance None self.old self.new) }
-        ensures found { IfOk result (λ r. found Entrance r ≡ true) }
+        ensures looked { IfOk result (λ r. NodeLooked Entrance None self.old self.new r) }
+        ensures spent { OnErr result (NodeStillLooking Entrance None self.old self.new) }
+        ensures found { IfOk result (λ r. is_answer_found Entrance r ≡ true) }
     {
         look(
             rt,

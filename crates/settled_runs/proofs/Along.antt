@@ -1,5 +1,5 @@
 -- Where a line of a seat stands among the entries of a run, and one walk along the statements of a part, with their lines and replies.
-use Rattle.settled_runs.proofs.Names.{nat_tests, ◌≡◌, ◌⊎◌, inl, inr, ℕ, Bool, true, false, cond, List, [], ◌∷◌, ◌++◌, length, refl, sym, ◌∙◌, ap, arith, ◌==◌, eqb-true, entry, NodeEntry, Line, line, lines_of, IfSome, map, slice_get, append-nil, append_assoc, suc, zero, Option, Some, ◌<◌, subst, Made, Sort, Action, AreStatements, IsBoundAt, IsStatement, NodeSettings, Reply, Statement, call_of, handle_at, fst_true, snd_true, handle_of, some_same, AllGranted, GrantedTo, actions_in, Carried, binds, are_settled, is_settled_deed, ◌+◌, length-append, length_push, map_push, map-append, get_or_at, get_or_append_left, length-map, slice_get_cases}
+use Rattle.settled_runs.proofs.Names.{nat_tests, ◌≡◌, ◌⊎◌, inl, inr, ℕ, Bool, true, false, cond, List, [], ◌∷◌, ◌++◌, length, refl, sym, ◌∙◌, ap, arith, ◌==◌, eqb-true, entry, NodeEntry, Line, line_with, lines_of, IfSome, map, slice_get, append-nil, append_assoc, suc, zero, Option, Some, ◌<◌, subst, MadeLines, Sort, Action, AreStatements, IsBoundAt, IsStatement, NodeSettings, Reply, Statement, call_of, handle_at, fst_true, snd_true, handle_of, some_same, AllGranted, GrantedTo, actions_in, Carried, binds, are_settled, is_settled_deed, ◌+◌, length-append, length_push, map_push, map-append, get_or_at, get_or_append_left, length-map, slice_get_cases}
 
 pub same_head : {X : Type 0} (x y : X) (xs ys : List X) → x ∷ xs ≡ y ∷ ys → x ≡ y
 same_head x y xs ys e = cc
@@ -78,7 +78,7 @@ cut who (e ∷ es) (n ∷ ns) A l B i = by (e.who == who) refl i (cut who es ns)
       left = c.left;
     }
 
-    here : (e.who == who) ≡ true → line e.op e.reply n ≡ l → lines_of who es ns ≡ B → A ≡ [] → Cut who (e ∷ es) (n ∷ ns) A l B
+    here : (e.who == who) ≡ true → line_with e.op e.reply n ≡ l → lines_of who es ns ≡ B → A ≡ [] → Cut who (e ∷ es) (n ∷ ns) A l B
     here w h r a = record {
       before = [];
       behind = es;
@@ -92,14 +92,14 @@ cut who (e ∷ es) (n ∷ ns) A l B i = by (e.who == who) refl i (cut who es ns)
       left = r;
     }
 
-    by : (b : Bool) → (e.who == who) ≡ b → cond b (line e.op e.reply n ∷ lines_of who es ns) (lines_of who es ns) ≡ A ++ l ∷ B
+    by : (b : Bool) → (e.who == who) ≡ b → cond b (line_with e.op e.reply n ∷ lines_of who es ns) (lines_of who es ns) ≡ A ++ l ∷ B
         → ((C : List Line) (x : Line) (D : List Line) → lines_of who es ns ≡ C ++ x ∷ D → Cut who es ns C x D) → Cut who (e ∷ es) (n ∷ ns) A l B
-    by false w f k = later A (ap (λ (b : Bool). cond b (line e.op e.reply n ∷ []) [] ++ A) w) (k A l B f)
+    by false w f k = later A (ap (λ (b : Bool). cond b (line_with e.op e.reply n ∷ []) [] ++ A) w) (k A l B f)
     by true w f k = first A refl f
       where
-        first : (C : List Line) → C ≡ A → line e.op e.reply n ∷ lines_of who es ns ≡ C ++ l ∷ B → Cut who (e ∷ es) (n ∷ ns) A l B
+        first : (C : List Line) → C ≡ A → line_with e.op e.reply n ∷ lines_of who es ns ≡ C ++ l ∷ B → Cut who (e ∷ es) (n ∷ ns) A l B
         first [] c g = here w (same_head _ _ _ _ g) (same_tail _ _ _ _ g) (sym c)
-        first (a ∷ C) c g = later C (ap (λ (b : Bool). cond b (line e.op e.reply n ∷ []) [] ++ C) w ∙ (λ j. same_head _ _ _ _ g j ∷ C)
+        first (a ∷ C) c g = later C (ap (λ (b : Bool). cond b (line_with e.op e.reply n ∷ []) [] ++ C) w ∙ (λ j. same_head _ _ _ _ g j ∷ C)
             ∙ c) (k C l B (same_tail _ _ _ _ g))
 
 -- the lines of any seat in two, and those of its own
@@ -143,18 +143,18 @@ handles_front rs qs n l = ap (λ (z : List ℕ). handle_at z n) (map-append hand
 
 -- Carried lists in pieces
 
-pub carried_more : (bound : List ℕ) (ss ts : List Statement) (ls ks : List Line) (rs qs : List Reply) → Carried Made bound ss ls rs
-    → Carried Made (bound ++ map handle_of rs) ts ks qs → Carried Made bound (ss ++ ts) (ls ++ ks) (rs ++ qs)
+pub carried_more : (bound : List ℕ) (ss ts : List Statement) (ls ks : List Line) (rs qs : List Reply) → Carried MadeLines bound ss ls rs
+    → Carried MadeLines (bound ++ map handle_of rs) ts ks qs → Carried MadeLines bound (ss ++ ts) (ls ++ ks) (rs ++ qs)
 unfolding Carried
 carried_more bound [] ts ls ks [] qs a b =
-    subst (λ (x : List Line). Carried Made bound ts (x ++ ks) qs) (sym a) (subst (λ (x : List ℕ). Carried Made x ts ks qs) (append-nil bound) b)
+    subst (λ (x : List Line). Carried MadeLines bound ts (x ++ ks) qs) (sym a) (subst (λ (x : List ℕ). Carried MadeLines x ts ks qs) (append-nil bound) b)
 carried_more bound (s ∷ ss) ts ls ks (r ∷ rs) qs a b = (
   a.0,
   a.1 ++ ks,
   (ap (λ (x : List Line). x ++ ks) a.2 ∙ append_assoc a.0 a.1 ks),
   a.3,
   carried_more (bound ++ handle_of r ∷ []) ss ts a.1 ks rs qs a.4
-      (subst (λ (x : List ℕ). Carried Made x ts ks qs) (sym (append_assoc bound (handle_of r ∷ []) (map handle_of rs))) b),
+      (subst (λ (x : List ℕ). Carried MadeLines x ts ks qs) (sym (append_assoc bound (handle_of r ∷ []) (map handle_of rs))) b),
 )
 carried_more bound _ ts ls ks _ qs a b = absurd a
 
@@ -171,16 +171,17 @@ pub record Step (all : List Statement) (ls : List Line) (rs : List Reply) (s : S
   pub parted : all ≡ before ++ s ∷ rest
   pub is : ls ≡ first ++ (front ++ more)
   pub told : rs ≡ replies ++ reply ∷ others
-  pub carried : Carried Made [] before first replies
+  pub carried : Carried MadeLines [] before first replies
   pub many : length replies ≡ length before
-  pub made : Made (call_of (map handle_of replies) s.deed) front reply
+  pub made : MadeLines (call_of (map handle_of replies) s.deed) front reply
 
 -- what holds before all statements, and is kept by each, holds behind them
 module _ (all : List Statement) (ls : List Line) (rs : List Reply) (I : List Statement → List Line → List Reply → Type 0)
     (step : (s : Statement) (x : Step all ls rs s) → I x.before x.first x.replies
     → I (x.before ++ s ∷ []) (x.first ++ x.front) (x.replies ++ x.reply ∷ [])) where
   along_from : (before : List Statement) (l1 : List Line) (r1 : List Reply) (ss : List Statement) (ks : List Line) (qs : List Reply)
-      → Carried Made [] before l1 r1 → length r1 ≡ length before → Carried Made (map handle_of r1) ss ks qs → all ≡ before ++ ss → ls ≡ l1 ++ ks → rs ≡ r1 ++ qs
+      → Carried MadeLines [] before l1 r1 → length r1 ≡ length before → Carried MadeLines (map handle_of r1) ss ks qs → all ≡ before ++ ss → ls ≡ l1 ++ ks
+      → rs ≡ r1 ++ qs
       → I before l1 r1 → I all ls rs
   unfolding Carried
   along_from before l1 r1 [] ks [] c1 n c a e t i =
@@ -192,7 +193,7 @@ module _ (all : List Statement) (ls : List Line) (rs : List Reply) (I : List Sta
       along_from (before ++ s ∷ []) (l1 ++ c.0) (r1 ++ r ∷ []) ss c.1 qs
       (carried_more [] before (s ∷ []) l1 c.0 r1 (r ∷ []) c1 (c.0, [], sym (append-nil c.0), c.3, refl))
       (length_push r1 r ∙ ap (λ (k : ℕ). k + 1) n
-      ∙ sym (length_push before s)) (subst (λ (x : List ℕ). Carried Made x ss c.1 qs) (sym (map_push handle_of r1 r)) c.4)
+      ∙ sym (length_push before s)) (subst (λ (x : List ℕ). Carried MadeLines x ss c.1 qs) (sym (map_push handle_of r1 r)) c.4)
       (a ∙ sym (append_assoc before (s ∷ []) ss)) (e2 ∙ sym (append_assoc l1 c.0 c.1)) (t ∙ sym (append_assoc r1 (r ∷ []) qs))
       (step s (record {
         before = before;
@@ -212,7 +213,7 @@ module _ (all : List Statement) (ls : List Line) (rs : List Reply) (I : List Sta
       }) i)
   along_from before l1 r1 _ ks _ c1 n c a e t i = absurd c
 
-  pub along : Carried Made [] all ls rs → I [] [] [] → I all ls rs
+  pub along : Carried MadeLines [] all ls rs → I [] [] [] → I all ls rs
   unfolding Carried
   along c i = along_from [] [] [] all ls rs refl refl c refl refl refl i
 
@@ -325,7 +326,8 @@ pub record Found (all : List Statement) (ls : List Line) (rs : List Reply) (plac
   pub step : Step all ls rs s
   pub early : length step.before ≡ place
 
-pub found : (all : List Statement) (ls : List Line) (rs : List Reply) → Carried Made [] all ls rs → (place : ℕ) (s : Statement) → slice_get all place ≡ Some s
+pub found : (all : List Statement) (ls : List Line) (rs : List Reply) → Carried MadeLines [] all ls rs → (place : ℕ) (s : Statement)
+    → slice_get all place ≡ Some s
     → Found all ls rs place s
 found all ls rs c =
     along all ls rs (λ b l r. (place : ℕ) (s : Statement) → slice_get b place ≡ Some s → Found all ls rs place s)

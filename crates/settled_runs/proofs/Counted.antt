@@ -1,5 +1,5 @@
 -- How many entries of a run ask for an op of some class: the statements bound it.
-use Rattle.settled_runs.proofs.Names.{Each, ◌≡◌, ℕ, suc, ◌+◌, ◌≤◌, Bool, true, false, List, [], ◌∷◌, ◌++◌, length, refl, ◌∙◌, ap, subst, arith, ◌==◌, ◌&&◌, ◌||◌, nat_le, map, flat_map, nat_tests, eq-eqb, both_true, snd_true, how_many, Deed, Statement, Part, Workload, Op, Reply, handle_of, NodeEntry, Call, Once, Looking, call_of, Line, Made, entries_that, BySeats, true_false, lines_of, Carried, all_statements, Layout, entry}
+use Rattle.settled_runs.proofs.Names.{Each, ◌≡◌, ℕ, suc, ◌+◌, ◌≤◌, Bool, true, false, List, [], ◌∷◌, ◌++◌, length, refl, ◌∙◌, ap, subst, arith, ◌==◌, ◌&&◌, ◌||◌, nat_le, map, flat_map, nat_tests, eq-eqb, both_true, snd_true, how_many, Deed, Statement, Part, Workload, Op, Reply, handle_of, NodeEntry, Call, Once, Looking, call_of, Line, MadeLines, entries_that, BySeats, true_false, lines_of, Carried, all_statements, Layout, entry}
 use Rattle.settled_runs.proofs.{Along.Step, Along.along, Along.Cut, Granted.bit}
 use Rattle.settled_runs.proofs.Each.{AllSeats, CallEach, OnlyBy, PartAt, each_map, each_of, is_outside, run_each, run_parts, work_outside, RanSettled, each_op, map_run, seats_are}
 
@@ -80,7 +80,7 @@ pub no_bit : (b : Bool) → bit b ≡ 0 → b ≡ false
 no_bit b e1 = grind (arith, nat_tests)
 
 module _ (p : Op → Bool) where
-  made_asks : (c : Call) (n : ℕ) (ls : List Line) (r : Reply) → CallAsks p n c → Made c ls r → asked p ls ≤ n
+  made_asks : (c : Call) (n : ℕ) (ls : List Line) (r : Reply) → CallAsks p n c → MadeLines c ls r → asked p ls ≤ n
   made_asks c n ls r e1 e2 = grind (arith, nat_tests)
 
   -- a call that may not ask for it does not
@@ -88,7 +88,7 @@ module _ (p : Op → Bool) where
   calls_none c b e1 e2 = grind (arith, nat_tests)
 
   -- where each statement of a class asks for it once at most, and no other does
-  pub statements_ask : (q : Deed → Bool) (all : List Statement) (ls : List Line) (rs : List Reply) → Carried Made [] all ls rs
+  pub statements_ask : (q : Deed → Bool) (all : List Statement) (ls : List Line) (rs : List Reply) → Carried MadeLines [] all ls rs
       → ((s : Statement) (x : Step all ls rs s) → CallAsks p (bit (q s.deed)) (call_of (map handle_of x.replies) s.deed))
       → asked p ls ≤ how_many (λ s. q s.deed) all
   statements_ask q all ls rs c per =

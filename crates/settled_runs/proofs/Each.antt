@@ -1,5 +1,5 @@
 -- What holds of each line of a seat, and of each entry of a run.
-use Rattle.settled_runs.proofs.Names.{Each, list_any, list_all, flat_map, ap, append_assoc, arith, cond, refl, suc, sym, ◌∙◌, Bool, List, Option, [], false, length, true, ℕ, ◌++◌, ◌+◌, ◌<◌, ◌∷◌, ◌≡◌, ◌≤◌, subst, append-nil, eq-eqb, eqb-true, or_left, or_right, list_any-append, nat_lt, not, ◌==◌, nat_tests, Made, line, Line, before_it, head_of, in_lines, tail_of_main, Action, BySeats, Call, Looking, Once, CallerRan, MainRan, PartsRan, NodeEntry, NodeSettings, Op, Part, Reply, RunOf, WorkerRan, is_work, Statement, Workload, entry, fst_true, not_true, snd_true, true_false, has_room, are_settled_parts, has_one_fault_a_group, is_settled_further, is_settled_part, set_up, action_in, actions_in, all_statements, lines_of, CallersRan, Carried, has_begin, all_work, are_settled, has_different_ids, has_one_kind_a_job, is_settled, keep_limits, sets_up_first, inl, inr, cases_eq, Timeout, Looked, whether, Layout, Legal, SettledRun, by_seats, call_of, handle_of, map, opening, run_terms}
+use Rattle.settled_runs.proofs.Names.{Each, list_any, list_all, flat_map, ap, append_assoc, arith, cond, refl, suc, sym, ◌∙◌, Bool, List, Option, [], false, length, true, ℕ, ◌++◌, ◌+◌, ◌<◌, ◌∷◌, ◌≡◌, ◌≤◌, subst, append-nil, eq-eqb, eqb-true, or_left, or_right, list_any-append, nat_lt, not, ◌==◌, nat_tests, MadeLines, line_with, Line, before_it, head_lines, in_lines, tail_of_main, Action, BySeats, Call, Looking, Once, CallerRan, MainRan, PartsRan, NodeEntry, NodeSettings, Op, Part, Reply, RunOf, WorkerRan, is_work, Statement, Workload, entry, fst_true, not_true, snd_true, true_false, has_room, are_settled_parts, has_one_fault_a_group, is_settled_further, is_settled_part, set_up, action_in, actions_in, all_statements, lines_of, CallersRan, Carried, has_begin, all_work, are_settled, has_different_ids, has_one_kind_a_job, is_settled, keep_limits, sets_up_first, inl, inr, cases_eq, Timeout, LookedLines, whether, Layout, Legal, SettledRun, by_seats, call_of, handle_of, map, opening, run_terms}
 use Rattle.settled_runs.proofs.Along.{Cut, Step, along}
 
 module _ {X : Type 0} (P : X → Type 0) where
@@ -31,7 +31,7 @@ CallEach P (Once o) = P o
 CallEach P (Looking waits o timeout) = (last : Bool) → P (o last)
 
 module _ (P : Op → Type 0) where
-  pub made_each : (c : Call) (ls : List Line) (r : Reply) → CallEach P c → Made c ls r → Each (λ l. P l.op) ls
+  pub made_each : (c : Call) (ls : List Line) (r : Reply) → CallEach P c → MadeLines c ls r → Each (λ l. P l.op) ls
   made_each c ls r e1 e2 = grind (arith, nat_tests)
 
   pub step_each : {all : List Statement} {ls : List Line} {rs : List Reply} {s : Statement} (x : Step all ls rs s)
@@ -39,13 +39,13 @@ module _ (P : Op → Type 0) where
   step_each {s} x e = made_each (call_of (map handle_of x.replies) s.deed) x.front x.reply e x.made
 
   -- the lines of statements
-  pub statements_each : (all : List Statement) (ls : List Line) (rs : List Reply) → Carried Made [] all ls rs
+  pub statements_each : (all : List Statement) (ls : List Line) (rs : List Reply) → Carried MadeLines [] all ls rs
       → ((s : Statement) (x : Step all ls rs s) → Each (λ l. P l.op) x.front) → Each (λ l. P l.op) ls
   statements_each all ls rs c per = along all ls rs (λ b l r. Each (λ k. P k.op) l) (λ s x i. each_both (λ (k : Line). P k.op) x.first x.front i (per s x)) c tt
 
 -- a call that keeps no look has one line
-pub one_look : (o : Bool → Op) (t : Timeout) (ls : List Line) (r : Reply) (m : Looked false o t ls r) → ls ≡ line (o m.last) r m.beside ∷ []
-one_look o t ls r m = m.is ∙ ap (λ (x : Option ℕ). before_it (o false) x ++ line (o m.last) r m.beside ∷ []) (m.none_kept refl)
+pub one_look : (o : Bool → Op) (t : Timeout) (ls : List Line) (r : Reply) (m : LookedLines false o t ls r) → ls ≡ line_with (o m.last) r m.beside ∷ []
+one_look o t ls r m = m.is ∙ ap (λ (x : Option ℕ). before_it (o false) x ++ line_with (o m.last) r m.beside ∷ []) (m.none_kept refl)
 
 -- what each line of these asks for
 pub each_op : (P Q : Op → Type 0) → ((o : Op) → P o → Q o) → (ls : List Line) → Each (λ l. P l.op) ls → Each (λ l. Q l.op) ls
@@ -87,7 +87,7 @@ all_at_work (l ∷ ls) e = (at_work l.op l.reply (fst_true _ (all_work ls) e), a
 
 pub worker_each : (ls : List Line) → WorkerRan ls → Each (λ l. is_at_work l.op ≡ true) ls
 worker_each ls x = subst (Each (λ (l : Line). is_at_work l.op ≡ true)) (sym x.is)
-    (each_both (λ (l : Line). is_at_work l.op ≡ true) x.work (line Op.Pick Reply.Stop x.beside ∷ []) (all_at_work x.work x.works) (refl, tt))
+    (each_both (λ (l : Line). is_at_work l.op ≡ true) x.work (line_with Op.Pick Reply.Stop x.beside ∷ []) (all_at_work x.work x.works) (refl, tt))
 
 -- Entries
 
@@ -98,7 +98,7 @@ unfolding lines_of
 entries_each Q n [] ns l b k = tt
 entries_each Q n (e ∷ es) [] l b k = absurd (omega arith)
 entries_each Q n (e ∷ es) (m ∷ ns) l b k = (
-  (subst (λ (c : Bool). Each (λ x. Q (entry e.who x.op x.reply)) (cond c (line e.op e.reply m ∷ lines_of e.who es ns) (lines_of e.who es ns)))
+  (subst (λ (c : Bool). Each (λ x. Q (entry e.who x.op x.reply)) (cond c (line_with e.op e.reply m ∷ lines_of e.who es ns) (lines_of e.who es ns)))
       (eq-eqb e.who e.who refl) (k e.who b.0)).0,
   entries_each Q n es ns (omega arith) b.1
       (λ w i. grind (arith, nat_tests, k w i)),
@@ -212,7 +212,7 @@ module _ (load : Workload) (es : List NodeEntry) (ns : List ℕ) where
     pub finish : List Line
     pub known : List Action
     pub is : lines_of w es ns ≡ start ++ (body ++ finish)
-    pub carried : Carried Made [] p.statements body rs
+    pub carried : Carried MadeLines [] p.statements body rs
     pub first : Each (λ l. is_outside l.op ≡ true) start
     pub last : Each (λ l. is_outside l.op ≡ true) finish
     -- a further caller enters, and asks for nothing else outside its statements
@@ -221,14 +221,14 @@ module _ (load : Workload) (es : List NodeEntry) (ns : List ℕ) where
     pub no_set_up : load.settings.workers < w → set_up p.statements ≡ false
     pub within : Within (actions_in p.statements) (actions_in (all_statements load))
 
-  pub main_first : (b : Bool) → Each (λ l. is_outside l.op ≡ true) (head_of b)
+  pub main_first : (b : Bool) → Each (λ l. is_outside l.op ≡ true) (head_lines b)
   main_first b = grind (arith, nat_tests)
 
   abbrev pub main_at : (p : Part) (rs : List Reply) → MainRan in_lines p.statements (lines_of load.settings.workers es ns) rs
       → are_settled load.settings [] p.statements [] p.statements ≡ true → Within (actions_in p.statements) (actions_in (all_statements load))
       → PartAt load.settings.workers p rs
   main_at p rs x e w = record {
-    start = head_of (has_begin p.statements);
+    start = head_lines (has_begin p.statements);
     body = x.body;
     finish = tail_of_main;
     known = [];
@@ -245,7 +245,7 @@ module _ (load : Workload) (es : List NodeEntry) (ns : List ℕ) where
   abbrev pub caller_at : (known : List Action) (w : ℕ) (p : Part) (rs : List Reply) → CallerRan in_lines p.statements (lines_of w es ns) rs
       → is_settled_further load.settings known p ≡ true → Within (actions_in p.statements) (actions_in (all_statements load)) → PartAt w p rs
   caller_at known w p rs x e v = record {
-    start = line Op.Enter Reply.Ok x.entered.0 ∷ [];
+    start = line_with Op.Enter Reply.Ok x.entered.0 ∷ [];
     body = x.body;
     finish = [];
     known = known;

@@ -1,5 +1,5 @@
 -- In a quiet history a call isn't refused for which there is room and all that it needs.
-use Rattle.settled_runs.proofs.Names.{◌≡◌, ℕ, ◌+◌, ◌≤◌, ◌<◌, Bool, true, false, cond, List, [], ◌∷◌, refl, ◌∙◌, arith, length, ◌==◌, ◌&&◌, not, nat_tests, entry, ObjectKind, how_many, Listed, live_object, Task, NewTask, new_task, Op, Reply, Handle, Mtapi, Terms, State, opening, Move, starts_task, apply, after_moves, Allows, after_row, NodeEntry, IsNext, next, after, SameTask, by_moves, objects_of, entries_that, true_false, is_handle, makes_one, HasRoom, live_of, issue, retired, is_full, row, LegalFrom, after_from, zero, suc, ◌++◌, Option, Some, None, sym, ap, subst, ◌||◌, nat_lt, is_none, eq-eqb, holds, GroupHandle, any_listed, Action, new_action, has_job, has_enabled_job, is_eligible, some_below, Ok, Open, workers, is_open, phase_is, makes, alters, removes, is_served, Row, unless, gives, never, only, number_of, Legal, IsMade, Legal-front, sorts_keep, closes, NoClose, cut_from, cut_after, IsOpened, IsServed, GroupIsMade, Asks, IsGranted, has_worker, QuietCallsAreGranted, nat_le, count_listed, with_fields, gone, Queue, is_in, is_unended_in, Queues, live, new_queue, makes_of_sort, some_entry, none_first, Every, every_issue, every_change, sort_move, makes_queue, puts, makes_object, FieldsOf, AgesEach, SameFields, kind_move, terms_stay, puts_entry as puts_into, MtapiStatus, whether, IsThere, MadeBy}
+use Rattle.settled_runs.proofs.Names.{◌≡◌, ℕ, ◌+◌, ◌≤◌, ◌<◌, Bool, true, false, cond, List, [], ◌∷◌, refl, ◌∙◌, arith, length, ◌==◌, ◌&&◌, not, nat_tests, entry, ObjectKind, how_many, Listed, live_object, Task, NewTask, new_task, Op, Reply, Handle, Mtapi, Terms, State, opening, Move, starts_task, apply, after_moves, Allows, after_row, NodeEntry, IsNext, next, after, SameTask, by_moves, objects_of, entries_that, true_false, is_any_handle, makes_one, HasObjectRoom, live_of, issue, retired, is_full, row, LegalFrom, after_from, zero, suc, ◌++◌, Option, Some, None, sym, ap, subst, ◌||◌, nat_lt, is_none, eq-eqb, holds, GroupHandle, any_listed, Action, new_action, has_job, has_enabled_job, is_eligible, some_below, Ok, Open, workers, is_open, phase_is, makes, alters, removes, is_served, Row, unless, gives, never, only, number_of, Legal, IsMade, Legal-front, sorts_keep, closes, NoClose, cut_from, cut_after, IsOpened, IsJobServed, GroupIsMade, Asks, IsGranted, has_worker, QuietCallsAreGranted, nat_le, count_listed, with_fields, gone, Queue, is_in, is_unended_in, Queues, live, new_queue, makes_of_sort, some_entry, none_first, Every, every_issue, every_change, sort_move, makes_queue, puts, makes_object, FieldsOf, AgesEach, SameFields, kind_move, terms_stay, puts_entry as puts_into, MtapiStatus, whether, IsThere, MadeBy}
 use Rattle.settled_runs.proofs.Stays.{made_objects_stay, AskedAs, on_start}
 
 -- How many objects a history made, and room for another
@@ -50,10 +50,10 @@ none_made k p f s e z =
 -- the reply makes at most one more
 abbrev pub GrowsBy : ObjectKind → Type 0
 GrowsBy k = (s : State) (who : ℕ) (o : Op) (r : Reply) → Allows (row s who o r) r
-    → made_of k any (after_row s (row s who o r)) ≤ made_of k any s + bit (makes_object k o && is_handle r)
+    → made_of k any (after_row s (row s who o r)) ≤ made_of k any s + bit (makes_object k o && is_any_handle r)
 
 none_more : (k : ObjectKind) (s : State) (who : ℕ) (o : Op) (r : Reply) → makes_object k o ≡ false
-    → made_of k any (after_row s (row s who o r)) ≤ made_of k any s + bit (makes_object k o && is_handle r)
+    → made_of k any (after_row s (row s who o r)) ≤ made_of k any s + bit (makes_object k o && is_any_handle r)
 none_more k s who o r z = let n : made_of k any (next s (entry who o r)) ≡ made_of k any s = none_made k any (λ x y i. refl) s (entry who o r) z in omega arith
 
 more : {T : Type 0} (h : ℕ) (x : T) (l : List (Listed T)) → issued any (issue h x l) ≤ issued any l + 1
@@ -63,13 +63,13 @@ more h x l = let e : issued any (issue h x l) ≡ issued any l + 1 = issued_more
 module _ (p : Task → Bool) (same : (x y : Task) → SameTask x y → p y ≡ p x) (b : Op → Bool) (by : (s : State) (n : NewTask) (k : ℕ) (o : Op) → AskedAs s n o
     → p (new_task n k) ≡ true → b o ≡ true) where
   abbrev Gets : State → Op → Reply → List Move → Type 0
-  Gets s o r ms = made_of ObjectKind.Task p (after_moves ms s) ≤ made_of ObjectKind.Task p s + bit (b o && is_handle r)
+  Gets s o r ms = made_of ObjectKind.Task p (after_moves ms s) ≤ made_of ObjectKind.Task p s + bit (b o && is_any_handle r)
 
   one_gets : (s : State) (o : Op) (h : ℕ) (n : NewTask) → AskedAs s n o → Gets s o (Handle h) (starts_task h n ∷ [])
   one_gets s o h n i = grind (arith, nat_tests, by s n s.starts o i, issued_more p h (new_task n s.starts) s.tasks)
 
   pub tasks_made : (s : State) (who : ℕ) (o : Op) (r : Reply) → Allows (row s who o r) r
-      → made_of ObjectKind.Task p (after_row s (row s who o r)) ≤ made_of ObjectKind.Task p s + bit (b o && is_handle r)
+      → made_of ObjectKind.Task p (after_row s (row s who o r)) ≤ made_of ObjectKind.Task p s + bit (b o && is_any_handle r)
   tasks_made s who o r a = whether (makes_object ObjectKind.Task o) (λ z. on_start (Gets s o) s who r (λ c. omega arith) o z (λ h n i f. one_gets s o h n i) a)
       (λ z. let n : made_of ObjectKind.Task p (next s (entry who o r)) ≡ made_of ObjectKind.Task p s = none_made ObjectKind.Task p same s (entry who o r) z in
       omega arith)
@@ -101,7 +101,7 @@ nothing_yet ObjectKind.Action terms = refl
 nothing_yet _ terms = refl
 
 -- there is room for another where fewer were made than there may be
-pub has_room : (k : ObjectKind) → GrowsBy k → (terms : Terms) (L : List NodeEntry) → LegalFrom (opening terms) L → HasRoom terms k L → (last : ℕ)
+pub has_room : (k : ObjectKind) → GrowsBy k → (terms : Terms) (L : List NodeEntry) → LegalFrom (opening terms) L → HasObjectRoom terms k L → (last : ℕ)
     → is_full last ((objects_of k).max terms.settings) ((objects_of k).list (after terms L)) ≡ false
 has_room k g terms L l r last = not_full last ((objects_of k).max terms.settings) ((objects_of k).list (after terms L))
     (omega (arith, grown_along (made_of k any) (makes_one k) (λ s e i. g s e.who e.op e.reply i.allowed) (opening terms) L l, nothing_yet k terms, r))
@@ -185,7 +185,7 @@ module _ {terms : Terms} {L : List NodeEntry} {who : ℕ} {o : Op} {r : Reply} (
   granted : Passes (row (after terms L) who o r) → IsGranted r
   granted p = passes (row (after terms L) who o r) r p allowed
 
-  room : (k : ObjectKind) → GrowsBy k → HasRoom terms k L
+  room : (k : ObjectKind) → GrowsBy k → HasObjectRoom terms k L
       → is_full (after terms L).terms.settings.generations ((objects_of k).max (after terms L).terms.settings) ((objects_of k).list (after terms L)) ≡ false
   room k g h =
       subst (λ (t : Terms). is_full t.settings.generations ((objects_of k).max t.settings) ((objects_of k).list (after terms L)) ≡ false) (sym same_terms)
@@ -198,7 +198,7 @@ module _ {terms : Terms} {L : List NodeEntry} {who : ℕ} {o : Op} {r : Reply} (
   there : (m : Op) (h : ℕ) → MadeBy m h L → IsThere m h (after terms L)
   there m h y = made_objects_stay terms L m h before x.quiet y
 
-  served : (job cores : ℕ) → IsServed terms L job cores → Serves (after terms L) job cores
+  served : (job cores : ℕ) → IsJobServed terms L job cores → Serves (after terms L) job cores
   unfolding has_worker
   served job cores y =
       let s : State = after terms L in

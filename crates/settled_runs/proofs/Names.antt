@@ -14,9 +14,9 @@ pub use Rattle.history_law.proofs.{Moves.once_from, Reuse.fresh_apart, Reuse.fre
 pub use Rattle.history_law.proofs.{OnceIssued.listed_next, Ordered.end_found, Unmoved.live_stays, lists.Handles.OnceIn, lists.Handles.once_rest}
 pub use Rattle.history_law.proofs.{Others.terms_stay, Sorts.sort_move}
 pub use Rattle.history_law.proofs.{RowReplies.OfEachReply, RowReplies.said, RowReplies.says_only, lists.AtHandles.at_issue_here, lists.AtHandles.at_issue_other}
-pub use Rattle.history_law.specs.Seats.{BySeats, NoClose, closes, is_release, is_released}
-pub use Rattle.history_law.specs.Words.{entries_that, is_handle as is_that_handle, issues, makes_object, some_entry, times}
-pub use Rattle.history_law.specs.{Accepted.EndsOnce, Accepted.accepted, Accepted.accepted_by, Quiet.AreQuiet, Quiet.IsPlain, Quiet.is_quiet}
+pub use Rattle.history_law.specs.Seats.{BySeats, NoClose, closes, is_release_op, is_released}
+pub use Rattle.history_law.specs.Words.{entries_that, is_this_handle as is_that_handle, issues, makes_object, some_entry, times}
+pub use Rattle.history_law.specs.{Accepted.EndsOnce, Accepted.accepted, Accepted.accepted_by, Quiet.AreQuiet, Quiet.IsPlainEnd, Quiet.is_quiet}
 pub use Rattle.mtapi_machine.proofs.Made.{AllGives, both_true, fst_true, given, not_false, not_true, on_live, on_only, snd_true}
 pub use Rattle.mtapi_machine.proofs.{Changes.some_same, Lists.Legal-front, Lists.Legal-prefix, Lists.Legal-rest, Moves.by_moves, Moves.sorts_keep}
 pub use Rattle.mtapi_machine.specs.Laws.{AltersObject, DeletesGroup, EnablesAction, FreesMembers, IsMade, MakesAction, NotesTask, RemovesObject, StartsTask, TakesEnded, all_live, is_status, makes_of_sort, turns}
@@ -39,22 +39,22 @@ pub use Rattle.mtapi_values.specs.{declared.ends.TaskEnd.TaskEnd, declared.handl
 pub use Rattle.mtapi_values.specs.{declared.ends.TaskEnd.TheVariants.Failed, declared.handles.GroupHandle.GroupHandle, declared.handles.QueueHandle.QueueHandle}
 pub use Rattle.mtapi_values.specs.{declared.handles.ObjectKind.ObjectKind, declared.handles.TaskHandle.TaskHandle, declared.timeouts.Timeout.Timeout}
 pub use Rattle.run_report.proofs.RunReplies.{reads_the_run}
-pub use Rattle.run_report.specs.Calls.{call_line, call_lines, is_task, marked_line, status_of, task_line, task_lines}
+pub use Rattle.run_report.specs.Calls.{call_line, call_lines, is_task, marked_line, status_shown, task_line, task_lines}
 pub use Rattle.run_report.specs.{Replies.Told, Replies.all_told, declared.totals.Totals.Totals}
-pub use Rattle.run_report.specs.{Report.parts_told, Report.run_terms, Summary.no_totals, Summary.with_end, Summary.with_task as with_counted, Tasks.ended_text}
+pub use Rattle.run_report.specs.{Report.parts_told, Report.run_terms, Summary.no_totals, Summary.with_end, Summary.with_task_total as with_counted, Tasks.ended_text}
 pub use Rattle.workload_runs.specs.Calls.{Call, Looking, Once, call_of, group_at, handle_at}
-pub use Rattle.workload_runs.specs.Lines.{Line, Looked, Made, before_it, head_of, in_lines, line, tail_of_main}
+pub use Rattle.workload_runs.specs.Lines.{Line, LookedLines, MadeLines, before_it, head_lines, in_lines, line_with, tail_of_main}
 pub use Rattle.workload_runs.specs.{Parts.CallerRan, Parts.MainRan, Parts.PartsRan, RunOf.RunOf, RunOf.WorkerRan, RunOf.is_work}
-pub use Rattle.settled_runs.specs.Granted.{Asks, CallsAreGranted, GroupIsMade, HasAction, HasRoom, IsGranted, IsOpened, IsQueued, IsServed, IsThere, Made as MadeBy, MadeObjectsStay, QuietCallsAreGranted, is_handle, makes_one, makes_queue, puts, puts_into as puts_entry}
-pub use Rattle.settled_runs.specs.Plain.{Faults, action_in, actions_in, all_statements, no_faults, plain_call_lines, plain_task_line, plain_task_lines, queue_at, queue_in, with_member, with_task}
+pub use Rattle.settled_runs.specs.Granted.{Asks, CallsAreGranted, GroupIsMade, HasAction, HasObjectRoom, IsGranted, IsOpened, IsQueued, IsJobServed, IsThere, MadeObject as MadeBy, MadeObjectsStay, QuietCallsAreGranted, is_any_handle, makes_one, makes_queue, puts, did_put_into as puts_entry}
+pub use Rattle.settled_runs.specs.Plain.{Faults, action_in, actions_in, all_statements, no_faults, plain_call_lines, plain_task_line, plain_task_lines, queue_at, queue_in, with_group_fault, with_task_asked}
 pub use Rattle.settled_runs.specs.PlainReplies.{IsPlainTask, PlainRepliesShowPlainReport}
 pub use Rattle.settled_runs.specs.RunGranted.{AllGranted, GrantedTo, PartsGranted, SettledRun, SettledStatementsAreGranted}
 pub use Rattle.settled_runs.specs.RunReplies.{PartsReplyPlainly, SettledRepliesArePlain}
 pub use Rattle.settled_runs.specs.RunReport.{SettledReportsAreAlike, SettledReportsArePlain}
-pub use Rattle.settled_runs.specs.Settled.{are_settled_parts, both, fault_in, has_new_id, has_one_fault_a_group, has_room, is_alone, is_infinite, is_settled_further, is_settled_part, is_startable, makes_action as makes_one_action, makes_group, makes_task, puts_into, serves, set_up, sets_up, waits_for}
-pub use Rattle.settled_runs.specs.Verdicts.{GoOn, IsVerdict, QuietVerdicts, fault_at, goes_on, looks_at_all, members_behind, starts_member, with_new}
+pub use Rattle.settled_runs.specs.Settled.{are_settled_parts, both, fault_in, has_new_id, has_one_fault_a_group, has_room, is_alone, is_infinite, is_settled_further, is_settled_part, is_startable, is_action_deed as makes_one_action, makes_group, makes_task, deed_puts_into, serves, set_up, sets_up, waits_for}
+pub use Rattle.settled_runs.specs.Verdicts.{GoOn, IsGroupVerdict, QuietVerdicts, fault_at, goes_on, looks_at_all, members_behind, starts_member, with_new}
 pub use Rattle.settled_runs.specs.{PlainSummary.SettledSummariesArePlain, PlainSummary.with_plain_task, RunEnds.SettledTasksEndAsPlanned}
-pub use Rattle.settled_runs.specs.{Waits.AreLeft, Waits.QuietLooksAreAnswered, Waits.looks_at, Waits.starts_alone, Worked.WorkedSettled, Worked.WorkedUnsettled}
+pub use Rattle.settled_runs.specs.{Waits.AreLeft, Waits.QuietLooksAreAnswered, Waits.is_look_at, Waits.starts_alone, Worked.WorkedSettled, Worked.WorkedUnsettled}
 pub use Rattle.std.proofs.Common.{Bool, List, None, Option, Some, [], ap, append_assoc, arith, cond, false, inl, inr, length, refl, rules, subst, suc, sym, true, zero, ℕ, ℤ, ◌++◌, ◌+◌, ◌<◌, ◌∙◌, ◌∷◌, ◌≡◌, ◌≤◌, ◌⊎◌}
 pub use Rattle.std.proofs.lemmas.Bool.{and_parts, and_right, cases_Bool, cases_eq, cases_order, cond-false, cond-true, cond_both, eq-eqb, eqb-true, false_from_ne_true, le-leb, leb-true, ltb-true, or_cases, or_from, or_left, or_parts, or_right}
 pub use Rattle.std.proofs.lemmas.List.{append-nil, get_or_append_left, get_or_at, length-append, length-map, length_push, map-append, map_push}
@@ -89,4 +89,4 @@ unfoldable pub use Rattle.settled_runs.specs.Settled.{
 }
 unfoldable pub use Rattle.settled_runs.specs.{PlainSummary.plain_summary, PlainSummary.with_plain_parts, PlainSummary.with_plain_tasks, Verdicts.members_of}
 unfoldable pub use Rattle.std.specs.Fmt.{digits}
-unfoldable pub use Rattle.workload_file.specs.{Deeds.binds, Deeds.deed_spelled, Deeds.is_begin, Table.row as word_row}
+unfoldable pub use Rattle.workload_file.specs.{Deeds.binds, Deeds.deed_spelled, Deeds.is_begin, Table.statement_row as word_row}

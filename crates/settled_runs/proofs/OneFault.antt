@@ -1,5 +1,5 @@
 -- Where the faults of each group of a part have one status, the one that is told as its members are put into it is the one of a verdict.
-use Rattle.settled_runs.proofs.Names.{◌≡◌, ℕ, Bool, true, List, [], ◌∷◌, ◌++◌, Option, Some, refl, sym, ◌∙◌, subst, ◌==◌, ◌&&◌, ◌||◌, not, list_any, list_all, flat_map, list_any-append, MtapiStatus, mtapi_number, Action, NewTask, Statement, true_false, both, fault_in, task_in, plain_fault, have_one_fault_a_group, ap, or_left, or_right, None, option_or, verdict, State, Reply, fault_at, IsVerdict, none_some, find, mtapi_all, some_same, arith, nat_tests}
+use Rattle.settled_runs.proofs.Names.{◌≡◌, ℕ, Bool, true, List, [], ◌∷◌, ◌++◌, Option, Some, refl, sym, ◌∙◌, subst, ◌==◌, ◌&&◌, ◌||◌, not, list_any, list_all, flat_map, list_any-append, MtapiStatus, mtapi_number, Action, NewTask, Statement, true_false, both, fault_in, task_in, plain_fault, have_one_fault_a_group, ap, or_left, or_right, None, option_or, verdict, State, Reply, fault_at, IsGroupVerdict, none_some, find, mtapi_all, some_same, arith, nat_tests}
 use Rattle.settled_runs.proofs.Verdicts.{has}
 
 -- Statuses that are compared by number
@@ -81,7 +81,8 @@ module _ (F : ℕ → Option MtapiStatus) where
   more_member h x hs fault e1 e2 = grind (arith, nat_tests)
 
   -- where the faults of the tasks are one, so are the two
-  pub one_verdict : (s : State) (hs : List ℕ) (r : Reply) (fault : Option MtapiStatus) → IsVerdict s hs r → ((h : ℕ) → has hs h ≡ true → fault_at s h ≡ F h)
+  pub one_verdict : (s : State) (hs : List ℕ) (r : Reply) (fault : Option MtapiStatus) → IsGroupVerdict s hs r
+      → ((h : ℕ) → has hs h ≡ true → fault_at s h ≡ F h)
       → Matches F hs fault
       → ((h j : ℕ) (c d : MtapiStatus) → has hs h ≡ true → has hs j ≡ true → F h ≡ Some c → F j ≡ Some d → c ≡ d) → r ≡ verdict fault
   one_verdict s hs r fault v same m one = v.is ∙ ap verdict (by v.fault refl fault refl)

@@ -1,5 +1,5 @@
 -- In a run of a settled workload the node is open before each statement's entry, there is room for what it asks for, and the ids of queues are new.
-use Rattle.settled_runs.proofs.Names.{nat_tests, Each, ◌≡◌, inl, inr, ℕ, suc, ◌+◌, ◌≤◌, ◌<◌, Bool, true, false, List, [], ◌∷◌, ◌++◌, refl, sym, ◌∙◌, ap, subst, arith, append_assoc, ◌==◌, map, eq-eqb, Layout, entry, entries_of, how_many, Deed, Statement, Part, Workload, begins, IsFurther, MainFirst, Op, Reply, NodeEntry, Legal, Legal-prefix, call_of, Line, line, head_of, tail_of_main, in_lines, MainRan, closes, NoClose, is_release, true_false, run_terms, AreQuiet, handle_of, IsOpened, all_statements, actions_in, SettledRun, is_begin, lines_of, CallersRan, has_begin, is_some, list_any, NodeSettings, holds, ObjectKind, fst_true, some_entry, entries_that, makes_one, HasRoom, makes_queue, queue_in, makes_group, makes_task, has_different_ids, objects_of, makes_object as makes, makes_one_action as makes_action, is_settled}
+use Rattle.settled_runs.proofs.Names.{nat_tests, Each, ◌≡◌, inl, inr, ℕ, suc, ◌+◌, ◌≤◌, ◌<◌, Bool, true, false, List, [], ◌∷◌, ◌++◌, refl, sym, ◌∙◌, ap, subst, arith, append_assoc, ◌==◌, map, eq-eqb, Layout, entry, entries_of, how_many, Deed, Statement, Part, Workload, begins, IsFurther, MainFirst, Op, Reply, NodeEntry, Legal, Legal-prefix, call_of, Line, line_with, head_lines, tail_of_main, in_lines, MainRan, closes, NoClose, is_release_op, true_false, run_terms, AreQuiet, handle_of, IsOpened, all_statements, actions_in, SettledRun, is_begin, lines_of, CallersRan, has_begin, is_some, list_any, NodeSettings, holds, ObjectKind, fst_true, some_entry, entries_that, makes_one, HasObjectRoom, makes_queue, queue_in, makes_group, makes_task, has_different_ids, objects_of, makes_object as makes, makes_one_action as makes_action, is_settled}
 use Rattle.settled_runs.proofs.{Granted.bit, Stays.quiet_front, RunEnds.all_quiet, RunEnds.planned}
 use Rattle.settled_runs.proofs.Along.{Placed, placed, Cut, cut, no_end, Step}
 use Rattle.settled_runs.proofs.Each.{AllSeats, OnlyBy, PartAt, each_behind, each_front, each_of, is_at_work, map_seats, only_by, settled_whole, run_parts, seat_each, with_each, each_op, step_each, ran}
@@ -14,7 +14,7 @@ calls_ask : (bound : List ℕ) (d : Deed)
     × CallAsks (makes ObjectKind.Queue) (bit (is_some (queue_in d))) (call_of bound d) × CallAsks (makes ObjectKind.Task) (bit (makes_task d)) (call_of bound d)
 calls_ask bound d = grind (arith, nat_tests)
 
-pub release_calls : (bound : List ℕ) (d : Deed) → CallAsks is_release (bit (is_begin d)) (call_of bound d)
+pub release_calls : (bound : List ℕ) (d : Deed) → CallAsks is_release_op (bit (is_begin d)) (call_of bound d)
 unfolding is_begin
 release_calls bound d = grind (arith, nat_tests)
 
@@ -43,9 +43,9 @@ pub begin_none : (before : List Statement) (s : Statement) (rest : List Statemen
 begin_none [] s rest e = no_bit (is_begin s.deed) (omega arith)
 begin_none (t ∷ before) s rest e = begin_none before s rest (omega arith)
 
-pub first_head : (b : Bool) (X : List Line) → (R : List Line) × (head_of b ++ X ≡ line Op.Initialize Reply.Ok 0 ∷ R)
+pub first_head : (b : Bool) (X : List Line) → (R : List Line) × (head_lines b ++ X ≡ line_with Op.Initialize Reply.Ok 0 ∷ R)
 first_head true X = (X, refl)
-first_head false X = (line Op.Release Reply.Ok 0 ∷ X, refl)
+first_head false X = (line_with Op.Release Reply.Ok 0 ∷ X, refl)
 
 module _ {layout : Layout} {load : Workload} {es : List NodeEntry} {ns : List ℕ} (u : SettledRun layout load es ns) where
   pub quiet : AreQuiet es
@@ -92,8 +92,8 @@ module _ {layout : Layout} {load : Workload} {es : List NodeEntry} {ns : List �
           (λ s z. step_each (λ o. p o ≡ false) z
           (calls_none p (call_of (map handle_of z.replies) s.deed) (q s.deed) (calls (map handle_of z.replies) s.deed) (further w x rs l y i s z)))
 
-  pub releases_main : OnlyBy main is_release es
-  releases_main = only_main is_release is_begin release_calls (λ o i. grind (arith, nat_tests, i)) refl
+  pub releases_main : OnlyBy main is_release_op es
+  releases_main = only_main is_release_op is_begin release_calls (λ o i. grind (arith, nat_tests, i)) refl
       (λ w x rs l y i s z. begin_none z.before s z.rest (ap begins (sym z.parted) ∙ i.begin))
 
   -- no statement closes, and main closes twice
@@ -103,8 +103,8 @@ module _ {layout : Layout} {load : Workload} {es : List NodeEntry} {ns : List �
       only_asks main closes es ns u.same (only_main closes (λ d. false) (λ bound d. (calls_ask bound d).0) (λ o i. grind (arith, nat_tests, i)) refl
       (λ w x rs l y i s z. refl)) in
       let b : asked closes (lines_of main es ns)
-      ≡ asked closes (head_of (has_begin first_of.part.statements)) + asked closes (first_of.ran.body ++ tail_of_main) =
-      ap (asked closes) first_of.ran.is ∙ many_append (λ l. closes l.op) (head_of (has_begin first_of.part.statements)) (first_of.ran.body
+      ≡ asked closes (head_lines (has_begin first_of.part.statements)) + asked closes (first_of.ran.body ++ tail_of_main) =
+      ap (asked closes) first_of.ran.is ∙ many_append (λ l. closes l.op) (head_lines (has_begin first_of.part.statements)) (first_of.ran.body
       ++ tail_of_main) in
       let c : asked closes (first_of.ran.body ++ tail_of_main) ≡ asked closes first_of.ran.body + 2 =
       many_append (λ l. closes l.op) first_of.ran.body tail_of_main in
@@ -113,10 +113,10 @@ module _ {layout : Layout} {load : Workload} {es : List NodeEntry} {ns : List �
       (λ s z. (calls_ask (map handle_of z.replies) s.deed).0) in
       let e : how_many (λ s. false) first_of.part.statements ≡ 0 =
       many_none (λ s. false) first_of.part.statements (each_of (λ s. false ≡ false) (λ s. refl) first_of.part.statements) in
-      let f : asked closes (head_of (has_begin first_of.part.statements)) ≡ 0 = none (has_begin first_of.part.statements) in
+      let f : asked closes (head_lines (has_begin first_of.part.statements)) ≡ 0 = none (has_begin first_of.part.statements) in
       omega arith
     where
-      none : (b : Bool) → asked closes (head_of b) ≡ 0
+      none : (b : Bool) → asked closes (head_lines b) ≡ 0
       none true = refl
       none false = refl
 
@@ -179,10 +179,10 @@ module _ {layout : Layout} {load : Workload} {es : List NodeEntry} {ns : List �
 
 -- An opened node
 
-pub is_opened : (who : ℕ) (L : List NodeEntry) (ks : List ℕ) (R : List Line) → lines_of who L ks ≡ line Op.Initialize Reply.Ok 0 ∷ R → asks closes L ≡ 0
+pub is_opened : (who : ℕ) (L : List NodeEntry) (ks : List ℕ) (R : List Line) → lines_of who L ks ≡ line_with Op.Initialize Reply.Ok 0 ∷ R → asks closes L ≡ 0
     → IsOpened L
 is_opened who L ks R i k =
-    let d : Cut who L ks [] (line Op.Initialize Reply.Ok 0) R = cut who L ks [] (line Op.Initialize Reply.Ok 0) R i in
+    let d : Cut who L ks [] (line_with Op.Initialize Reply.Ok 0) R = cut who L ks [] (line_with Op.Initialize Reply.Ok 0) R i in
     let a : asks closes L ≡ asks closes d.before + (0 + asks closes d.behind) = cut_asks d closes in
     record { before = d.before; who = who; behind = d.behind; is = d.is; unclosed = no_close d.behind (let z : asks closes L ≡ 0 = k in omega arith) }
 
@@ -235,7 +235,7 @@ module _ {layout : Layout} {load : Workload} {es : List NodeEntry} {ns : List �
       let f : bit (p l.op) ≡ 1 = ap bit m in
       omega arith
 
-  pub room : (k : ObjectKind) → Room load.settings (all_statements load) k → makes k l.op ≡ true → HasRoom (run_terms layout load) k c.before
+  pub room : (k : ObjectKind) → Room load.settings (all_statements load) k → makes k l.op ≡ true → HasObjectRoom (run_terms layout load) k c.before
   room k x m =
       let a : asks (makes k) c.before < (objects_of k).max load.settings =
       fewer_before (makes k) x.q ((objects_of k).max load.settings) (record { calls = x.calls; outside = λ o i. grind (arith, nat_tests, i) }) x.few m in

@@ -1,5 +1,5 @@
 -- No seat of a run uses a handle that another seat was given: so what became of a group is told by the lines of its own seat.
-use Rattle.settled_runs.proofs.Names.{Each, ◌≡◌, ℕ, Bool, true, false, List, refl, ◌∙◌, arith, ◌==◌, map, ◌||◌, eq-eqb, Layout, ObjectKind, Sort, Statement, Part, Workload, IsBoundAt, IsStatement, Op, Reply, handle_of, NodeEntry, handle_at, call_of, Line, true_false, looks_at, waits_for, SettledRun, looks_at_all, starts_member, deed_spelled, lines_of, append_assoc, sym, ap, [], ◌∷◌, ◌++◌, length, entry, members_behind, members_of, word_row as row, nat_tests}
+use Rattle.settled_runs.proofs.Names.{Each, ◌≡◌, ℕ, Bool, true, false, List, refl, ◌∙◌, arith, ◌==◌, map, ◌||◌, eq-eqb, Layout, ObjectKind, Sort, Statement, Part, Workload, IsBoundAt, IsStatement, Op, Reply, handle_of, NodeEntry, handle_at, call_of, Line, true_false, is_look_at, waits_for, SettledRun, looks_at_all, starts_member, deed_spelled, lines_of, append_assoc, sym, ap, [], ◌∷◌, ◌++◌, length, entry, members_behind, members_of, word_row as row, nat_tests}
 use Rattle.settled_runs.proofs.{SeatsGranted.seats, Walk.Seat, Walk.seat_granted, Along.step_bound, Along.step_statement}
 use Rattle.settled_runs.proofs.Each.{CallEach, OnlyBy, is_outside, only_by, work_outside, map_run, ran, seat_within, step_each}
 use Rattle.settled_runs.proofs.Places.{Gave, gave_in, one_seat, bound_gave, Handed, groups_handed, tasks_handed}
@@ -28,19 +28,19 @@ module _ {layout : Layout} {load : Workload} {es : List NodeEntry} {ns : List �
 
 -- The looks at a task
 
-pub looks_outside : (h : ℕ) (o : Op) → is_outside o ≡ true → looks_at h o ≡ false
+pub looks_outside : (h : ℕ) (o : Op) → is_outside o ≡ true → is_look_at h o ≡ false
 looks_outside h o e1 = grind (arith, nat_tests)
 
 pub looks_call : (h : ℕ) (before : List Statement) (s : Statement) (bound : List ℕ) → IsStatement before s
     → ((place : ℕ) → waits_for place s.deed ≡ true → IsBoundAt Sort.Task before place → handle_at bound place ≡ h → ⊥)
-    → CallEach (λ o. looks_at h o ≡ false) (call_of bound s.deed)
+    → CallEach (λ o. is_look_at h o ≡ false) (call_of bound s.deed)
 unfolding row deed_spelled
 looks_call h before s bound e1 e2 = grind (arith, nat_tests)
 
 -- only its own seat looks at a task
 pub one_looks : {layout : Layout} {load : Workload} {es : List NodeEntry} {ns : List ℕ} (u : SettledRun layout load es ns) (who h : ℕ)
-    → Gave ObjectKind.Task h (lines_of who es ns) → OnlyBy who (looks_at h) es
-one_looks u who h mine = one_user u tasks_handed who mine (looks_at h) (looks_outside h)
+    → Gave ObjectKind.Task h (lines_of who es ns) → OnlyBy who (is_look_at h) es
+one_looks u who h mine = one_user u tasks_handed who mine (is_look_at h) (looks_outside h)
     (λ b s bound st a. looks_call h b s bound st (λ place w o e. a place o e))
 
 -- the op puts a task into the group, or looks at the whole of it

@@ -1,5 +1,5 @@
 -- In a run of a settled workload the statements of each part get their plain replies.
-use Rattle.settled_runs.proofs.Names.{◌≡◌, ℕ, Bool, true, false, List, [], ◌∷◌, ◌++◌, Option, Some, None, refl, sym, ◌∙◌, ap, subst, ℤ, ◌&&◌, not, map, slice_get, option_and_then, IfSome, list_any, option_map, eq-eqb, Timeout, Mask, Layout, GroupHandle, entry, live_object, Action, NewTask, new_task, Queue, Deed, Statement, Workload, fields, word_for, values, place_used, AllFit, IsBoundAt, Op, Reply, Terms, State, is_open, released, starts_task, after_moves, gives, handle_of, asked_of, is_status, NodeEntry, next, after, some_same, fst_true, snd_true, not_true, group_at, call_of, Line, line, Made, Looked, true_false, SameTask, HasObject, has_new, fresh_unlisted, run_terms, Part, verdict, all_statements, actions_in, queue_at, no_faults, IsPlainTask, GrantedTo, AllGranted, SettledRun, Asks, is_infinite, is_alone, waits_for, is_startable, has_one_fault_a_group, deed_spelled, end_at, task_in, plain_end, ArePlain, IsPlainReply, is_settled_deed, Each, arith, list_all, PartsReplyPlainly, SettledRepliesArePlain, word_row as row_of, ObjectKind, MtapiStatus, Sort, same_task, eqb-true, is_that_handle as is_given, TaskEnd, accepted, makes_object}
+use Rattle.settled_runs.proofs.Names.{◌≡◌, ℕ, Bool, true, false, List, [], ◌∷◌, ◌++◌, Option, Some, None, refl, sym, ◌∙◌, ap, subst, ℤ, ◌&&◌, not, map, slice_get, option_and_then, IfSome, list_any, option_map, eq-eqb, Timeout, Mask, Layout, GroupHandle, entry, live_object, Action, NewTask, new_task, Queue, Deed, Statement, Workload, fields, word_for, values, place_used, AllFit, IsBoundAt, Op, Reply, Terms, State, is_open, released, starts_task, after_moves, gives, handle_of, asked_of, is_status, NodeEntry, next, after, some_same, fst_true, snd_true, not_true, group_at, call_of, Line, line_with, MadeLines, LookedLines, true_false, SameTask, HasObject, has_new, fresh_unlisted, run_terms, Part, verdict, all_statements, actions_in, queue_at, no_faults, IsPlainTask, GrantedTo, AllGranted, SettledRun, Asks, is_infinite, is_alone, waits_for, is_startable, has_one_fault_a_group, deed_spelled, end_at, task_in, plain_end, ArePlain, IsPlainReply, is_settled_deed, Each, arith, list_all, PartsReplyPlainly, SettledRepliesArePlain, word_row as row_of, ObjectKind, MtapiStatus, Sort, same_task, eqb-true, is_that_handle as is_given, TaskEnd, accepted, makes_object}
 use Rattle.settled_runs.proofs.{Waits.passed, SeatsGranted.seats, Stays.made_objects_stay, Stays.on_start, Stays.AskedAs, Granted.is_up, Granted.allowed}
 use Rattle.settled_runs.proofs.{Places.HasQueue, RunEnds.ends_as_asked, RunEnds.next_at, Waited.unrefused, Opened.legal_before, Opened.quiet_before}
 use Rattle.settled_runs.proofs.WaitAll.{faults_after, plain_more, group_told}
@@ -20,7 +20,7 @@ module _ {layout : Layout} {load : Workload} {es : List NodeEntry} {ns : List �
   ends h = end_at (after terms es).tasks h
 
   -- a task that was accepted ends as it was asked for
-  ends_here : {who : ℕ} {A : List Line} {o : Op} {h n : ℕ} {B : List Line} (c : Cut who es ns A (line o (Reply.Handle h) n) B)
+  ends_here : {who : ℕ} {A : List Line} {o : Op} {h n : ℕ} {B : List Line} (c : Cut who es ns A (line_with o (Reply.Handle h) n) B)
       → makes_object ObjectKind.Task o ≡ true → accepted (entry who o (Reply.Handle h)) ≡ Some h
       → (t : NewTask) × AskedAs (after terms c.before) t o × (ends h ≡ plain_end actions t)
   ends_here {who} {o} {h} c z acc =
@@ -42,17 +42,17 @@ module _ {layout : Layout} {load : Workload} {es : List NodeEntry} {ns : List �
   module _ {w : ℕ} {p : Part} {rs : List Reply} (x : Seat layout load es ns w p rs) (one : has_one_fault_a_group actions p ≡ true) {s : Statement}
       (y : Step p.statements x.at.body rs s) (g : AllGranted y.before y.replies) (plain : ArePlain actions p.statements ends no_faults y.before y.replies) where
     -- the release
-    begin_told : y.front ≡ line Op.Release y.reply 0 ∷ [] → is_status y.reply ≡ false
+    begin_told : y.front ≡ line_with Op.Release y.reply 0 ∷ [] → is_status y.reply ≡ false
     begin_told e =
-        let c = cut_here u x y g (line Op.Release y.reply 0) e in
-        let a : Asks terms c.before w Op.Release y.reply = asking u x y g y.first (line Op.Release y.reply 0) y.more c in
+        let c = cut_here u x y g (line_with Op.Release y.reply 0) e in
+        let a : Asks terms c.before w Op.Release y.reply = asking u x y g y.first (line_with Op.Release y.reply 0) y.more c in
         ap is_status (passed (not (is_open (after terms c.before).phase)) (Reply.Mtapi MtapiStatus.ErrNodeNotinit) (gives Reply.Ok (released ∷ [])) y.reply
         (is_up a) (allowed a))
 
     -- the wait for a task
     wait_told : (place : ℕ) (t : Timeout) → (is_infinite t && is_alone (option_and_then (λ z. task_in p.statements z.deed) (slice_get p.statements place))
         && not (list_any (λ z. waits_for place z.deed) y.before)) ≡ true → IsBoundAt Sort.Task y.before place
-        → Looked true (λ last. Op.TaskLook (record { 0 = handle u x y g place }) last) t y.front y.reply → is_status y.reply ≡ false
+        → LookedLines true (λ last. Op.TaskLook (record { 0 = handle u x y g place }) last) t y.front y.reply → is_status y.reply ≡ false
     wait_told place Timeout.Infinite e i m =
         let a : (true && is_alone (option_and_then (λ z. task_in p.statements z.deed) (slice_get p.statements place))) ≡ true =
         fst_true _ (not (list_any (λ z. waits_for place z.deed) y.before)) e in
@@ -62,7 +62,7 @@ module _ {layout : Layout} {load : Workload} {es : List NodeEntry} {ns : List �
 
     -- the wait for all tasks of a group
     wait_all : (place : ℕ) (t : Timeout) → is_infinite t ≡ true → IsBoundAt Sort.Group y.before place
-        → Looked false (λ last. Op.AllLook (record { 0 = handle u x y g place }) last) t y.front y.reply
+        → LookedLines false (λ last. Op.AllLook (record { 0 = handle u x y g place }) last) t y.front y.reply
         → y.reply ≡ verdict (faults_after actions p.statements no_faults y.before place)
     wait_all place Timeout.Infinite e i m = group_told u x y g place i one plain m
     wait_all place _ e i m = true_false e refl
@@ -76,12 +76,12 @@ module _ {layout : Layout} {load : Workload} {es : List NodeEntry} {ns : List �
 
         by_queue : (queue : ℕ) (args : List ℤ) (cores : Mask) (detached : Bool) (group : Option ℕ) → (q : Option Queue) → queue_at p.statements queue ≡ q
             → is_startable load.settings (x.at.known ++ actions_in y.before) (option_map (put_task queue args cores detached group) q) ≡ true
-            → IsBoundAt Sort.Queue y.before queue → Made (call_of (map handle_of y.replies) (Deed.Enqueue queue args cores detached group)) y.front y.reply
+            → IsBoundAt Sort.Queue y.before queue → MadeLines (call_of (map handle_of y.replies) (Deed.Enqueue queue args cores detached group)) y.front y.reply
             → (h : ℕ) → y.reply ≡ Reply.Handle h → IsPlainTask actions ends (option_map (put_task queue args cores detached group) q) y.reply
         by_queue queue args cores detached group None e k o n h i = true_false k refl
         by_queue queue args cores detached group (Some q) e k o n h i =
             let v : Op = Op.TaskEnqueue (record { 0 = handle u x y g queue }) args cores detached (group_of group) in
-            let c = cut_here u x y g (line v (Reply.Handle h) 0) (n.0 ∙ ap (λ (r : Reply). line v r 0 ∷ []) i) in
+            let c = cut_here u x y g (line_with v (Reply.Handle h) 0) (n.0 ∙ ap (λ (r : Reply). line_with v r 0 ∷ []) i) in
             let t = ends_here c refl refl in
             let m : HasQueue y.first (handle u x y g queue) q = queue_here u x y g queue o q e in
             let there : live_object (after terms c.before).queues (handle u x y g queue) ≡ Some q =
@@ -98,11 +98,11 @@ module _ {layout : Layout} {load : Workload} {es : List NodeEntry} {ns : List �
 
         by : (d : Deed) → is_settled_deed load.settings (x.at.known ++ actions_in y.before) y.before p.statements d ≡ true
             → IfSome (place_used d) (λ v. IsBoundAt v.0 y.before v.1) → AllFit y.before (fields (word_for d)) (values d)
-            → Made (call_of (map handle_of y.replies) d) y.front y.reply → GrantedTo d y.reply
+            → MadeLines (call_of (map handle_of y.replies) d) y.front y.reply → GrantedTo d y.reply
             → IsPlainReply actions p.statements ends (faults_after actions p.statements no_faults y.before) d y.reply
         by (Deed.Start job args priority cores detached group) e v o n k =
             let a : Op = Op.TaskStart job args priority cores detached (group_of group) in
-            let t = ends_here (cut_here u x y g (line a (Reply.Handle k.0) 0) (n.0 ∙ ap (λ (r : Reply). line a r 0 ∷ []) k.1)) refl refl in (
+            let t = ends_here (cut_here u x y g (line_with a (Reply.Handle k.0) 0) (n.0 ∙ ap (λ (r : Reply). line_with a r 0 ∷ []) k.1)) refl refl in (
               record { job = job; args = args; priority = priority; cores = cores.0; detached = detached; group = group; queue = None },
               refl,
               k.0,

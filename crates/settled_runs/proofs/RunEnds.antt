@@ -1,5 +1,5 @@
 -- What a run of a settled workload asks for, and how its tasks end.
-use Rattle.settled_runs.proofs.Names.{nat_tests, Each, ◌≡◌, ℕ, Bool, true, List, ◌∷◌, ◌++◌, refl, subst, arith, ◌==◌, ◌&&◌, map, list_any, eq-eqb, or_left, NodeSettings, Kind, is_pure, Action, kind_number, Deed, Statement, Part, Workload, Op, Reply, handle_of, NodeEntry, call_of, Line, both_true, true_false, is_quiet, all_statements, action_in, actions_in, lines_of, is_settled_deed, cond, [], Some, sym, ◌∙◌, ap, ℤ, append_assoc, ◌||◌, option_map, find, Layout, TaskEnd, entry, Listed, with_fields, with_enabled, has_job, Task, NewTask, new_task, Terms, State, opening, Move, makes_action, enables, withdraws, makes, alters, removes, apply, task_end, next, after, IsMade, end_in, by_moves, sorts_keep, accepted_end, SameTask, Under, Every, every_issue, every_change, every_at, StartedAs, started_as, task_then, cut_from, has_behind, HasObject, run_terms, AreQuiet, IsPlain, none_withdrawn, quiet_tasks_end_plainly, answer_of, LegalFrom, after_from, end_at, task_at, plain_end, has_one_kind_a_job, cond-false, cond-true, cond_both, or_right, not, NoClose, Made, GoOn, accepted, EndsOnce, same_kind, SettledTasksEndAsPlanned, ObjectKind, IsNext}
+use Rattle.settled_runs.proofs.Names.{nat_tests, Each, ◌≡◌, ℕ, Bool, true, List, ◌∷◌, ◌++◌, refl, subst, arith, ◌==◌, ◌&&◌, map, list_any, eq-eqb, or_left, NodeSettings, Kind, is_pure, Action, kind_number, Deed, Statement, Part, Workload, Op, Reply, handle_of, NodeEntry, call_of, Line, both_true, true_false, is_quiet, all_statements, action_in, actions_in, lines_of, is_settled_deed, cond, [], Some, sym, ◌∙◌, ap, ℤ, append_assoc, ◌||◌, option_map, find, Layout, TaskEnd, entry, Listed, with_fields, with_enabled, has_job, Task, NewTask, new_task, Terms, State, opening, Move, makes_action, enables, withdraws, makes, alters, removes, apply, task_end, next, after, IsMade, end_in, by_moves, sorts_keep, accepted_end, SameTask, Under, Every, every_issue, every_change, every_at, StartedAs, started_as, task_then, cut_from, has_behind, HasObject, run_terms, AreQuiet, IsPlainEnd, none_withdrawn, quiet_tasks_end_plainly, answer_of, LegalFrom, after_from, end_at, task_at, plain_end, has_one_kind_a_job, cond-false, cond-true, cond_both, or_right, not, NoClose, MadeLines, GoOn, accepted, EndsOnce, same_kind, SettledTasksEndAsPlanned, ObjectKind, IsNext}
 use Rattle.settled_runs.proofs.{Along.Step, Along.step_settled, OneFault.one_number}
 use Rattle.settled_runs.proofs.Each.{PartAt, Within, any_left, is_outside, settled_whole, run_each, run_parts, within_behind, work_outside, RanSettled, map_run, seat_within}
 
@@ -22,7 +22,7 @@ ArePlanned actions es = Each (IsPlanned actions) es
 -- Calls, and what workers and the phases ask for
 
 deed_planned : (settings : NodeSettings) (known : List Action) (before all : List Statement) (actions : List Action) (bound : List ℕ) (d : Deed)
-    (front : List Line) (r : Reply) → Within (action_in d) actions → is_settled_deed settings known before all d ≡ true → Made (call_of bound d) front r
+    (front : List Line) (r : Reply) → Within (action_in d) actions → is_settled_deed settings known before all d ≡ true → MadeLines (call_of bound d) front r
     → Each (λ l. is_planned actions l.op ≡ true) front
 unfolding is_settled_deed
 deed_planned settings known before all actions bound d front r e1 e2 e3 = grind (arith, nat_tests)
@@ -153,7 +153,7 @@ module _ {layout : Layout} {load : Workload} {es : List NodeEntry} {ns : List �
       let record_of : (t : Task) × (task_at s.tasks h ≡ Some t) × (end_in t.state ≡ Some ended_once.end) =
       end_task_at s.tasks h ended_once.end ended_once.ended in
       let same : SameTask (new_task n k) record_of.0 = under_task (SameTask (new_task n k)) s.tasks h record_of.0 has.under record_of.1 in
-      let plain : IsPlain s.actions record_of.0.job record_of.0.args ended_once.end =
+      let plain : IsPlainEnd s.actions record_of.0.job record_of.0.args ended_once.end =
       quiet_tasks_end_plainly terms es h u.legal (all_quiet actions es (planned u)) record_of.0 ended_once.end record_of.1 record_of.2 in
       let listed_kind : is_listed actions n.job plain.0 ≡ true = let i : is_listed actions plain.1.action.job plain.1.action.kind ≡ true =
       every_at (IsListed actions) s.actions plain.1.handle plain.1.action (listed_along actions (opening terms) es (planned u) tt) plain.1.found in

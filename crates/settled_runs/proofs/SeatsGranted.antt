@@ -1,5 +1,5 @@
 -- In a run of a settled workload main and each further caller are given what they ask for.
-use Rattle.settled_runs.proofs.Names.{Each, ◌≡◌, inr, ℕ, Bool, true, false, List, ◌∷◌, ◌++◌, refl, ◌∙◌, subst, arith, slice_get, list_all, NodeSettings, Layout, Action, Deed, Statement, Part, Workload, IsPart, NodeEntry, fst_true, call_of, head_of, tail_of_main, true_false, puts, actions_in, set_up, are_settled_parts, AllGranted, SettledRun, has_begin, task_in, is_settled_deed, keep_limits, [], sym, append-nil, inl, suc, ◌<◌, length, ap, append_assoc, ◌||◌, not, map, list_any, flat_map, entry, begins, Reply, handle_of, Legal, snd_true, not_true, Line, line, Made, in_lines, is_release, is_released, run_terms, action_in, all_statements, is_settled_part, is_settled_further, PartsGranted, SettledStatementsAreGranted, is_begin, lines_of, Carried, CallersRan, sets_up_first, or_left, or_right, some_entry, Op, cond_both, enter_behind, MadeBy, nat_tests, closes}
+use Rattle.settled_runs.proofs.Names.{Each, ◌≡◌, inr, ℕ, Bool, true, false, List, ◌∷◌, ◌++◌, refl, ◌∙◌, subst, arith, slice_get, list_all, NodeSettings, Layout, Action, Deed, Statement, Part, Workload, IsPart, NodeEntry, fst_true, call_of, head_lines, tail_of_main, true_false, puts, actions_in, set_up, are_settled_parts, AllGranted, SettledRun, has_begin, task_in, is_settled_deed, keep_limits, [], sym, append-nil, inl, suc, ◌<◌, length, ap, append_assoc, ◌||◌, not, map, list_any, flat_map, entry, begins, Reply, handle_of, Legal, snd_true, not_true, Line, line_with, MadeLines, in_lines, is_release_op, is_released, run_terms, action_in, all_statements, is_settled_part, is_settled_further, PartsGranted, SettledStatementsAreGranted, is_begin, lines_of, Carried, CallersRan, sets_up_first, or_left, or_right, some_entry, Op, cond_both, enter_behind, MadeBy, nat_tests, closes}
 use Rattle.settled_runs.proofs.{Granted.bit, Counted.calls_none, Counted.asks}
 use Rattle.settled_runs.proofs.Places.{Has, has_more, action_map, action_has}
 use Rattle.settled_runs.proofs.Walk.{puts_outside, sets_all, Seat, seat_granted, MadeAction, Finds}
@@ -64,7 +64,7 @@ has_one_begin (t ∷ before) s behind e = or_right (is_begin t.deed) _ (has_one_
 -- What main's lines are until it lets the others begin
 
 abbrev opening_line : Line
-opening_line = line Op.Initialize Reply.Ok 0
+opening_line = line_with Op.Initialize Reply.Ok 0
 
 pub record Began (ss : List Statement) (x : SetUp ss) (M : List Line) : Type 0 where
   pub first : List Line
@@ -72,36 +72,36 @@ pub record Began (ss : List Statement) (x : SetUp ss) (M : List Line) : Type 0 w
   pub release : Line
   pub rest : List Line
   pub is : M ≡ (opening_line ∷ first) ++ release ∷ rest
-  pub carried : Carried Made [] x.before first replies
+  pub carried : Carried MadeLines [] x.before first replies
   pub granted : AllGranted x.before replies
-  pub none : Each (λ l. is_release l.op ≡ false) first
+  pub none : Each (λ l. is_release_op l.op ≡ false) first
 
-begin_released : (d : Deed) (bound : List ℕ) (front : List Line) (r : Reply) → is_begin d ≡ true → Made (call_of bound d) front r
-    → front ≡ line Op.Release r 0 ∷ []
+begin_released : (d : Deed) (bound : List ℕ) (front : List Line) (r : Reply) → is_begin d ≡ true → MadeLines (call_of bound d) front r
+    → front ≡ line_with Op.Release r 0 ∷ []
 unfolding is_begin
 begin_released d bound front r e1 e2 = grind (arith, nat_tests)
 
-began : (ss : List Statement) (x : SetUp ss) (M body : List Line) (rs : List Reply) → M ≡ head_of (has_begin ss) ++ (body ++ tail_of_main)
-    → Carried Made [] ss body rs → AllGranted ss rs → Began ss x M
+began : (ss : List Statement) (x : SetUp ss) (M body : List Line) (rs : List Reply) → M ≡ head_lines (has_begin ss) ++ (body ++ tail_of_main)
+    → Carried MadeLines [] ss body rs → AllGranted ss rs → Began ss x M
 began ss x M body rs i c g =
     let f : Found ss body rs (length x.before) x.begin =
     found ss body rs c (length x.before) x.begin (ap (λ (z : List Statement). slice_get z (length x.before)) x.is ∙ get_at x.before x.begin x.behind) in
     let y : Step ss body rs x.begin = f.step in
     let same : y.before ≡ x.before = same_front y.before x.begin y.rest x.before x.begin x.behind (sym y.parted ∙ x.is) f.early in
-    let carried : Carried Made [] x.before y.first y.replies = subst (λ (z : List Statement). Carried Made [] z y.first y.replies) same y.carried in
+    let carried : Carried MadeLines [] x.before y.first y.replies = subst (λ (z : List Statement). Carried MadeLines [] z y.first y.replies) same y.carried in
     record {
       first = y.first;
       replies = y.replies;
-      release = line Op.Release y.reply 0;
+      release = line_with Op.Release y.reply 0;
       rest = y.more ++ tail_of_main;
-      is = i ∙ (λ j. head_of ((ap has_begin x.is ∙ has_one_begin x.before x.begin x.behind x.starts) j)
+      is = i ∙ (λ j. head_lines ((ap has_begin x.is ∙ has_one_begin x.before x.begin x.behind x.starts) j)
           ++ ((y.is ∙ ap (λ (z : List Line). y.first
           ++ (z ++ y.more)) (begin_released x.begin.deed (map handle_of y.replies) y.front y.reply x.starts y.made)) j ++ tail_of_main))
-          ∙ ap (λ (z : List Line). opening_line ∷ z) (append_assoc y.first (line Op.Release y.reply 0 ∷ y.more) tail_of_main);
+          ∙ ap (λ (z : List Line). opening_line ∷ z) (append_assoc y.first (line_with Op.Release y.reply 0 ∷ y.more) tail_of_main);
       carried = carried;
       granted = subst (λ (z : List Statement). AllGranted z y.replies) same (step_granted y g).0;
-      none = statements_each (λ o. is_release o ≡ false) x.before y.first y.replies carried (λ s z. step_each (λ o. is_release o ≡ false) z
-          (calls_none is_release (call_of (map handle_of z.replies) s.deed) (is_begin s.deed) (release_calls (map handle_of z.replies) s.deed)
+      none = statements_each (λ o. is_release_op o ≡ false) x.before y.first y.replies carried (λ s z. step_each (λ o. is_release_op o ≡ false) z
+          (calls_none is_release_op (call_of (map handle_of z.replies) s.deed) (is_begin s.deed) (release_calls (map handle_of z.replies) s.deed)
           (begin_none z.before s z.rest (ap begins (sym z.parted) ∙ x.first))));
     }
 
@@ -172,11 +172,11 @@ module _ {layout : Layout} {load : Workload} {es : List NodeEntry} {ns : List �
 
     module _ (who : ℕ) (late : main < who) (looks : ℕ) where
       abbrev entrance : List Line
-      entrance = line Op.Enter Reply.Ok looks ∷ []
+      entrance = line_with Op.Enter Reply.Ok looks ∷ []
 
       module _ (A : List Line) (l : Line) (B : List Line) (c : Cut who es ns (entrance ++ A) l (B ++ [])) where
-        abbrev entered : Cut who c.before c.first [] (line Op.Enter Reply.Ok looks) A
-        entered = cut who c.before c.first [] (line Op.Enter Reply.Ok looks) A c.done
+        abbrev entered : Cut who c.before c.first [] (line_with Op.Enter Reply.Ok looks) A
+        entered = cut who c.before c.first [] (line_with Op.Enter Reply.Ok looks) A c.done
 
         legal_cut : Legal (run_terms layout load) (entered.before ++ entry who Op.Enter Reply.Ok ∷ entered.behind)
         legal_cut = subst (Legal (run_terms layout load)) entered.is (legal_before u c)
@@ -186,10 +186,10 @@ module _ {layout : Layout} {load : Workload} {es : List NodeEntry} {ns : List �
 
         -- main's lines before the caller entered
         seen : (Z : List Line) × (lines_of main entered.before entered.first ≡ (opening_line ∷ began_main.first) ++ Z)
-        seen = past (λ l. is_release l.op) (opening_line ∷ began_main.first) (lines_of main entered.before entered.first) (later
+        seen = past (λ l. is_release_op l.op) (opening_line ∷ began_main.first) (lines_of main entered.before entered.first) (later
             ++ lines_of main (entry who l.op l.reply ∷ c.behind) (l.beside ∷ c.rest)) (began_main.release ∷ began_main.rest) (refl, began_main.none)
-            (some_line main is_release is_released (λ e i. fst_true (is_release e.op) _ i) entered.before entered.first entered.same
-            (cut_before entered (IsBy main is_release) (cut_before c (IsBy main is_release) (releases_main u)))
+            (some_line main is_release_op is_released (λ e i. fst_true (is_release_op e.op) _ i) entered.before entered.first entered.same
+            (cut_before entered (IsBy main is_release_op) (cut_before c (IsBy main is_release_op) (releases_main u)))
             (enter_behind (run_terms layout load) entered.before entered.behind who legal_cut))
             (sym (append_assoc (lines_of main entered.before entered.first) later _)
             ∙ ap (λ (z : List Line). z ++ lines_of main (entry who l.op l.reply ∷ c.behind) (l.beside ∷ c.rest)) (sym (cut_split entered main))
@@ -204,7 +204,7 @@ module _ {layout : Layout} {load : Workload} {es : List NodeEntry} {ns : List �
             action_map (Has began_main.first) (λ o h. MadeBy o h c.before) p (λ o h v.
             let z : Has (lines_of main c.before c.first) o h =
             subst (λ (ls : List Line). Has ls o h) (sym all_seen) (has_more (opening_line ∷ []) began_main.first (seen.0 ++ later) o h v) in
-            let d = cut main c.before c.first z.before (line o (Reply.Handle h) z.beside) z.behind z.is in
+            let d = cut main c.before c.first z.before (line_with o (Reply.Handle h) z.beside) z.behind z.is in
             record { before = d.before; who = main; behind = d.behind; is = d.is })
             (action_has x.before began_main.first began_main.replies p began_main.carried began_main.granted
             (subst (λ (z : List Action). list_any p z ≡ true) (first_actions part.statements x) e))

@@ -1,9 +1,9 @@
 -- What a look at a whole group tells in a quiet history: its live members are the tasks that were put into it since the last verdict.
-use Rattle.settled_runs.proofs.Names.{◌≡◌, ◌⊎◌, inl, inr, ℕ, ◌≤◌, Bool, true, false, cond, List, [], ◌∷◌, Option, Some, None, refl, ◌∙◌, ap, subst, arith, ◌==◌, is_some, option_and_then, option_or, eq-eqb, MtapiStatus, Listed, live_object, Task, TaskState, Ended, end_of, is_member, Ending, insert, insert_ended, fault_of, first_fault, end_in, some_same, live_listed, true_false, at_skip, at_here, OnceIn, once_rest, live_of, listed, endings, sym, ◌&&◌, is_none, eqb-true, holds, with_fields, gone, with_notes, new_task, Group, freed, Op, State, is_open, tasks, Move, starts_task, notes, leaves, is_fresh, is_served, apply, NodeEntry, IsNext, next, IsMade, all_live, fst_true, snd_true, Every, every_map, always, listed_move, LegalFrom, after_from, list_any, TaskEnd, GroupHandle, NewTask, StartsTask, FreesMembers, FoundAs, is_quiet, starts_member, looks_at_all, change_all, cond_both, Notes, ◌++◌, ◌||◌, not, entry, any_listed, is_unended, with_waiter, new_group, is_unended_member, Reply, opening, groups, after_moves, Allows, moves_of, after_row, verdict, is_pending, after, AllGives, given, on_live, both_true, Legal-front, by_moves, at_issue_here, cut_from, cut_after, found_changed, found_issued, fresh_unlisted, AreQuiet, with_new, members_behind, goes_on, GoOn, IsVerdict, QuietVerdicts, IsCalm, calm_next, calm_along, calm_opening, row, members_of, false_from_ne_true, or_right, or_cases, May, by_made_moves, looks_row, once_from, end_found, ObjectKind, whether, nat_tests}
+use Rattle.settled_runs.proofs.Names.{◌≡◌, ◌⊎◌, inl, inr, ℕ, ◌≤◌, Bool, true, false, cond, List, [], ◌∷◌, Option, Some, None, refl, ◌∙◌, ap, subst, arith, ◌==◌, is_some, option_and_then, option_or, eq-eqb, MtapiStatus, Listed, live_object, Task, TaskState, Ended, end_of, is_member, Ending, insert, insert_ended, fault_of, first_fault, end_in, some_same, live_listed, true_false, at_skip, at_here, OnceIn, once_rest, live_of, listed, endings, sym, ◌&&◌, is_none, eqb-true, holds, with_fields, gone, with_notes, new_task, Group, freed, Op, State, is_open, tasks, Move, starts_task, notes, leaves, is_fresh, is_served, apply, NodeEntry, IsNext, next, IsMade, all_live, fst_true, snd_true, Every, every_map, always, listed_move, LegalFrom, after_from, list_any, TaskEnd, GroupHandle, NewTask, StartsTask, FreesMembers, FoundAs, is_quiet, starts_member, looks_at_all, change_all, cond_both, Notes, ◌++◌, ◌||◌, not, entry, any_listed, is_unended, with_waiter, new_group, is_unended_member, Reply, opening, groups, after_moves, Allows, moves_of, after_row, verdict, is_pending, after, AllGives, given, on_live, both_true, Legal-front, by_moves, at_issue_here, cut_from, cut_after, found_changed, found_issued, fresh_unlisted, AreQuiet, with_new, members_behind, goes_on, GoOn, IsGroupVerdict, QuietVerdicts, IsCalm, calm_next, calm_along, calm_opening, row, members_of, false_from_ne_true, or_right, or_cases, May, by_made_moves, looks_row, once_from, end_found, ObjectKind, whether, nat_tests}
 use Rattle.settled_runs.proofs.{Stays.there_next, Stays.made_there, Granted.any_found, Granted.open_move, Stays.AskedAs, Stays.on_start, Stays.made_objects_stay, Granted.quiet_calls_are_granted, Waits.quiet_looks_are_answered}
 use Rattle.history_law.proofs.TaskSteps as step
 use Rattle.history_law.proofs.TaskSteps.{Step, Steps, tasks_go, step_handle, step_alive, every_steps}
-use Rattle.mtapi_machine.specs.Laws.{IsBy, may}
+use Rattle.mtapi_machine.specs.Laws.{IsBy, may_move}
 use Rattle.settled_runs.proofs.Waits.{notes_stay, notes_tasks, noting, open_up, legal_behind, none_noted}
 
 -- The first fault of the endings
@@ -114,10 +114,10 @@ step_member g s r _ _ _ k b = b
 
 named_move : (who : ℕ) (o : Op) (s : State) (x : Move) → IsMade s o x → May s who o x → Named s → Every (IsNamed s.groups) (apply x s).tasks
 named_move who o s x e k v =
-    every_steps (IsNamed s.groups) s x s.tasks _ (λ h t i. joins h t (subst (λ (m : Move). may s m ≡ true) i e.may))
+    every_steps (IsNamed s.groups) s x s.tasks _ (λ h t i. joins h t (subst (λ (m : Move). may_move s m ≡ true) i e.may))
     (λ r q y c g b. c g (step_member g s r x q y (λ h f i d. keeps g r h f (subst (May s who o) i k) d) b)) (tasks_go s x) v
   where
-    joins : (h : ℕ) (t : NewTask) → may s (starts_task h t) ≡ true → IsNamed s.groups (new_task t s.starts)
+    joins : (h : ℕ) (t : NewTask) → may_move s (starts_task h t) ≡ true → IsNamed s.groups (new_task t s.starts)
     joins h t e g i =
         live_group s.groups t.group g
         (snd_true (is_open s.phase && is_fresh tasks s h && is_served s t.job t.cores) _ (fst_true _ (all_live s.queues t.queue) e)) i
@@ -363,7 +363,7 @@ has_ended (Ended d n) e = (d, refl)
 has_ended _ e = true_false refl e
 
 is_verdict : (g : ℕ) (hs : List ℕ) (s : State) (r : Reply) → any_listed (is_unended_member g) s.tasks ≡ false → OnceIn s.tasks → Members g hs s.tasks
-    → r ≡ verdict (first_fault (endings g (live_of s.tasks))) → IsVerdict s hs r
+    → r ≡ verdict (first_fault (endings g (live_of s.tasks))) → IsGroupVerdict s hs r
 is_verdict g hs s r all o v e = record {
   fault = first_fault (endings g (live_of s.tasks));
   is = e;
@@ -401,10 +401,10 @@ quiet_verdicts terms before behind maker who g r legal q0 q1 k =
     (moves_of (row (after_from (next first e0) behind) who (Op.AllLook g false) r)) =
     looked g (members_of g.0 [] behind) (after_from (next first e0) behind) who r fine.up fine.group last.allowed fine.members in
     let once : OnceIn (after_from (next first e0) behind).tasks = subst (λ (t : State). OnceIn t.tasks) same (once_from terms (before ++ e0 ∷ behind)) in
-    elim told.said as (λ z. (r ≡ Reply.Pending) ⊎ IsVerdict (after terms (before ++ e0 ∷ behind)) (members_of g.0 [] behind) r) [
+    elim told.said as (λ z. (r ≡ Reply.Pending) ⊎ IsGroupVerdict (after terms (before ++ e0 ∷ behind)) (members_of g.0 [] behind) r) [
       | inl e ↦ inl e
       | inr e ↦
-          inr (subst (λ (t : State). IsVerdict t (members_of g.0 [] behind) r) (sym same)
+          inr (subst (λ (t : State). IsGroupVerdict t (members_of g.0 [] behind) r) (sym same)
           (is_verdict g.0 (members_of g.0 [] behind) (after_from (next first e0) behind) r e.0 once fine.members e.1))
     ]
 

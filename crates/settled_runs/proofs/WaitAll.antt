@@ -1,5 +1,5 @@
 -- In a run of a settled workload each wait for all tasks of a group is told the fault that the plain report tells of it.
-use Rattle.settled_runs.proofs.Names.{nat_tests, ◌≡◌, ℕ, Bool, true, false, cond, List, [], ◌∷◌, ◌++◌, length, Option, Some, None, refl, sym, ◌∙◌, ap, subst, arith, append_assoc, ℤ, ◌==◌, map, option_and_then, IfSome, option_map, option_or, flat_map, eq-eqb, eqb-true, holds, TaskEnd, Mask, Timeout, MtapiStatus, entry, Action, NewTask, fault_of, Queue, Deed, Statement, fields, word_for, values, place_used, AllFit, IsBoundAt, IsStatement, AreStatements, Op, Reply, handle_of, some_same, handle_at, group_at, call_of, Line, line, Made, Looked, true_false, queue_at, Faults, with_member, with_task, no_faults, IsPlainTask, fault_in, members_behind, deed_spelled, Carried, task_in, plain_end, plain_fault, faults_behind, ArePlain, IsPlainReply, inl, inr, or_cases, none_some, Call, Each, ◌⊎◌, ◌+◌, ◌<◌, append-nil, Layout, Workload, Terms, is_pending, verdict, NodeEntry, Legal, after, closes, NoClose, front_stays, run_terms, AreQuiet, all_statements, actions_in, AllGranted, SettledRun, GoOn, IsVerdict, end_at, members_of, word_row as row, Sort, both_ways, Part, has_one_fault_a_group}
+use Rattle.settled_runs.proofs.Names.{nat_tests, ◌≡◌, ℕ, Bool, true, false, cond, List, [], ◌∷◌, ◌++◌, length, Option, Some, None, refl, sym, ◌∙◌, ap, subst, arith, append_assoc, ℤ, ◌==◌, map, option_and_then, IfSome, option_map, option_or, flat_map, eq-eqb, eqb-true, holds, TaskEnd, Mask, Timeout, MtapiStatus, entry, Action, NewTask, fault_of, Queue, Deed, Statement, fields, word_for, values, place_used, AllFit, IsBoundAt, IsStatement, AreStatements, Op, Reply, handle_of, some_same, handle_at, group_at, call_of, Line, line_with, MadeLines, LookedLines, true_false, queue_at, Faults, with_group_fault, with_task_asked, no_faults, IsPlainTask, fault_in, members_behind, deed_spelled, Carried, task_in, plain_end, plain_fault, faults_behind, ArePlain, IsPlainReply, inl, inr, or_cases, none_some, Call, Each, ◌⊎◌, ◌+◌, ◌<◌, append-nil, Layout, Workload, Terms, is_pending, verdict, NodeEntry, Legal, after, closes, NoClose, front_stays, run_terms, AreQuiet, all_statements, actions_in, AllGranted, SettledRun, GoOn, IsGroupVerdict, end_at, members_of, word_row as row, Sort, both_ways, Part, has_one_fault_a_group}
 use Rattle.settled_runs.proofs.{Counted.asks, Counted.cut_asks, Stays.quiet_front, Stays.quiet_rest, Verdicts.has, Verdicts.quiet_verdicts, RunEnds.go_on}
 use Rattle.settled_runs.proofs.{RunEnds.IsPlanned, RunEnds.planned, Opened.legal_here, Opened.quiet_before, Opened.no_close, Places.at_group}
 use Rattle.settled_runs.proofs.Places.{group_front, groups_handed}
@@ -74,7 +74,7 @@ module _ (actions : List Action) (all : List Statement) (ends : ℕ → Option T
       → (handle_at bound g == h) ≡ (place == g)) (faults : Faults) (hs : List ℕ) (f : Fits hs (faults place)) where
     -- a task of the statement
     task_fits : (t : NewTask) (j : ℕ) → task_in all s.deed ≡ Some t → ends j ≡ plain_end actions t → IfSome t.group (IsBoundAt Sort.Group before)
-        → Fits (cond (holds (λ x. x.0 == h) (option_map (group_at bound) t.group)) (j ∷ hs) hs) (with_member t.group (plain_fault actions t) faults place)
+        → Fits (cond (holds (λ x. x.0 == h) (option_map (group_at bound) t.group)) (j ∷ hs) hs) (with_group_fault t.group (plain_fault actions t) faults place)
     unfolding plain_fault
     task_fits t j e k o = by t.group refl o
       where
@@ -82,7 +82,7 @@ module _ (actions : List Action) (all : List Statement) (ends : ℕ → Option T
         fault_is = ap (option_and_then fault_of) k
 
         by : (group : Option ℕ) → t.group ≡ group → IfSome group (IsBoundAt Sort.Group before)
-            → Fits (cond (holds (λ x. x.0 == h) (option_map (group_at bound) group)) (j ∷ hs) hs) (with_member group (plain_fault actions t) faults place)
+            → Fits (cond (holds (λ x. x.0 == h) (option_map (group_at bound) group)) (j ∷ hs) hs) (with_group_fault group (plain_fault actions t) faults place)
         by None i o = f
         by (Some g) i o =
             choose (handle_at bound g == h) (place == g) (same g o) (j ∷ hs) hs (option_or (faults g) (plain_fault actions t)) (faults place)
@@ -95,7 +95,7 @@ module _ (actions : List Action) (all : List Statement) (ends : ℕ → Option T
 
     -- a wait for all tasks of a group
     wait_fits : (g : ℕ) (t : Timeout) (front : List Line) (r : Reply) → IsBoundAt Sort.Group before g
-        → Looked false (λ last. Op.AllLook (record { 0 = handle_at bound g }) last) t front r
+        → LookedLines false (λ last. Op.AllLook (record { 0 = handle_at bound g }) last) t front r
         → Fits (members_in h hs front) (cond (place == g) None (faults place))
     wait_fits g t front r o m =
         let told : members_in h hs front ≡ cond (handle_at bound g == h) [] hs =
@@ -105,24 +105,24 @@ module _ (actions : List Action) (all : List Statement) (ends : ℕ → Option T
         (choose (handle_at bound g == h) (place == g) (same g o) [] hs None (faults place) (λ y. fit_none actions all F place) f)
 
     -- a statement that doesn't use the group
-    kept : (c : Call) (front : List Line) (r : Reply) → Made c front r → CallEach (λ o. uses h o ≡ false) c → Fits (members_in h hs front) (faults place)
+    kept : (c : Call) (front : List Line) (r : Reply) → MadeLines c front r → CallEach (λ o. uses h o ≡ false) c → Fits (members_in h hs front) (faults place)
     kept c front r m u = subst (λ (x : List ℕ). Fits x (faults place)) (sym (unused_lines h hs front (made_each (λ o. uses h o ≡ false) c front r u m))) f
 
     -- a statement that asks for a task
     asked_fits : (o : Op) (front : List Line) (r : Reply) (t u : NewTask) → task_in all s.deed ≡ Some u → t ≡ u → (j : ℕ) → r ≡ Reply.Handle j
-        → ends j ≡ plain_end actions u → IfSome t.group (IsBoundAt Sort.Group before) → front ≡ line o r 0 ∷ []
+        → ends j ≡ plain_end actions u → IfSome t.group (IsBoundAt Sort.Group before) → front ≡ line_with o r 0 ∷ []
         → members_behind h hs (entry 0 o (Reply.Handle j)) ≡ cond (holds (λ x. x.0 == h) (option_map (group_at bound) t.group)) (j ∷ hs) hs
-        → Fits (members_in h hs front) (with_member t.group (plain_fault actions t) faults place)
+        → Fits (members_in h hs front) (with_group_fault t.group (plain_fault actions t) faults place)
     asked_fits o front r t u e q j k n b i a =
-        subst (λ (y : List Line). Fits (members_in h hs y) (with_member t.group (plain_fault actions t) faults place)) (sym i)
-        (subst (λ (y : Reply). Fits (members_behind h hs (entry 0 o y)) (with_member t.group (plain_fault actions t) faults place)) (sym k)
-        (subst (λ (x : List ℕ). Fits x (with_member t.group (plain_fault actions t) faults place)) (sym a)
+        subst (λ (y : List Line). Fits (members_in h hs y) (with_group_fault t.group (plain_fault actions t) faults place)) (sym i)
+        (subst (λ (y : Reply). Fits (members_behind h hs (entry 0 o y)) (with_group_fault t.group (plain_fault actions t) faults place)) (sym k)
+        (subst (λ (x : List ℕ). Fits x (with_group_fault t.group (plain_fault actions t) faults place)) (sym a)
         (subst (λ (x : NewTask). Fits (cond (holds (λ v. v.0 == h) (option_map (group_at bound) x.group)) (j ∷ hs) hs)
-        (with_member x.group (plain_fault actions x) faults place)) (sym q)
+        (with_group_fault x.group (plain_fault actions x) faults place)) (sym q)
         (task_fits u j e n (subst (λ (x : NewTask). IfSome x.group (IsBoundAt Sort.Group before)) q b)))))
 
     -- the statement keeps the group fit
-    pub statement_fits : (front : List Line) (r : Reply) → IsStatement before s → Made (call_of bound s.deed) front r
+    pub statement_fits : (front : List Line) (r : Reply) → IsStatement before s → MadeLines (call_of bound s.deed) front r
         → IsPlainReply actions all ends faults s.deed r → Fits (members_in h hs front) (faults_behind actions all faults s.deed place)
     unfolding IsPlainReply faults_behind task_in row deed_spelled
     statement_fits front r st m p = by s.deed refl st.options st.uses m p
@@ -130,15 +130,15 @@ module _ (actions : List Action) (all : List Statement) (ends : ℕ → Option T
         by_queue : (queue : ℕ) (args : List ℤ) (cores : Mask) (detached : Bool) (group : Option ℕ) (q : Option Queue)
             → IfSome group (IsBoundAt Sort.Group before) → task_in all s.deed ≡ option_map (put_task queue args cores detached group) q
             → IsPlainTask actions ends (option_map (put_task queue args cores detached group) q) r
-            → front ≡ line (Op.TaskEnqueue (record { 0 = handle_at bound queue }) args cores detached (option_map (group_at bound) group)) r 0 ∷ []
-            → Fits (members_in h hs front) (with_task actions (option_map (put_task queue args cores detached group) q) faults place)
+            → front ≡ line_with (Op.TaskEnqueue (record { 0 = handle_at bound queue }) args cores detached (option_map (group_at bound) group)) r 0 ∷ []
+            → Fits (members_in h hs front) (with_task_asked actions (option_map (put_task queue args cores detached group) q) faults place)
         by_queue queue args cores detached group None o i w n = none_some w.1
         by_queue queue args cores detached group (Some x) o i w n =
             asked_fits (Op.TaskEnqueue (record { 0 = handle_at bound queue }) args cores detached (option_map (group_at bound) group)) front r
             (put_task queue args cores detached group x) w.0 (i ∙ w.1) (some_same w.1) w.2 w.3 w.4 o n refl
 
         by : (d : Deed) → s.deed ≡ d → AllFit before (fields (word_for d)) (values d) → IfSome (place_used d) (λ v. IsBoundAt v.0 before v.1)
-            → Made (call_of bound d) front r → IsPlainReply actions all ends faults d r
+            → MadeLines (call_of bound d) front r → IsPlainReply actions all ends faults d r
             → Fits (members_in h hs front) (faults_behind actions all faults d place)
         by (Deed.Start job args priority cores detached group) i o v n w =
             asked_fits (Op.TaskStart job args priority cores detached (option_map (group_at bound) group)) front r
@@ -154,7 +154,7 @@ module _ (actions : List Action) (all : List Statement) (ends : ℕ → Option T
         by (Deed.WaitAll g t) i o v n w = wait_fits g t front r v n
         by _ i o v n w = absurd w
 
-  fits_along : (ss : List Statement) (ls : List Line) (rs : List Reply) → Carried Made [] ss ls rs → AreStatements [] ss → (rest : List Statement)
+  fits_along : (ss : List Statement) (ls : List Line) (rs : List Reply) → Carried MadeLines [] ss ls rs → AreStatements [] ss → (rest : List Statement)
       → all ≡ ss ++ rest → handle_at (map handle_of rs) place ≡ h
       → ((other : ℕ) → BoundBy Sort.Group ss other → handle_at (map handle_of rs) other ≡ h → other ≡ place)
       → ArePlain actions all ends no_faults ss rs → Fits (members_in h [] ls) (faults_after actions all no_faults ss place)
@@ -195,12 +195,12 @@ module _ {layout : Layout} {load : Workload} {es : List NodeEntry} {ns : List �
   h = handle u x y g place
 
   pub group_told : ArePlain actions p.statements ends no_faults y.before y.replies
-      → Looked false (λ last. Op.AllLook (record { 0 = h }) last) Timeout.Infinite y.front y.reply → y.reply ≡ verdict told_fault
+      → LookedLines false (λ last. Op.AllLook (record { 0 = h }) last) Timeout.Infinite y.front y.reply → y.reply ≡ verdict told_fault
   group_told plain m =
       let b : BoundBy Sort.Group y.before place = bound_by Sort.Group y.before place bound in
       let here : Found y.before y.first y.replies place b.statement = at_group y.before y.first y.replies y.carried g place b in
       let z : Step y.before y.first y.replies b.statement = here.step in
-      let made_line : Line = line Op.GroupCreate (Reply.Handle h) 0 in
+      let made_line : Line = line_with Op.GroupCreate (Reply.Handle h) 0 in
       let lines_are : y.first ≡ z.first ++ made_line ∷ z.more =
       z.is ∙ ap (λ (q : List Line). z.first ++ (q ++ z.more)) (group_front y.before y.first y.replies y.carried g place b) in
       let only : (other : ℕ) → BoundBy Sort.Group y.before other → handle u x y g other ≡ h → other ≡ place =
@@ -215,12 +215,12 @@ module _ {layout : Layout} {load : Workload} {es : List NodeEntry} {ns : List �
       subst (λ (q : List ℕ). Fit actions p.statements (λ j. option_and_then fault_of (ends j)) place q told_fault) (ap (members_in h []) lines_are
       ∙ members_append h [] z.first (made_line ∷ z.more) ∙ ap (λ (q : List ℕ). members_in h q z.more) (unused_lines h [] z.first first_unused))
       (fits_along actions p.statements ends place h y.before y.first y.replies y.carried (step_before y x.are) (s ∷ y.rest) y.parted refl only plain) in
-      let look : Line = line (Op.AllLook (record { 0 = h }) false) y.reply m.beside in
+      let look : Line = line_with (Op.AllLook (record { 0 = h }) false) y.reply m.beside in
       let e1 : NodeEntry = entry w look.op y.reply in
       let e0 : NodeEntry = entry w Op.GroupCreate (Reply.Handle h) in
       let c : Cut w es ns (x.at.start ++ y.first) look (y.more ++ x.at.finish) =
       cut_here u x y g look (one_look (λ last. Op.AllLook (record { 0 = h }) last) Timeout.Infinite y.front y.reply m
-      ∙ ap (λ (q : Bool). line (Op.AllLook (record { 0 = h }) q) y.reply m.beside ∷ []) m.within) in
+      ∙ ap (λ (q : Bool). line_with (Op.AllLook (record { 0 = h }) q) y.reply m.beside ∷ []) m.within) in
       let d : Cut w c.before c.first (x.at.start ++ z.first) made_line z.more =
       cut w c.before c.first (x.at.start ++ z.first) made_line z.more
       (c.done ∙ ap (λ (q : List Line). x.at.start ++ q) lines_are ∙ sym (append_assoc x.at.start z.first (made_line ∷ z.more))) in
@@ -234,7 +234,7 @@ module _ {layout : Layout} {load : Workload} {es : List NodeEntry} {ns : List �
       let v : asks closes c.before ≡ asks closes d.before + (0 + asks closes d.behind) = cut_asks d closes in no_close d.behind (omega arith) in
       let going : GoOn h d.behind =
       go_on actions h d.behind (cut_behind d (IsPlanned actions) (cut_before c (IsPlanned actions) (planned (ran u)))) unclosed in
-      let told : (y.reply ≡ Reply.Pending) ⊎ IsVerdict (after terms (d.before ++ e0 ∷ d.behind)) (members_of h [] d.behind) y.reply =
+      let told : (y.reply ≡ Reply.Pending) ⊎ IsGroupVerdict (after terms (d.before ++ e0 ∷ d.behind)) (members_of h [] d.behind) y.reply =
       quiet_verdicts terms d.before d.behind w w (record { 0 = h }) y.reply legal (quiet_front d.before (e0 ∷ d.behind) quiet)
       (quiet_rest d.before (e0 ∷ d.behind) quiet).1 going in
       let parted_here : es ≡ (d.before ++ e0 ∷ d.behind) ++ ((e1 ∷ c.behind) ++ []) =

@@ -1,5 +1,5 @@
 -- In a quiet history a task that its own caller alone looks at stays until it has ended and told its end.
-use Rattle.settled_runs.proofs.Names.{◌≡◌, ◌⊎◌, ℕ, Bool, true, false, List, [], ◌∷◌, ◌++◌, Option, Some, None, refl, sym, ap, subst, arith, ◌==◌, ◌&&◌, not, eq-eqb, nat_tests, holds, TaskEnd, Failed, entry, Listed, live_object, with_fields, gone, Task, NewTask, TaskState, Ended, new_task, with_notes, with_waiter, ended, is_member, Op, Reply, Phase, State, opening, is_open, is_up, tasks, Move, starts_task, notes, is_fresh, apply, after_moves, Row, unless, Allows, after_row, NodeEntry, IsNext, next, after, IsMade, NotesTask, TakesEnded, Legal-front, Legal-rest, AllGives, given, on_live, fst_true, by_moves, true_false, at_issue_here, FoundAs, found_changed, cut_from, cut_after, fresh_unlisted, is_quiet, AreQuiet, starts_alone, looks_at, AreLeft, QuietLooksAreAnswered, IsCalm, calm_next, calm_along, calm_opening, none_impure, row, LegalFrom, after_from, FreesMembers, Notes, is_other, Kind, ObjectKind, MtapiStatus, looks_row, eqb-true, is_that_handle as is_given, TaskHandle, moves_of, whether}
+use Rattle.settled_runs.proofs.Names.{◌≡◌, ◌⊎◌, ℕ, Bool, true, false, List, [], ◌∷◌, ◌++◌, Option, Some, None, refl, sym, ap, subst, arith, ◌==◌, ◌&&◌, not, eq-eqb, nat_tests, holds, TaskEnd, Failed, entry, Listed, live_object, with_fields, gone, Task, NewTask, TaskState, Ended, new_task, with_notes, with_waiter, ended, is_member, Op, Reply, Phase, State, opening, is_open, is_up, tasks, Move, starts_task, notes, is_fresh, apply, after_moves, Row, unless, Allows, after_row, NodeEntry, IsNext, next, after, IsMade, NotesTask, TakesEnded, Legal-front, Legal-rest, AllGives, given, on_live, fst_true, by_moves, true_false, at_issue_here, FoundAs, found_changed, cut_from, cut_after, fresh_unlisted, is_quiet, AreQuiet, starts_alone, is_look_at, AreLeft, QuietLooksAreAnswered, IsCalm, calm_next, calm_along, calm_opening, none_impure, row, LegalFrom, after_from, FreesMembers, Notes, is_other, Kind, ObjectKind, MtapiStatus, looks_row, eqb-true, is_that_handle as is_given, TaskHandle, moves_of, whether}
 use Rattle.settled_runs.proofs.{Stays.quiet_rest, Stays.quiet_front, Granted.before, Granted.is_up as open_now, Granted.allowed, Stays.AskedAs, Stays.on_start}
 use Rattle.history_law.proofs.TaskSteps as step
 use Rattle.history_law.proofs.TaskSteps.{Step, tasks_go, found_steps}
@@ -107,7 +107,7 @@ none_noted K s w (Op.TallyRead t) r c n u z a = grind (arith, nat_tests, z, none
 none_noted K s w (Op.TallyWrite t value) r c n u z a = grind (arith, nat_tests, z, none_impure s w t.0 Kind.Tally)
 none_noted K s w _ r c n u z a = true_false n refl
 
-noted : (who h : ℕ) (s : State) (w : ℕ) (o : Op) (r : Reply) → IsCalm s → notes_tasks o ≡ true → (looks_at h o ≡ true → (w ≡ who) × (r ≡ Reply.Pending))
+noted : (who h : ℕ) (s : State) (w : ℕ) (o : Op) (r : Reply) → IsCalm s → notes_tasks o ≡ true → (is_look_at h o ≡ true → (w ≡ who) × (r ≡ Reply.Pending))
     → Allows (row s w o r) r → Own who h s → Own who h (after_row s (row s w o r))
 noted who h s w (Op.TaskLook t last) r c n k a v =
     given (Looks who h s w t.0) (row s w (Op.TaskLook t last) r) r (λ x i. v)
@@ -115,7 +115,7 @@ noted who h s w (Op.TaskLook t last) r c n k a v =
 noted who h s w o r c n k a v = none_noted (λ x ms. Own who h (after_moves ms s)) s w o r c n (λ t last e. cc) (λ x. v) a
 
 own_next : (who h : ℕ) (s : State) (e : NodeEntry) → IsNext s e → is_quiet e.op ≡ true → IsCalm s
-    → (looks_at h e.op ≡ true → (e.who ≡ who) × (e.reply ≡ Reply.Pending)) → Own who h s → Own who h (next s e)
+    → (is_look_at h e.op ≡ true → (e.who ≡ who) × (e.reply ≡ Reply.Pending)) → Own who h s → Own who h (next s e)
 own_next who h s e i q c k v =
     whether (notes_tasks e.op) (λ n. noted who h s e.who e.op e.reply c n k i.allowed v)
     (λ n. by_moves (Own who h) s e (λ t x y u. notes_stay (IsOwn who) (λ m k. k.kept) h e.op q n

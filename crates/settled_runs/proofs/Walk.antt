@@ -1,5 +1,5 @@
 -- In a run of a settled workload each statement that makes an object is given its handle.
-use Rattle.settled_runs.proofs.Names.{CallsAreGranted, ◌≡◌, ℕ, zero, suc, ◌+◌, ◌≤◌, Bool, true, false, List, [], ◌∷◌, Option, Some, refl, ◌∙◌, ap, subst, arith, not, nat_lt, map, slice_get, eq-eqb, eqb-true, nat_tests, how_many, Queue, Deed, Statement, fields, word_for, values, AllFit, IsBoundAt, IsStatement, AreStatements, Op, Reply, handle_of, fst_true, snd_true, handle_at, call_of, Line, Made, true_false, puts, queue_in, puts_into, deed_spelled, Carried, keep_limits, ◌⊎◌, inl, inr, ◌<◌, ◌++◌, None, sym, ℤ, ◌&&◌, option_and_then, IfSome, option_map, list_any, append-nil, Mask, Layout, Action, new_action, has_job, has_enabled_job, is_eligible, some_below, Workload, NodeEntry, both_true, group_at, line, closes, entries_that, run_terms, Part, IsOpened, HasAction, IsServed, GroupIsMade, Asks, IsGranted, IsQueued, actions_in, queue_at, serves, is_startable, set_up, GrantedTo, AllGranted, SettledRun, lines_of, task_in, is_settled_deed, cond_both, GroupHandle, word_row as row, in_mask, MadeBy, puts_entry, Sort, ObjectKind, ltb-true, le-leb, NewTask}
+use Rattle.settled_runs.proofs.Names.{CallsAreGranted, ◌≡◌, ℕ, zero, suc, ◌+◌, ◌≤◌, Bool, true, false, List, [], ◌∷◌, Option, Some, refl, ◌∙◌, ap, subst, arith, not, nat_lt, map, slice_get, eq-eqb, eqb-true, nat_tests, how_many, Queue, Deed, Statement, fields, word_for, values, AllFit, IsBoundAt, IsStatement, AreStatements, Op, Reply, handle_of, fst_true, snd_true, handle_at, call_of, Line, MadeLines, true_false, puts, queue_in, deed_puts_into, deed_spelled, Carried, keep_limits, ◌⊎◌, inl, inr, ◌<◌, ◌++◌, None, sym, ℤ, ◌&&◌, option_and_then, IfSome, option_map, list_any, append-nil, Mask, Layout, Action, new_action, has_job, has_enabled_job, is_eligible, some_below, Workload, NodeEntry, both_true, group_at, line_with, closes, entries_that, run_terms, Part, IsOpened, HasAction, IsJobServed, GroupIsMade, Asks, IsGranted, IsQueued, actions_in, queue_at, serves, is_startable, set_up, GrantedTo, AllGranted, SettledRun, lines_of, task_in, is_settled_deed, cond_both, GroupHandle, word_row as row, in_mask, MadeBy, puts_entry, Sort, ObjectKind, ltb-true, le-leb, NewTask}
 use Rattle.settled_runs.proofs.Granted.{bit, quiet_calls_are_granted}
 use Rattle.settled_runs.proofs.Each.{is_outside, OnlyBy, PartAt, step_lines, IsBy, cut_before, ran}
 use Rattle.settled_runs.proofs.Opened.{legal_here, quiet_before, new_id, room, rooms}
@@ -12,15 +12,16 @@ use Rattle.settled_runs.proofs.Places.{Has, has_more, HasQueue, queue_has, Actio
 module _ (h place : ℕ) where
   puts_call : (before : List Statement) (s : Statement) (bound : List ℕ) → IsStatement before s
       → ((queue : ℕ) → IsBoundAt Sort.Queue before queue → handle_at bound queue ≡ h → queue ≡ place)
-      → CallAsks (puts h) (bit (puts_into place s.deed)) (call_of bound s.deed)
+      → CallAsks (puts h) (bit (deed_puts_into place s.deed)) (call_of bound s.deed)
   unfolding row deed_spelled
   puts_call before s bound e1 e2 = grind (arith, nat_tests)
 
-  puts_carried : (all : List Statement) (ls : List Line) (rs : List Reply) → Carried Made [] all ls rs → AreStatements [] all
+  puts_carried : (all : List Statement) (ls : List Line) (rs : List Reply) → Carried MadeLines [] all ls rs → AreStatements [] all
       → ((other : ℕ) → BoundBy Sort.Queue all other → handle_at (map handle_of rs) other ≡ h → other ≡ place)
-      → asked (puts h) ls ≤ how_many (λ s. puts_into place s.deed) all
+      → asked (puts h) ls ≤ how_many (λ s. deed_puts_into place s.deed) all
   puts_carried all ls rs c a only =
-      statements_ask (puts h) (puts_into place) all ls rs c (λ s x. puts_call x.before s (map handle_of x.replies) (step_statement x a) (λ queue o e. let y =
+      statements_ask (puts h) (deed_puts_into place) all ls rs c
+      (λ s x. puts_call x.before s (map handle_of x.replies) (step_statement x a) (λ queue o e. let y =
       step_bound x Sort.Queue queue o in only queue y.0 (y.1 ∙ e)))
 
 pub puts_outside : (h : ℕ) (o : Op) → is_outside o ≡ true → puts h o ≡ false
@@ -29,17 +30,17 @@ puts_outside h o e1 = grind (arith, nat_tests)
 -- and the limit of the queue
 
 limit_from : (all : List Statement) (offset : ℕ) (ss : List Statement) (k : ℕ) (s : Statement) (x : Queue) → keep_limits all offset ss ≡ true
-    → slice_get ss k ≡ Some s → queue_in s.deed ≡ Some x → how_many (λ e. puts_into (offset + k) e.deed) all ≤ x.limit
+    → slice_get ss k ≡ Some s → queue_in s.deed ≡ Some x → how_many (λ e. deed_puts_into (offset + k) e.deed) all ≤ x.limit
 unfolding keep_limits
 limit_from all offset [] k s x e f q = absurd (cc)
 limit_from all offset (t ∷ ss) zero s x e f q = grind (arith, nat_tests)
 limit_from all offset (t ∷ ss) (suc k) s x e f q =
-    subst (λ (n : ℕ). how_many (λ e. puts_into n e.deed) all ≤ x.limit) (let z : (offset + 1) + k ≡ offset + suc k = omega arith in z)
+    subst (λ (n : ℕ). how_many (λ e. deed_puts_into n e.deed) all ≤ x.limit) (let z : (offset + 1) + k ≡ offset + suc k = omega arith in z)
     (limit_from all (offset + 1) ss k s x (snd_true _ (keep_limits all (offset + 1) ss) e) f q)
 
 pub limit_at : (all : List Statement) (place : ℕ) (s : Statement) (x : Queue) → keep_limits all 0 all ≡ true → slice_get all place ≡ Some s
-    → queue_in s.deed ≡ Some x → how_many (λ e. puts_into place e.deed) all ≤ x.limit
-limit_at all place s x e f q = subst (λ (n : ℕ). how_many (λ e. puts_into n e.deed) all ≤ x.limit) (let z : 0 + place ≡ place = omega arith in
+    → queue_in s.deed ≡ Some x → how_many (λ e. deed_puts_into place e.deed) all ≤ x.limit
+limit_at all place s x e f q = subst (λ (n : ℕ). how_many (λ e. deed_puts_into n e.deed) all ≤ x.limit) (let z : 0 + place ≡ place = omega arith in
     z) (limit_from all 0 all place s x e f q)
 
 -- an action that passes was made before
@@ -64,7 +65,7 @@ pub record Seat (layout : Layout) (load : Workload) (es : List NodeEntry) (ns : 
 pub made_before : {who : ℕ} {es : List NodeEntry} {ns : List ℕ} {A : List Line} {l : Line} {B : List Line} (c : Cut who es ns A l B) (o : Op) (h : ℕ)
     → Has A o h → MadeBy o h c.before
 made_before {who} c o h x =
-    let d = cut who c.before c.first x.before (line o (Reply.Handle h) x.beside) x.behind (c.done ∙ x.is) in
+    let d = cut who c.before c.first x.before (line_with o (Reply.Handle h) x.beside) x.behind (c.done ∙ x.is) in
     record { before = d.before; who = who; behind = d.behind; is = d.is }
 
 some_worker : (n : ℕ) (p : ℕ → Bool) → some_below n p ≡ true → (w : ℕ) × (w < n) × (p w ≡ true)
@@ -146,7 +147,7 @@ module _ {layout : Layout} {load : Workload} {es : List NodeEntry} {ns : List �
         }
 
     is_served : (job cores : ℕ) → serves load.settings.workers (x.at.known ++ actions_in y.before) job cores ≡ true
-        → IsServed (run_terms layout load) c.before job cores
+        → IsJobServed (run_terms layout load) c.before job cores
     is_served job cores e =
         let n = some_worker load.settings.workers (λ v. list_any (is_eligible load.settings.workers v job cores) (x.at.known ++ actions_in y.before)) e in
         let v : MadeAction c.before (is_eligible load.settings.workers n.0 job cores) = action_made (is_eligible load.settings.workers n.0 job cores) n.2 in
@@ -173,7 +174,7 @@ module _ {layout : Layout} {load : Workload} {es : List NodeEntry} {ns : List �
         made_here Op.GroupCreate (handle n) (step_has (at_group y.before y.first y.replies y.carried g n b).step Op.GroupCreate (handle n)
         (group_front y.before y.first y.replies y.carried g n b))
 
-    few_puts : (queue : ℕ) → IsBoundAt Sort.Queue y.before queue → (q : Queue) → queue_at p.statements queue ≡ Some q → puts_into queue s.deed ≡ true
+    few_puts : (queue : ℕ) → IsBoundAt Sort.Queue y.before queue → (q : Queue) → queue_at p.statements queue ≡ Some q → deed_puts_into queue s.deed ≡ true
         → entries_that (puts_entry (handle queue)) c.before < q.limit
     few_puts queue i q e k = by x.alone
       where
@@ -185,7 +186,7 @@ module _ {layout : Layout} {load : Workload} {es : List NodeEntry} {ns : List �
         by (inr only) = few (handle queue) (puts_carried (handle queue) queue y.before y.first y.replies y.carried (step_before y x.are)
             (λ other z n. one_handle queues_handed other queue z b n)) (only (handle queue))
           where
-            few : (j : ℕ) → asked (puts j) y.first ≤ how_many (λ z. puts_into queue z.deed) y.before → OnlyBy w (puts j) es
+            few : (j : ℕ) → asked (puts j) y.first ≤ how_many (λ z. deed_puts_into queue z.deed) y.before → OnlyBy w (puts j) es
                 → entries_that (puts_entry j) c.before < q.limit
             few j n o =
                 let a : asks (puts j) c.before ≤ asked (puts j) (lines_of w c.before c.first) =
@@ -195,16 +196,17 @@ module _ {layout : Layout} {load : Workload} {es : List NodeEntry} {ns : List �
                 let m : asked (puts j) x.at.start ≡ 0 = outside_none (puts j) (puts_outside j) x.at.start x.at.first in
                 let t : entries_that (puts_entry j) c.before ≤ asks (puts j) c.before =
                 entries_asks (puts j) (puts_entry j) (λ z v. fst_true (puts j z.op) _ v) c.before in
-                let v : how_many (λ z. puts_into queue z.deed) p.statements ≤ q.limit =
+                let v : how_many (λ z. deed_puts_into queue z.deed) p.statements ≤ q.limit =
                 limit_at p.statements queue b.statement q x.limits (step_found y Sort.Queue queue b) (queue_found queue b q e) in
-                let z : how_many (λ z. puts_into queue z.deed) p.statements
-                ≡ how_many (λ z. puts_into queue z.deed) y.before + (bit (puts_into queue s.deed) + how_many (λ z. puts_into queue z.deed) y.rest) =
-                ap (how_many (λ z. puts_into queue z.deed)) y.parted ∙ many_append (λ z. puts_into queue z.deed) y.before (s ∷ y.rest) in
-                let one : bit (puts_into queue s.deed) ≡ 1 = ap bit k in
-                let f : asked (puts j) y.first ≤ how_many (λ z. puts_into queue z.deed) y.before = n in
+                let z : how_many (λ z. deed_puts_into queue z.deed) p.statements
+                ≡ how_many (λ z. deed_puts_into queue z.deed) y.before
+                + (bit (deed_puts_into queue s.deed) + how_many (λ z. deed_puts_into queue z.deed) y.rest) =
+                ap (how_many (λ z. deed_puts_into queue z.deed)) y.parted ∙ many_append (λ z. deed_puts_into queue z.deed) y.before (s ∷ y.rest) in
+                let one : bit (deed_puts_into queue s.deed) ≡ 1 = ap bit k in
+                let f : asked (puts j) y.first ≤ how_many (λ z. deed_puts_into queue z.deed) y.before = n in
                 omega arith
 
-    is_queued : (queue : ℕ) → IsBoundAt Sort.Queue y.before queue → (q : Queue) → queue_at p.statements queue ≡ Some q → puts_into queue s.deed ≡ true
+    is_queued : (queue : ℕ) → IsBoundAt Sort.Queue y.before queue → (q : Queue) → queue_at p.statements queue ≡ Some q → deed_puts_into queue s.deed ≡ true
         → IsQueued c.before (handle queue) q.job q.priority
     is_queued queue i q e k =
         let v : HasQueue y.first (handle queue) q = queue_here queue i q e in
@@ -231,43 +233,44 @@ module _ {layout : Layout} {load : Workload} {es : List NodeEntry} {ns : List �
       by_queue : (queue : ℕ) (args : List ℤ) (cores : Mask) (detached : Bool) (group : Option ℕ) → (q : Option Queue) → queue_at p.statements queue ≡ q
           → is_startable load.settings (x.at.known ++ actions_in y.before) (option_map (put_task queue args cores detached group) q) ≡ true
           → AllFit y.before (fields (word_for (Deed.Enqueue queue args cores detached group))) (values (Deed.Enqueue queue args cores detached group))
-          → puts_into queue s.deed ≡ true → Made (call_of (map handle_of y.replies) (Deed.Enqueue queue args cores detached group)) y.front y.reply
+          → deed_puts_into queue s.deed ≡ true → MadeLines (call_of (map handle_of y.replies) (Deed.Enqueue queue args cores detached group)) y.front y.reply
           → IsGranted y.reply
       by_queue queue args cores detached group None e k o i n = true_false k refl
       by_queue queue args cores detached group (Some q) e k o i n =
           let t = three_true detached (nat_lt q.priority load.settings.priorities) _ k in
           let v : Op = Op.TaskEnqueue (record { 0 = handle queue }) args cores false (group_of group) in
-          let c = cut_here (line v y.reply 0) (n.0
-          ∙ ap (λ (b : Bool). line (Op.TaskEnqueue (record { 0 = handle queue }) args cores b (group_of group)) y.reply 0 ∷ []) t.0) in
-          (calls c).enqueue (record { 0 = handle queue }) q.job q.priority args cores (group_of group) (asking y.first (line v y.reply 0) y.more c)
+          let c = cut_here (line_with v y.reply 0) (n.0
+          ∙ ap (λ (b : Bool). line_with (Op.TaskEnqueue (record { 0 = handle queue }) args cores b (group_of group)) y.reply 0 ∷ []) t.0) in
+          (calls c).enqueue (record { 0 = handle queue }) q.job q.priority args cores (group_of group) (asking y.first (line_with v y.reply 0) y.more c)
           (is_queued c queue o.0 q e i) (room u c ObjectKind.Task (rooms load u.settled).3 refl) (is_served c q.job cores.0 t.2)
           (group_made c group o.1.1.1.1.0)
 
       by : (d : Deed) → s.deed ≡ d → is_settled_deed load.settings (x.at.known ++ actions_in y.before) y.before p.statements d ≡ true
-          → AllFit y.before (fields (word_for d)) (values d) → Made (call_of (map handle_of y.replies) d) y.front y.reply → GrantedTo d y.reply
+          → AllFit y.before (fields (word_for d)) (values d) → MadeLines (call_of (map handle_of y.replies) d) y.front y.reply → GrantedTo d y.reply
       by (Deed.Action job kind cores) i e o n =
           let v : Op = Op.ActionCreate job kind cores in
-          let c = cut_here (line v y.reply 0) n.0 in
-          (calls c).action job kind cores (asking y.first (line v y.reply 0) y.more c) (both_true _ _ (le-leb 1 job o.0.0) (le-leb job 65535 o.0.1))
+          let c = cut_here (line_with v y.reply 0) n.0 in
+          (calls c).action job kind cores (asking y.first (line_with v y.reply 0) y.more c) (both_true _ _ (le-leb 1 job o.0.0) (le-leb job 65535 o.0.1))
           (room u c ObjectKind.Action (rooms load u.settled).0 refl)
-      by Deed.Group i e o n = let c = cut_here (line Op.GroupCreate y.reply 0) n.0 in
-          (calls c).group (asking y.first (line Op.GroupCreate y.reply 0) y.more c) (room u c ObjectKind.Group (rooms load u.settled).1 refl)
+      by Deed.Group i e o n = let c = cut_here (line_with Op.GroupCreate y.reply 0) n.0 in
+          (calls c).group (asking y.first (line_with Op.GroupCreate y.reply 0) y.more c) (room u c ObjectKind.Group (rooms load u.settled).1 refl)
       by (Deed.Queue id job priority limit ordered retain) i e o n =
           let v : Op = Op.QueueCreate id job priority limit ordered retain in
-          let c = cut_here (line v y.reply 0) n.0 in
-          (calls c).queue id job priority limit ordered retain (asking y.first (line v y.reply 0) y.more c)
+          let c = cut_here (line_with v y.reply 0) n.0 in
+          (calls c).queue id job priority limit ordered retain (asking y.first (line_with v y.reply 0) y.more c)
           (ltb-true priority load.settings.priorities (fst_true _ (list_any (has_job job) (x.at.known ++ actions_in y.before)) e)) o.1.1.1.0
           (room u c ObjectKind.Queue (rooms load u.settled).2 refl) (has_action c job (snd_true (nat_lt priority load.settings.priorities) _ e))
           (new_id u c id (eq-eqb id id refl))
       by (Deed.Start job args priority cores detached group) i e o n =
           let t = three_true detached (nat_lt priority load.settings.priorities) _ e in
           let v : Op = Op.TaskStart job args priority cores false (group_of group) in
-          let c = cut_here (line v y.reply 0) (n.0 ∙ ap (λ (b : Bool). line (Op.TaskStart job args priority cores b (group_of group)) y.reply 0 ∷ []) t.0) in
-          (calls c).start job args priority cores (group_of group) (asking y.first (line v y.reply 0) y.more c)
+          let c = cut_here (line_with v y.reply 0) (n.0
+          ∙ ap (λ (b : Bool). line_with (Op.TaskStart job args priority cores b (group_of group)) y.reply 0 ∷ []) t.0) in
+          (calls c).start job args priority cores (group_of group) (asking y.first (line_with v y.reply 0) y.more c)
           (ltb-true priority load.settings.priorities t.1) (room u c ObjectKind.Task (rooms load u.settled).3 refl) (is_served c job cores.0 t.2)
           (group_made c group o.1.1.1.1.1.0)
       by (Deed.Enqueue queue args cores detached group) i e o n =
-          by_queue queue args cores detached group (queue_at p.statements queue) refl e o (ap (puts_into queue) i ∙ eq-eqb queue queue refl) n
+          by_queue queue args cores detached group (queue_at p.statements queue) refl e o (ap (deed_puts_into queue) i ∙ eq-eqb queue queue refl) n
       by Deed.Begin i e o n = tt
       by (Deed.Wait place timeout) i e o n = tt
       by (Deed.WaitAll place timeout) i e o n = tt

@@ -17,7 +17,7 @@ IsThere GroupCreate h s = live_object s.groups h ≡ Some new_group
 IsThere _ h s = Unit {0}
 
 -- one of these entries made such an object under this handle
-pub record Made (o : Op) (h : ℕ) (L : List NodeEntry) : Type 0 where
+pub record MadeObject (o : Op) (h : ℕ) (L : List NodeEntry) : Type 0 where
   pub before : List NodeEntry
   pub who : ℕ
   pub behind : List NodeEntry
@@ -25,7 +25,7 @@ pub record Made (o : Op) (h : ℕ) (L : List NodeEntry) : Type 0 where
 
 -- what a quiet history made is there at its end
 abbrev pub MadeObjectsStay : Type 0
-MadeObjectsStay = (terms : Terms) (L : List NodeEntry) (o : Op) (h : ℕ) → Legal terms L → AreQuiet L → Made o h L → IsThere o h (after terms L)
+MadeObjectsStay = (terms : Terms) (L : List NodeEntry) (o : Op) (h : ℕ) → Legal terms L → AreQuiet L → MadeObject o h L → IsThere o h (after terms L)
 
 -- When a call is granted
 
@@ -37,31 +37,31 @@ pub record IsOpened (L : List NodeEntry) : Type 0 where
   pub is : L ≡ before ++ entry who Initialize Ok ∷ behind
   pub unclosed : NoClose behind
 
-abbrev pub is_handle : Reply → Bool
-is_handle (Handle h) = true
-is_handle _ = false
+abbrev pub is_any_handle : Reply → Bool
+is_any_handle (Handle h) = true
+is_any_handle _ = false
 
 -- the entry made an object of the kind
 abbrev pub makes_one : ObjectKind → NodeEntry → Bool
-makes_one k e = makes_object k e.op && is_handle e.reply
+makes_one k e = makes_object k e.op && is_any_handle e.reply
 
 -- these entries made fewer objects of the kind than the settings allow
-abbrev pub HasRoom : Terms → ObjectKind → List NodeEntry → Type 0
-HasRoom terms k L = entries_that (makes_one k) L < (objects_of k).max terms.settings
+abbrev pub HasObjectRoom : Terms → ObjectKind → List NodeEntry → Type 0
+HasObjectRoom terms k L = entries_that (makes_one k) L < (objects_of k).max terms.settings
 
 -- one of these entries made an action of the job
 pub record HasAction (L : List NodeEntry) (job : ℕ) : Type 0 where
   pub kind : Kind
   pub mask : Mask
   pub handle : ℕ
-  pub made : Made (ActionCreate job kind mask) handle L
+  pub made : MadeObject (ActionCreate job kind mask) handle L
 
 -- one made an action of the job, and a worker is in its mask and in this one
-pub record IsServed (terms : Terms) (L : List NodeEntry) (job cores : ℕ) : Type 0 where
+pub record IsJobServed (terms : Terms) (L : List NodeEntry) (job cores : ℕ) : Type 0 where
   pub kind : Kind
   pub mask : Mask
   pub handle : ℕ
-  pub made : Made (ActionCreate job kind mask) handle L
+  pub made : MadeObject (ActionCreate job kind mask) handle L
   pub worker : ℕ
   pub is_worker : worker < terms.settings.workers
   pub in_action : in_mask worker mask.0 ≡ true
@@ -70,7 +70,7 @@ pub record IsServed (terms : Terms) (L : List NodeEntry) (job cores : ℕ) : Typ
 -- one of these entries made the group, if there is any
 abbrev pub GroupIsMade : Option GroupHandle → List NodeEntry → Type 0
 GroupIsMade None L = Unit {0}
-GroupIsMade (Some g) L = Made GroupCreate g.0 L
+GroupIsMade (Some g) L = MadeObject GroupCreate g.0 L
 
 -- the op makes a queue of this id
 abbrev pub makes_queue : ℕ → Op → Bool
@@ -82,8 +82,8 @@ abbrev pub puts : ℕ → Op → Bool
 puts q (TaskEnqueue other args cores detached group) = other.0 == q
 puts q _ = false
 
-abbrev pub puts_into : ℕ → NodeEntry → Bool
-puts_into q e = puts q e.op && is_handle e.reply
+abbrev pub did_put_into : ℕ → NodeEntry → Bool
+did_put_into q e = puts q e.op && is_any_handle e.reply
 
 -- the list is quiet and legal with this entry behind it, and the node is open before the entry
 pub record Asks (terms : Terms) (L : List NodeEntry) (who : ℕ) (o : Op) (r : Reply) : Type 0 where
@@ -101,23 +101,24 @@ pub record IsQueued (L : List NodeEntry) (q job priority : ℕ) : Type 0 where
   pub limit : ℕ
   pub ordered : Bool
   pub retain : Bool
-  pub made : Made (QueueCreate id job priority limit ordered retain) q L
-  pub few : entries_that (puts_into q) L < limit
+  pub made : MadeObject (QueueCreate id job priority limit ordered retain) q L
+  pub few : entries_that (did_put_into q) L < limit
 
 -- an action, a group, a task and a queue are made where there is room for them and all that they need was made before
 pub record CallsAreGranted (terms : Terms) (L : List NodeEntry) (who : ℕ) (r : Reply) : Type 0 where
-  pub action : (job : ℕ) (kind : Kind) (cores : Mask) → Asks terms L who (ActionCreate job kind cores) r → is_job job ≡ true → HasRoom terms kinds.Action L
+  pub action : (job : ℕ) (kind : Kind) (cores : Mask) → Asks terms L who (ActionCreate job kind cores) r → is_job job ≡ true
+      → HasObjectRoom terms kinds.Action L
       → IsGranted r
-  pub group : Asks terms L who GroupCreate r → HasRoom terms kinds.Group L → IsGranted r
+  pub group : Asks terms L who GroupCreate r → HasObjectRoom terms kinds.Group L → IsGranted r
   pub start : (job : ℕ) (args : List ℤ) (priority : ℕ) (cores : Mask) (group : Option GroupHandle)
       → Asks terms L who (TaskStart job args priority cores false group) r
-      → priority < terms.settings.priorities → HasRoom terms kinds.Task L → IsServed terms L job cores.0 → GroupIsMade group L → IsGranted r
+      → priority < terms.settings.priorities → HasObjectRoom terms kinds.Task L → IsJobServed terms L job cores.0 → GroupIsMade group L → IsGranted r
   pub queue : (id job priority limit : ℕ) (ordered retain : Bool) → Asks terms L who (QueueCreate id job priority limit ordered retain) r
-      → priority < terms.settings.priorities → (1 ≤ limit) × (limit ≤ 65536) → HasRoom terms kinds.Queue L → HasAction L job
+      → priority < terms.settings.priorities → (1 ≤ limit) × (limit ≤ 65536) → HasObjectRoom terms kinds.Queue L → HasAction L job
       → some_entry (λ e. makes_queue id e.op) L ≡ false → IsGranted r
   pub enqueue : (q : QueueHandle) (job priority : ℕ) (args : List ℤ) (cores : Mask) (group : Option GroupHandle)
       → Asks terms L who (TaskEnqueue q args cores false group) r
-      → IsQueued L q.0 job priority → HasRoom terms kinds.Task L → IsServed terms L job cores.0 → GroupIsMade group L → IsGranted r
+      → IsQueued L q.0 job priority → HasObjectRoom terms kinds.Task L → IsJobServed terms L job cores.0 → GroupIsMade group L → IsGranted r
 
 abbrev pub QuietCallsAreGranted : Type 0
 QuietCallsAreGranted = (terms : Terms) (L : List NodeEntry) (who : ℕ) (r : Reply) → CallsAreGranted terms L who r

@@ -75,19 +75,19 @@ abbrev pub with_fault : ℕ → Option MtapiStatus → Faults → Faults
 with_fault g fault faults h = if h == g then fault else faults h
 
 -- behind a task with this fault, if any, that was put into this group, if any
-abbrev pub with_member : Option ℕ → Option MtapiStatus → Faults → Faults
-with_member None fault faults = faults
-with_member (Some g) fault faults = with_fault g (option_or (faults g) fault) faults
+abbrev pub with_group_fault : Option ℕ → Option MtapiStatus → Faults → Faults
+with_group_fault None fault faults = faults
+with_group_fault (Some g) fault faults = with_fault g (option_or (faults g) fault) faults
 
 -- behind a statement that asks for this task, if any
-abbrev pub with_task : List Action → Option NewTask → Faults → Faults
-with_task actions None faults = faults
-with_task actions (Some t) faults = with_member t.group (plain_fault actions t) faults
+abbrev pub with_task_asked : List Action → Option NewTask → Faults → Faults
+with_task_asked actions None faults = faults
+with_task_asked actions (Some t) faults = with_group_fault t.group (plain_fault actions t) faults
 
 -- behind a statement: a wait for all tasks of a group leaves none in it
 unfoldable pub faults_behind : List Action → List Statement → Faults → Deed → Faults
 faults_behind actions ss faults (deed.WaitAll group timeout) = with_fault group None faults
-faults_behind actions ss faults d = with_task actions (task_in ss d) faults
+faults_behind actions ss faults d = with_task_asked actions (task_in ss d) faults
 
 -- a wait for all tasks of a group writes its fault, and no other statement writes a line
 unfoldable pub plain_call_line : List ℕ → Faults → Statement → Deed → List ℕ

@@ -104,9 +104,9 @@ has_different_ids [] = true
 has_different_ids (s ∷ ss) = has_new_id (queue_in s.deed) ss && has_different_ids ss
 
 -- the statement makes an action; a group; a queue; a task
-abbrev pub makes_action : Deed → Bool
-makes_action (deed.Action job kind cores) = true
-makes_action _ = false
+abbrev pub is_action_deed : Deed → Bool
+is_action_deed (deed.Action job kind cores) = true
+is_action_deed _ = false
 
 abbrev pub makes_group : Deed → Bool
 makes_group deed.Group = true
@@ -120,20 +120,20 @@ makes_task _ = false
 -- there are no more of each than the settings allow
 abbrev pub has_room : NodeSettings → List Statement → Bool
 has_room settings ss =
-    nat_le (how_many (λ s. makes_action s.deed) ss) settings.actions
+    nat_le (how_many (λ s. is_action_deed s.deed) ss) settings.actions
     && nat_le (how_many (λ s. makes_group s.deed) ss) settings.groups
     && nat_le (how_many (λ s. is_some (queue_in s.deed)) ss) settings.queues
     && nat_le (how_many (λ s. makes_task s.deed) ss) settings.tasks
 
 -- the statement puts a task into the queue of this place
-abbrev pub puts_into : ℕ → Deed → Bool
-puts_into place (deed.Enqueue queue args cores detached group) = queue == place
-puts_into place _ = false
+abbrev pub deed_puts_into : ℕ → Deed → Bool
+deed_puts_into place (deed.Enqueue queue args cores detached group) = queue == place
+deed_puts_into place _ = false
 
 -- of these statements of a part, the first at this place, no queue gets more tasks than its limit
 unfoldable pub keep_limits : List Statement → ℕ → List Statement → Bool
 keep_limits all place [] = true
-keep_limits all place (s ∷ ss) = not (holds (λ q. nat_lt q.limit (how_many (λ e. puts_into place e.deed) all)) (queue_in s.deed))
+keep_limits all place (s ∷ ss) = not (holds (λ q. nat_lt q.limit (how_many (λ e. deed_puts_into place e.deed) all)) (queue_in s.deed))
     && keep_limits all (place + 1) ss
 
 -- a group and a fault, where there are both

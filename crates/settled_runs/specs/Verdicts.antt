@@ -34,7 +34,7 @@ abbrev pub fault_at : State → ℕ → Option MtapiStatus
 fault_at s h = option_and_then fault_of (end_at s.tasks h)
 
 -- each of these tasks has ended, and the verdict is Ok where each has completed, and else the status of one of them
-pub record IsVerdict (s : State) (hs : List ℕ) (r : Reply) : Type 0 where
+pub record IsGroupVerdict (s : State) (hs : List ℕ) (r : Reply) : Type 0 where
   pub fault : Option MtapiStatus
   pub is : r ≡ verdict fault
   pub ended : (h : ℕ) → list_any (λ x. x == h) hs ≡ true → (end : TaskEnd) × (end_at s.tasks h ≡ Some end)
@@ -57,4 +57,4 @@ QuietVerdicts =
     (terms : Terms) (before behind : List NodeEntry) (maker who : ℕ) (g : GroupHandle) (r : Reply)
     → Legal terms (before ++ entry maker GroupCreate (Handle g.0) ∷ (behind ++ entry who (AllLook g false) r ∷ [])) → AreQuiet before → AreQuiet behind
     → GoOn g.0 behind
-    → (r ≡ Pending) ⊎ IsVerdict (after terms (before ++ entry maker GroupCreate (Handle g.0) ∷ behind)) (members_of g.0 [] behind) r
+    → (r ≡ Pending) ⊎ IsGroupVerdict (after terms (before ++ entry maker GroupCreate (Handle g.0) ∷ behind)) (members_of g.0 [] behind) r

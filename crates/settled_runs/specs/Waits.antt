@@ -11,17 +11,17 @@ starts_alone (TaskEnqueue q args cores detached group) = not detached && is_none
 starts_alone _ = false
 
 -- the op is a look at the task of this handle
-abbrev pub looks_at : ℕ → Op → Bool
-looks_at h (TaskLook t last) = t.0 == h
-looks_at h _ = false
+abbrev pub is_look_at : ℕ → Op → Bool
+is_look_at h (TaskLook t last) = t.0 == h
+is_look_at h _ = false
 
 -- none of these entries looks at the task, but that this seat may have been told that it hasn't ended
 abbrev pub AreLeft : ℕ → ℕ → List NodeEntry → Type 0
 AreLeft who h [] = Unit {0}
-AreLeft who h (e ∷ es) = (looks_at h e.op ≡ true → (e.who ≡ who) × (e.reply ≡ Pending)) × AreLeft who h es
+AreLeft who h (e ∷ es) = (is_look_at h e.op ≡ true → (e.who ≡ who) × (e.reply ≡ Pending)) × AreLeft who h es
 
 -- one of these entries started such a task under this handle, and those behind it left it to this seat
-pub record IsLeft (who h : ℕ) (L : List NodeEntry) : Type 0 where
+pub record IsLeftToSeat (who h : ℕ) (L : List NodeEntry) : Type 0 where
   pub op : Op
   pub alone : starts_alone op ≡ true
   pub before : List NodeEntry
@@ -32,5 +32,6 @@ pub record IsLeft (who h : ℕ) (L : List NodeEntry) : Type 0 where
 
 -- a look by this seat, which isn't its last, is told the end or that there is none yet
 abbrev pub QuietLooksAreAnswered : Type 0
-QuietLooksAreAnswered = (terms : Terms) (L : List NodeEntry) (who : ℕ) (t : TaskHandle) (r : Reply) → Asks terms L who (TaskLook t false) r → IsLeft who t.0 L
+QuietLooksAreAnswered = (terms : Terms) (L : List NodeEntry) (who : ℕ) (t : TaskHandle) (r : Reply) → Asks terms L who (TaskLook t false) r
+    → IsLeftToSeat who t.0 L
     → (r ≡ Pending) ⊎ ((end : TaskEnd) × (r ≡ Ended end))

@@ -17,9 +17,9 @@ use Rattle.workload_file.specs.declared.workload.Statement.{Statement}
 use Rattle.workload_file.specs.declared.workload.Part.{Part}
 use Rattle.workload_file.specs.Deeds.{is_begin}
 use Rattle.settled_runs.specs.Plain.{actions_in, queue_in}
-use Rattle.settled_runs.specs.Settled.{is_settled_deed, are_settled, set_up, sets_up_first, are_alike, has_one_kind_a_job, has_new_id, has_different_ids, keep_limits, puts_into, have_one_fault_a_group}
+use Rattle.settled_runs.specs.Settled.{is_settled_deed, are_settled, set_up, sets_up_first, are_alike, has_one_kind_a_job, has_new_id, has_different_ids, keep_limits, deed_puts_into, have_one_fault_a_group}
 use Rattle.settled_workloads.specs.declared.rows.ActionRow.{ActionRow}
-use Rattle.settled_workloads.specs.Rows.{action_of, kind_found, first_is_alike, id_in, ids_of, first_differs, differ, first_agrees}
+use Rattle.settled_workloads.specs.Rows.{row_action, kind_found, first_is_alike, id_in, ids_of, first_differs, differ, first_agrees}
 
 nil_from_length : {X : Type 0} (xs : List X) → length xs ≤ 0 → xs ≡ []
 nil_from_length [] l = refl
@@ -39,7 +39,8 @@ tail_is xs n = whole (drop n xs) (length xs - n) (omega (arith, length-drop n xs
 
 -- a test of a list by its first element and the others
 module _ {X : Type 0} (F : List X → Bool) (g : X → List X → Bool) (step : (x : X) (xs : List X) → F (x ∷ xs) ≡ (g x xs && F xs)) where
-  test_of : (xs : List X) (i : ℕ) (x : X) (b : Bool) → i < length xs → x ≡ get_or xs i x → b ≡ g x (drop (i + 1) xs) → F (drop i xs) ≡ (b && F (drop (i + 1) xs))
+  test_of : (xs : List X) (i : ℕ) (x : X) (b : Bool) → i < length xs → x ≡ get_or xs i x → b ≡ g x (drop (i + 1) xs)
+      → F (drop i xs) ≡ (b && F (drop (i + 1) xs))
   test_of xs i x b l is e = ap F (drop_more xs i x l) ∙ (step (get_or xs i x) (drop (i + 1) xs)
       ∙ ap (λ u. u && F (drop (i + 1) xs)) (ap (λ u. g u (drop (i + 1) xs)) (sym is) ∙ sym e))
 
@@ -67,7 +68,8 @@ module _ (s : NodeSettings) (actions : List Action) (all : List Statement) where
       → are_settled s actions all (take i all) (drop i all) ≡ (b && are_settled s actions all (take (i + 1) all) (drop (i + 1) all))
   unfolding are_settled
   settled_more i x b l is e = ap (are_settled s actions all (take i all)) (drop_more all i x l)
-      ∙ (ap (λ (u : Statement). is_settled_deed s (actions ++ actions_in (take i all)) (take i all) all u.deed && are_settled s actions all (take i all ++ u ∷ []) (drop (i + 1) all)) (sym is)
+      ∙ (ap (λ (u : Statement). is_settled_deed s (actions ++ actions_in (take i all)) (take i all) all u.deed
+      && are_settled s actions all (take i all ++ u ∷ []) (drop (i + 1) all)) (sym is)
       ∙ (λ k. sym e k && are_settled s actions all (before k) (drop (i + 1) all)))
     where
       before : take i all ++ x ∷ [] ≡ take (i + 1) all
@@ -89,7 +91,8 @@ begin_end ss i l = ap sets_up_first (none_left ss i l)
 
 -- Lists that grow
 
-more : {X Y : Type 0} (f : X → List Y) (xs : List X) (i : ℕ) (x : X) → i < length xs → x ≡ get_or xs i x → flat_map f (take (i + 1) xs) ≡ flat_map f (take i xs) ++ f x
+more : {X Y : Type 0} (f : X → List Y) (xs : List X) (i : ℕ) (x : X) → i < length xs → x ≡ get_or xs i x
+    → flat_map f (take (i + 1) xs) ≡ flat_map f (take i xs) ++ f x
 more f xs i x l is =
     ap (flat_map f) (take_more xs i x l)
     ∙ (flat_map-append f (take i xs) (get_or xs i x ∷ [])
@@ -114,20 +117,21 @@ adds_part f ps i x before after l is e q =
     ∙ (sym (flat_map-append f (flat_map (λ p. p.statements) (take i ps)) x.statements)
     ∙ ap (flat_map f) (sym (more (λ p. p.statements) ps i x l is))))
 
-kinds_step : (x : ActionRow) (xs : List ActionRow) → has_one_kind_a_job (map action_of (x ∷ xs)) ≡ (first_is_alike (x ∷ xs) && has_one_kind_a_job (map action_of xs))
+kinds_step : (x : ActionRow) (xs : List ActionRow)
+    → has_one_kind_a_job (map row_action (x ∷ xs)) ≡ (first_is_alike (x ∷ xs) && has_one_kind_a_job (map row_action xs))
 unfolding has_one_kind_a_job
-kinds_step x xs = ap (λ b. b && has_one_kind_a_job (map action_of xs)) (list_all-map (are_alike (action_of x)) action_of xs)
+kinds_step x xs = ap (λ b. b && has_one_kind_a_job (map row_action xs)) (list_all-map (are_alike (row_action x)) row_action xs)
 
-kinds_none : has_one_kind_a_job (map action_of []) ≡ true
+kinds_none : has_one_kind_a_job (map row_action []) ≡ true
 unfolding has_one_kind_a_job
 kinds_none = refl
 
 pub kinds_more : (rows : List ActionRow) (i : ℕ) (b : Bool) → i < length rows → b ≡ first_is_alike (take (length rows - i) (drop i rows))
-    → has_one_kind_a_job (map action_of (drop i rows)) ≡ (b && has_one_kind_a_job (map action_of (drop (i + 1) rows)))
-kinds_more rows i b l e = test_from (λ u. has_one_kind_a_job (map action_of u)) first_is_alike kinds_step rows i b l e
+    → has_one_kind_a_job (map row_action (drop i rows)) ≡ (b && has_one_kind_a_job (map row_action (drop (i + 1) rows)))
+kinds_more rows i b l e = test_from (λ u. has_one_kind_a_job (map row_action u)) first_is_alike kinds_step rows i b l e
 
-pub kinds_end : (rows : List ActionRow) (i : ℕ) → length rows ≤ i → has_one_kind_a_job (map action_of (drop i rows)) ≡ true
-kinds_end rows i l = test_past (λ u. has_one_kind_a_job (map action_of u)) first_is_alike kinds_step kinds_none rows i l
+pub kinds_end : (rows : List ActionRow) (i : ℕ) → length rows ≤ i → has_one_kind_a_job (map row_action (drop i rows)) ≡ true
+kinds_end rows i l = test_past (λ u. has_one_kind_a_job (map row_action u)) first_is_alike kinds_step kinds_none rows i l
 
 -- Ids
 
@@ -170,23 +174,31 @@ many_both : {X : Type 0} (p : X → Bool) (xs ys : List X) → how_many p (xs ++
 many_both p [] ys = omega arith
 many_both p (x ∷ xs) ys = omega (arith, many_both p xs ys)
 
-pub many_more : (p : Statement → Bool) (ps : List Part) (i : ℕ) (x : Part) → i < length ps → x ≡ get_or ps i x → how_many p (flat_map (λ q. q.statements) (take (i + 1) ps))
+pub many_more : (p : Statement → Bool) (ps : List Part) (i : ℕ) (x : Part) → i < length ps → x ≡ get_or ps i x
+    → how_many p (flat_map (λ q. q.statements) (take (i + 1) ps))
     ≡ how_many p (flat_map (λ q. q.statements) (take i ps)) + how_many p x.statements
 many_more p ps i x l is = ap (how_many p) (more (λ q. q.statements) ps i x l is) ∙ many_both p (flat_map (λ q. q.statements) (take i ps)) x.statements
 
 many_front : (p : Statement → Bool) (xs ys : List Statement) → how_many p xs ≤ how_many p (xs ++ ys)
 many_front p xs ys = omega (arith, many_both p xs ys)
 
-pub many_in_front : (p : Statement → Bool) (ps : List Part) (i : ℕ) → how_many p (flat_map (λ q. q.statements) (take i ps)) ≤ how_many p (flat_map (λ q. q.statements) ps)
+pub many_in_front : (p : Statement → Bool) (ps : List Part) (i : ℕ)
+    → how_many p (flat_map (λ q. q.statements) (take i ps)) ≤ how_many p (flat_map (λ q. q.statements) ps)
 many_in_front p ps zero = omega arith
 many_in_front p [] (suc i) = omega arith
-many_in_front p (x ∷ ps) (suc i) = omega (arith, many_both p x.statements (flat_map (λ q. q.statements) (take i ps)), many_both p x.statements (flat_map (λ q. q.statements) ps), many_in_front p ps i)
+many_in_front p (x ∷ ps) (suc i) = omega (
+  arith,
+  many_both p x.statements (flat_map (λ q. q.statements) (take i ps)),
+  many_both p x.statements
+      (flat_map (λ q. q.statements) ps),
+  many_in_front p ps i,
+)
 
 -- Limits
 
 module _ (all : List Statement) where
   pub limits_more : (i : ℕ) (x : Statement) (b : Bool) → i < length all → x ≡ get_or all i x
-      → b ≡ holds (λ q. nat_lt q.limit (how_many (λ e. puts_into i e.deed) all)) (queue_in x.deed)
+      → b ≡ holds (λ q. nat_lt q.limit (how_many (λ e. deed_puts_into i e.deed) all)) (queue_in x.deed)
       → keep_limits all i (drop i all) ≡ (not b && keep_limits all (i + 1) (drop (i + 1) all))
   unfolding keep_limits
   limits_more i x b l is e = ap (keep_limits all i) (drop_more all i x l ∙ ap (λ (u : Statement). u ∷ drop (i + 1) all) (sym is))
@@ -198,12 +210,12 @@ module _ (all : List Statement) where
 
 -- Faults
 
-pub kind_is_found : (job : ℕ) (rows : List ActionRow) → kind_found job rows ≡ option_map (λ a. a.kind) (find (has_job job) (map action_of rows))
+pub kind_is_found : (job : ℕ) (rows : List ActionRow) → kind_found job rows ≡ option_map (λ a. a.kind) (find (has_job job) (map row_action rows))
 kind_is_found job [] = refl
 kind_is_found job (r ∷ rows) = by (r.job == job) (kind_is_found job rows)
   where
-    by : (b : Bool) → kind_found job rows ≡ option_map (λ a. a.kind) (find (has_job job) (map action_of rows))
-        → (if b then Some r.kind else kind_found job rows) ≡ option_map (λ a. a.kind) (cond b (Some (action_of r)) (find (has_job job) (map action_of rows)))
+    by : (b : Bool) → kind_found job rows ≡ option_map (λ a. a.kind) (find (has_job job) (map row_action rows))
+        → (if b then Some r.kind else kind_found job rows) ≡ option_map (λ a. a.kind) (cond b (Some (row_action r)) (find (has_job job) (map row_action rows)))
     by true e = refl
     by false e = e
 

@@ -18,20 +18,20 @@ use Rattle.settled_workloads.specs.declared.rows.QueueRow.{QueueRow}
 use Rattle.settled_workloads.specs.declared.rows.TaskRow.{TaskRow}
 
 -- the actions of rows
-abbrev pub action_of : ActionRow → Action
-action_of r = new_action r.job r.kind r.cores.0
+abbrev pub row_action : ActionRow → Action
+row_action r = new_action r.job r.kind r.cores.0
 
 abbrev pub action_row : Option ActionRow → List Action
 action_row None = []
-action_row (Some r) = action_of r ∷ []
+action_row (Some r) = row_action r ∷ []
 
 -- the row of a queue
 abbrev pub queue_row : Queue → QueueRow
 queue_row q = record { id = q.id; job = q.job; priority = q.priority; limit = q.limit }
 
 -- the task of a row
-abbrev pub task_of : TaskRow → NewTask
-task_of t = record { job = t.job; args = t.args.now; priority = t.priority; cores = t.cores.0; detached = t.detached; group = t.group; queue = t.queue }
+abbrev pub row_task : TaskRow → NewTask
+row_task t = record { job = t.job; args = t.args.now; priority = t.priority; cores = t.cores.0; detached = t.detached; group = t.group; queue = t.queue }
 
 -- the kind of the first action of the job
 abbrev pub kind_found : ℕ → List ActionRow → Option Kind
@@ -58,7 +58,7 @@ differ (x ∷ xs) = not (list_any (λ y. y == x) xs) && differ xs
 -- the first of these agrees with each other one: of actions, of numbers, and of faults of groups
 abbrev pub first_is_alike : List ActionRow → Bool
 first_is_alike [] = true
-first_is_alike (r ∷ rs) = list_all (λ s. are_alike (action_of r) (action_of s)) rs
+first_is_alike (r ∷ rs) = list_all (λ s. are_alike (row_action r) (row_action s)) rs
 
 abbrev pub first_differs : List ℕ → Bool
 first_differs [] = true

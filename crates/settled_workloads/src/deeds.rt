@@ -8,7 +8,7 @@ ghost use Rattle.action_fn.specs.Answers.{is_pure};
 ghost use Rattle.mtapi_objects.specs.Actions.{is_eligible, has_job};
 ghost use Rattle.settled_runs.specs.Plain.{action_in, actions_in, task_in};
 ghost use Rattle.settled_runs.specs.Settled.{serves, is_startable, is_infinite, is_alone, waits_for, is_settled_deed};
-ghost use Rattle.settled_workloads.specs.Rows.{task_of};
+ghost use Rattle.settled_workloads.specs.Rows.{row_task};
 
 use crate::rows::{TaskRow, action_in, is_pure, task_in};
 use mtapi_values::{Mask, NodeAttr, Timeout};
@@ -98,7 +98,7 @@ fn is_startable(
     before: &[Statement],
     task: Option<TaskRow>,
 ) -> bool
-    ensures { result ≡ is_startable settings.now (actions_in earlier.now ++ actions_in before.now) (option_map task_of task.entry) }
+    ensures { result ≡ is_startable settings.now (actions_in earlier.now ++ actions_in before.now) (option_map row_task task.entry) }
 {
     match task {
         Some(row) => {

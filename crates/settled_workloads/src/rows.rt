@@ -3,7 +3,7 @@ ghost use Rattle.std.specs.Prelude.{◌≡◌};
 ghost use Rattle.std.specs.Option.{option_map};
 ghost use Rattle.action_fn.specs.Answers.{is_pure};
 ghost use Rattle.settled_runs.specs.Plain.{action_in, queue_in, queue_at, task_in};
-ghost use Rattle.settled_workloads.specs.Rows.{action_row, queue_row, task_of, fault_by, kind_found};
+ghost use Rattle.settled_workloads.specs.Rows.{action_row, queue_row, row_task, fault_by, kind_found};
 
 use action_fn::{ActEnd, answer_of};
 use mtapi_values::{Args, Kind, Mask, MtapiStatus};
@@ -91,7 +91,7 @@ fn enqueued<'a>(
     detached: bool,
     group: Option<u32>,
 ) -> Option<TaskRow<'a>>
-    ensures { option_map task_of result ≡ option_map (λ q. record { job = q.job; args = args.now; priority = q.priority; cores = cores.0; detached = detached; group = group; queue = Some queue }) (queue_at statements.now queue) }
+    ensures { option_map row_task result ≡ option_map (λ q. record { job = q.job; args = args.now; priority = q.priority; cores = cores.0; detached = detached; group = group; queue = Some queue }) (queue_at statements.now queue) }
 {
     match queue_at(statements, queue) {
         Some(row) => Some(TaskRow {
@@ -110,7 +110,7 @@ fn enqueued<'a>(
 /// The task that a statement asks for, of the statements of its part.
 #[tactic(auto, unfolding(settled_runs::specs::Plain::task_in))]
 pub fn task_in<'a>(statements: &[Statement], deed: &'a Deed) -> Option<TaskRow<'a>>
-    ensures { option_map task_of result ≡ task_in statements.now deed.now }
+    ensures { option_map row_task result ≡ task_in statements.now deed.now }
 {
     match deed {
         Deed::Start {

@@ -7,9 +7,9 @@ ghost use Rattle.mtapi_values.specs.Statuses.{mtapi_number};
 ghost use Rattle.mtapi_objects.specs.Tasks.{kind_number};
 ghost use Rattle.handle_pool.specs.Issued.{how_many};
 ghost use Rattle.settled_runs.specs.Plain.{action_in, actions_in, all_statements, queue_in, task_in};
-ghost use Rattle.settled_runs.specs.Settled.{is_settled, are_alike, has_one_kind_a_job, has_different_ids, has_room, keep_limits, puts_into, fault_in, have_one_fault_a_group, has_one_fault_a_group};
-ghost use Rattle.settled_workloads.specs.Rows.{action_of, first_is_alike, id_in, ids_of, first_differs, differ, first_agrees};
-ghost use Rattle.settled_workloads.specs.Made.{makes};
+ghost use Rattle.settled_runs.specs.Settled.{is_settled, are_alike, has_one_kind_a_job, has_different_ids, has_room, keep_limits, deed_puts_into, fault_in, have_one_fault_a_group, has_one_fault_a_group};
+ghost use Rattle.settled_workloads.specs.Rows.{row_action, first_is_alike, id_in, ids_of, first_differs, differ, first_agrees};
+ghost use Rattle.settled_workloads.specs.Made.{makes_made};
 
 use crate::parts::are_settled_parts;
 use crate::rows::{ActionRow, action_in, fault_by, kind_of, queue_in, task_in};
@@ -19,7 +19,7 @@ use workload_file::{Deed, Part, Statement, Workload};
 
 // Puts the action that a statement makes, if any, behind the others.
 fn push_action(rows: &mut Vec<ActionRow>, deed: &Deed) -> Result<(), AllocError>
-    ensures { OnOk result (map action_of rows.new.items ≡ map action_of rows.old.items ++ action_in deed.now) }
+    ensures { OnOk result (map row_action rows.new.items ≡ map row_action rows.old.items ++ action_in deed.now) }
 {
     match action_in(deed) {
         Some(row) => {
@@ -32,7 +32,7 @@ fn push_action(rows: &mut Vec<ActionRow>, deed: &Deed) -> Result<(), AllocError>
 
 // Puts the actions that these statements make behind the others.
 fn push_actions(rows: &mut Vec<ActionRow>, statements: &[Statement]) -> Result<(), AllocError>
-    ensures { OnOk result (map action_of rows.new.items ≡ map action_of rows.old.items ++ actions_in statements.now) }
+    ensures { OnOk result (map row_action rows.new.items ≡ map row_action rows.old.items ++ actions_in statements.now) }
 {
     for s in statements {
         push_action(rows, &s.deed)?;
@@ -42,7 +42,7 @@ fn push_actions(rows: &mut Vec<ActionRow>, statements: &[Statement]) -> Result<(
 
 // The actions that the statements of these parts make.
 fn all_actions(alloc: Global, parts: &[Part]) -> Result<Vec<ActionRow>, AllocError>
-    ensures { IfOk result (λ rows. map action_of rows.items ≡ actions_in (flat_map (λ p. p.statements) parts.now)) }
+    ensures { IfOk result (λ rows. map row_action rows.items ≡ actions_in (flat_map (λ p. p.statements) parts.now)) }
 {
     let mut rows = Vec::new(alloc);
     for part in parts {
@@ -70,13 +70,13 @@ fn kind_number(kind: Kind) -> u32
 }
 
 fn are_alike(a: &ActionRow, b: &ActionRow) -> bool
-    ensures { result ≡ are_alike (action_of a.now) (action_of b.now) }
+    ensures { result ≡ are_alike (row_action a.now) (row_action b.now) }
 {
     a.job != b.job || kind_number(a.kind) == kind_number(b.kind)
 }
 
 fn alike_all(row: &ActionRow, rest: &[ActionRow]) -> bool
-    ensures { result ≡ list_all (λ r. are_alike (action_of row.now) (action_of r)) rest.now }
+    ensures { result ≡ list_all (λ r. are_alike (row_action row.now) (row_action r)) rest.now }
 {
     rest.iter().all(|r| are_alike(row, r))
 }
@@ -92,7 +92,7 @@ fn first_is_alike(rows: &[ActionRow]) -> bool
 
 // Whether two actions of one job have one kind.
 fn has_one_kind_a_job(rows: &[ActionRow]) -> bool
-    ensures { has_one_kind_a_job (map action_of rows.now) ≡ result }
+    ensures { has_one_kind_a_job (map row_action rows.now) ≡ result }
 {
     for (i, _) in rows.iter().enumerate() {
         if !first_is_alike(&rows[i..]) {
@@ -173,7 +173,7 @@ pub enum Made {
 }
 
 fn makes(made: Made, deed: &Deed) -> bool
-    ensures { result ≡ makes made deed.now }
+    ensures { result ≡ makes_made made deed.now }
 {
     match made {
         Made::Action => matches!(deed, Deed::Action { .. }),
@@ -185,14 +185,14 @@ fn makes(made: Made, deed: &Deed) -> bool
 
 #[tactic(auto, using(crate::proofs::Loops::how_many_is))]
 fn count_made(made: Made, statements: &[Statement]) -> usize
-    ensures { result ≡ how_many (λ s. makes made s.deed) statements.now }
+    ensures { result ≡ how_many (λ s. makes_made made s.deed) statements.now }
 {
     statements.iter().filter(|s| makes(made, &s.deed)).count()
 }
 
 // Whether the statements of these parts make at most so many.
 fn makes_at_most(made: Made, most: u32, parts: &[Part]) -> bool
-    ensures { nat_le (how_many (λ s. makes made s.deed) (flat_map (λ p. p.statements) parts.now)) most ≡ result }
+    ensures { nat_le (how_many (λ s. makes_made made s.deed) (flat_map (λ p. p.statements) parts.now)) most ≡ result }
 {
     let mut left = most as usize;
     for part in parts {
@@ -215,7 +215,7 @@ fn has_room(settings: &NodeAttr, parts: &[Part]) -> bool
 }
 
 fn puts_into(place: usize, deed: &Deed) -> bool
-    ensures { result ≡ puts_into place deed.now }
+    ensures { result ≡ deed_puts_into place deed.now }
 {
     match deed {
         Deed::Enqueue { queue, .. } => *queue as usize == place,
@@ -225,7 +225,7 @@ fn puts_into(place: usize, deed: &Deed) -> bool
 
 #[tactic(auto, using(crate::proofs::Loops::how_many_is))]
 fn count_put(place: usize, statements: &[Statement]) -> usize
-    ensures { result ≡ how_many (λ s. puts_into place s.deed) statements.now }
+    ensures { result ≡ how_many (λ s. deed_puts_into place s.deed) statements.now }
 {
     statements
         .iter()
@@ -234,7 +234,7 @@ fn count_put(place: usize, statements: &[Statement]) -> usize
 }
 
 fn is_over(all: &[Statement], place: usize, deed: &Deed) -> bool
-    ensures { result ≡ holds (λ q. nat_lt q.limit (how_many (λ e. puts_into place e.deed) all.now)) (queue_in deed.now) }
+    ensures { result ≡ holds (λ q. nat_lt q.limit (how_many (λ e. deed_puts_into place e.deed) all.now)) (queue_in deed.now) }
 {
     match queue_in(deed) {
         Some(queue) => (queue.limit as usize) < count_put(place, all),
@@ -263,7 +263,7 @@ fn all_keep_limits(parts: &[Part]) -> bool
 // The fault of a statement's task, with its group, where there are both.
 #[tactic(auto, unfolding(settled_runs::specs::Plain::plain_fault, settled_runs::specs::Plain::plain_end), using(crate::proofs::Loops::kind_is_found))]
 fn fault_in(rows: &[ActionRow], all: &[Statement], deed: &Deed) -> Option<(u32, MtapiStatus)>
-    ensures { option_to_list result ≡ fault_in (map action_of rows.now) (task_in all.now deed.now) }
+    ensures { option_to_list result ≡ fault_in (map row_action rows.now) (task_in all.now deed.now) }
 {
     let task = task_in(all, deed)?;
     let group = task.group?;
@@ -279,7 +279,7 @@ fn push_fault(
     all: &[Statement],
     deed: &Deed,
 ) -> Result<(), AllocError>
-    ensures { OnOk result (faults.new.items ≡ faults.old.items ++ fault_in (map action_of rows.now) (task_in all.now deed.now)) }
+    ensures { OnOk result (faults.new.items ≡ faults.old.items ++ fault_in (map row_action rows.now) (task_in all.now deed.now)) }
 {
     match fault_in(rows, all, deed) {
         Some(fault) => {
@@ -296,7 +296,7 @@ fn faults_in(
     rows: &[ActionRow],
     all: &[Statement],
 ) -> Result<Vec<(u32, MtapiStatus)>, AllocError>
-    ensures { IfOk result (λ v. v.items ≡ flat_map (λ s. fault_in (map action_of rows.now) (task_in all.now s.deed)) all.now) }
+    ensures { IfOk result (λ v. v.items ≡ flat_map (λ s. fault_in (map row_action rows.now) (task_in all.now s.deed)) all.now) }
 {
     let mut faults = Vec::new(alloc);
     for s in all {
@@ -334,7 +334,7 @@ fn have_one_fault_a_group(faults: &[(u32, MtapiStatus)]) -> bool
 }
 
 fn has_one_fault_a_group(alloc: Global, rows: &[ActionRow], part: &Part) -> Result<bool, AllocError>
-    ensures { IfOk result (λ one. one ≡ has_one_fault_a_group (map action_of rows.now) part.now) }
+    ensures { IfOk result (λ one. one ≡ has_one_fault_a_group (map row_action rows.now) part.now) }
 {
     let faults = faults_in(alloc, rows, part.statements.as_slice())?;
     Ok(have_one_fault_a_group(&faults))
@@ -342,7 +342,7 @@ fn has_one_fault_a_group(alloc: Global, rows: &[ActionRow], part: &Part) -> Resu
 
 // Whether this is so of each part.
 fn all_have_one_fault(alloc: Global, rows: &[ActionRow], parts: &[Part]) -> Result<bool, AllocError>
-    ensures { IfOk result (λ one. list_all (has_one_fault_a_group (map action_of rows.now)) parts.now ≡ one) }
+    ensures { IfOk result (λ one. list_all (has_one_fault_a_group (map row_action rows.now)) parts.now ≡ one) }
 {
     for part in parts {
         if !has_one_fault_a_group(alloc, rows, part)? {

@@ -1,6 +1,6 @@
 -- What the walks over the members of a group keep.
-use Rattle.task_board.proofs.Names.{nat_tests, ◌≡◌, ℕ, ◌+◌, Bool, true, false, not, cond, List, [], ◌∷◌, ◌++◌, length, Option, Some, None, refl, sym, ◌∙◌, ap, subst, arith, is_none, option_or, false≢true, TaskEnd, MtapiStatus, Slots, slot_value, with_value, without, NoneLive, has_handle, Task, TaskState, Scheduled, Running, Ended, end_of, is_unended, is_member, is_unended_member, fault_of, first_fault, without_group, number_in, TaskTable, Members, no_members, ended_of, start_in, end_in, member_as, membership, members_in, SchedulerTable, IsScheduler, Becomes, is_ended_member, end_at, ending_of, endings_of, Each, frees, lets_go, Leaves, FreesAll, LetsUnendedGo, LetsAllGo, Freed, Left, and_from, and_parts, append-nil, not-true}
-use Rattle.task_board.specs.GroupMoves.{Takes}
+use Rattle.task_board.proofs.Names.{nat_tests, ◌≡◌, ℕ, ◌+◌, Bool, true, false, not, cond, List, [], ◌∷◌, ◌++◌, length, Option, Some, None, refl, sym, ◌∙◌, ap, subst, arith, is_none, option_or, false≢true, TaskEnd, MtapiStatus, Slots, slot_value, with_value, without, NoneLive, has_handle, Task, TaskState, Scheduled, Running, Ended, end_of, is_unended, is_member, is_unended_member, fault_of, first_fault, without_group, number_noted, TaskTable, Members, no_members, ended_of, start_in, end_number_in, member_as, membership, members_seen, SchedulerTable, IsScheduler, Becomes, is_ended_member, ends_numbered, ending_of, endings_of, Each, frees, lets_go, Leaves, FreesAll, LetsUnendedGo, LetsAllGo, Freed, Left, and_from, and_parts, append-nil, not-true}
+use Rattle.task_board.specs.GroupMoves.{TakesMember}
 use Rattle.task_board.proofs.SeenLemmas.{some_same}
 use Rattle.task_board.proofs.MoveLemmas.{slot-without}
 use Rattle.std.proofs.lemmas.List.{length_push}
@@ -44,7 +44,7 @@ none-left (x ∷ xs) ys e = none-left xs ys (omega (arith, e))
 or-none : {A : Type 0} (a : Option A) → option_or a None ≡ a
 or-none a = grind (arith, nat_tests)
 
-fault-next : (at : ℕ → Option Task) (hs : List ℕ) (h n : ℕ) (e : TaskEnd) → end_at (at h) ≡ Some (e, n)
+fault-next : (at : ℕ → Option Task) (hs : List ℕ) (h n : ℕ) (e : TaskEnd) → ends_numbered (at h) ≡ Some (e, n)
     → first_fault (endings_of at (hs ++ h ∷ [])) ≡ option_or (first_fault (endings_of at hs)) (fault_of e)
 fault-next at [] h n e is = ap (λ (o : Option _). first_fault (ending_of h o [])) is ∙ or-none (fault_of e)
 fault-next at (x ∷ xs) h n e is = grind (arith, nat_tests, fault-next at xs h n e is)
@@ -58,7 +58,8 @@ becomes-next old now new pool e1 e2 = grind (arith, nat_tests)
 ended-passes : (g : ℕ) (t : Task) (e : TaskEnd) (n : ℕ) → is_member g t ≡ true → t.state ≡ Ended e n → is_ended_member g t ≡ true
 ended-passes g t e n member is = and_from (is_member g t) (not (is_unended t)) member (ap (λ (x : TaskState). not (is_none (end_of x))) is)
 
-pub freed-next : (old now new : SchedulerTable) (g index h : ℕ) (fault : Option MtapiStatus) (e : TaskEnd) → Freed old now g index fault → Takes now new g h e
+pub freed-next : (old now new : SchedulerTable) (g index h : ℕ) (fault : Option MtapiStatus) (e : TaskEnd) → Freed old now g index fault
+    → TakesMember now new g h e
     → Freed old new g (index + 1) (option_or fault (fault_of e))
 freed-next old now new g index h fault e f x = record {
   members = f.members;
@@ -73,7 +74,7 @@ freed-next old now new g index h fault e f x = record {
       (ended-passes g x.t e x.number x.parts.member x.state));
   kept = λ k t is. f.kept k t (older k t (ap (λ (q : Slots Task). slot_value q k) (sym pool) ∙ is));
   fault_is = ap (λ (o : Option MtapiStatus). option_or o (fault_of e)) f.fault_is
-      ∙ sym (fault-next (slot_value old.tasks.pool) f.done h x.number e (ap end_at (f.kept h x.t x.parts.task) ∙ ap end_of x.state));
+      ∙ sym (fault-next (slot_value old.tasks.pool) f.done h x.number e (ap ends_numbered (f.kept h x.t x.parts.task) ∙ ap end_of x.state));
   becomes = becomes-next old now new (without now.tasks.pool h) f.becomes x.parts.becomes;
 }
   where
@@ -137,7 +138,7 @@ all-go old now new g fault e1 e2 = grind (arith, nat_tests, each-more, is_member
 
 -- Who is left
 
-number-of : (x : TaskState) → is_none (end_of x) ≡ false → (n : ℕ) × (number_in (end_of x) ≡ Some n)
+number-of : (x : TaskState) → is_none (end_of x) ≡ false → (n : ℕ) × (number_noted (end_of x) ≡ Some n)
 number-of Scheduled e = absurd (false≢true (sym e))
 number-of (Running w k) e = absurd (false≢true (sym e))
 number-of (Ended y n) e = (n, refl)
@@ -147,31 +148,31 @@ pub none-ended-left : (b : SchedulerTable) (g : ℕ) (m : Members) → IsSchedul
 none-ended-left b g m k live none h t is passes =
     let group = named-is g t.notes.group (and_parts (is_member g t) (not (is_unended t)) passes).0 in
     let n = number-of t.state (not-true (is_unended t) (and_parts (is_member g t) (not (is_unended t)) passes).1) in
-    let here : members_in b.tasks.pool h ≡ Some (record { group = g; detached = t.notes.detached; start = t.start; end = number_in (end_of t.state) }) =
+    let here : members_seen b.tasks.pool h ≡ Some (record { group = g; detached = t.notes.detached; start = t.start; end = number_noted (end_of t.state) }) =
     ap membership is ∙ ap (member_as t) group in
     false≢true (sym (ap (has_handle h) none)
-    ∙ (k.members.ended g m live).listed h n.0 (ap (end_in g) here
-    ∙ end-here g n.0 (record { group = g; detached = t.notes.detached; start = t.start; end = number_in (end_of t.state) }) refl n.1))
+    ∙ (k.members.ended g m live).listed h n.0 (ap (end_number_in g) here
+    ∙ end-here g n.0 (record { group = g; detached = t.notes.detached; start = t.start; end = number_noted (end_of t.state) }) refl n.1))
 
-unended-number : (x : TaskState) → is_none (end_of x) ≡ true → number_in (end_of x) ≡ None
+unended-number : (x : TaskState) → is_none (end_of x) ≡ true → number_noted (end_of x) ≡ None
 unended-number x e1 = grind (arith, nat_tests)
 
 pub none-unended-left : (b : SchedulerTable) (g : ℕ) (m : Members) → IsScheduler b → slot_value b.groups.pool g ≡ Some m → m.unended ≡ []
     → NoneLive (slot_value b.tasks.pool) (λ t. is_unended_member g t ≡ true)
 none-unended-left b g m k live none h t is passes =
     let group = named-is g t.notes.group (and_parts (is_member g t) (is_unended t) passes).0 in
-    let here : members_in b.tasks.pool h ≡ Some (record { group = g; detached = t.notes.detached; start = t.start; end = number_in (end_of t.state) }) =
+    let here : members_seen b.tasks.pool h ≡ Some (record { group = g; detached = t.notes.detached; start = t.start; end = number_noted (end_of t.state) }) =
     ap membership is ∙ ap (member_as t) group in
     false≢true (sym (ap (has_handle h) none)
     ∙ (k.members.unended g m live).listed h t.start (ap (start_in g) here
-    ∙ start-here g (record { group = g; detached = t.notes.detached; start = t.start; end = number_in (end_of t.state) }) refl
+    ∙ start-here g (record { group = g; detached = t.notes.detached; start = t.start; end = number_noted (end_of t.state) }) refl
     (unended-number t.state (and_parts (is_member g t) (is_unended t) passes).1)))
 
 pub none-left-in : (b : SchedulerTable) (g : ℕ) → IsScheduler b → slot_value b.groups.pool g ≡ Some no_members
     → NoneLive (slot_value b.tasks.pool) (λ t. is_member g t ≡ true)
 none-left-in b g k live h t is passes =
-    unnamed (members_in b.tasks.pool) (slot_value b.groups.pool) h g b.tasks.starts b.tasks.ends
-    (record { group = g; detached = t.notes.detached; start = t.start; end = number_in (end_of t.state) }) k.members live
+    unnamed (members_seen b.tasks.pool) (slot_value b.groups.pool) h g b.tasks.starts b.tasks.ends
+    (record { group = g; detached = t.notes.detached; start = t.start; end = number_noted (end_of t.state) }) k.members live
     (ap membership is ∙ ap (member_as t) (named-is g t.notes.group passes)) refl
 
 pub freed-group : (old now : SchedulerTable) (g : ℕ) (fault : Option MtapiStatus) → FreesAll old now g fault → IsScheduler now

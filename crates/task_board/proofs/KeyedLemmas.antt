@@ -1,5 +1,5 @@
 -- What a list of handles in the order of a number keeps as what is kept of one handle changes.
-use Rattle.task_board.proofs.Names.{◌≡◌, ◌≢◌, ℕ, ◌<◌, true, false, List, [], ◌∷◌, ◌++◌, Option, Some, None, refl, sym, ◌∙◌, ap, subst, inl, inr, arith, ◌||◌, nat_tests, cases_eq, has_handle, without_handle, Rises, ListsBy, AreKeyed, cases_Bool}
+use Rattle.task_board.proofs.Names.{◌≡◌, ◌≢◌, ℕ, ◌<◌, true, false, List, [], ◌∷◌, ◌++◌, Option, Some, None, refl, sym, ◌∙◌, ap, subst, inl, inr, arith, ◌||◌, nat_tests, cases_eq, has_handle, without_handle, RisesByNumber, ListsBy, AreKeyed, cases_Bool}
 
 -- the value of one handle has become this, and all else is as it was
 pub record Put {A : Type 0} (at : ℕ → A) (h : ℕ) (x : A) (after : ℕ → A) : Type 0 where
@@ -54,47 +54,50 @@ has-itself h xs ys = grind (arith, nat_tests, has-append h xs (h ∷ ys))
 module _ {A : Type 0} (number : A → ℕ) where
   -- what is kept has the numbers that it had
   pub rises-as : (at after : ℕ → Option A) (hs : List ℕ)
-      → ((k : ℕ) (s : A) → has_handle k hs ≡ true → after k ≡ Some s → (u : A) × (at k ≡ Some u) × (number u ≡ number s)) → Rises number at hs
-      → Rises number after hs
+      → ((k : ℕ) (s : A) → has_handle k hs ≡ true → after k ≡ Some s → (u : A) × (at k ≡ Some u) × (number u ≡ number s)) → RisesByNumber number at hs
+      → RisesByNumber number after hs
   rises-as at after [] agree o = tt
   rises-as at after (x ∷ xs) agree o = grind (arith, nat_tests, rises-as at after xs, has-self, has-later)
 
-  pub rises-same : (at after : ℕ → Option A) (hs : List ℕ) → ((k : ℕ) → has_handle k hs ≡ true → after k ≡ at k) → Rises number at hs → Rises number after hs
+  pub rises-same : (at after : ℕ → Option A) (hs : List ℕ) → ((k : ℕ) → has_handle k hs ≡ true → after k ≡ at k) → RisesByNumber number at hs
+      → RisesByNumber number after hs
   rises-same at after hs agree = rises-as at after hs (λ k s e f. (s, sym (agree k e) ∙ f, refl))
 
   pub rises-push : (at after : ℕ → Option A) (h : ℕ) (s : A) (hs : List ℕ) → ((k : ℕ) → has_handle k hs ≡ true → after k ≡ at k) → after h ≡ Some s
-      → ((k : ℕ) (u : A) → at k ≡ Some u → number u < number s) → Rises number at hs → Rises number after (hs ++ h ∷ [])
+      → ((k : ℕ) (u : A) → at k ≡ Some u → number u < number s) → RisesByNumber number at hs → RisesByNumber number after (hs ++ h ∷ [])
   rises-push at after h s [] agree here below o = (λ k a u e f g. absurd (cc), tt)
   rises-push at after h s (x ∷ xs) agree here below o = grind (arith, nat_tests, rises-push at after h s xs, has-self, has_handle, has-later, has-append)
 
-  pub rises-without : (at : ℕ → Option A) (h : ℕ) (hs : List ℕ) → Rises number at hs → Rises number at (without_handle h hs)
+  pub rises-without : (at : ℕ → Option A) (h : ℕ) (hs : List ℕ) → RisesByNumber number at hs → RisesByNumber number at (without_handle h hs)
   rises-without at h [] o = tt
   rises-without at h (x ∷ xs) o =
       let front = λ (k : ℕ) (s u : A) (e : has_handle k (without_handle h xs) ≡ true). o.0 k s u (has-sub k h xs e) in
       grind (arith, nat_tests, rises-without at h xs o.1)
 
   -- a handle of which something is kept stands once in a list that rises
-  pub not-twice : (at : ℕ → Option A) (h : ℕ) (s : A) (hs : List ℕ) → at h ≡ Some s → Rises number at (h ∷ hs) → has_handle h hs ≡ true → ⊥
+  pub not-twice : (at : ℕ → Option A) (h : ℕ) (s : A) (hs : List ℕ) → at h ≡ Some s → RisesByNumber number at (h ∷ hs) → has_handle h hs ≡ true → ⊥
   not-twice at h s hs e o on = let less = o.0 h s s on e e in omega (arith, less)
 
-  pub once : (at : ℕ → Option A) (h : ℕ) (s : A) (hs : List ℕ) → at h ≡ Some s → Rises number at hs → has_handle h (without_handle h hs) ≡ true → ⊥
+  pub once : (at : ℕ → Option A) (h : ℕ) (s : A) (hs : List ℕ) → at h ≡ Some s → RisesByNumber number at hs → has_handle h (without_handle h hs) ≡ true → ⊥
   once at h s [] e o on = absurd (cc)
   once at h s (x ∷ xs) e o on = elim (cases_eq x h) [
-    | inl is ↦ not-twice at h s xs e (subst (λ (z : ℕ). Rises number at (z ∷ xs)) is o) (grind (arith, nat_tests))
+    | inl is ↦ not-twice at h s xs e (subst (λ (z : ℕ). RisesByNumber number at (z ∷ xs)) is o) (grind (arith, nat_tests))
     | inr away ↦ once at h s xs e o.1 (grind (arith, nat_tests))
   ]
 
   -- no handle in front of one of which something is kept is this one again
-  pub not-before : (at : ℕ → Option A) (h : ℕ) (s : A) (xs ys : List ℕ) → at h ≡ Some s → Rises number at (xs ++ h ∷ ys) → has_handle h xs ≡ false
+  pub not-before : (at : ℕ → Option A) (h : ℕ) (s : A) (xs ys : List ℕ) → at h ≡ Some s → RisesByNumber number at (xs ++ h ∷ ys) → has_handle h xs ≡ false
   not-before at h s [] ys e o = refl
   not-before at h s (x ∷ xs) ys e o =
-      let apart : x ≡ h → ⊥ = λ is. not-twice at h s (xs ++ h ∷ ys) e (subst (λ (z : ℕ). Rises number at (z ∷ xs ++ h ∷ ys)) is o) (has-append h xs (h ∷ ys)
+      let apart : x ≡ h → ⊥ = λ is. not-twice at h s (xs ++ h
+      ∷ ys) e (subst (λ (z : ℕ). RisesByNumber number at (z ∷ xs ++ h ∷ ys)) is o) (has-append h xs (h ∷ ys)
       ∙ grind (arith, nat_tests)) in
       grind (arith, nat_tests, apart, not-before at h s xs ys e o.1)
 
   -- two lists that rise and have the same handles are the same
-  pub same-order : (at : ℕ → Option A) (xs ys : List ℕ) → ((h : ℕ) → has_handle h xs ≡ true → (s : A) × (at h ≡ Some s)) → Rises number at xs
-      → Rises number at ys → ((h : ℕ) → has_handle h xs ≡ true → has_handle h ys ≡ true) → ((h : ℕ) → has_handle h ys ≡ true → has_handle h xs ≡ true) → xs ≡ ys
+  pub same-order : (at : ℕ → Option A) (xs ys : List ℕ) → ((h : ℕ) → has_handle h xs ≡ true → (s : A) × (at h ≡ Some s)) → RisesByNumber number at xs
+      → RisesByNumber number at ys → ((h : ℕ) → has_handle h xs ≡ true → has_handle h ys ≡ true) → ((h : ℕ) → has_handle h ys ≡ true → has_handle h xs ≡ true)
+      → xs ≡ ys
   same-order at [] [] live a b there back = refl
   same-order at [] (y ∷ ys) live a b there back = absurd (cc (back y (has-self y ys)))
   same-order at (x ∷ xs) [] live a b there back = absurd (cc (there x (has-self x xs)))

@@ -1,5 +1,5 @@
 -- What an end is of a scheduler.
-use Rattle.task_board.proofs.Names.{nat_tests, ◌≡◌, ◌≢◌, ◌+◌, ℕ, ◌<◌, true, List, length, length-set, Option, Some, None, set, slice_get, refl, sym, ◌∙◌, ap, subst, arith, is_none, false≢true, Kind, TaskEnd, Slots, slot_of, slot_value, max_of, changed, slot_of-live, list_at, has_handle, without_handle, has-first, ReadyMarks, Task, TaskState, Scheduled, Running, Ended, end_of, is_unended, shown_state, TaskTable, ended_in, IsLiveAnd, HeldQueue, QueueTable, without_task, Seen, seen_as, seen, seen_in, GroupTable, members_in, AreMembers, ended_member, begins_in, AreQueued, left_queue, head_of, SchedulerTable, IsScheduler, Marked, AreWaiting, AreRanked, IsFreshAt, WaitingTable, without_waiting, none-some, TaskHandle, AreByJob, AreRunning}
+use Rattle.task_board.proofs.Names.{nat_tests, ◌≡◌, ◌≢◌, ◌+◌, ℕ, ◌<◌, true, List, length, length-set, Option, Some, None, set, slice_get, refl, sym, ◌∙◌, ap, subst, arith, is_none, false≢true, Kind, TaskEnd, Slots, slot_of, slot_value, max_of, changed, slot_of-live, list_at, has_handle, without_handle, has-first, ReadyMarks, Task, TaskState, Scheduled, Running, Ended, end_of, is_unended, shown_state, TaskTable, ended_in, IsLiveAnd, HeldQueue, QueueTable, without_task, Seen, seen_as, seen, seen_in, GroupTable, members_seen, AreMembers, ended_member, begins_in, AreQueued, left_queue, head_of_queue, SchedulerTable, IsScheduler, Marked, AreWaiting, AreRanked, IsFreshAt, WaitingTable, without_waiting, none-some, TaskHandle, AreByJob, AreRunning}
 use Rattle.task_core.specs.declared.states.TaskState.TheVariants as shown
 use Rattle.task_board.proofs.SeenLemmas.{some_same}
 use Rattle.task_board.proofs.ByJobLemmas.{by-job-same}
@@ -11,21 +11,21 @@ use Rattle.task_board.proofs.QueuedLemmas.{queued-out, queued-leave, begins-leav
 use Rattle.task_board.proofs.SchedulerLemmas.{left-jobs, SameSizes, sizes-set, put-scheduler, put-marked, steady-same, unmarked-none, one-list, one-length, seat-below, over-tasks}
 use Rattle.task_board.proofs.TaskMemberLemmas.{members-over}
 
-first-of : (queues : Slots HeldQueue) (q : ℕ) (x : HeldQueue) → slot_value queues q ≡ Some x → head_of queues (Some q) ≡ slice_get x.tasks 0
+first-of : (queues : Slots HeldQueue) (q : ℕ) (x : HeldQueue) → slot_value queues q ≡ Some x → head_of_queue queues (Some q) ≡ slice_get x.tasks 0
 first-of queues q x e = rw e refl
 
-no-first : (queues : Slots HeldQueue) (q : ℕ) → slot_value queues q ≡ None → head_of queues (Some q) ≡ None
+no-first : (queues : Slots HeldQueue) (q : ℕ) → slot_value queues q ≡ None → head_of_queue queues (Some q) ≡ None
 no-first queues q e = rw e refl
 
 -- an ended task leaves its queue, whose first task is marked anew
 pub record Leaves (b : SchedulerTable) (q : TaskTable) (queues : QueueTable) (cleared ready : ReadyMarks) (h : ℕ) (o : Option ℕ) : Type 0 where
   left : queues ≡ record b.queues { pool = left_queue b.queues.pool o h }
   cleared_is : cleared ≡ record b.ready { marks = set b.ready.marks (slot_of h) None }
-  fresh : IsFreshAt b.actions (begins_in queues.pool) (seen_in q.pool) (head_of queues.pool o) cleared ready
+  fresh : IsFreshAt b.actions (begins_in queues.pool) (seen_in q.pool) (head_of_queue queues.pool o) cleared ready
 
 pub leaves : (b : SchedulerTable) (q : TaskTable) (queues : QueueTable) (cleared ready : ReadyMarks) (h : ℕ) (o named : Option ℕ) → o ≡ named
     → queues ≡ record b.queues { pool = left_queue b.queues.pool o h } → cleared ≡ record b.ready { marks = set b.ready.marks (slot_of h) None }
-    → IsFreshAt b.actions (begins_in queues.pool) (seen_in q.pool) (head_of queues.pool o) cleared ready → Leaves b q queues cleared ready h named
+    → IsFreshAt b.actions (begins_in queues.pool) (seen_in q.pool) (head_of_queue queues.pool o) cleared ready → Leaves b q queues cleared ready h named
 leaves b q queues cleared ready h o named is left cleared_is fresh = grind (arith, nat_tests)
 
 -- The state of the task
@@ -49,7 +49,7 @@ pub member-of : (b : SchedulerTable) (h : ℕ) (t : Task) (o : Option ℕ) → I
 member-of b h t o k g unended same q x names live = grind (arith, nat_tests, unended-seen t t.state, k.queued.listed h q)
 
 -- the slot of the first task of the queue, once the task has left it
-pub first-slot_of : (b : SchedulerTable) (h : ℕ) (o : Option ℕ) → IsScheduler b → (j : ℕ) → head_of (left_queue b.queues.pool o h) o ≡ Some j
+pub first-slot_of : (b : SchedulerTable) (h : ℕ) (o : Option ℕ) → IsScheduler b → (j : ℕ) → head_of_queue (left_queue b.queues.pool o h) o ≡ Some j
     → slot_of j < max_of b.tasks.pool
 first-slot_of b h None k j e = absurd (none-some _ e)
 first-slot_of b h (Some q) k j e = by_live (slot_value b.queues.pool q) refl
@@ -79,7 +79,7 @@ module _ (b : SchedulerTable) (q : TaskTable) (queues : QueueTable) (cleared rea
   sizes-cleared = sizes-set b.ready cleared (slot_of h) None l.cleared_is
 
   sizes-left : SameSizes b.ready ready
-  sizes-left = grind (arith, nat_tests, head_of, begins_in, seen_in, sizes-cleared, sizes-set, slot_of)
+  sizes-left = grind (arith, nat_tests, head_of_queue, begins_in, seen_in, sizes-cleared, sizes-set, slot_of)
 
   -- without the task, and with the queues as they were
   marked-cleared : Marked b.actions (begins_in b.queues.pool) (seen_in q.pool) cleared.marks
@@ -137,8 +137,8 @@ module _ (b : SchedulerTable) (q : TaskTable) (queues : QueueTable) (cleared rea
         (marked-again b.actions (begins_in b.queues.pool) (begins_in queues.pool) (seen_in q.pool) i cleared.marks f.mark
         (steady-but i some) (alone-first i (first-seen i some)) (first-slot i some) f.right marked-cleared)
 
-    head-is : head_of queues.pool s.queue ≡ slice_get (without_handle h v.tasks) 0
-    head-is = ap (head_of queues.pool) names ∙ first-of queues.pool p (without_task h v) queue-is
+    head-is : head_of_queue queues.pool s.queue ≡ slice_get (without_handle h v.tasks) 0
+    head-is = ap (head_of_queue queues.pool) names ∙ first-of queues.pool p (without_task h v) queue-is
 
     marked-live : Marked b.actions (begins_in queues.pool) (seen_in q.pool) ready.marks
     marked-live = marked-first (slice_get (without_handle h v.tasks) 0) refl
@@ -146,7 +146,7 @@ module _ (b : SchedulerTable) (q : TaskTable) (queues : QueueTable) (cleared rea
 
   -- what has left no live queue
   module _ (out : (p : ℕ) (y : HeldQueue) → s.queue ≡ Some p → slot_value b.queues.pool p ≡ Some y
-      → ⊥) (same : left_queue b.queues.pool s.queue h ≡ b.queues.pool) (none : head_of queues.pool s.queue ≡ None) where
+      → ⊥) (same : left_queue b.queues.pool s.queue h ≡ b.queues.pool) (none : head_of_queue queues.pool s.queue ≡ None) where
     pool-was : queues.pool ≡ b.queues.pool
     pool-was = ap (λ (z : QueueTable). z.pool) l.left ∙ same
 
@@ -172,7 +172,7 @@ module _ (b : SchedulerTable) (q : TaskTable) (queues : QueueTable) (cleared rea
           let out = λ (i : ℕ) (y : HeldQueue) (e : s.queue ≡ Some i) (f : slot_value b.queues.pool i ≡ Some y). absurd
           (none-some _ (sym dead ∙ ap (slot_value b.queues.pool) (some_same (sym names ∙ e)) ∙ f)) in
           let same = ap (λ (o : Option ℕ). left_queue b.queues.pool o h) names ∙ dead-queue b.queues.pool p (without_task h) dead in
-          let none = ap (head_of queues.pool) names
+          let none = ap (head_of_queue queues.pool) names
           ∙ no-first queues.pool p (ap (λ (z : Slots HeldQueue). slot_value z p) (ap (λ (z : QueueTable). z.pool) l.left ∙ same) ∙ dead) in
           (queued-was out same none, marked-was out same none)
 
@@ -182,7 +182,7 @@ module _ (b : SchedulerTable) (q : TaskTable) (queues : QueueTable) (cleared rea
       by_queue None apart =
           let out = λ (i : ℕ) (y : HeldQueue) (e : s.queue ≡ Some i) (f : slot_value b.queues.pool i ≡ Some y). absurd (none-some _ (sym apart ∙ e)) in
           let same = ap (λ (o : Option ℕ). left_queue b.queues.pool o h) apart in
-          let none = ap (head_of queues.pool) apart in
+          let none = ap (head_of_queue queues.pool) apart in
           (queued-was out same none, marked-was out same none)
 
 module _ (b : SchedulerTable) (q : TaskTable) (queues : QueueTable) (cleared ready : ReadyMarks) (groups : GroupTable) (h : ℕ) (e : TaskEnd) (t : Task)
@@ -206,7 +206,7 @@ module _ (b : SchedulerTable) (q : TaskTable) (queues : QueueTable) (cleared rea
       both.1 both.0 (ap (λ (z : QueueTable). z.tasks) l.left) places one_waits seats are_waiting are_by_job are_running
       (λ s f. absurd (none-some _ f)) (λ s f. absurd (none-some _ f)) (omega (arith, count))
       (ap (λ (z : GroupTable). z.tasks) notes ∙ over-tasks b.groups t.notes.group h)
-      (subst (λ (z : GroupTable). AreMembers (members_in q.pool) (slot_value z.pool) q.starts q.ends) (sym notes)
+      (subst (λ (z : GroupTable). AreMembers (members_seen q.pool) (slot_value z.pool) q.starts q.ends) (sym notes)
       (members-over b.tasks.pool q.pool h e t b.groups b.tasks.starts b.tasks.ends q.starts q.ends k.members g un pool count ends))
 
   pub end-waiting : (waiting : WaitingTable) → t.state ≡ Scheduled → waiting ≡ without_waiting b.waiting t.job h

@@ -1,5 +1,5 @@
 -- What is seen after each move of the tasks, and what the move keeps of a scheduler.
-use Rattle.task_board.proofs.Names.{ListsBy, ◌≡◌, ◌≢◌, ℕ, zero, suc, ◌<◌, Bool, true, false, cond, List, [], ◌∷◌, ◌++◌, length, length-set, Option, Some, None, set, slice_get, refl, sym, ◌∙◌, ap, subst, inl, inr, arith, ◌||◌, is_some, option_map, cases_eq, nat_tests, get_or-set_same, get_or-set_other, TaskEnd, TaskHandle, first, Slots, slot_of, generation_of, used_slot, slot_after, slot_value, max_of, Inserts, with_value, without, put, changed, get-with_value_same, get-with_value_other, get-insert_same, get-insert_other, get-without_same, get-without_other, list_at, has_handle, without_handle, stands_at, index-has, Mark, mark_at, is_for_at, Action, Task, TaskState, Ended, is_unended, Notes, with_state, with_notes, with_waiter, task_look_refusals, after_asked, waiter_after, TaskTable, ended_in, looked_in, Seen, seen_as, seen, seen_in, InOrder, begins_in, AreQueued, AreByJob, SchedulerTable, IsScheduler, IsMarkOf, Marked, AreWaiting, AreRunning, AreRanked, AreStarted, running_on, GroupTable, members_in, AreMembers, cases_Bool}
+use Rattle.task_board.proofs.Names.{ListsBy, ◌≡◌, ◌≢◌, ℕ, zero, suc, ◌<◌, Bool, true, false, cond, List, [], ◌∷◌, ◌++◌, length, length-set, Option, Some, None, set, slice_get, refl, sym, ◌∙◌, ap, subst, inl, inr, arith, ◌||◌, is_some, option_map, cases_eq, nat_tests, get_or-set_same, get_or-set_other, TaskEnd, TaskHandle, first, Slots, slot_of, generation_of, used_slot, slot_after, slot_value, max_of, Inserts, with_value, without, put, changed, get-with_value_same, get-with_value_other, get-insert_same, get-insert_other, get-without_same, get-without_other, list_at, has_handle, without_handle, stands_at, index-has, Mark, mark_at, is_for_at, Action, Task, TaskState, Ended, is_unended, Notes, with_state, with_notes, with_waiter, task_look_refusals, after_asked, waiter_after, TaskTable, ended_in, looked_in, Seen, seen_as, seen, seen_in, ListInOrder, begins_in, AreQueued, AreByJob, SchedulerTable, IsScheduler, IsMarkOf, Marked, AreWaiting, AreRunning, AreRanked, AreStarted, running_on, GroupTable, members_seen, AreMembers, cases_Bool}
 use Rattle.task_board.proofs.SeenLemmas.{some_same, seen-live}
 pub use Rattle.task_board.proofs.KeyedLemmas.{Put, put-by, put-same, has-self}
 use Rattle.task_board.proofs.KeyedLemmas.{lists-push, lists-leave, lists-aside}
@@ -96,7 +96,7 @@ seen-looked p h who last (Some t) g k = by_tests (is_some (first (task_look_refu
 
 pub regrouped : (b : SchedulerTable) (q : TaskTable) (groups : GroupTable) → ((k : ℕ) → seen_in q.pool k ≡ seen_in b.tasks.pool k)
     → max_of q.pool ≡ max_of b.tasks.pool → q.starts ≡ b.tasks.starts → groups.tasks ≡ b.groups.tasks
-    → AreMembers (members_in q.pool) (slot_value groups.pool) q.starts q.ends → IsScheduler b → IsScheduler (record b { tasks = q; groups = groups })
+    → AreMembers (members_seen q.pool) (slot_value groups.pool) q.starts q.ends → IsScheduler b → IsScheduler (record b { tasks = q; groups = groups })
 regrouped b q groups same max count sizes members k = record {
   members = members;
   task_slots = sizes ∙ k.task_slots ∙ sym max;
@@ -121,7 +121,7 @@ regrouped b q groups same max count sizes members k = record {
     all = sym (λ i h. same h i)
 
 pub quiet : (b : SchedulerTable) (q : TaskTable) → ((k : ℕ) → seen_in q.pool k ≡ seen_in b.tasks.pool k) → max_of q.pool ≡ max_of b.tasks.pool
-    → q.starts ≡ b.tasks.starts → AreMembers (members_in q.pool) (slot_value b.groups.pool) q.starts q.ends → IsScheduler b
+    → q.starts ≡ b.tasks.starts → AreMembers (members_seen q.pool) (slot_value b.groups.pool) q.starts q.ends → IsScheduler b
     → IsScheduler (record b { tasks = q })
 quiet b q same max count members k = regrouped b q b.groups same max count refl members k
 
@@ -252,7 +252,8 @@ pub running-same : (at after : ℕ → Option Seen) (h : ℕ) (x : Option Seen) 
 running-same at after h x r e1 e2 e3 e4 = grind (arith, nat_tests)
 
 -- of two tasks of a list in order the one in front was started first
-pub order-index : (at : ℕ → Option Seen) (hs : List ℕ) (i j h k : ℕ) (s u : Seen) → InOrder at hs → i < j → slice_get hs i ≡ Some h → slice_get hs j ≡ Some k
+pub order-index : (at : ℕ → Option Seen) (hs : List ℕ) (i j h k : ℕ) (s u : Seen) → ListInOrder at hs → i < j → slice_get hs i ≡ Some h
+    → slice_get hs j ≡ Some k
     → at h ≡ Some s → at k ≡ Some u → s.start < u.start
 order-index at [] i j h k s u o less e f a b = absurd (cc)
 order-index at (x ∷ xs) zero zero h k s u o less e f a b = absurd (omega arith)

@@ -8,7 +8,7 @@ pub use Rattle.std.proofs.lemmas.Option.{none-some, same_Some, slice_get-map, sl
 pub use Rattle.std.specs.Bool.{OnFalse, OnTrue}
 pub use Rattle.std.specs.Option.{option_map, option_or}
 pub use Rattle.std.specs.Prelude.{IfSome, if◌then◌else◌, is_none, is_some, slice_index_or, slice_set, ◌%◌, ◌&&◌, ◌==◌, ◌||◌}
-pub use Rattle.group_core.specs.Members.{Creates, GroupTable, IsUnendedMember, LiveAreUsed, Members, NoMemberAt, delete_reply, ended_of, first_ended, first_unended, no_members, rest_of, with_ended, with_member, without_first, without_first_unended}
+pub use Rattle.group_core.specs.Members.{CreatesGroup, GroupTable, IsUnendedMember, LiveAreUsed, Members, NoMemberAt, delete_reply, ended_of, first_ended, first_unended, no_members, rest_of, with_ended, with_member, without_first, without_first_unended}
 pub use Rattle.handle_pool.proofs.GetLemmas.{get-insert_before, get-insert_other, get-insert_same, get-with_value_other, get-with_value_same, get-without_other, get-without_same}
 pub use Rattle.handle_pool.proofs.ListReads.{set-same, slice_get-set_other, slice_get-set_same}
 pub use Rattle.handle_pool.proofs.StandsLemmas.{get-fresh, used_at_live, value_at-none}
@@ -34,24 +34,24 @@ pub use Rattle.mtapi_values.specs.declared.handles.TaskHandle.{TaskHandle}
 pub use Rattle.mtapi_values.specs.declared.kinds.Kind.{Kind}
 pub use Rattle.mtapi_values.specs.declared.statuses.MtapiStatus.{MtapiStatus}
 pub use Rattle.mtapi_values.specs.declared.statuses.MtapiStatus.TheVariants.{ErrGroupLimit, ErrQueueExists, ErrQueueLimit}
-pub use Rattle.queue_core.specs.Held.{AreRetiredEmpty, HeldQueue, NoTaskAt, QueueTable, facts_of, held, live_reply, new_queue, tasks_of, with_opened, with_task, without_task}
+pub use Rattle.queue_core.specs.Held.{AreRetiredEmpty, HeldQueue, NoTaskAt, QueueTable, facts_of, held, live_reply, new_queue_of, tasks_of, with_opened, with_task, without_task}
 pub use Rattle.ready_index.specs.Marks.{HasNoneFor, IsFirst, ReadyMarks, is_for, is_for_at, mark_at}
 pub use Rattle.ready_index.specs.declared.marks.Mark.{Mark}
 pub use Rattle.task_board.specs.Scheduler.{AreRanked, AreRunning, AreStarted, AreWaiting, Becomes, SchedulerTable, IsScheduler, IsFresh, IsFreshAt, IsFreshFor, IsMarkOf, Marked, Remarked, RemarkedUnless, StandsBefore, group_slots, records_of, running_on}
 pub use Rattle.task_board.specs.contracts.scheduler.Scheduler.{the_view}
 pub use Rattle.task_board.specs.Ends.{EndsWaiting, ended_each, ended_if, ended_next, ends_by, is_unserved, passes, walk_of}
-pub use Rattle.task_board.specs.GroupMoves.{Each, Freed, FreesAll, Leaves, Left, LetsAllGo, LetsUnendedGo, end_at, ending_of, endings_of, frees, is_ended_member, lets_go}
-pub use Rattle.task_board.specs.Keyed.{AreKeyed, ListsBy, Rises}
+pub use Rattle.task_board.specs.GroupMoves.{Each, Freed, FreesAll, Leaves, Left, LetsAllGo, LetsUnendedGo, ends_numbered, ending_of, endings_of, frees, is_ended_member, lets_go}
+pub use Rattle.task_board.specs.Keyed.{AreKeyed, ListsBy, RisesByNumber}
 pub use Rattle.task_board.specs.Mapped.{mapped, mapped_slot}
-pub use Rattle.task_board.specs.Members.{AreMembers, MayJoin, Membership, end_in, ended_member, joined, member_as, members_in, membership, start_in, unless_ended, without_members}
+pub use Rattle.task_board.specs.Members.{AreMembers, MayJoin, Membership, end_number_in, ended_member, joined, member_as, members_seen, membership, start_in, unless_ended, without_members}
 pub use Rattle.task_board.specs.Picks.{IsBest, IsChoice, NoneBetter, NoneTakeable, Takeable}
-pub use Rattle.task_board.specs.Queued.{AreQueued, HasHad, InOrder, IsRoomFor, NoneWaitsIn, WasGiven, begins_in, head_of, left_queue}
+pub use Rattle.task_board.specs.Queued.{AreQueued, HasHad, ListInOrder, IsRoomFor, NoneWaitsIn, WasGiven, begins_in, head_of_queue, left_queue}
 pub use Rattle.task_board.specs.Seen.{Seen, seen, seen_as, seen_in}
 pub use Rattle.task_board.specs.Waiting.{WaitingTable, job_list, with_waiting, without_waiting}
 pub use Rattle.task_board.specs.Walks.{AreByJob, AreIn, AreSeen, is_walked, waits_at, walked}
 pub use Rattle.task_board.specs.declared.walks.Walk.{Walk}
 pub use Rattle.task_board.specs.declared.walks.Walk.TheVariants.{OfJob, Queued, Waiting}
 pub use Rattle.task_core.specs.Answers.{after_asked, waiter_after, without_group}
-pub use Rattle.task_core.specs.Records.{asked_task, group_number, number_in, queue_number, shown_state}
-pub use Rattle.task_core.specs.Table.{Adds, IsLiveAnd, TaskTable, detached_in, ended_in, looked_in}
+pub use Rattle.task_core.specs.Records.{asked_task, group_number, number_noted, queue_number, shown_state}
+pub use Rattle.task_core.specs.Table.{AddsTask, IsLiveAnd, TaskTable, detached_in, ended_in, looked_in}
 pub use Rattle.task_core.specs.Tallies.{notes_of, tallied}

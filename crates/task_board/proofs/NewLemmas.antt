@@ -1,5 +1,5 @@
 -- A new scheduler.
-use Rattle.task_board.proofs.Names.{nat_tests, arith, subst, ◌≡◌, ℕ, zero, suc, ◌≤◌, List, [], length, replicate, Option, Some, None, refl, sym, ◌∙◌, ap, slice_index_or, slice_get, false≢true, length-replicate, TaskHandle, Slot, Slots, slot_of, generation_of, free_slot, value_at, slot_value, get-fresh, list_at, has_handle, ReadyMarks, mark_at, Task, Members, seen, seen_in, HeldQueue, InOrder, AreIn, waits_at, SchedulerTable, IsScheduler, running_on, membership, members_in}
+use Rattle.task_board.proofs.Names.{nat_tests, arith, subst, ◌≡◌, ℕ, zero, suc, ◌≤◌, List, [], length, replicate, Option, Some, None, refl, sym, ◌∙◌, ap, slice_index_or, slice_get, false≢true, length-replicate, TaskHandle, Slot, Slots, slot_of, generation_of, free_slot, value_at, slot_value, get-fresh, list_at, has_handle, ReadyMarks, mark_at, Task, Members, seen, seen_in, HeldQueue, ListInOrder, AreIn, waits_at, SchedulerTable, IsScheduler, running_on, membership, members_seen}
 
 abbrev nones : {X : Type 0} → ℕ → List (Option X)
 nones n = replicate n None
@@ -37,7 +37,7 @@ new-scheduler b max many few ready slots places lists some by_job running room q
   waiting_are = record {
     listed = λ h s e n. absurd (no-some _ s (none h) e);
     waits = λ h e. absurd (false≢true (sym (ap (λ (l : List (List ℕ)). has_handle h (list_at l 0)) lists) ∙ e));
-    ordered = subst (λ (l : List (List ℕ)). InOrder (seen_in b.tasks.pool) (list_at l 0)) (sym lists) tt;
+    ordered = subst (λ (l : List (List ℕ)). ListInOrder (seen_in b.tasks.pool) (list_at l 0)) (sym lists) tt;
   };
   by_job = record {
     some = subst (λ (n : ℕ). 1 ≤ n) (sym (ap length by_job ∙ length-replicate b.settings.actions [])) some;
@@ -64,7 +64,7 @@ new-scheduler b max many few ready slots places lists some by_job running room q
     none : (h : ℕ) → seen_in b.tasks.pool h ≡ None
     none h = unseen b.tasks.pool max h slots
 
-    no_member : (h : ℕ) → members_in b.tasks.pool h ≡ None
+    no_member : (h : ℕ) → members_seen b.tasks.pool h ≡ None
     no_member h = ap (λ (l : List (Slot Task)). membership (value_at (slice_get l (slot_of h)) (generation_of h))) slots
         ∙ ap membership (get-fresh max (slot_of h) (generation_of h))
 

@@ -1,8 +1,8 @@
 -- What a scheduler keeps where a member leaves its group.
-use Rattle.task_board.proofs.Names.{nat_tests, arith, ◌≡◌, ℕ, Bool, true, false, not, cond, List, [], ◌∷◌, Option, Some, None, Result, Ok, Err, IsSome, slice_get, refl, sym, ◌∙◌, ap, subst, IfSome, is_none, TaskEnd, GroupHandle, MtapiStatus, ErrGroupLimit, get-insert_before, Slots, slot_value, with_value, without, max_of, changed, has_handle, Task, TaskState, Ended, end_of, is_unended, is_member, number_in, without_group, TaskTable, IsLiveAnd, detached_in, Members, GroupTable, LiveAreUsed, Creates, delete_reply, no_members, rest_of, first_ended, first_unended, without_first, without_first_unended, seen, seen_in, without_members, Membership, membership, members_in, AreMembers, SchedulerTable, IsScheduler, Leaves, none-some}
+use Rattle.task_board.proofs.Names.{nat_tests, arith, ◌≡◌, ℕ, Bool, true, false, not, cond, List, [], ◌∷◌, Option, Some, None, Result, Ok, Err, IsSome, slice_get, refl, sym, ◌∙◌, ap, subst, IfSome, is_none, TaskEnd, GroupHandle, MtapiStatus, ErrGroupLimit, get-insert_before, Slots, slot_value, with_value, without, max_of, changed, has_handle, Task, TaskState, Ended, end_of, is_unended, is_member, number_noted, without_group, TaskTable, IsLiveAnd, detached_in, Members, GroupTable, LiveAreUsed, CreatesGroup, delete_reply, no_members, rest_of, first_ended, first_unended, without_first, without_first_unended, seen, seen_in, without_members, Membership, membership, members_seen, AreMembers, SchedulerTable, IsScheduler, Leaves, none-some}
 use Rattle.std.specs.Prelude.{OnOk}
-use Rattle.task_core.specs.Records.{end_in as end_told}
-use Rattle.task_board.specs.GroupMoves.{Parts, Takes}
+use Rattle.task_core.specs.Records.{end_noted as end_told}
+use Rattle.task_board.specs.GroupMoves.{Parts, TakesMember}
 use Rattle.task_board.proofs.SeenLemmas.{some_same}
 use Rattle.task_board.proofs.MoveLemmas.{Put, put-by, put-same, put-value, put-without, slot-value, slot-without, slot-insert, slot-changed, max-value, max-without, over-unseen, seen-noted, has-self, regrouped}
 use Rattle.task_board.proofs.MemberLemmas.{start-tells, end-tells, members-take, members-leave, members-create, members-delete}
@@ -38,9 +38,9 @@ pub record Member (p : Slots Task) (g h : ℕ) (e : Option ℕ) : Type 0 where
   pub live : slot_value p h ≡ Some t
   pub group : t.notes.group ≡ Some g
   pub member : is_member g t ≡ true
-  pub end : number_in (end_of t.state) ≡ e
+  pub end : number_noted (end_of t.state) ≡ e
 
-pub member-from : (p : Slots Task) (g h : ℕ) (e : Membership) → members_in p h ≡ Some e → e.group ≡ g → Member p g h e.end
+pub member-from : (p : Slots Task) (g h : ℕ) (e : Membership) → members_seen p h ≡ Some e → e.group ≡ g → Member p g h e.end
 member-from p g h e e1 e2 = grind (arith, nat_tests)
 
 -- a member that has ended, and one that hasn't
@@ -49,7 +49,7 @@ pub ended-member : (b : SchedulerTable) (g h : ℕ) (m : Members) (rest : List �
 ended-member b g h m rest k live is =
     let keyed = k.members.ended g m live in
     let a = keyed.has_key h (ap (has_handle h) is ∙ has-self h rest) in
-    let x = end-tells g a.0 (members_in b.tasks.pool h) a.1 in
+    let x = end-tells g a.0 (members_seen b.tasks.pool h) a.1 in
     (a.0, subst (λ (o : Option ℕ). Member b.tasks.pool g h o) x.end (member-from b.tasks.pool g h x.e x.is x.group))
 
 pub unended-member : (b : SchedulerTable) (g h : ℕ) (m : Members) (rest : List ℕ) → IsScheduler b → slot_value b.groups.pool g ≡ Some m → m.unended ≡ h ∷ rest
@@ -57,17 +57,17 @@ pub unended-member : (b : SchedulerTable) (g h : ℕ) (m : Members) (rest : List
 unended-member b g h m rest k live is =
     let keyed = k.members.unended g m live in
     let a = keyed.has_key h (ap (has_handle h) is ∙ has-self h rest) in
-    let x = start-tells g a.0 (members_in b.tasks.pool h) a.1 in
+    let x = start-tells g a.0 (members_seen b.tasks.pool h) a.1 in
     subst (λ (o : Option ℕ). Member b.tasks.pool g h o) x.end (member-from b.tasks.pool g h x.e x.is x.group)
 
 pub record EndedSo (x : TaskState) (n : ℕ) : Type 0 where
   pub e : TaskEnd
   pub is : x ≡ Ended e n
 
-pub ended-so : (x : TaskState) (n : ℕ) → number_in (end_of x) ≡ Some n → EndedSo x n
+pub ended-so : (x : TaskState) (n : ℕ) → number_noted (end_of x) ≡ Some n → EndedSo x n
 ended-so x n e1 = grind (arith, nat_tests)
 
-pub unended-so : (x : TaskState) → number_in (end_of x) ≡ None → is_none (end_of x) ≡ true
+pub unended-so : (x : TaskState) → number_noted (end_of x) ≡ None → is_none (end_of x) ≡ true
 unended-so x e1 = grind (arith, nat_tests)
 
 -- the member that ended first is freed
@@ -79,9 +79,9 @@ take-first b q t g h n m rest x k live is pool groups =
     (λ j. ap (λ (z : TaskTable). seen_in z.pool j) pool
     ∙ put-same (seen_in b.tasks.pool) _ h None (put-without b.tasks.pool h x.t x.live) (sym (ap seen x.live ∙ over-unseen x.t x.t.state refl over)) j)
     (ap (λ (z : TaskTable). max_of z.pool) pool ∙ max-without b.tasks.pool h) (ap (λ (z : TaskTable). z.starts) pool) (ap (λ (z : GroupTable). z.tasks) groups)
-    (subst (λ (z : TaskTable). AreMembers (members_in z.pool) (slot_value t.pool) z.starts z.ends) (sym pool)
-    (subst (λ (z : GroupTable). AreMembers (members_in (without b.tasks.pool h)) (slot_value z.pool) b.tasks.starts b.tasks.ends) (sym groups)
-    (members-take (members_in b.tasks.pool) _
+    (subst (λ (z : TaskTable). AreMembers (members_seen z.pool) (slot_value t.pool) z.starts z.ends) (sym pool)
+    (subst (λ (z : GroupTable). AreMembers (members_seen (without b.tasks.pool h)) (slot_value z.pool) b.tasks.starts b.tasks.ends) (sym groups)
+    (members-take (members_seen b.tasks.pool) _
     (slot_value b.groups.pool) _ h g b.tasks.starts b.tasks.ends m k.members live rest is (put-by membership (slot_value b.tasks.pool) _ h None
     (slot-without b.tasks.pool h x.t x.live))
     (subst (λ (l : List ℕ). Put (slot_value b.groups.pool) g (Some (record m { ended = rest_of l }))
@@ -102,10 +102,10 @@ leave-first b q t g h m rest x k live is pool groups =
     (seen-noted (λ n. record n { group = None; detached = true }) x.t ∙ ap seen (sym x.live)) j)
     (ap (λ (z : TaskTable). max_of z.pool) kept
     ∙ max-value b.tasks.pool h (without_group x.t)) (ap (λ (z : TaskTable). z.starts) kept) (ap (λ (z : GroupTable). z.tasks) groups)
-    (subst (λ (z : TaskTable). AreMembers (members_in z.pool) (slot_value t.pool) z.starts z.ends) (sym kept)
-    (subst (λ (z : GroupTable). AreMembers (members_in (with_value b.tasks.pool h (without_group x.t))) (slot_value z.pool) b.tasks.starts b.tasks.ends)
+    (subst (λ (z : TaskTable). AreMembers (members_seen z.pool) (slot_value t.pool) z.starts z.ends) (sym kept)
+    (subst (λ (z : GroupTable). AreMembers (members_seen (with_value b.tasks.pool h (without_group x.t))) (slot_value z.pool) b.tasks.starts b.tasks.ends)
     (sym groups)
-    (members-leave (members_in b.tasks.pool) _
+    (members-leave (members_seen b.tasks.pool) _
     (slot_value b.groups.pool) _ h g b.tasks.starts b.tasks.ends m k.members live rest is (put-by membership (slot_value b.tasks.pool) _ h
     (Some (without_group x.t)) (slot-value b.tasks.pool h x.t (without_group x.t) x.live))
     (subst (λ (l : List ℕ). Put (slot_value b.groups.pool) g (Some (record m { unended = rest_of l }))
@@ -148,7 +148,7 @@ parts-made b q t g h m now f x pool live is task member used tasks groups = reco
 pub takes-made : (b : SchedulerTable) (q : TaskTable) (t : GroupTable) (g h n : ℕ) (e : TaskEnd) (f : FirstIn (slot_value b.groups.pool g) (λ m. m.ended) h)
     (x : Member b.tasks.pool g h (Some n)) → LiveAreUsed b.groups.pool
     → IfSome (slot_value b.tasks.pool h) (λ (task : Task). end_told (end_of task.state) ≡ Some e) → q ≡ record b.tasks { pool = without b.tasks.pool h }
-    → t ≡ record b.groups { pool = changed b.groups.pool g without_first } → Takes b (record b { tasks = q; groups = t }) g h e
+    → t ≡ record b.groups { pool = changed b.groups.pool g without_first } → TakesMember b (record b { tasks = q; groups = t }) g h e
 takes-made b q t g h n e f x used told pool groups = record {
   members = f.m;
   rest = f.rest;
@@ -174,11 +174,11 @@ leaves-made b q t g h f x used pool groups = record {
 
 -- Groups that come and go
 
-pub create-scheduler : (b : SchedulerTable) (t : GroupTable) (r : Result GroupHandle MtapiStatus) → IsScheduler b → Creates b.groups r t
+pub create-scheduler : (b : SchedulerTable) (t : GroupTable) (r : Result GroupHandle MtapiStatus) → IsScheduler b → CreatesGroup b.groups r t
     → IsScheduler (record b { groups = t })
 create-scheduler b t (Ok g) k c =
     regrouped b b.tasks t (λ j. refl) refl refl c.2
-    (members-create (members_in b.tasks.pool) (slot_value b.groups.pool) (slot_value t.pool) g.0 b.tasks.starts b.tasks.ends k.members
+    (members-create (members_seen b.tasks.pool) (slot_value b.groups.pool) (slot_value t.pool) g.0 b.tasks.starts b.tasks.ends k.members
     (get-insert_before b.groups.pool t.pool g.0 no_members c.1) (slot-insert b.groups.pool t.pool g.0 no_members c.1)) k
 create-scheduler b t (Err ErrGroupLimit) k c = subst (λ (z : GroupTable). IsScheduler (record b { groups = z })) (sym c.1) k
 create-scheduler b t (Err x) k c = absurd c
@@ -190,6 +190,6 @@ pub delete-scheduler : (b : SchedulerTable) (t : GroupTable) (g : ℕ) → IsSch
     → t ≡ record b.groups { pool = without b.groups.pool g } → IsScheduler (record b { groups = t })
 delete-scheduler b t g k live is =
     regrouped b b.tasks t (λ j. refl) refl refl (ap (λ (z : GroupTable). z.tasks) is)
-    (subst (λ (z : GroupTable). AreMembers (members_in b.tasks.pool) (slot_value z.pool) b.tasks.starts b.tasks.ends) (sym is)
-    (members-delete (members_in b.tasks.pool) (slot_value b.groups.pool) _ g b.tasks.starts b.tasks.ends k.members live
+    (subst (λ (z : GroupTable). AreMembers (members_seen b.tasks.pool) (slot_value z.pool) b.tasks.starts b.tasks.ends) (sym is)
+    (members-delete (members_seen b.tasks.pool) (slot_value b.groups.pool) _ g b.tasks.starts b.tasks.ends k.members live
     (slot-without b.groups.pool g no_members live))) k

@@ -1,6 +1,6 @@
 -- Marks made anew for the waiting tasks of one job.
 use Rattle.task_board.proofs.Names.{nat_tests, ◌≡◌, ◌⊎◌, ℕ, zero, suc, ◌<◌, ◌+◌, Bool, true, List, [], ◌∷◌, length, length-set, Option, Some, None, set, slice_get, sym, ◌∙◌, ap, subst, inl, inr, arith, ◌==◌, cases_eq, slice_get_within, Kind, Slots, slot_of, slot_value, max_of, Inserts, changed, put, without, slot_of-live, get-with_value_same, get-with_value_other, get-insert_same, get-insert_before, get-insert_other, get-without_same, get-without_other, option_map, has_handle, has-index, index-has, Mark, ReadyMarks, mark_at, is_for_at, Action, has_enabled_job, new_action, with_enabled, runs_job_on, IsUnion, Task, Seen, seen_in, AreSeen, IsMarkOf, Marked, IsFresh, IsFreshFor, StandsBefore, Remarked, and_parts}
-use Rattle.task_board.specs.Seen.{Takes}
+use Rattle.task_board.specs.Seen.{MayTake}
 use Rattle.task_board.proofs.SeenLemmas.{some_same, seen-live}
 use Rattle.task_board.proofs.MarkLemmas.{same-number}
 use Rattle.task_board.proofs.MoveLemmas.{mark-here, mark-away, alone}
@@ -85,8 +85,8 @@ runs-job job w a r = same-number a.job job (and_parts a.enabled (a.job == job) (
 
 -- the same workers may take the task
 pub record TakenBy (old new : Slots Action) (lets now : Option ℕ → Bool) (s : Seen) : Type 0 where
-  pub there : (w : ℕ) → Takes old lets w s → Takes new now w s
-  pub back : (w : ℕ) → Takes new now w s → Takes old lets w s
+  pub there : (w : ℕ) → MayTake old lets w s → MayTake new now w s
+  pub back : (w : ℕ) → MayTake new now w s → MayTake old lets w s
 
 -- a task of another job
 pub taken-other : (job : ℕ) (old new : Slots Action) (lets : Option ℕ → Bool) (s : Seen) → SameBut job old new → (s.job ≡ job → ⊥) → TakenBy old new lets lets s
@@ -139,7 +139,7 @@ marked-anew old new lets now p job hs was after others done m = record {
 -- The same cores
 
 takes-over : (job mask : ℕ) (old new : Slots Action) (lets : Option ℕ → Bool) (w : ℕ) (s : Seen) → SameBut job old new → IsUnion old job mask
-    → IsUnion new job mask → Takes old lets w s → Takes new lets w s
+    → IsUnion new job mask → MayTake old lets w s → MayTake new lets w s
 takes-over job mask old new lets w s e1 e2 e3 e4 = grind (arith, nat_tests)
 
 -- the marks are right for the other actions as they are, where those of the job cover the cores that they covered

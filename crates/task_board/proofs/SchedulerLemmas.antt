@@ -1,7 +1,7 @@
 -- What each call keeps of a scheduler.
-use Rattle.task_board.proofs.Names.{nat_tests, ◌≡◌, ◌≢◌, ◌⊎◌, ◌≤◌, ◌+◌, ℕ, zero, suc, ◌<◌, Bool, true, false, List, [], ◌∷◌, length, length-set, Option, Some, None, Result, Ok, Err, set, refl, sym, ◌∙◌, ap, subst, inl, inr, arith, ◌%◌, is_some, is_none, option_map, false≢true, cases_eq, Kind, TaskHandle, MtapiStatus, without, Slots, slot_of, generation_of, free_slot, value_at, slot_value, max_of, Inserts, changed, put, value_at-none, get-insert_same, get-insert_before, slot_of-live, list_at, has_handle, without_handle, stands_at, NowhereAt, list_at-set_same, Mark, ReadyMarks, Action, Queue, job_of, IsUnion, Task, NewTask, new_task, Running, is_unstarted, with_state, TaskState, scheduled, end_of, TaskTable, GroupTable, members_in, AreMembers, MayJoin, joined, ended_member, Seen, seen_as, seen, seen_in, HeldQueue, QueueTable, NoTaskAt, live_reply, held, facts_of, tasks_of, with_opened, with_task, QueueHandle, ErrQueueExists, ErrQueueLimit, begins_in, AreQueued, NoneWaitsIn, WaitingTable, job_list, with_waiting, without_waiting, AreSeen, AreByJob, SchedulerTable, IsScheduler, IsMarkOf, Marked, AreWaiting, AreRunning, AreRanked, running_on, IsFresh, Remarked, RemarkedUnless, none-some}
+use Rattle.task_board.proofs.Names.{nat_tests, ◌≡◌, ◌≢◌, ◌⊎◌, ◌≤◌, ◌+◌, ℕ, zero, suc, ◌<◌, Bool, true, false, List, [], ◌∷◌, length, length-set, Option, Some, None, Result, Ok, Err, set, refl, sym, ◌∙◌, ap, subst, inl, inr, arith, ◌%◌, is_some, is_none, option_map, false≢true, cases_eq, Kind, TaskHandle, MtapiStatus, without, Slots, slot_of, generation_of, free_slot, value_at, slot_value, max_of, Inserts, changed, put, value_at-none, get-insert_same, get-insert_before, slot_of-live, list_at, has_handle, without_handle, stands_at, NowhereAt, list_at-set_same, Mark, ReadyMarks, Action, Queue, job_of, IsUnion, Task, NewTask, new_task, Running, is_unstarted, with_state, TaskState, scheduled, end_of, TaskTable, GroupTable, members_seen, AreMembers, MayJoin, joined, ended_member, Seen, seen_as, seen, seen_in, HeldQueue, QueueTable, NoTaskAt, live_reply, held, facts_of, tasks_of, with_opened, with_task, QueueHandle, ErrQueueExists, ErrQueueLimit, begins_in, AreQueued, NoneWaitsIn, WaitingTable, job_list, with_waiting, without_waiting, AreSeen, AreByJob, SchedulerTable, IsScheduler, IsMarkOf, Marked, AreWaiting, AreRunning, AreRanked, running_on, IsFresh, Remarked, RemarkedUnless, none-some}
 use Rattle.std.specs.Result.{OnOk, OnErr}
-use Rattle.queue_core.specs.Held.{Creates as CreatesQueue}
+use Rattle.queue_core.specs.Held.{CreatesQueue}
 use Rattle.queue_core.specs.declared.facts.QueueFacts.{QueueFacts}
 use Rattle.task_board.proofs.ByJobLemmas.{by-job-push, by-job-leave, by-job-has}
 use Rattle.task_board.proofs.SeenLemmas.{some_same, SeenAs, seen-as, seen-live, unstarted-seen}
@@ -28,7 +28,7 @@ pub put-scheduler : (b : SchedulerTable) (q : TaskTable) (queues : QueueTable) (
     → length waiting.lists ≡ 1 → length running ≡ 25 → AreWaiting (seen_in q.pool) (list_at waiting.lists 0)
     → AreByJob b.settings.actions (seen_in q.pool) waiting.by_job → AreRunning (seen_in q.pool) running
     → ((s : Seen) → x ≡ Some s → s.priority < b.settings.priorities) → ((s : Seen) → x ≡ Some s → s.start < q.starts) → b.tasks.starts ≤ q.starts
-    → groups.tasks ≡ b.groups.tasks → AreMembers (members_in q.pool) (slot_value groups.pool) q.starts q.ends
+    → groups.tasks ≡ b.groups.tasks → AreMembers (members_seen q.pool) (slot_value groups.pool) q.starts q.ends
     → IsScheduler (record b { tasks = q; queues = queues; ready = ready; waiting = waiting; running = running; groups = groups })
 put-scheduler b q queues ready waiting running groups h x was put same_room same_sizes are_marked are_queued same_queues same_places one_waits each_worker
     are_waiting are_by_job are_running has_priority has_start starts_grow same_groups are_members = grind (arith, nat_tests)
@@ -134,7 +134,7 @@ add-with b q queues ready waiting groups h n a k i next count less is room stead
     (λ s e. subst (λ (u : Seen). u.priority < b.settings.priorities) (some_same e) less)
     (λ s e. subst (λ (u : Seen). u.start < q.starts) (some_same e) (omega (arith, next, count))) (omega (arith, count))
     (ap (λ (t : GroupTable). t.tasks) enters ∙ joined-tasks b.groups a.group h)
-    (subst (λ (t : GroupTable). AreMembers (members_in q.pool) (slot_value t.pool) q.starts q.ends) (sym enters)
+    (subst (λ (t : GroupTable). AreMembers (members_seen q.pool) (slot_value t.pool) q.starts q.ends) (sym enters)
     (members-add b.tasks.pool q.pool h a b.groups b.tasks.starts b.tasks.ends q.starts q.ends k.members
     (subst (λ (m : ℕ). Inserts b.tasks.pool q.pool h (new_task a m)) next i) count ends may))
 
@@ -231,8 +231,8 @@ take-scheduler b q ready waiting h w kind t k g u pool count less free is marks 
     (λ s e. subst (λ (n : ℕ). n < b.settings.priorities) (rank ∙ ap (λ (z : Seen). z.priority) (some_same e)) (k.ranked.known h was.0 (ap seen g ∙ was.1)))
     (λ s e. let x = subst (λ (n : ℕ). n < b.tasks.starts) (begun ∙ ap (λ (z : Seen). z.start) (some_same e)) (k.started.before h was.0 (ap seen g ∙ was.1)) in
     omega (arith, x, count)) (omega (arith, count)) refl
-    (members-same (members_in b.tasks.pool) (members_in q.pool) (slot_value b.groups.pool) b.tasks.starts b.tasks.ends q.starts q.ends
-    (λ j. ap (λ (p : Slots Task). members_in p j) pool
+    (members-same (members_seen b.tasks.pool) (members_seen q.pool) (slot_value b.groups.pool) b.tasks.starts b.tasks.ends q.starts q.ends
+    (λ j. ap (λ (p : Slots Task). members_seen p j) pool
     ∙ member-runs b.tasks.pool h w kind t g (unstarted-unended t.state u) j) (omega (arith, count)) (omega (arith, ends)) k.members)
   where
     was : (s : Seen) × (seen_as t t.state ≡ Some s) × (s.on ≡ None)

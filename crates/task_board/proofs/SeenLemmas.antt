@@ -1,6 +1,6 @@
 -- What is seen of a task, and which tasks a worker may take.
 use Rattle.task_board.proofs.Names.{arith, nat_tests, ◌≡◌, ℕ, Bool, true, Option, Some, None, refl, sym, ◌∙◌, ap, subst, false≢true, holds, ◌==◌, ◌<◌, IfSome, Mark, AreRanked, Slots, slot_value, Action, Task, TaskState, Scheduled, Running, Ended, scheduled, runner, is_unstarted, Takeable, Seen, seen_as, seen, seen_in}
-use Rattle.task_board.specs.Seen.{Takes}
+use Rattle.task_board.specs.Seen.{MayTake}
 
 pub some_same : {A : Type 0} {a b : A} → Some a ≡ Some b → a ≡ b
 some_same h = cc
@@ -29,14 +29,14 @@ pub seen-live : (p : Slots Task) (h : ℕ) (s : Seen) → seen_in p h ≡ Some s
 seen-live p h s e1 = grind (arith, nat_tests)
 
 -- a worker may take what it sees exactly where it may take the task
-pub takes-from : (actions : Slots Action) (lets : Option ℕ → Bool) (w : ℕ) (t : Task) (s : Seen) → seen (Some t) ≡ Some s → Takes actions lets w s
+pub takes-from : (actions : Slots Action) (lets : Option ℕ → Bool) (w : ℕ) (t : Task) (s : Seen) → seen (Some t) ≡ Some s → MayTake actions lets w s
     → Takeable actions lets w t
 takes-from actions lets w t s e1 e2 = grind (arith, nat_tests)
 
 pub record TakenAs (actions : Slots Action) (lets : Option ℕ → Bool) (w : ℕ) (t : Task) : Type 0 where
   pub s : Seen
   pub is : seen (Some t) ≡ Some s
-  pub takes : Takes actions lets w s
+  pub takes : MayTake actions lets w s
   pub priority : s.priority ≡ t.priority
 
 pub takes-to : (actions : Slots Action) (lets : Option ℕ → Bool) (w : ℕ) (t : Task) → Takeable actions lets w t → TakenAs actions lets w t

@@ -1,5 +1,5 @@
 -- What the lists of walks have, and that tasks end alike along two lists which have the same of those that pass.
-use Rattle.task_board.proofs.Names.{nat_tests, ◌≡◌, ◌≢◌, ℕ, Bool, true, false, List, [], ◌∷◌, length, Option, Some, None, refl, sym, ◌∙◌, ap, subst, arith, ◌==◌, ◌&&◌, ◌%◌, is_some, if◌then◌else◌, false≢true, TaskEnd, holds, Slots, slot_value, has_handle, Task, Ended, with_state, HeldQueue, tasks_of, TaskTable, ended_in, Walk, Waiting, OfJob, Queued, Seen, seen_in, InOrder, walked, AreIn, is_walked, SchedulerTable, IsScheduler, records_of, ended_next, ended_each, and_parts}
+use Rattle.task_board.proofs.Names.{nat_tests, ◌≡◌, ◌≢◌, ℕ, Bool, true, false, List, [], ◌∷◌, length, Option, Some, None, refl, sym, ◌∙◌, ap, subst, arith, ◌==◌, ◌&&◌, ◌%◌, is_some, if◌then◌else◌, false≢true, TaskEnd, holds, Slots, slot_value, has_handle, Task, Ended, with_state, HeldQueue, tasks_of, TaskTable, ended_in, Walk, Waiting, OfJob, Queued, Seen, seen_in, ListInOrder, walked, AreIn, is_walked, SchedulerTable, IsScheduler, records_of, ended_next, ended_each, and_parts}
 use Rattle.task_board.proofs.MarkLemmas.{same-number, number-same, named-is}
 use Rattle.task_board.proofs.MappedLemmas.{value-mapped}
 use Rattle.task_board.proofs.KeyedLemmas.{has-self, has-later, not-twice, same-order}
@@ -52,7 +52,7 @@ chosen-has : (f : ℕ → Bool) (k : ℕ) (hs : List ℕ) → has_handle k hs �
 chosen-has f k [] e p = e
 chosen-has f k (h ∷ hs) e p = grind (arith, nat_tests, chosen-has f k hs)
 
-order-chosen : (at : ℕ → Option Seen) (f : ℕ → Bool) (hs : List ℕ) → InOrder at hs → InOrder at (chosen f hs)
+order-chosen : (at : ℕ → Option Seen) (f : ℕ → Bool) (hs : List ℕ) → ListInOrder at hs → ListInOrder at (chosen f hs)
 order-chosen at f [] o = tt
 order-chosen at f (h ∷ hs) o =
     let front = λ (k : ℕ) (s u : Seen) (e : has_handle k (chosen f hs) ≡ true). o.0 k s u (chosen-from f k hs e).0 in
@@ -81,7 +81,7 @@ abbrev AreOnce : List ℕ → Type 0
 AreOnce [] = Unit {0}
 AreOnce (h ∷ hs) = (has_handle h hs ≡ true → ⊥) × AreOnce hs
 
-once : (at : ℕ → Option Seen) (hs : List ℕ) → ((h : ℕ) → has_handle h hs ≡ true → (s : Seen) × (at h ≡ Some s)) → InOrder at hs → AreOnce hs
+once : (at : ℕ → Option Seen) (hs : List ℕ) → ((h : ℕ) → has_handle h hs ≡ true → (s : Seen) × (at h ≡ Some s)) → ListInOrder at hs → AreOnce hs
 once at [] live o = tt
 once at (h ∷ hs) live o =
     let s = live h (has-self h hs) in

@@ -9,9 +9,9 @@ abbrev pub is_ended_member : ℕ → Task → Bool
 is_ended_member g t = is_member g t && not (is_unended t)
 
 -- the ends of these tasks, in this order; one that hasn't ended has none
-abbrev pub end_at : Option Task → Option (TaskEnd × ℕ)
-end_at None = None
-end_at (Some t) = end_of t.state
+abbrev pub ends_numbered : Option Task → Option (TaskEnd × ℕ)
+ends_numbered None = None
+ends_numbered (Some t) = end_of t.state
 
 abbrev pub ending_of : ℕ → Option (TaskEnd × ℕ) → List Ending → List Ending
 ending_of h None es = es
@@ -19,7 +19,7 @@ ending_of h (Some e) es = record { task = h; end = e.0; number = e.1 } ∷ es
 
 abbrev pub endings_of : (ℕ → Option Task) → List ℕ → List Ending
 endings_of at [] = []
-endings_of at (h ∷ hs) = ending_of h (end_at (at h)) (endings_of at hs)
+endings_of at (h ∷ hs) = ending_of h (ends_numbered (at h)) (endings_of at hs)
 
 -- one live task after the other, each of which passes, has been moved so
 abbrev pub Each : (Task → Bool) → (Slots Task → ℕ → Task → Slots Task) → List ℕ → Slots Task → Slots Task → Type 0
@@ -49,7 +49,7 @@ pub record Parts (old new : SchedulerTable) (g h : ℕ) (before after : Members)
   pub becomes : Becomes old new old.actions (record old.tasks { pool = pool })
 
 -- the member that ended first is freed, and its end is given
-pub record Takes (old new : SchedulerTable) (g h : ℕ) (e : TaskEnd) : Type 0 where
+pub record TakesMember (old new : SchedulerTable) (g h : ℕ) (e : TaskEnd) : Type 0 where
   pub members : Members
   pub rest : List ℕ
   pub t : Task
@@ -75,7 +75,7 @@ NoneLeaves old new g = (new ≡ old) × ((m : Members) → slot_value old.groups
 
 abbrev pub TakesFirst : SchedulerTable → ℕ → Option (TaskHandle × TaskEnd) → SchedulerTable → Type 0
 TakesFirst old g None new = NoneTaken old new g
-TakesFirst old g (Some x) new = Takes old new g x.0.0 x.1
+TakesFirst old g (Some x) new = TakesMember old new g x.0.0 x.1
 
 abbrev pub LeavesFirst : SchedulerTable → ℕ → Option TaskHandle → SchedulerTable → Type 0
 LeavesFirst old g None new = NoneLeaves old new g

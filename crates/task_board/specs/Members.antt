@@ -1,7 +1,7 @@
 -- What ties the members that groups keep to the tasks.
 use Rattle.std.specs.Prelude.{◌≡◌, IsSome, ℕ, ◌<◌, ◌==◌, is_none, Bool, false, Option, Some, None, if◌then◌else◌}
 use Rattle.task_board.specs.Names.{holds, Slots, slot_value, changed, Task, end_of, Group, new_group, Members, GroupTable, with_member, with_ended}
-use Rattle.task_core.specs.Records.{number_in}
+use Rattle.task_core.specs.Records.{number_noted}
 use Rattle.task_board.specs.Mapped.{mapped}
 use Rattle.task_board.specs.Keyed.{AreKeyed}
 
@@ -18,7 +18,7 @@ pub record Membership : Type 0 where
 
 abbrev pub member_as : Task → Option ℕ → Option Membership
 member_as t None = None
-member_as t (Some g) = Some (record { group = g; detached = t.notes.detached; start = t.start; end = number_in (end_of t.state) })
+member_as t (Some g) = Some (record { group = g; detached = t.notes.detached; start = t.start; end = number_noted (end_of t.state) })
 
 -- a task that names no group isn't seen
 abbrev pub membership : Option Task → Option Membership
@@ -26,8 +26,8 @@ membership None = None
 membership (Some t) = member_as t t.notes.group
 
 -- what is seen by each handle
-abbrev pub members_in : Slots Task → ℕ → Option Membership
-members_in p h = membership (slot_value p h)
+abbrev pub members_seen : Slots Task → ℕ → Option Membership
+members_seen p h = membership (slot_value p h)
 
 -- the number, where there is no end
 abbrev pub unless_ended : Option ℕ → ℕ → Option ℕ
@@ -40,9 +40,9 @@ start_in g None = None
 start_in g (Some e) = if e.group == g then unless_ended e.end e.start else None
 
 -- the number of the end of a member of this group that has ended
-abbrev pub end_in : ℕ → Option Membership → Option ℕ
-end_in g None = None
-end_in g (Some e) = if e.group == g then e.end else None
+abbrev pub end_number_in : ℕ → Option Membership → Option ℕ
+end_number_in g None = None
+end_number_in g (Some e) = if e.group == g then e.end else None
 
 -- the live tasks that name a group are its members: those that haven't ended in the order of their starts, the others in the order of their ends
 pub record AreMembers (at : ℕ → Option Membership) (groups : ℕ → Option Members) (starts ends : ℕ) : Type 0 where
@@ -53,7 +53,7 @@ pub record AreMembers (at : ℕ → Option Membership) (groups : ℕ → Option 
   pub started : (h : ℕ) (e : Membership) → at h ≡ Some e → e.start < starts
   pub numbered : (h n : ℕ) (e : Membership) → at h ≡ Some e → e.end ≡ Some n → n < ends
   pub unended : (g : ℕ) (m : Members) → groups g ≡ Some m → AreKeyed (λ h. start_in g (at h)) m.unended
-  pub ended : (g : ℕ) (m : Members) → groups g ≡ Some m → AreKeyed (λ h. end_in g (at h)) m.ended
+  pub ended : (g : ℕ) (m : Members) → groups g ≡ Some m → AreKeyed (λ h. end_number_in g (at h)) m.ended
 
 -- a new task may name this group: it is live, and the task isn't detached
 abbrev pub MayJoin : Slots Members → Bool → Option ℕ → Type 0

@@ -3,11 +3,11 @@ use Rattle.std.specs.Prelude.{◌≡◌, ◌⊎◌, ℕ, ◌<◌, Bool, true, Li
 use Rattle.task_board.specs.Names.{holds, Slot, Slots, slot_of, generation_of, free_slot, slot_value, changed, has_handle, NewTask, HeldQueue, put_reply, without_task}
 use Rattle.queue_ready.specs.Ready.{may_begin}
 use Rattle.task_board.specs.Seen.{Seen}
-use Rattle.task_board.specs.Keyed.{Rises}
+use Rattle.task_board.specs.Keyed.{RisesByNumber}
 
 -- each task of the list was started before those behind it
-abbrev pub InOrder : (ℕ → Option Seen) → List ℕ → Type 0
-InOrder at hs = Rises (λ s. s.start) at hs
+abbrev pub ListInOrder : (ℕ → Option Seen) → List ℕ → Type 0
+ListInOrder at hs = RisesByNumber (λ s. s.start) at hs
 
 -- a task that names no queue may begin, and one whose queue is live and lets it
 abbrev pub begins_in : Slots HeldQueue → ℕ → Option ℕ → Bool
@@ -27,7 +27,7 @@ pub record AreQueued (at : ℕ → Option Seen) (queues : Slots HeldQueue) (prio
   pub listed : (h q : ℕ) (s : Seen) (x : HeldQueue) → at h ≡ Some s → s.queue ≡ Some q → slot_value queues q ≡ Some x → has_handle h x.tasks ≡ true
   pub names : (h q : ℕ) (x : HeldQueue) → slot_value queues q ≡ Some x → has_handle h x.tasks ≡ true
       → (s : Seen) × (at h ≡ Some s) × (s.queue ≡ Some q) × (s.job ≡ x.queue.job)
-  pub ordered : (q : ℕ) (x : HeldQueue) → slot_value queues q ≡ Some x → InOrder at x.tasks
+  pub ordered : (q : ℕ) (x : HeldQueue) → slot_value queues q ≡ Some x → ListInOrder at x.tasks
   -- a task that hasn't begun names a live queue, if any, and each task one that was made
   pub live : (h q : ℕ) (s : Seen) → at h ≡ Some s → s.on ≡ None → s.queue ≡ Some q → (x : HeldQueue) × (slot_value queues q ≡ Some x)
   pub given : (h q : ℕ) (s : Seen) → at h ≡ Some s → s.queue ≡ Some q → WasGiven queues q
@@ -40,9 +40,9 @@ left_queue queues None h = queues
 left_queue queues (Some q) h = changed queues q (without_task h)
 
 -- the first task of this queue, if there is one
-abbrev pub head_of : Slots HeldQueue → Option ℕ → Option ℕ
-head_of queues None = None
-head_of queues (Some q) = first_in (slot_value queues q)
+abbrev pub head_of_queue : Slots HeldQueue → Option ℕ → Option ℕ
+head_of_queue queues None = None
+head_of_queue queues (Some q) = first_in (slot_value queues q)
   where
     first_in : Option HeldQueue → Option ℕ
     first_in None = None

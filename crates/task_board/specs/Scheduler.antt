@@ -4,9 +4,9 @@ use Rattle.mtapi_values.specs.Attributes.{NodeSettings}
 use Rattle.task_board.specs.Names.{TaskHandle, Slots, slot_of, slot_value, max_of, list_at, has_handle, Action, IsUnion, Queue, TaskTable, HeldQueue, QueueTable, Group, GroupTable}
 use Rattle.ready_index.specs.declared.marks.Mark.{Mark}
 use Rattle.ready_index.specs.Marks.{ReadyMarks, mark_at, is_for_at}
-use Rattle.task_board.specs.Members.{without_members, members_in, AreMembers}
-use Rattle.task_board.specs.Seen.{Seen, seen_in, Takes}
-use Rattle.task_board.specs.Queued.{InOrder, begins_in, AreQueued}
+use Rattle.task_board.specs.Members.{without_members, members_seen, AreMembers}
+use Rattle.task_board.specs.Seen.{Seen, seen_in, MayTake}
+use Rattle.task_board.specs.Queued.{ListInOrder, begins_in, AreQueued}
 use Rattle.task_board.specs.Mapped.{mapped}
 use Rattle.task_board.specs.Waiting.{WaitingTable}
 use Rattle.task_board.specs.Walks.{AreByJob}
@@ -27,20 +27,20 @@ group_slots b = without_members b.groups.pool
 
 -- the mark is right for what is seen: it is for a worker, with a priority, exactly where the worker may take a task of this priority
 pub record IsMarkOf (actions : Slots Action) (lets : Option ℕ → Bool) (x : Option Seen) (o : Option Mark) : Type 0 where
-  pub sound : (w p : ℕ) → is_for_at w p o ≡ true → (s : Seen) × (x ≡ Some s) × (s.priority ≡ p) × Takes actions lets w s
-  pub whole : (w : ℕ) (s : Seen) → x ≡ Some s → Takes actions lets w s → is_for_at w s.priority o ≡ true
+  pub sound : (w p : ℕ) → is_for_at w p o ≡ true → (s : Seen) × (x ≡ Some s) × (s.priority ≡ p) × MayTake actions lets w s
+  pub whole : (w : ℕ) (s : Seen) → x ≡ Some s → MayTake actions lets w s → is_for_at w s.priority o ≡ true
 
 -- the marks are those of the tasks that may be taken
 pub record Marked (actions : Slots Action) (lets : ℕ → Option ℕ → Bool) (at : ℕ → Option Seen) (marks : List (Option Mark)) : Type 0 where
   pub sound : (w p place : ℕ) → is_for_at w p (mark_at marks place) ≡ true
-      → (h : ℕ) × (s : Seen) × (slot_of h ≡ place) × (at h ≡ Some s) × (s.priority ≡ p) × Takes actions (lets h) w s
-  pub whole : (w h : ℕ) (s : Seen) → at h ≡ Some s → Takes actions (lets h) w s → is_for_at w s.priority (mark_at marks (slot_of h)) ≡ true
+      → (h : ℕ) × (s : Seen) × (slot_of h ≡ place) × (at h ≡ Some s) × (s.priority ≡ p) × MayTake actions (lets h) w s
+  pub whole : (w h : ℕ) (s : Seen) → at h ≡ Some s → MayTake actions (lets h) w s → is_for_at w s.priority (mark_at marks (slot_of h)) ≡ true
 
 -- the list has the handles of the tasks that haven't begun, in the order of their starts
 pub record AreWaiting (at : ℕ → Option Seen) (hs : List ℕ) : Type 0 where
   pub listed : (h : ℕ) (s : Seen) → at h ≡ Some s → s.on ≡ None → has_handle h hs ≡ true
   pub waits : (h : ℕ) → has_handle h hs ≡ true → (s : Seen) × (at h ≡ Some s) × (s.on ≡ None)
-  pub ordered : InOrder at hs
+  pub ordered : ListInOrder at hs
 
 -- what runs on a worker
 abbrev pub running_on : List (Option TaskHandle) → ℕ → Option TaskHandle
@@ -75,7 +75,7 @@ pub record IsScheduler (b : SchedulerTable) : Type 0 where
   pub ranked : AreRanked (seen_in b.tasks.pool) b.settings.priorities
   pub started : AreStarted (seen_in b.tasks.pool) b.tasks.starts
   pub queued : AreQueued (seen_in b.tasks.pool) b.queues.pool b.settings.priorities
-  pub members : AreMembers (members_in b.tasks.pool) (slot_value b.groups.pool) b.tasks.starts b.tasks.ends
+  pub members : AreMembers (members_seen b.tasks.pool) (slot_value b.groups.pool) b.tasks.starts b.tasks.ends
   pub task_slots : b.groups.tasks ≡ max_of b.tasks.pool
 
 -- the queues without their tasks

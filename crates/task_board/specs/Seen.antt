@@ -26,7 +26,7 @@ abbrev pub seen_in : Slots Task → ℕ → Option Seen
 seen_in p h = seen (slot_value p h)
 
 -- the worker may take it, where its queue, if any, lets it begin
-pub record Takes (actions : Slots Action) (lets : Option ℕ → Bool) (w : ℕ) (s : Seen) : Type 0 where
+pub record MayTake (actions : Slots Action) (lets : Option ℕ → Bool) (w : ℕ) (s : Seen) : Type 0 where
   pub waits : s.on ≡ None
   pub queue : lets s.queue ≡ true
   pub core : in_mask w s.cores ≡ true

@@ -3,7 +3,7 @@
 ghost use Rattle.std.specs.Prelude.{◌≡◌, ◌≤◌, ◌<◌, replicate, Some, is_some, IfSome, IfNone, IfOk, OnOk, OnErr, true, false};
 ghost use Rattle.handle_pool.specs.Slots.{slot_value, free_slot, without, changed, live_count};
 ghost use Rattle.mtapi_objects.specs.Actions.{Action, with_enabled};
-ghost use Rattle.job_table.specs.Answers.{Creates, Covers, Chooses, job_of, runs_job_on};
+ghost use Rattle.job_table.specs.Answers.{CreatesAction, Covers, Chooses, job_of, runs_job_on};
 
 use job_table::{Actions, Cover};
 use mtapi_values::{ActionHandle, Kind, Mask, MtapiStatus};
@@ -66,7 +66,7 @@ impl CoveredActions {
         kind: Kind,
         cores: Mask,
     ) -> Result<ActionHandle, MtapiStatus>
-        ensures { Creates self.old job kind cores.0 result self.new }
+        ensures { CreatesAction self.old job kind cores.0 result self.new }
     {
         self.known = None;
         self.earlier = None;

@@ -11,7 +11,7 @@ ghost use Rattle.queue_core.specs.Held.{HeldQueue, first_task};
 ghost use Rattle.mtapi_values.specs.Conditions.{holds};
 ghost use Rattle.mtapi_values.specs.Masks.{in_mask};
 ghost use Rattle.task_board.specs.Seen.{seen, seen_in};
-ghost use Rattle.task_board.specs.Queued.{begins_in, left_queue, head_of};
+ghost use Rattle.task_board.specs.Queued.{begins_in, left_queue, head_of_queue};
 ghost use Rattle.task_board.specs.Scheduler.{IsMarkOf, AreRanked, IsFresh, IsFreshAt, IsFreshFor, Remarked, RemarkedUnless};
 ghost use Rattle.task_board.specs.Walks.{walked, AreSeen};
 ghost use Rattle.task_board.specs.Waiting.{job_list};
@@ -174,11 +174,11 @@ pub(crate) fn leave_queue(
     requires member { (q : ℕ) (x : HeldQueue) → queue_number queue ≡ Some q → slot_value queues.old.pool q ≡ Some x
         → has_handle task.0 x.tasks ≡ true }
     requires place { (h : ℕ)
-        → head_of (left_queue queues.old.pool (queue_number queue) task.0) (queue_number queue) ≡ Some h
+        → head_of_queue (left_queue queues.old.pool (queue_number queue) task.0) (queue_number queue) ≡ Some h
         → slot_of h < length ready.old.marks }
     requires ranked { AreRanked (seen_in tasks.now.pool) ready.old.priorities }
     ensures left { queues.new ≡ record queues.old { pool = left_queue queues.old.pool (queue_number queue) task.0 } }
-    ensures marks { IsFreshAt actions.now (begins_in queues.new.pool) (seen_in tasks.now.pool) (head_of queues.new.pool (queue_number queue)) ready.old ready.new }
+    ensures marks { IsFreshAt actions.now (begins_in queues.new.pool) (seen_in tasks.now.pool) (head_of_queue queues.new.pool (queue_number queue)) ready.old ready.new }
 {
     let Some(queue) = queue else {
         return;

@@ -9,15 +9,15 @@ ghost use Rattle.mtapi_values.specs.declared.statuses.MtapiStatus.TheVariants.{E
 ghost use Rattle.handle_pool.specs.Walks.{SomeLive, NoneLive};
 ghost use Rattle.linked_places.specs.Lists.{list_at, has_handle};
 ghost use Rattle.mtapi_objects.specs.Actions.{Action, with_enabled};
-ghost use Rattle.job_table.specs.Answers.{Creates as CreatesAction, Covers, IsUnion, Passes, job_of};
+ghost use Rattle.job_table.specs.Answers.{CreatesAction, Covers, IsUnion, Passes, job_of};
 ghost use Rattle.mtapi_objects.specs.Tasks.{Task, is_unstarted, is_unended, runs_on, with_state, Running, runner, with_notes, cancel_requested};
 ghost use Rattle.task_core.specs.Records.{asked_task, group_number, shown_state};
-ghost use Rattle.task_core.specs.Answers.{look_reply, asked_of, after_asked, watch_end_of};
+ghost use Rattle.task_core.specs.Answers.{task_look_reply, cancel_asked, after_asked, watch_end_of};
 ghost use Rattle.task_core.specs.Tallies.{tallied};
-ghost use Rattle.task_core.specs.Table.{Adds, IsLiveAnd, ended_in, looked_in, unended_count};
+ghost use Rattle.task_core.specs.Table.{AddsTask, IsLiveAnd, ended_in, looked_in, unended_count};
 ghost use Rattle.task_board.specs.Picks.{IsBest, IsChoice, IsChoiceOf};
-ghost use Rattle.queue_core.specs.Held.{new_queue, Creates as CreatesQueue, Finds, live_reply, with_opened, with_task, put_reply, NoTaskAt, facts_of, HasId};
-ghost use Rattle.group_core.specs.Members.{Creates, no_members, counts_of};
+ghost use Rattle.queue_core.specs.Held.{new_queue_of, CreatesQueue, Finds, live_reply, with_opened, with_task, put_reply, NoTaskAt, facts_of, HasQueueId};
+ghost use Rattle.group_core.specs.Members.{CreatesGroup, no_members, counts_of};
 ghost use Rattle.task_board.specs.Seen.{seen_in};
 ghost use Rattle.task_board.specs.Queued.{IsRoomFor, NoneWaitsIn};
 ghost use Rattle.task_board.specs.Members.{MayJoin};
@@ -362,7 +362,7 @@ impl Scheduler {
 
     /// A look by a seat, as `Tasks::look` says it.
     pub fn look(&mut self, t: TaskHandle, who: u32, last: bool) -> TaskLook
-        ensures reply { result ≡ look_reply who last (slot_value self.old.tasks.pool t.0) }
+        ensures reply { result ≡ task_look_reply who last (slot_value self.old.tasks.pool t.0) }
         ensures new { Becomes self.old self.new self.old.actions (record self.old.tasks { pool = looked_in self.old.tasks.pool t.0 who last (slot_value self.old.tasks.pool t.0) }) }
     {
         self.tasks.look(t, who, last)
@@ -370,7 +370,7 @@ impl Scheduler {
 
     /// Whether a watch that runs on the worker is to cancel, as `Tasks::asked` says it.
     pub fn asked(&mut self, t: TaskHandle, worker: u32) -> Result<bool, MtapiStatus>
-        ensures reply { result ≡ asked_of worker (slot_value self.old.tasks.pool t.0) }
+        ensures reply { result ≡ cancel_asked worker (slot_value self.old.tasks.pool t.0) }
         ensures new { Becomes self.old self.new self.old.actions (record self.old.tasks { pool = changed self.old.tasks.pool t.0 (after_asked worker) }) }
     {
         self.tasks.asked(t, worker)
@@ -488,7 +488,7 @@ impl Scheduler {
         requires priority { task.priority < self.old.settings.priorities }
         requires no_queue { task.queue ≡ None }
         requires member { MayJoin self.old.groups.pool task.detached (group_number task.group) }
-        ensures adds { Adds self.old.tasks (asked_task task) result self.new.tasks }
+        ensures adds { AddsTask self.old.tasks (asked_task task) result self.new.tasks }
         ensures new { Becomes self.old self.new self.old.actions self.new.tasks }
     {
         self.keep_cover(task.job);
@@ -501,7 +501,7 @@ impl Scheduler {
         requires priority { task.priority < self.old.settings.priorities }
         requires no_queue { task.queue ≡ None }
         requires member { MayJoin self.old.groups.pool task.detached (group_number task.group) }
-        ensures adds { Adds self.old.tasks (asked_task task) result self.new.tasks }
+        ensures adds { AddsTask self.old.tasks (asked_task task) result self.new.tasks }
         ensures new { Becomes self.old self.new self.old.actions self.new.tasks }
     {
         let group = task.group;
@@ -529,7 +529,7 @@ impl Scheduler {
         requires few { self.old.tasks.starts < 2 ^ 63 }
         requires queue { IsRoomFor self.old.queues.pool queue.0 (asked_task task) }
         requires member { MayJoin self.old.groups.pool task.detached (group_number task.group) }
-        ensures adds { Adds self.old.tasks (asked_task task) result self.new.tasks }
+        ensures adds { AddsTask self.old.tasks (asked_task task) result self.new.tasks }
         ensures new { Becomes self.old self.new self.old.actions self.new.tasks }
     {
         self.keep_cover(task.job);
@@ -541,7 +541,7 @@ impl Scheduler {
         requires few { self.old.tasks.starts < 2 ^ 63 }
         requires queue { IsRoomFor self.old.queues.pool queue.0 (asked_task task) }
         requires member { MayJoin self.old.groups.pool task.detached (group_number task.group) }
-        ensures adds { Adds self.old.tasks (asked_task task) result self.new.tasks }
+        ensures adds { AddsTask self.old.tasks (asked_task task) result self.new.tasks }
         ensures new { Becomes self.old self.new self.old.actions self.new.tasks }
     {
         let group = task.group;
@@ -632,8 +632,8 @@ impl Scheduler {
     /// Tells why a create of a queue of this id is refused, as `Queues::create_refusal` says it.
     pub fn queue_refusal(&self, id: u32) -> Option<MtapiStatus>
         ensures exists { IfSome result (λ c. (c ≡ ErrQueueExists)
-            × SomeLive (slot_value self.now.queues.pool) (HasId id)) }
-        ensures new_id { IsNone result → NoneLive (slot_value self.now.queues.pool) (HasId id) }
+            × SomeLive (slot_value self.now.queues.pool) (HasQueueId id)) }
+        ensures new_id { IsNone result → NoneLive (slot_value self.now.queues.pool) (HasQueueId id) }
     {
         self.queues.create_refusal(id)
     }
@@ -646,7 +646,7 @@ impl Scheduler {
         attr: QueueAttr,
     ) -> Result<QueueHandle, MtapiStatus>
         requires { attr.priority < self.old.settings.priorities }
-        ensures creates { CreatesQueue self.old.queues (new_queue id job attr) result self.new.queues }
+        ensures creates { CreatesQueue self.old.queues (new_queue_of id job attr) result self.new.queues }
         ensures new { BecomesWith self.old self.new self.new.queues.pool }
     {
         self.queues.create(id, job, attr)
@@ -701,7 +701,7 @@ impl Scheduler {
 
     /// Makes a group with no members, as `Groups::create` says it.
     pub fn create_group(&mut self) -> Result<GroupHandle, MtapiStatus>
-        ensures creates { Creates self.old.groups result self.new.groups }
+        ensures creates { CreatesGroup self.old.groups result self.new.groups }
         ensures others { Regroups self.old self.new self.old.tasks }
     {
         self.groups.create()

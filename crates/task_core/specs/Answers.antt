@@ -33,9 +33,9 @@ look_unless None look = look
 look_unless (Some status) look = Refused status
 
 -- the reply to a look of this seat at a task that may be live
-abbrev pub look_reply : ℕ → Bool → Option Task → TaskLook
-look_reply who last None = Refused ErrTaskInvalid
-look_reply who last (Some t) = look_unless (first (task_look_refusals who t)) (look_at_end (end_of t.state) last)
+abbrev pub task_look_reply : ℕ → Bool → Option Task → TaskLook
+task_look_reply who last None = Refused ErrTaskInvalid
+task_look_reply who last (Some t) = look_unless (first (task_look_refusals who t)) (look_at_end (end_of t.state) last)
 
 -- whom a look leaves as the waiter
 abbrev pub waiter_after : ℕ → Bool → Option ℕ
@@ -46,9 +46,9 @@ waiter_after who false = Some who
 abbrev pub asked_reply : ℕ → Task → Result Bool MtapiStatus
 asked_reply worker t = unless_refused (first (asked_refusals worker t)) t.notes.requested
 
-abbrev pub asked_of : ℕ → Option Task → Result Bool MtapiStatus
-asked_of worker None = Err ErrTaskInvalid
-asked_of worker (Some t) = asked_reply worker t
+abbrev pub cancel_asked : ℕ → Option Task → Result Bool MtapiStatus
+cancel_asked worker None = Err ErrTaskInvalid
+cancel_asked worker (Some t) = asked_reply worker t
 
 -- what an ask leaves
 abbrev pub after_asked : ℕ → Task → Task

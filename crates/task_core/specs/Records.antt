@@ -4,7 +4,7 @@ use Rattle.std.specs.Option.{option_map}
 use Rattle.mtapi_values.specs.declared.ends.TaskEnd.{TaskEnd}
 use Rattle.mtapi_values.specs.declared.handles.GroupHandle.{GroupHandle}
 use Rattle.mtapi_values.specs.declared.handles.QueueHandle.{QueueHandle}
-use Rattle.mtapi_objects.specs.Tasks.{TaskState, Scheduled, Running, Ended, NewTask, looks_of}
+use Rattle.mtapi_objects.specs.Tasks.{TaskState, Scheduled, Running, Ended, NewTask, watch_looks}
 use Rattle.task_core.specs.declared.record.Progress.{Progress}
 use Rattle.task_core.specs.declared.record.Progress.TheVariants as progress
 use Rattle.task_core.specs.declared.states.TaskState.{TaskState as ShownState}
@@ -31,10 +31,10 @@ asked_task t = record {
 }
 
 -- how far the task has come
-abbrev pub state_of : Progress → TaskState
-state_of progress.Scheduled = Scheduled
-state_of (progress.Running worker kind) = Running worker kind
-state_of (progress.Ended end number) = Ended end number
+abbrev pub state_of_progress : Progress → TaskState
+state_of_progress progress.Scheduled = Scheduled
+state_of_progress (progress.Running worker kind) = Running worker kind
+state_of_progress (progress.Ended end number) = Ended end number
 
 -- a state without the end
 abbrev pub shown_state : TaskState → ShownState
@@ -43,14 +43,14 @@ shown_state (Running worker kind) = ShownRunning worker kind
 shown_state (Ended end number) = ShownEnded
 
 -- the end, and its number
-abbrev pub end_in : Option (TaskEnd × ℕ) → Option TaskEnd
-end_in None = None
-end_in (Some e) = Some e.0
+abbrev pub end_noted : Option (TaskEnd × ℕ) → Option TaskEnd
+end_noted None = None
+end_noted (Some e) = Some e.0
 
-abbrev pub number_in : Option (TaskEnd × ℕ) → Option ℕ
-number_in None = None
-number_in (Some e) = Some e.1
+abbrev pub number_noted : Option (TaskEnd × ℕ) → Option ℕ
+number_noted None = None
+number_noted (Some e) = Some e.1
 
 -- a watch has looked no more often than its arguments say
 abbrev pub LooksWithin : List ℤ → ℕ → Type 0
-LooksWithin args looks = looks ≤ unwrap_or (looks_of args) 0
+LooksWithin args looks = looks ≤ unwrap_or (watch_looks args) 0

@@ -17,11 +17,11 @@ pub record TaskTable : Type 0 where
   pub ends : ℕ
 
 -- an add: refused exactly where there is no room; else a scheduled task with the next number of a start
-abbrev pub Adds : TaskTable → NewTask → Result TaskHandle MtapiStatus → TaskTable → Type 0
-Adds old task (Ok t) new = (IsFull old.pool → ⊥) × Inserts old.pool new.pool t.0 (new_task task old.starts) × (new.starts ≡ old.starts + 1)
+abbrev pub AddsTask : TaskTable → NewTask → Result TaskHandle MtapiStatus → TaskTable → Type 0
+AddsTask old task (Ok t) new = (IsFull old.pool → ⊥) × Inserts old.pool new.pool t.0 (new_task task old.starts) × (new.starts ≡ old.starts + 1)
     × (new.ends ≡ old.ends)
-Adds old task (Err ErrTaskLimit) new = IsFull old.pool × (new ≡ old)
-Adds old task (Err _) new = ⊥
+AddsTask old task (Err ErrTaskLimit) new = IsFull old.pool × (new ≡ old)
+AddsTask old task (Err _) new = ⊥
 
 -- a live task that passes
 abbrev pub IsLiveAnd : (Task → Bool) → Option Task → Type 0

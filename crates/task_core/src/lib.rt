@@ -9,10 +9,10 @@ ghost use Rattle.std.specs.Prelude.{◌≡◌, ◌+◌, ◌≤◌, ◌<◌, ◌^
 ghost use Rattle.std.specs.Option.{option_copied, option_map};
 ghost use Rattle.handle_pool.specs.Slots.{slot_value, free_slot, without, changed, used_at, live_count};
 ghost use Rattle.mtapi_objects.specs.Tasks.{Task, is_unstarted, is_unended, with_state, Running, runner, end_of, with_notes, cancel_requested};
-ghost use Rattle.task_core.specs.Records.{asked_task, shown_state, end_in};
-ghost use Rattle.task_core.specs.Answers.{look_reply, asked_of, after_asked, watch_end_of};
+ghost use Rattle.task_core.specs.Records.{asked_task, shown_state, end_noted};
+ghost use Rattle.task_core.specs.Answers.{task_look_reply, cancel_asked, after_asked, watch_end_of};
 ghost use Rattle.task_core.specs.Tallies.{tallied};
-ghost use Rattle.task_core.specs.Table.{Adds, IsLiveAnd, unended_count, ended_in, detached_in, looked_in};
+ghost use Rattle.task_core.specs.Table.{AddsTask, IsLiveAnd, unended_count, ended_in, detached_in, looked_in};
 
 use handle_pool::Pool;
 use mtapi_values::{Args, Kind, MtapiStatus, TaskEnd, TaskHandle};
@@ -71,7 +71,7 @@ impl Tasks {
     /// - `ErrTaskLimit`: every place is in use or has retired.
     pub fn add(&mut self, task: NewTask) -> Result<TaskHandle, MtapiStatus>
         requires { self.old.starts < 2 ^ 63 }
-        ensures { Adds self.old (asked_task task) result self.new }
+        ensures { AddsTask self.old (asked_task task) result self.new }
     {
         match self.pool.insert(TaskRecord::new(task, self.starts)) {
             Ok(handle) => {
@@ -166,7 +166,7 @@ impl Tasks {
     /// - `ErrWaitPending`: another seat waits for it.
     /// - `Timeout`: it hasn't ended, and this was the last look.
     pub fn look(&mut self, t: TaskHandle, who: u32, last: bool) -> TaskLook
-        ensures reply { result ≡ look_reply who last (slot_value self.old.pool t.0) }
+        ensures reply { result ≡ task_look_reply who last (slot_value self.old.pool t.0) }
         ensures new { self.new ≡ record self.old { pool = looked_in self.old.pool t.0 who last (slot_value self.old.pool t.0) } }
     {
         let Some(record) = self.pool.get_mut(t.0) else {
@@ -190,7 +190,7 @@ impl Tasks {
     /// - `ErrParameter`: its arguments aren't one number from 0 to 64, it saw the request before,
     ///   or it has no looks left.
     pub fn asked(&mut self, t: TaskHandle, worker: u32) -> Result<bool, MtapiStatus>
-        ensures reply { result ≡ asked_of worker (slot_value self.old.pool t.0) }
+        ensures reply { result ≡ cancel_asked worker (slot_value self.old.pool t.0) }
         ensures new { self.new ≡ record self.old { pool = changed self.old.pool t.0 (after_asked worker) } }
     {
         ask(&mut self.pool, t.0, worker)
@@ -214,7 +214,7 @@ impl Tasks {
     /// Gives up an ended task, and gives its end.
     pub fn free(&mut self, t: TaskHandle) -> TaskEnd
         requires { IsLiveAnd (λ task. not (is_unended task)) (slot_value self.old.pool t.0) }
-        ensures end { IfSome (slot_value self.old.pool t.0) (λ task. end_in (end_of task.state) ≡ Some result) }
+        ensures end { IfSome (slot_value self.old.pool t.0) (λ task. end_noted (end_of task.state) ≡ Some result) }
         ensures new { self.new ≡ record self.old { pool = without self.old.pool t.0 } }
     {
         match self.pool.remove(t.0) {
@@ -280,7 +280,7 @@ fn note_tally(pool: &mut Pool<TaskRecord>, handle: u64, tally: TallyState)
 
 // Whether a watch that runs on the worker is to cancel.
 fn ask(pool: &mut Pool<TaskRecord>, handle: u64, worker: u32) -> Result<bool, MtapiStatus>
-    ensures reply { result ≡ asked_of worker (slot_value pool.old handle) }
+    ensures reply { result ≡ cancel_asked worker (slot_value pool.old handle) }
     ensures new { pool.new ≡ changed pool.old handle (after_asked worker) }
 {
     match pool.get_mut(handle) {

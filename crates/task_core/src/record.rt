@@ -3,9 +3,9 @@
 ghost use Rattle.std.specs.Prelude.{◌≡◌, false, Some};
 ghost use Rattle.std.specs.Option.{option_copied, option_map};
 ghost use Rattle.mtapi_values.specs.Conditions.{first};
-ghost use Rattle.mtapi_objects.specs.Tasks.{new_task, end_of, is_unended, with_state, with_notes, tally_args, Running, Ended, cancel_requested, with_waiter, task_look_refusals, runs_as, looks_of};
+ghost use Rattle.mtapi_objects.specs.Tasks.{new_task, end_of, is_unended, with_state, with_notes, tally_args, Running, Ended, cancel_requested, with_waiter, task_look_refusals, runs_as, watch_looks};
 ghost use Rattle.task_core.specs.Answers.{without_group, unended_look, waiter_after, asked_reply, after_asked, watch_end_reply, args_fault};
-ghost use Rattle.task_core.specs.Records.{asked_task, group_number, queue_number, shown_state, end_in, number_in};
+ghost use Rattle.task_core.specs.Records.{asked_task, group_number, queue_number, shown_state, end_noted, number_noted};
 ghost use Rattle.task_core.specs.Tallies.{adds_of, notes_of, tallied};
 
 use crate::states::{NewTask, TaskLook, TaskState};
@@ -50,7 +50,7 @@ impl Model for TaskRecord {
 
     ghost Value = { Task };
 
-    ghost use Rattle.task_core.specs.Records.{group_number, queue_number, state_of, LooksWithin};
+    ghost use Rattle.task_core.specs.Records.{group_number, queue_number, state_of_progress, LooksWithin};
     ghost use Rattle.task_core.specs.Tallies.{notes_of};
 
     ghost view = { λ t. record {
@@ -60,7 +60,7 @@ impl Model for TaskRecord {
       cores = t.cores.0;
       queue = queue_number t.queue;
       start = t.start;
-      state = state_of t.progress;
+      state = state_of_progress t.progress;
       notes = record {
         detached = t.detached;
         group = group_number t.group;
@@ -197,7 +197,7 @@ impl TaskRecord {
 
     /// How it ended, if it has.
     pub fn end(&self) -> Option<&TaskEnd>
-        ensures { option_copied result ≡ end_in (end_of self.now.state) }
+        ensures { option_copied result ≡ end_noted (end_of self.now.state) }
     {
         match &self.progress {
             Progress::Ended(end, _) => Some(end),
@@ -207,7 +207,7 @@ impl TaskRecord {
 
     /// How many tasks had ended before it, if it has ended.
     pub fn end_number(&self) -> Option<u64>
-        ensures { result ≡ number_in (end_of self.now.state) }
+        ensures { result ≡ number_noted (end_of self.now.state) }
     {
         match &self.progress {
             Progress::Ended(_, number) => Some(*number),
@@ -286,7 +286,7 @@ impl TaskRecord {
     // The end of a task that has ended.
     pub(crate) fn into_end(self) -> TaskEnd
         requires { is_unended self ≡ false }
-        ensures { end_in (end_of self.state) ≡ Some result }
+        ensures { end_noted (end_of self.state) ≡ Some result }
     {
         match self.progress {
             Progress::Ended(end, _) => end,
@@ -358,7 +358,7 @@ impl TaskRecord {
 
 // How often a watch with these arguments looks.
 fn looks_of(args: &Args) -> Option<u32>
-    ensures { result ≡ looks_of args.now }
+    ensures { result ≡ watch_looks args.now }
 {
     match args.as_slice() {
         [most] if *most >= 0 && *most <= MOST_LOOKS => Some(*most as u32),

@@ -1,6 +1,6 @@
 -- When a list of seats has all of a cell's, for who closes it.
 use Rattle.std.proofs.lemmas.Bool.Decides.{nat_tests}
-use Rattle.turn_cell.proofs.Names.{◌≡◌, ℕ, zero, suc, ◌+◌, ◌-◌, ◌<◌, ◌≤◌, ◌==◌, ◌⊎◌, inl, inr, List, [], ◌∷◌, ◌++◌, map, take, drop, refl, ap, ◌∙◌, subst, arith, TableId, total, one_if, all_of, SeatView, fresh_seat, fresh_seats, numbered, IsComplete}
+use Rattle.turn_cell.proofs.Names.{◌≡◌, ℕ, zero, suc, ◌+◌, ◌-◌, ◌<◌, ◌≤◌, ◌==◌, ◌⊎◌, inl, inr, List, [], ◌∷◌, ◌++◌, map, take, drop, refl, ap, ◌∙◌, subst, arith, TableId, total_by, one_if, AllItems, SeatView, fresh_seat, fresh_seats, numbered, IsComplete}
 use Rattle.std.specs.List.{AllZip}
 use Rattle.turn_cell.proofs.Counting.{one_same, total-append}
 
@@ -8,7 +8,7 @@ module _ {T P Q : Type 0} where
   abbrev pub numbers : List (SeatView T P Q) → List ℕ
   numbers seats = map (λ s. s.number) seats
 
-  by_numbers : (k : ℕ) (seats : List (SeatView T P Q)) → numbered k seats ≡ total (λ n. one_if (n == k)) (numbers seats)
+  by_numbers : (k : ℕ) (seats : List (SeatView T P Q)) → numbered k seats ≡ total_by (λ n. one_if (n == k)) (numbers seats)
   by_numbers k [] = refl
   by_numbers k (s ∷ seats) = let rest = by_numbers k seats in omega arith
 
@@ -16,7 +16,7 @@ module _ {T P Q : Type 0} where
   pub complete_alike : (n : ℕ) (seats others : List (SeatView T P Q)) → numbers seats ≡ numbers others → IsComplete n seats → IsComplete n others
   complete_alike n seats others same c = λ k below.
       let one = by_numbers k seats in let two = by_numbers k others in let some_seat = c k below in
-      let alike = ap (total (λ n. one_if (n == k))) same in omega arith
+      let alike = ap (total_by (λ n. one_if (n == k))) same in omega arith
 
 fresh_has : (T P Q : Type 0) (t : T) (z : TableId) (from n k : ℕ) → from < suc k → k < from + n → 0 < numbered {P = P} {Q = Q} k (fresh_seats t z from n)
 fresh_has T P Q t z from zero k low high = absurd (omega arith)
@@ -48,7 +48,7 @@ module _ {T P Q : Type 0} where
   numbered_has k s (x ∷ seats) (inl i) e = let one = one_same x.number k (ap (λ (y : SeatView T P Q). y.number) i ∙ e) in omega arith
   numbered_has k s (x ∷ seats) (inr h) e = let rest = numbered_has k s seats h e in omega arith
 
-  pub all_has : (F : SeatView T P Q → Type 0) (seats : List (SeatView T P Q)) (s : SeatView T P Q) → all_of F seats → Has seats s → F s
+  pub all_has : (F : SeatView T P Q → Type 0) (seats : List (SeatView T P Q)) (s : SeatView T P Q) → AllItems F seats → Has seats s → F s
   all_has F [] s a h = absurd h
   all_has F (x ∷ seats) s a (inl e) = subst F e a.0
   all_has F (x ∷ seats) s a (inr h) = all_has F seats s a.1 h

@@ -1,27 +1,27 @@
 -- All seats in one, and what the table then holds.
 use Rattle.std.proofs.lemmas.Bool.Decides.{nat_tests}
-use Rattle.turn_cell.proofs.Names.{◌≡◌, ◌≢◌, ℕ, suc, ◌<◌, ◌==◌, inl, inr, ⊎_elim, List, [], ◌∷◌, ◌++◌, length, set, sym, refl, ap, ◌∙◌, subst, arith, Option, Some, dite, ℕ_discrete, none, some, some-injective, get_elem?, State, Me, Final, Seen, TableId, at_set, Entry, Part, entries_of, total, all_of, one_if, SeatView, IsComplete, IsSeatOf, view_of, IsPartOf, within, is_idle, Gathers, holds_turn, has_number, has_turn, count, Fits, Invariant}
+use Rattle.turn_cell.proofs.Names.{◌≡◌, ◌≢◌, ℕ, suc, ◌<◌, ◌==◌, inl, inr, ⊎_elim, List, [], ◌∷◌, ◌++◌, length, set, sym, refl, ap, ◌∙◌, subst, arith, Option, Some, dite, ℕ_discrete, none, some, some-injective, get_elem?, State, Me, Final, Seen, TableId, at_set, Entry, Part, entries_of, total_by, AllItems, one_if, SeatView, IsComplete, IsSeatOf, view_of, IsPartOf, within, is_idle, Gathers, holds_turn, has_number, has_turn, count, FitsPart, Invariant}
 use mathlib.Core.Option.{Option as Maybe}
 use Rattle.turn_cell.proofs.Counting.{one_same, total-set, total-append, two_of_total}
 
 module _ {A : Type 0} where
-  pub all_then : (G : A → Type 0) (v w : List A) → all_of G v → all_of G w → all_of G (v ++ w)
+  pub all_then : (G : A → Type 0) (v w : List A) → AllItems G v → AllItems G w → AllItems G (v ++ w)
   all_then G [] w a b = b
   all_then G (x ∷ v) w a b = (a.0, all_then G v w a.1 b)
 
-  pub all_before : (G : A → Type 0) (v w : List A) → all_of G (v ++ w) → all_of G v
+  pub all_before : (G : A → Type 0) (v w : List A) → AllItems G (v ++ w) → AllItems G v
   all_before G [] w a = tt
   all_before G (x ∷ v) w a = (a.0, all_before G v w a.1)
 
-  pub all_after : (G : A → Type 0) (v w : List A) → all_of G (v ++ w) → all_of G w
+  pub all_after : (G : A → Type 0) (v w : List A) → AllItems G (v ++ w) → AllItems G w
   all_after G [] w a = a
   all_after G (x ∷ v) w a = all_after G v w a.1
 
-  pub all_also : (G H : A → Type 0) (v : List A) → ((x : A) → G x → H x) → all_of G v → all_of H v
+  pub all_also : (G H : A → Type 0) (v : List A) → ((x : A) → G x → H x) → AllItems G v → AllItems H v
   all_also G H [] h a = tt
   all_also G H (x ∷ v) h a = (h x a.0, all_also G H v h a.1)
 
-  find : (f : A → ℕ) (l : List A) → 0 < total f l → (i : ℕ) × (x : A) × (get_elem? l i ≡ some x) × (0 < f x)
+  find : (f : A → ℕ) (l : List A) → 0 < total_by f l → (i : ℕ) × (x : A) × (get_elem? l i ≡ some x) × (0 < f x)
   find f [] h = absurd (omega arith)
   find f (x ∷ l) h = dite (ℕ_discrete (f x) 0) (λ z. let r = find f l (omega arith) in (suc r.0, r.1, r.2, r.3)) (λ nz. (0, x, refl, omega arith))
 
@@ -56,7 +56,7 @@ module _ {T P Q : Type 0} where
             (λ (x : SeatView T P Q). x.mine) view,
       ) g)
 
-  none_holds : (h : ℕ) (v : List (Part T P Q)) → all_of is_idle v → total (has_turn h) v ≡ 0
+  none_holds : (h : ℕ) (v : List (Part T P Q)) → AllItems is_idle v → total_by (has_turn h) v ≡ 0
   none_holds h [] a = refl
   none_holds h (p ∷ v) a = let here : has_turn h p ≡ 0 = ap (holds_turn h) a.0 in let rest = none_holds h v a.1 in omega arith
 
@@ -68,42 +68,42 @@ module _ {O T P Q : Type 0} (terms_of : O → T) (seat_count : T → ℕ) (legal
   S = State (Option O) (List D)
 
   abbrev F : T → List (Entry P Q) → ℕ → D → Type 0
-  F = Fits terms_of seat_count legal stands
+  F = FitsPart terms_of seat_count legal stands
 
   abbrev K : T → S → Type 0
   K = Invariant terms_of seat_count legal stands
 
-  holder : (t : T) (h : List (Entry P Q)) (n : ℕ) (w : List D) → all_of (F t h n) w → 0 < total (has_turn (length h)) w
-      → (k : ℕ) × (k < seat_count t) × (0 < total (has_number k) w)
+  holder : (t : T) (h : List (Entry P Q)) (n : ℕ) (w : List D) → AllItems (F t h n) w → 0 < total_by (has_turn (length h)) w
+      → (k : ℕ) × (k < seat_count t) × (0 < total_by (has_number k) w)
   holder t h n [] a out = absurd (omega arith)
   holder t h n (p ∷ w) a out = dite (ℕ_discrete (has_turn (length h) p) 0)
       (λ z. let r = holder t h n w a.1 (omega arith) in (r.0, r.1, omega arith))
       (λ nz. let one = one_same p.number p.number refl in (p.number, a.0.number, omega arith))
 
   -- who has each seat's part, and holds no turn, knows that the object is at home
-  at_home : (t : T) (s : S) (r : K t s) (id : ℕ) (v : List D) → get_elem? s.views id ≡ some v → all_of is_idle v
-      → ((k : ℕ) → k < seat_count t → 0 < total (has_number k) v)
+  at_home : (t : T) (s : S) (r : K t s) (id : ℕ) (v : List D) → get_elem? s.views id ≡ some v → AllItems is_idle v
+      → ((k : ℕ) → k < seat_count t → 0 < total_by (has_number k) v)
       → (o : O) × (s.homes ≡ some (Some o) ∷ []) × stands o r.history × (terms_of o ≡ t)
   at_home t s r id v at idle complete = ⊎_elim
       (λ (z : (o : O) × (s.homes ≡ some (Some o) ∷ []) × stands o r.history × (terms_of o ≡ t)). z)
       (λ (z : (s.homes ≡ none ∷ []) × (0 < count (has_turn (length r.history)) s.views)).
       let h : ℕ = length r.history in
-      let less = total-set (total (has_turn h)) s.views id v [] at in
+      let less = total-set (total_by (has_turn h)) s.views id v [] at in
       let none_here = none_holds h v idle in
       let out = z.1 in
-      let other = find (total (has_turn h)) (set s.views id []) (omega arith) in
+      let other = find (total_by (has_turn h)) (set s.views id []) (omega arith) in
       let i : ℕ = other.0 in let w : List D = other.1 in let holds = other.3 in
       ⊎_elim
-      (λ (y : (i ≡ id) × ([] ≡ w)). let empty : total (has_turn h) w ≡ 0 = ap (total (has_turn h)) (sym y.1) in absurd (omega arith))
+      (λ (y : (i ≡ id) × ([] ≡ w)). let empty : total_by (has_turn h) w ≡ 0 = ap (total_by (has_turn h)) (sym y.1) in absurd (omega arith))
       (λ (y : (i ≢ id) × (get_elem? s.views i ≡ some w)).
       let who = holder t r.history r.tickets w (r.each i w y.1) holds in
-      let two = two_of_total (total (has_number who.0)) s.views i id w v y.0 y.1 at in
+      let two = two_of_total (total_by (has_number who.0)) s.views i id w v y.0 y.1 at in
       let mine = complete who.0 who.1 in let theirs = who.2 in let most = r.numbers who.0 in
       absurd (omega arith))
       (at_set s.views id i [] w other.2))
       r.place
 
-  of_seat : (t : T) (h : List (Entry P Q)) (n : ℕ) (v : List D) (f : SeatView T P Q) → all_of (F t h n) v → within v f → IsSeatOf t h f
+  of_seat : (t : T) (h : List (Entry P Q)) (n : ℕ) (v : List D) (f : SeatView T P Q) → AllItems (F t h n) v → within v f → IsSeatOf t h f
   of_seat t h n [] f a w = absurd w
   of_seat t h n (p ∷ v) f a w = grind (arith, nat_tests, of_seat t h n v f a.1, entries_of)
 
@@ -114,7 +114,7 @@ module _ {O T P Q : Type 0} (terms_of : O → T) (seat_count : T → ℕ) (legal
     pub terms : terms_of object ≡ t
     pub lawful : legal t history
     pub stood : stands object history
-    pub all : all_of (IsSeatOf t history) seats
+    pub all : AllItems (IsSeatOf t history) seats
 
   pub ends : (t : T) (id : ℕ) (v : List D) (seats : List (SeatView T P Q)) (ws : List ℕ) (xs : List (Option O)) (y : Option O) → Gathers seats v
       → IsComplete (seat_count t) seats

@@ -1,6 +1,6 @@
 -- Each step keeps the rule.
 use Rattle.std.proofs.lemmas.Bool.Decides.{nat_tests}
-use Rattle.turn_cell.proofs.Names.{◌≡◌, ◌≢◌, ℕ, ◌+◌, ◌%◌, ◌^◌, ◌<◌, ◌≤◌, ◌==◌, inl, inr, ⊎_elim, Bool, true, false, List, [], ◌∷◌, ◌++◌, length, set, get_or, sym, refl, ap, ◌∙◌, subst, arith, Option, Some, length-append, dite, ℕ_discrete, none, some, get_elem?, State, Me, Act, keeps, takes, gives, step, Valid, homes_after, carried_after, Allows, at_set, set_again, Entry, Part, Idle, Waits, Holds, StartsWith, starts_self, starts_longer, own_more, other_more, total, all_of, one_if, waits_or_holds, holds_turn, has_number, has_ticket, has_turn, count, after_draw, after_take, after_pass, part_entry, Fits, Invariant, drew, Took, looked, passed}
+use Rattle.turn_cell.proofs.Names.{◌≡◌, ◌≢◌, ℕ, ◌+◌, ◌%◌, ◌^◌, ◌<◌, ◌≤◌, ◌==◌, inl, inr, ⊎_elim, Bool, true, false, List, [], ◌∷◌, ◌++◌, length, set, get_or, sym, refl, ap, ◌∙◌, subst, arith, Option, Some, length-append, dite, ℕ_discrete, none, some, get_elem?, State, Me, Act, keeps, takes, gives, step, Valid, homes_after, carried_after, Allows, at_set, set_again, Entry, Part, Idle, Waits, Holds, StartsWith, starts_self, starts_longer, own_more, other_more, total_by, AllItems, one_if, waits_or_holds, holds_turn, has_number, has_ticket, has_turn, count, after_draw, after_take, after_pass, part_entry, FitsPart, Invariant, drew, TookObject, looked, passed}
 use Rattle.std.proofs.lemmas.Bool.{eqb-true}
 use mathlib.Core.Option.{Option as Maybe}
 use prog.Atomic.{either}
@@ -19,34 +19,34 @@ module _ {O T P Q : Type 0} (terms_of : O → T) (seat_count : T → ℕ) (legal
   S = State (Option O) (List D)
 
   abbrev F : T → List E → ℕ → D → Type 0
-  F = Fits terms_of seat_count legal stands
+  F = FitsPart terms_of seat_count legal stands
 
   abbrev K : T → S → Type 0
   K = Invariant terms_of seat_count legal stands
 
   -- the views after one seat of one part has moved. The others have other numbers, and not its ticket k
   each_moved : (t : T) (h h' : List E) (n n' : ℕ) (views : List (List D)) (id : ℕ) (p q : D) (k : ℕ) → get_elem? views id ≡ some (p ∷ [])
-      → ((i : ℕ) (v : List D) → get_elem? views i ≡ some v → all_of (F t h n) v) → ((k : ℕ) → count (has_number k) views ≤ 1)
+      → ((i : ℕ) (v : List D) → get_elem? views i ≡ some v → AllItems (F t h n) v) → ((k : ℕ) → count (has_number k) views ≤ 1)
       → ((k : ℕ) → count (has_ticket k) views ≤ 1)
       → ((x : D) → F t h n x → x.number ≢ p.number → (has_ticket k p ≡ 1 → has_ticket k x ≡ 0) → F t h' n' x) → F t h' n' q
-      → (i : ℕ) (v : List D) → get_elem? (set views id (q ∷ [])) i ≡ some v → all_of (F t h' n') v
+      → (i : ℕ) (v : List D) → get_elem? (set views id (q ∷ [])) i ≡ some v → AllItems (F t h' n') v
   each_moved t h h' n n' views id p q k at each numbers turns others mine i v e = ⊎_elim
-      (λ (z : (i ≡ id) × ((q ∷ []) ≡ v)). subst (all_of (F t h' n')) z.1 (mine, tt))
+      (λ (z : (i ≡ id) × ((q ∷ []) ≡ v)). subst (AllItems (F t h' n')) z.1 (mine, tt))
       (λ (z : (i ≢ id) × (get_elem? views i ≡ some v)).
-      let two = two_of_total (total (has_number p.number)) views i id v (p ∷ []) z.0 z.1 at in
-      let pair = two_of_total (total (has_ticket k)) views i id v (p ∷ []) z.0 z.1 at in
+      let two = two_of_total (total_by (has_number p.number)) views i id v (p ∷ []) z.0 z.1 at in
+      let pair = two_of_total (total_by (has_ticket k)) views i id v (p ∷ []) z.0 z.1 at in
       let one = one_same p.number p.number refl in
       let most = numbers p.number in
       let most_turns = turns k in
-      let none_here : total (has_number p.number) v ≡ 0 = omega arith in
+      let none_here : total_by (has_number p.number) v ≡ 0 = omega arith in
       let Not : D → Type 0 = λ x. has_ticket k p ≡ 1 → has_ticket k x ≡ 0 in
-      let not_this : all_of Not v = dite (ℕ_discrete (has_ticket k p) 1)
+      let not_this : AllItems Not v = dite (ℕ_discrete (has_ticket k p) 1)
       (λ is. all_both (λ x. has_ticket k x ≡ 0) (λ x. has_ticket k x
       ≡ 0) Not v (λ x a b _. a) (all_zero (has_ticket k) v (omega arith)) (all_zero (has_ticket k) v (omega arith)))
       (λ no. all_both (λ x. has_number p.number x ≡ 0) (λ x. has_number p.number x
       ≡ 0) Not v (λ x a b is. absurd (no is)) (all_zero (has_number p.number) v none_here) (all_zero (has_number p.number) v none_here)) in
       let G : D → Type 0 = λ x. (x.number ≢ p.number) × Not x in
-      let both : all_of G v = all_both (λ x. has_number p.number x
+      let both : AllItems G v = all_both (λ x. has_number p.number x
       ≡ 0) Not G v (λ x a b. (other_if x.number p.number a, b)) (all_zero (has_number p.number) v none_here) not_this in
       all_both (F t h n) G (F t h' n') v (λ x f g. others x f g.0 g.1) (each i v z.1) both)
       (at_set views id i (q ∷ []) v e)
@@ -56,7 +56,7 @@ module _ {O T P Q : Type 0} (terms_of : O → T) (seat_count : T → ℕ) (legal
       → ((k : ℕ) → count (has_number k) views ≤ 1)
       → (k : ℕ) → count (has_number k) (set views id (q ∷ [])) ≤ 1
   numbers_moved views id p q at same numbers k =
-      let moved = total-set (total (has_number k)) views id (p ∷ []) (q ∷ []) at in
+      let moved = total-set (total_by (has_number k)) views id (p ∷ []) (q ∷ []) at in
       let alike : has_number k q ≡ has_number k p = ap (λ (n : ℕ). one_if (n == k)) same in
       let most = numbers k in omega arith
 
@@ -84,7 +84,7 @@ module _ {O T P Q : Type 0} (terms_of : O → T) (seat_count : T → ℕ) (legal
         lawful = r.lawful;
         place = ⊎_elim (λ (z : (o : O) × (s.homes ≡ some (Some o) ∷ []) × stands o r.history × (terms_of o ≡ t)). inl z)
             (λ (z : (s.homes ≡ none ∷ []) × (0 < count (has_turn (length r.history)) s.views)).
-            let moved = total-set (total (has_turn (length r.history))) s.views id (p ∷ []) (q ∷ []) at in
+            let moved = total-set (total_by (has_turn (length r.history))) s.views id (p ∷ []) (q ∷ []) at in
             let was : has_turn (length r.history) p ≡ 0 = ap (holds_turn (length r.history)) idle in
             let more = z.1 in inr (z.0, omega arith))
             r.place;
@@ -93,7 +93,7 @@ module _ {O T P Q : Type 0} (terms_of : O → T) (seat_count : T → ℕ) (legal
             record { terms = f.terms; number = f.number; seen = f.seen; mine = f.mine; seen_mine = f.seen_mine; shown = omega arith; holds = λ k e. cc };
         numbers = numbers_moved s.views id p q at refl r.numbers;
         turns = λ k.
-            let moved = total-set (total (has_ticket k)) s.views id (p ∷ []) (q ∷ []) at in
+            let moved = total-set (total_by (has_ticket k)) s.views id (p ∷ []) (q ∷ []) at in
             let was : has_ticket k p ≡ 0 = ap (waits_or_holds k) idle in
             let most = r.turns k in
             dite (ℕ_discrete r.tickets k)
@@ -101,7 +101,7 @@ module _ {O T P Q : Type 0} (terms_of : O → T) (seat_count : T → ℕ) (legal
             omega arith)
             (λ ne. let zero_now = one_other r.tickets k ne in omega arith);
         in_line = λ k some_out.
-            let moved = total-set (total (has_ticket k)) s.views id (p ∷ []) (q ∷ []) at in
+            let moved = total-set (total_by (has_ticket k)) s.views id (p ∷ []) (q ∷ []) at in
             let was : has_ticket k p ≡ 0 = ap (waits_or_holds k) idle in
             dite (ℕ_discrete r.tickets k) (λ e. (omega arith, omega arith))
             (λ ne. let zero_now = one_other r.tickets k ne in let line = r.in_line k (omega arith) in (line.0, omega arith));
@@ -123,7 +123,7 @@ module _ {O T P Q : Type 0} (terms_of : O → T) (seat_count : T → ℕ) (legal
         lawful = r.lawful;
         place = ⊎_elim (λ (z : (o : O) × (s.homes ≡ some (Some o) ∷ []) × stands o r.history × (terms_of o ≡ t)). inl z)
             (λ (z : (s.homes ≡ none ∷ []) × (0 < count (has_turn (length r.history)) s.views)).
-            let moved = total-set (total (has_turn (length r.history))) s.views id (p ∷ []) (q ∷ []) at in
+            let moved = total-set (total_by (has_turn (length r.history))) s.views id (p ∷ []) (q ∷ []) at in
             let was : has_turn (length r.history) p ≡ 0 = ap (holds_turn (length r.history)) idle in
             let more = z.1 in inr (z.0, omega arith))
             r.place;
@@ -131,11 +131,11 @@ module _ {O T P Q : Type 0} (terms_of : O → T) (seat_count : T → ℕ) (legal
             record { terms = f.terms; number = f.number; seen = f.seen; mine = f.mine; seen_mine = f.seen_mine; shown = omega arith; holds = λ k e. cc };
         numbers = numbers_moved s.views id p q at refl r.numbers;
         turns = λ k.
-            let moved = total-set (total (has_ticket k)) s.views id (p ∷ []) (q ∷ []) at in
+            let moved = total-set (total_by (has_ticket k)) s.views id (p ∷ []) (q ∷ []) at in
             let was : has_ticket k p ≡ 0 = ap (waits_or_holds k) idle in
             let most = r.turns k in omega arith;
         in_line = λ k some_out.
-            let moved = total-set (total (has_ticket k)) s.views id (p ∷ []) (q ∷ []) at in
+            let moved = total-set (total_by (has_ticket k)) s.views id (p ∷ []) (q ∷ []) at in
             let was : has_ticket k p ≡ 0 = ap (waits_or_holds k) idle in
             r.in_line k (omega arith);
       }
@@ -180,11 +180,11 @@ module _ {O T P Q : Type 0} (terms_of : O → T) (seat_count : T → ℕ) (legal
       → count (has_ticket h) views ≤ 1
       → 0 < count (has_turn h) views → ⊥
   nobody_holds views id p h k at is here most some_turn =
-      let tickets_less = total-set (total (has_ticket h)) views id (p ∷ []) [] at in
-      let turns_less = total-set (total (has_turn h)) views id (p ∷ []) [] at in
+      let tickets_less = total-set (total_by (has_ticket h)) views id (p ∷ []) [] at in
+      let turns_less = total-set (total_by (has_turn h)) views id (p ∷ []) [] at in
       let mine : has_ticket h p ≡ 1 = ap (waits_or_holds h) is ∙ one_same k h (sym here) in
       let not_mine : has_turn h p ≡ 0 = ap (holds_turn h) is in
-      let below = total-le (total (has_turn h)) (total (has_ticket h)) (set views id [])
+      let below = total-le (total_by (has_turn h)) (total_by (has_ticket h)) (set views id [])
       (λ v. total-le (has_turn h) (has_ticket h) v (λ x. turns_below h x.stage)) in
       omega arith
 
@@ -195,7 +195,7 @@ module _ {O T P Q : Type 0} (terms_of : O → T) (seat_count : T → ℕ) (legal
       let f : F t r.history r.tickets p = (r.each id (p ∷ []) at).0 in
       let alike : (j : ℕ) → has_ticket j p ≡ has_ticket j q = λ j. ap (waits_or_holds j) waits in
       let moved : (j : ℕ) → count (has_ticket j) (set s.views id (q ∷ [])) ≡ count (has_ticket j) s.views = λ j.
-      let m = total-set (total (has_ticket j)) s.views id (p ∷ []) (q ∷ []) at in let same = alike j in omega arith in
+      let m = total-set (total_by (has_ticket j)) s.views id (p ∷ []) (q ∷ []) at in let same = alike j in omega arith in
       record {
         history = r.history;
         tickets = r.tickets;
@@ -204,7 +204,7 @@ module _ {O T P Q : Type 0} (terms_of : O → T) (seat_count : T → ℕ) (legal
         most = r.most;
         lawful = r.lawful;
         place =
-            let m = total-set (total (has_turn (length r.history))) s.views id (p ∷ []) (q ∷ []) at in
+            let m = total-set (total_by (has_turn (length r.history))) s.views id (p ∷ []) (q ∷ []) at in
             let now = one_same k (length r.history) (sym here) in
             let was : has_turn (length r.history) p ≡ 0 = ap (holds_turn (length r.history)) waits in
             inr (refl, omega arith);
@@ -238,7 +238,7 @@ module _ {O T P Q : Type 0} (terms_of : O → T) (seat_count : T → ℕ) (legal
       subst Looked (sym r.words) (dite (ℕ_discrete n k)
       (λ here. ⊎_elim
       (λ (z : (o : O) × (s.homes ≡ some (Some o) ∷ []) × stands o r.history × (terms_of o ≡ t)).
-      let line = r.in_line k (let part = part_of_total (total (has_ticket k)) s.views id (p ∷ []) at in let mine : has_ticket k p ≡ 1 =
+      let line = r.in_line k (let part = part_of_total (total_by (has_ticket k)) s.views id (p ∷ []) at in let mine : has_ticket k p ≡ 1 =
       ap (waits_or_holds k) waits ∙ one_same k k refl in omega arith) in
       let most = r.most in
       let Out : List (Maybe (Option O)) → Type 0 =
@@ -252,7 +252,7 @@ module _ {O T P Q : Type 0} (terms_of : O → T) (seat_count : T → ℕ) (legal
             let number : k ≡ k' = cc in
             let after : Me (Option O) (List D) = (after_take p r.history k ∷ [], (0, Some z.0) ∷ []) in
             let before : Me (Option O) (List D) = (p ∷ [], []) in
-            let Result : D × ℕ → Type 0 = λ x. (n ≡ x.1 → (o : O) × Took terms_of seat_count legal stands x.0 x.1 o (Some o) after)
+            let Result : D × ℕ → Type 0 = λ x. (n ≡ x.1 → (o : O) × TookObject terms_of seat_count legal stands x.0 x.1 o (Some o) after)
             × (n ≢ x.1 → after ≡ before) in
             subst Result (λ i. (same i, number i)) (
               (λ _. (
@@ -310,7 +310,7 @@ module _ {O T P Q : Type 0} (terms_of : O → T) (seat_count : T → ℕ) (legal
       let n : ℕ = length h in
       let whole : p.seen ≡ h = (f.holds k holds).0 in
       let turn : has_ticket n p ≡ 1 = ap (waits_or_holds n) holds ∙ one_same k n (f.holds k holds).1 in
-      let part = part_of_total (total (has_ticket n)) s.views id (p ∷ []) at in
+      let part = part_of_total (total_by (has_ticket n)) s.views id (p ∷ []) at in
       let line = r.in_line n (omega arith) in
       let terms' : terms_of o ≡ t = same_terms ∙ f.terms in
       let stood' : stands o (h ++ e ∷ []) = subst (λ (l : List E). stands o (l ++ e ∷ [])) whole stood in
@@ -334,10 +334,10 @@ module _ {O T P Q : Type 0} (terms_of : O → T) (seat_count : T → ℕ) (legal
               holds = λ j is. cc;
             };
         numbers = numbers_moved s.views id p q at refl r.numbers;
-        turns = λ j. let m = total-set (total (has_ticket j)) s.views id (p ∷ []) (q ∷ []) at in let most = r.turns j in omega arith;
+        turns = λ j. let m = total-set (total_by (has_ticket j)) s.views id (p ∷ []) (q ∷ []) at in let most = r.turns j in omega arith;
         in_line = λ j out.
             let long = length-append h (e ∷ []) in
-            let m = total-set (total (has_ticket j)) s.views id (p ∷ []) (q ∷ []) at in
+            let m = total-set (total_by (has_ticket j)) s.views id (p ∷ []) (q ∷ []) at in
             let most = r.turns j in
             let l = r.in_line j (omega arith) in
             dite (ℕ_discrete n j) (λ (is : n ≡ j). let again : has_ticket j p ≡ 1 = subst (λ (i : ℕ). has_ticket i p ≡ 1) is turn in

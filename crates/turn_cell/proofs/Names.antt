@@ -6,9 +6,9 @@ pub use Rattle.history.proofs.Growth.{other_more, own_more, starts_longer, start
 pub use Rattle.history.specs.Histories.{Extends, StartsWith, entries_of, entry}
 pub use Rattle.history.specs.declared.entries.Entry.{Entry}
 pub use Rattle.std.proofs.Common.{Bool, List, None, Option, Some, [], ap, append_assoc, arith, drop, eq-eqb, false, get_or, inl, inr, length, length-append, map, ne_eqb, refl, set, subst, suc, sym, take, true, vec_len, zero, ℕ, ⊎_elim, ◌%◌, ◌++◌, ◌+◌, ◌-◌, ◌<◌, ◌==◌, ◌^◌, ◌∙◌, ◌∷◌, ◌≡◌, ◌≢◌, ◌≤◌, ◌⊎◌}
-pub use Rattle.turn_cell.specs.Lists.{all_of, one_if, total}
+pub use Rattle.turn_cell.specs.Lists.{AllItems, one_if, total_by}
 pub use Rattle.turn_cell.specs.Seats.{HasSeenMore, IsComplete, IsSeatOf, SeatView, fresh_seat, fresh_seats, numbered}
-pub use Rattle.turn_cell.specs.Turns.{Fits, Invariant, Knows, Took, after_draw, after_pass, after_take, boxed_stands, boxed_terms, count, drew, first_of, fresh_part, fresh_parts, has_number, has_ticket, has_turn, having_seen, holds_turn, looked, observed, part_entry, passed, rest_of, waits_or_holds}
+pub use Rattle.turn_cell.specs.Turns.{FitsPart, Invariant, Knows, TookObject, after_draw, after_pass, after_take, boxed_stands, boxed_terms, count, drew, foremost_part, fresh_part, fresh_parts, has_number, has_ticket, has_turn, having_seen, holds_turn, looked, observed, part_entry, passed, parts_behind, waits_or_holds}
 pub use Rattle.turn_cell.specs.Views.{Gathers, IsPartOf, first_or, is_idle, view_of, within}
 pub use Rattle.turn_cell.specs.declared.parts.Part.{Part}
 pub use Rattle.turn_cell.specs.declared.parts.Stage.TheVariants.{Holds, Idle, Waits}

@@ -1,6 +1,6 @@
 -- What one part becomes.
 use Rattle.std.proofs.lemmas.Bool.Decides.{nat_tests}
-use Rattle.turn_cell.proofs.Names.{arith, ◌≡◌, ◌≢◌, ℕ, ◌==◌, true, false, List, [], ◌∷◌, ◌++◌, sym, refl, ap, subst, eq-eqb, ne_eqb, Me, rest, TableId, SeatView, view_of, first_or, after_draw, first_of, rest_of, Part, Idle}
+use Rattle.turn_cell.proofs.Names.{arith, ◌≡◌, ◌≢◌, ℕ, ◌==◌, true, false, List, [], ◌∷◌, ◌++◌, sym, refl, ap, subst, eq-eqb, ne_eqb, Me, rest, TableId, SeatView, view_of, first_or, after_draw, foremost_part, parts_behind, Part, Idle}
 
 pub one_slot : {S : Type 0} (c : List (ℕ × S)) (k : ℕ) (y : S) → c ≡ (k, y) ∷ [] → c ≡ (k, y) ∷ rest c
 one_slot {S} c k y e = subst (λ (c : List (ℕ × S)). c ≡ (k, y) ∷ rest c) (sym e) refl
@@ -30,7 +30,7 @@ module _ {T P Q : Type 0} where
       → F (view_of d z (p ∷ [])) (view_of d z' (q ∷ [])) → F now (view_of d z' me'.0)
   carried F d z z' now me me' p q e1 e2 e3 e4 = grind (arith, nat_tests, view_of)
 
-  pub first_rest : (v : List (Part T P Q)) → first_of v ++ rest_of v ≡ v
+  pub first_rest : (v : List (Part T P Q)) → foremost_part v ++ parts_behind v ≡ v
   first_rest [] = refl
   first_rest (p ∷ ps) = refl
 

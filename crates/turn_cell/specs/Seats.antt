@@ -3,7 +3,7 @@ use Rattle.std.specs.Prelude.{◌≡◌, ℕ, zero, suc, ◌<◌, ◌==◌, List
 use Rattle.atomic_table.specs.Seated.{TableId}
 use Rattle.history.specs.declared.entries.Entry.{Entry}
 use Rattle.history.specs.Histories.{StartsWith, entries_of}
-use Rattle.turn_cell.specs.Lists.{total, one_if}
+use Rattle.turn_cell.specs.Lists.{total_by, one_if}
 
 -- which cell it is, and the terms of its object
 pub record CellView (T : Type 0) : Type 0 where
@@ -40,7 +40,7 @@ module _ {T P Q : Type 0} where
 
   -- how many of the seats have the number k
   abbrev pub numbered : ℕ → List (SeatView T P Q) → ℕ
-  numbered k seats = total (λ s. one_if (s.number == k)) seats
+  numbered k seats = total_by (λ s. one_if (s.number == k)) seats
 
   -- each number below n is among the seats'
   abbrev pub IsComplete : ℕ → List (SeatView T P Q) → Type 0

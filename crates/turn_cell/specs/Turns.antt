@@ -10,7 +10,7 @@ use Rattle.history.specs.Histories.{StartsWith, entries_of}
 use Rattle.turn_cell.specs.declared.parts.Part.{Part}
 use Rattle.turn_cell.specs.declared.parts.Stage.{Stage}
 use Rattle.turn_cell.specs.declared.parts.Stage.TheVariants.{Idle, Waits, Holds}
-use Rattle.turn_cell.specs.Lists.{total, all_of, one_if}
+use Rattle.turn_cell.specs.Lists.{total_by, AllItems, one_if}
 
 -- 1 where the seat waits for the ticket k or holds the object by it
 abbrev pub waits_or_holds : ℕ → Stage → ℕ
@@ -36,7 +36,7 @@ module _ {T P Q : Type 0} where
 
   -- f of each part of each token, added up
   abbrev pub count : (Part T P Q → ℕ) → List (List (Part T P Q)) → ℕ
-  count f views = total (total f) views
+  count f views = total_by (total_by f) views
 
   abbrev pub fresh_part : T → ℕ → Part T P Q
   fresh_part t k = record { number = k; terms = t; seen = []; mine = []; shown = 0; stage = Idle }
@@ -58,13 +58,13 @@ module _ {T P Q : Type 0} where
   abbrev pub after_pass : Part T P Q → Entry P Q → Part T P Q
   after_pass p e = record p { seen = p.seen ++ e ∷ []; mine = p.mine ++ e ∷ []; stage = Idle }
 
-  abbrev pub first_of : List (Part T P Q) → List (Part T P Q)
-  first_of [] = []
-  first_of (p ∷ ps) = p ∷ []
+  abbrev pub foremost_part : List (Part T P Q) → List (Part T P Q)
+  foremost_part [] = []
+  foremost_part (p ∷ ps) = p ∷ []
 
-  abbrev pub rest_of : List (Part T P Q) → List (Part T P Q)
-  rest_of [] = []
-  rest_of (p ∷ ps) = ps
+  abbrev pub parts_behind : List (Part T P Q) → List (Part T P Q)
+  parts_behind [] = []
+  parts_behind (p ∷ ps) = ps
 
   -- the part, once it has seen the history h
   abbrev pub having_seen : List (Entry P Q) → Part T P Q → Part T P Q
@@ -83,7 +83,7 @@ boxed_stands stands b l = stands (box_value b) l
 
 module _ {O T P Q : Type 0} (terms_of : O → T) (seat_count : T → ℕ) (legal : T → List (Entry P Q) → Type 0) (stands : O → List (Entry P Q) → Type 0) where
   -- what a part knows is true of the history, and who holds the object has seen all of it
-  pub record Fits (t : T) (history : List (Entry P Q)) (tickets : ℕ) (p : Part T P Q) : Type 0 where
+  pub record FitsPart (t : T) (history : List (Entry P Q)) (tickets : ℕ) (p : Part T P Q) : Type 0 where
     pub terms : p.terms ≡ t
     pub number : p.number < seat_count t
     pub seen : StartsWith history p.seen
@@ -107,21 +107,21 @@ module _ {O T P Q : Type 0} (terms_of : O → T) (seat_count : T → ℕ) (legal
     pub most : tickets ≤ 2 ^ 62
     pub lawful : legal t history
     pub place : Placed t history s
-    pub each : (i : ℕ) (v : List (Part T P Q)) → get_elem? s.views i ≡ some v → all_of (Fits t history tickets) v
+    pub each : (i : ℕ) (v : List (Part T P Q)) → get_elem? s.views i ≡ some v → AllItems (FitsPart t history tickets) v
     pub numbers : (k : ℕ) → count (has_number k) s.views ≤ 1
     pub turns : (k : ℕ) → count (has_ticket k) s.views ≤ 1
     pub in_line : (k : ℕ) → 0 < count (has_ticket k) s.views → (length history ≤ k) × (k < tickets)
 
   -- what a seat knows, and the slots that it holds
-  abbrev M : Type 0
-  M = Me (Option O) (List (Part T P Q))
+  abbrev PartKnown : Type 0
+  PartKnown = Me (Option O) (List (Part T P Q))
 
   -- a try at a ticket
-  abbrev pub drew : Step (Option O) → M → ℕ → M → Type 0
+  abbrev pub drew : Step (Option O) → PartKnown → ℕ → PartKnown → Type 0
   drew st m r m' = (p : Part T P Q) → m ≡ (p ∷ [], []) → m' ≡ (after_draw p r (r == st.first) ∷ [], [])
 
   -- the object came out, stands for all entries so far, and left y in the slot
-  pub record Took (p : Part T P Q) (k : ℕ) (object : O) (y : Option O) (m' : M) : Type 0 where
+  pub record TookObject (p : Part T P Q) (k : ℕ) (object : O) (y : Option O) (m' : PartKnown) : Type 0 where
     pub history : List (Entry P Q)
     pub after : m' ≡ (after_take p history k ∷ [], (0, y) ∷ [])
     pub stood : stands object history
@@ -132,11 +132,11 @@ module _ {O T P Q : Type 0} (terms_of : O → T) (seat_count : T → ℕ) (legal
     pub seat : p.number < seat_count p.terms
 
   -- a look takes the object where it shows the seat's own ticket, and else changes nothing
-  abbrev pub looked : Step (Option O) → M → ℕ → M → Type 0
-  looked st m r m' = (p : Part T P Q) (k : ℕ) → m ≡ (p ∷ [], []) → p.stage ≡ Waits k → (r ≡ k → (o : O) × Took p k o (Some o) m') × (r ≢ k → m' ≡ m)
+  abbrev pub looked : Step (Option O) → PartKnown → ℕ → PartKnown → Type 0
+  looked st m r m' = (p : Part T P Q) (k : ℕ) → m ≡ (p ∷ [], []) → p.stage ≡ Waits k → (r ≡ k → (o : O) × TookObject p k o (Some o) m') × (r ≢ k → m' ≡ m)
 
   -- the object went home, and the entry came into the history
-  abbrev pub passed : List P → List Q → Step (Option O) → M → ℕ → M → Type 0
+  abbrev pub passed : List P → List Q → Step (Option O) → PartKnown → ℕ → PartKnown → Type 0
   passed ops replies st m r m' = (p : Part T P Q) (op : P) (reply : Q) → m.0 ≡ p ∷ [] → ops ≡ op ∷ [] → replies ≡ reply ∷ []
       → m' ≡ (after_pass p (part_entry p op reply) ∷ [], rest m.1)
 
@@ -147,5 +147,5 @@ module _ {O T P Q : Type 0} (terms_of : O → T) (seat_count : T → ℕ) (legal
     pub own : entries_of p.number h ≡ p.mine
 
   -- each part has seen the history
-  abbrev pub observed : Step (Option O) → M → ℕ → M → Type 0
-  observed st m r m' = (h : List (Entry P Q)) × (m' ≡ (map (having_seen h) m.0, m.1)) × all_of (Knows h) m.0
+  abbrev pub observed : Step (Option O) → PartKnown → ℕ → PartKnown → Type 0
+  observed st m r m' = (h : List (Entry P Q)) × (m' ≡ (map (having_seen h) m.0, m.1)) × AllItems (Knows h) m.0

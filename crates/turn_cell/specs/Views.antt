@@ -6,7 +6,7 @@ use Rattle.history.specs.declared.entries.Entry.{Entry}
 use Rattle.history.specs.Histories.{entries_of}
 use Rattle.turn_cell.specs.declared.parts.Part.{Part}
 use Rattle.turn_cell.specs.declared.parts.Stage.TheVariants.{Idle}
-use Rattle.turn_cell.specs.Lists.{all_of, total}
+use Rattle.turn_cell.specs.Lists.{AllItems, total_by}
 use Rattle.turn_cell.specs.Seats.{SeatView, numbered}
 use Rattle.turn_cell.specs.Turns.{fresh_part, has_number}
 
@@ -28,7 +28,7 @@ module _ {T P Q : Type 0} where
   }
 
   -- a seat between two calls: its token has one idle part, with a legal history and its own entries of it
-  pub record AtRest {O : Type 0} (legal : T → List (Entry P Q) → Type 0) (number shown : ℕ) (me : Me (Option O) (List (Part T P Q))) : Type 0 where
+  pub record CellAtRest {O : Type 0} (legal : T → List (Entry P Q) → Type 0) (number shown : ℕ) (me : Me (Option O) (List (Part T P Q))) : Type 0 where
     pub part : Part T P Q
     pub me_is : me ≡ (part ∷ [], [])
     pub idle : part.stage ≡ Idle
@@ -51,6 +51,6 @@ module _ {T P Q : Type 0} where
 
   -- the parts of these seats, and no others
   pub record Gathers (seats : List (SeatView T P Q)) (v : List (Part T P Q)) : Type 0 where
-    pub idle : all_of is_idle v
-    pub numbers : (k : ℕ) → total (has_number k) v ≡ numbered k seats
-    pub all : all_of (within v) seats
+    pub idle : AllItems is_idle v
+    pub numbers : (k : ℕ) → total_by (has_number k) v ≡ numbered k seats
+    pub all : AllItems (within v) seats

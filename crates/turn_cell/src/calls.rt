@@ -4,7 +4,7 @@ ghost use Rattle.std.specs.declared.alloc.Global.{Global};
 ghost use Rattle.history.specs.Histories.{Extends, entries_of, entry};
 ghost use Rattle.turn_cell.specs.declared.parts.Part.{Part};
 ghost use Rattle.turn_cell.specs.declared.parts.Stage.TheVariants.{Idle, Waits, Holds};
-ghost use Rattle.turn_cell.specs.Turns.{after_draw, after_pass, part_entry, Took, boxed_terms, boxed_stands};
+ghost use Rattle.turn_cell.specs.Turns.{after_draw, after_pass, part_entry, TookObject, boxed_terms, boxed_stands};
 
 use crate::cell::TurnCell;
 use crate::lines::Waiting;
@@ -88,7 +88,7 @@ impl<O: Object> TurnCell<O> {
         requires waits { (p : Part O.Terms O.Op O.Reply) × (token.old.me ≡ (p ∷ [], [])) × (p.stage ≡ Waits ticket) }
         ensures own { token.new.table_id ≡ token.old.table_id }
         ensures took { (p : Part O.Terms O.Op O.Reply) → token.old.me ≡ (p ∷ [], []) → p.stage ≡ Waits ticket
-            → Took (boxed_terms O.terms) O.seat_count O.legal (boxed_stands O.stands) p ticket result None token.new.me }
+            → TookObject (boxed_terms O.terms) O.seat_count O.legal (boxed_stands O.stands) p ticket result None token.new.me }
     {
         let mut waiting = Waiting::new(self.line.bell(ticket));
         for _ in rt.forever() {
@@ -105,11 +105,11 @@ impl<O: Object> TurnCell<O> {
     fn take(&self, token: &mut Token<O>, ticket: u64) -> Box<O>
         requires own { token.old.table_id ≡ self.now.id }
         requires took { (p : Part O.Terms O.Op O.Reply) × (o : Box O Global)
-            × Took (boxed_terms O.terms) O.seat_count O.legal (boxed_stands O.stands) p ticket o (Some o) token.old.me }
+            × TookObject (boxed_terms O.terms) O.seat_count O.legal (boxed_stands O.stands) p ticket o (Some o) token.old.me }
         ensures own { token.new.table_id ≡ token.old.table_id }
         ensures took { (p : Part O.Terms O.Op O.Reply) (o : Box O Global)
-            → Took (boxed_terms O.terms) O.seat_count O.legal (boxed_stands O.stands) p ticket o (Some o) token.old.me
-            → Took (boxed_terms O.terms) O.seat_count O.legal (boxed_stands O.stands) p ticket result None token.new.me }
+            → TookObject (boxed_terms O.terms) O.seat_count O.legal (boxed_stands O.stands) p ticket o (Some o) token.old.me
+            → TookObject (boxed_terms O.terms) O.seat_count O.legal (boxed_stands O.stands) p ticket result None token.new.me }
     {
         match self.table.shared.exchange(token, 0, None) {
             Some(object) => object,

@@ -1,7 +1,7 @@
 //! The end of a cell, and the object that comes back.
 ghost use Rattle.std.specs.Prelude.{◌≡◌, ℕ, ◌<◌, List, [], ◌∷◌, length};
 ghost use Rattle.history.specs.declared.entries.Entry.{Entry};
-ghost use Rattle.turn_cell.specs.Lists.{all_of};
+ghost use Rattle.turn_cell.specs.Lists.{AllItems};
 ghost use Rattle.turn_cell.specs.Seats.{IsComplete, IsSeatOf};
 ghost use Rattle.turn_cell.specs.Views.{Gathers};
 
@@ -14,7 +14,7 @@ use std::marker::Model;
 impl<O: Object> TurnCell<O> {
     // Joins the tokens of all seats.
     fn gather(&self, mut seats: Vec<TurnSeat<O>>) -> Token<O>
-        requires own { all_of (λ s. s.cell ≡ self.now.id) seats.items }
+        requires own { AllItems (λ s. s.cell ≡ self.now.id) seats.items }
         requires some { 0 < length seats.items }
         ensures own { (result.table_id ≡ self.now.id) × (result.me.1 ≡ []) }
         ensures parts { Gathers seats.items result.me.0 }
@@ -42,11 +42,11 @@ impl<O: Object> TurnCell<O> {
     ///
     /// The object stands for one legal history. What each seat has seen is a prefix of it, and the seat's own entries are all that the history has of it.
     pub fn close(self, seats: Vec<TurnSeat<O>>) -> Closed<O>
-        requires own { all_of (λ s. s.cell ≡ self.id) seats.items }
+        requires own { AllItems (λ s. s.cell ≡ self.id) seats.items }
         requires complete { IsComplete (O.seat_count self.terms) seats.items }
         ensures terms { O.terms result ≡ self.terms }
         ensures history { (h : List (Entry O.Op O.Reply)) × O.legal self.terms h × O.stands result h
-            × all_of (IsSeatOf self.terms h) seats.items }
+            × AllItems (IsSeatOf self.terms h) seats.items }
     {
         let token = self.gather(seats);
         let TurnCell {

@@ -28,13 +28,13 @@ pub struct TurnSeat<O: Object> {
 
 impl<O: Object> Model for TurnSeat<O> {
     ghost use Rattle.turn_cell.specs.Seats.{SeatView};
-    ghost use Rattle.turn_cell.specs.Views.{view_of, AtRest};
+    ghost use Rattle.turn_cell.specs.Views.{view_of, CellAtRest};
 
     ghost Value = { SeatView O.Terms O.Op O.Reply };
 
     ghost view = { λ s. view_of O.blank s.token.table_id s.token.me.0 };
 
-    ghost invariant = { λ s. AtRest O.legal s.number s.shown s.token.me };
+    ghost invariant = { λ s. CellAtRest O.legal s.number s.shown s.token.me };
 }
 
 impl<O: Object> TurnSeat<O> {

@@ -1,6 +1,6 @@
 //! The rule of the cell, and what each step on its table tells the seat that makes it. These types are for the proofs alone.
 ghost use Rattle.std.specs.Prelude.{[], ◌++◌};
-ghost use Rattle.turn_cell.specs.Turns.{Invariant, fresh_parts, drew, looked, passed, observed, first_of, rest_of, boxed_terms, boxed_stands};
+ghost use Rattle.turn_cell.specs.Turns.{Invariant, fresh_parts, drew, looked, passed, observed, foremost_part, parts_behind, boxed_terms, boxed_stands};
 
 use crate::parts::{GhostArgument, Part, Parts};
 use atomic_table::{Join, Play, Split, TableRule};
@@ -64,9 +64,9 @@ impl<T, P, Q> Split<LinkedList<Part<T, P, Q>>> for CutAll {
 pub struct CutRest;
 
 impl<T, P, Q> Split<LinkedList<Part<T, P, Q>>> for CutRest {
-    ghost left = { first_of };
+    ghost left = { foremost_part };
 
-    ghost right = { rest_of };
+    ghost right = { parts_behind };
 }
 
 /// The parts of the second token come behind those of the first.

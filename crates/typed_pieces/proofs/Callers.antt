@@ -1,9 +1,9 @@
 -- Of clients that call beside a table of pieces, and of the clients that these were made of.
-use Rattle.typed_pieces.proofs.Names.{◌≡◌, ◌+◌, ℕ, suc, List, [], ◌∷◌, length, map, subst, sym, ◌∙◌, ap, inl, inr, Result, Err, IfErr, length-map, entries_of, NodeSettings, MtapiStatus, NodeEntry, Legal, Journal, Seat, MainOpens, CallerEnters, HasCalled, IfRefused, HaveCalled, IsRunOfAll, RefusesOne, terms_among, terms_for, refused_weaker}
+use Rattle.typed_pieces.proofs.Names.{◌≡◌, ◌+◌, ℕ, suc, List, [], ◌∷◌, length, map, subst, sym, ◌∙◌, ap, inl, inr, Result, Err, IfErr, length-map, entries_of, NodeSettings, MtapiStatus, NodeEntry, Legal, Journal, Seat, MainOpens, CallerEnters, HasCalled, IfRefused, HaveCalled, IsRunOfAll, RefusesOne, terms_among, terms_of_main, refused_weaker}
 use Rattle.mtapi_machine.specs.declared.terms.Terms.{Terms}
 use Rattle.mtapi_machine.specs.declared.replies.Reply.TheVariants as reply
 use Rattle.node_core.specs.Keeping.{KeptAs}
-use Rattle.node_with_workers.specs.Runs.{HasEnded, IsRunBy, Refuses}
+use Rattle.node_with_workers.specs.Runs.{RunHasEnded, IsRunBy, Refuses}
 use Rattle.node_with_workers.specs.declared.failure.Failure.{Failure}
 
 -- what the promise of a client that was made of another says is what that one promises
@@ -37,7 +37,7 @@ run_says inner outer c b v u settings j says r =
       legal = r.legal;
       kept = r.kept;
       mine = r.mine;
-      called = has_called inner outer MainOpens c b v u (terms_for settings) settings.workers r.mine says r.called;
+      called = has_called inner outer MainOpens c b v u (terms_of_main settings) settings.workers r.mine says r.called;
       ended = r.ended;
     }
 
@@ -66,7 +66,7 @@ run_of_all inner outer of says further beside each also b others es settings tol
       mine = r.mine;
       called = subst (λ n. HasCalled MainOpens inner (of b) (terms_among settings n) settings.workers told r.mine) same
           (has_called inner outer MainOpens (of b) b told told (terms_among settings (length es)) settings.workers r.mine (λ x y. says b x y told) r.called);
-      ended = subst (λ n. HasEnded (terms_among settings n) r.history r.mine reply.Ok) same r.ended;
+      ended = subst (λ n. RunHasEnded (terms_among settings n) r.history r.mine reply.Ok) same r.ended;
       others_called =
           subst (λ l. HaveCalled further (terms_among settings (length others)) r.history (settings.workers + 1) l us) are
           (have_called further beside each also (terms_among settings (length others)) r.history (settings.workers + 1) es us
@@ -94,7 +94,7 @@ refused_whatever promise client settings status (inr r) =
     inr (
       tt,
       r.1,
-      has_called (λ _ _ _ _. Unit {0}) promise MainOpens tt client tt r.0 (terms_for settings) settings.workers r.1 (λ a z p. tt) r.2,
+      has_called (λ _ _ _ _. Unit {0}) promise MainOpens tt client tt r.0 (terms_of_main settings) settings.workers r.1 (λ a z p. tt) r.2,
       r.3,
       r.4,
     )

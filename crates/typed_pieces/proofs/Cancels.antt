@@ -1,15 +1,15 @@
 -- A cancel that the node carried out is the last call of its seat.
-use Rattle.typed_pieces.proofs.Names.{◌≡◌, ℕ, [], ◌∷◌, ◌++◌, Result, Ok, Err, inl, inr, ap, sym, ◌∙◌, arith, nat_tests, entry, TaskHandle, MtapiStatus, Reply, Answers, Called, done, mtapi, Seat}
+use Rattle.typed_pieces.proofs.Names.{◌≡◌, ℕ, [], ◌∷◌, ◌++◌, Result, Ok, Err, inl, inr, ap, sym, ◌∙◌, arith, nat_tests, entry, TaskHandle, MtapiStatus, Reply, AnswersReply, Called, done, mtapi_standard, Seat}
 use Rattle.mtapi_machine.specs.declared.ops.Op.TheVariants.{TaskCancel}
 use Rattle.mtapi_machine.specs.declared.replies.Reply.TheVariants as reply
 use Rattle.typed_pieces.specs.Cancels.{HasCancelled}
 
 -- the reply from which it is read that a call was carried out
-pub read_done : (r : Reply) (u : Unit {0}) → Answers mtapi done r (Ok u) → r ≡ reply.Ok
+pub read_done : (r : Reply) (u : Unit {0}) → AnswersReply mtapi_standard done r (Ok u) → r ≡ reply.Ok
 read_done r u e1 = grind (arith, nat_tests)
 
 pub has_cancelled : (task : TaskHandle) (old new : Seat) (x : Result (Unit {0}) MtapiStatus) (u : Unit {0})
-    → Called mtapi done (TaskCancel task) old new x → x ≡ Ok u → HasCancelled task new
+    → Called mtapi_standard done (TaskCancel task) old new x → x ≡ Ok u → HasCancelled task new
 has_cancelled task old new (Ok v) u (inl c) is = record {
   before = old.mine;
   last =

@@ -1,5 +1,5 @@
 -- Of pieces that wait for their parts.
-use Rattle.typed_pieces.proofs.Names.{◌≡◌, zero, suc, map, Some, List, [], ◌∷◌, ◌++◌, length, take, drop, refl, sym, ap, subst, ◌∙◌, append_assoc, Vec, arith, Global, append-nil, nil_from_length, same_from_push, Pending, AreKept, AllKept, IsKeptBy, AreOpen, Gives, Waits, parts_of, pending_of, ℕ, ◌+◌, take-add, drop-drop}
+use Rattle.typed_pieces.proofs.Names.{◌≡◌, zero, suc, map, Some, List, [], ◌∷◌, ◌++◌, length, take, drop, refl, sym, ap, subst, ◌∙◌, append_assoc, Vec, arith, Global, append-nil, nil_from_length, same_from_push, Pending, AreKept, AllKept, IsKeptBy, AreOpen, GivesResult, Waits, parts_of, pending_of, ℕ, ◌+◌, take-add, drop-drop}
 use Rattle.typed_pieces.specs.declared.split.Outcome.{Outcome}
 use Rattle.typed_pieces.specs.declared.split.Outcome.TheVariants as outcome
 use Rattle.typed_pieces.specs.declared.level.Pending.TheVariants as pending
@@ -147,7 +147,7 @@ module _ {P D J : Type 0} (promise : P → D → Type 0) (joined : J → List D 
       }
 
   joins_more : (pieces : List P) (out : List D) (x : Pending D J) (level : List (Pending D J)) (results left : List D) (d : D)
-      → Gives joined x results d left → Joining pieces out (x ∷ level) results → Joining pieces (out ++ d ∷ []) level left
+      → GivesResult joined x results d left → Joining pieces out (x ∷ level) results → Joining pieces (out ++ d ∷ []) level left
   joins_more pieces out (pending.Done e) level results left d gives j =
       let w = j.waits in
       record {
@@ -173,7 +173,7 @@ module _ {P D J : Type 0} (promise : P → D → Type 0) (joined : J → List D 
       }
 
   pub joining_more : (pieces : List P) (out more : List D) (x : Pending D J) (rest level : List (Pending D J)) (results left : List D) (d : D)
-      → more ≡ out ++ d ∷ [] → rest ≡ x ∷ level → Gives joined x results d left → Joining pieces out rest results → Joining pieces more level left
+      → more ≡ out ++ d ∷ [] → rest ≡ x ∷ level → GivesResult joined x results d left → Joining pieces out rest results → Joining pieces more level left
   joining_more pieces out more x rest level results left d is next gives j =
       subst (λ l. Joining pieces l level left) (sym is)
       (joins_more pieces out x level results left d gives (subst (λ l. Joining pieces out l results) next j))

@@ -7,9 +7,9 @@ pub use Rattle.mtapi_values.specs.declared.handles.TaskHandle.{TaskHandle}
 pub use Rattle.mtapi_values.specs.declared.statuses.MtapiStatus.{MtapiStatus}
 pub use Rattle.node_journals.specs.declared.entries.Journal.{Journal}
 pub use Rattle.node_with_workers.proofs.Lemmas.{causes_alone, refused_weaker, run_alone}
-pub use Rattle.node_with_workers.specs.Clients.{CallerEnters, GoesOn, HasCalled, IfRefused, MainOpens}
-pub use Rattle.node_with_workers.specs.Runs.{HaveCalled, IsRun, IsRunOfAll, RefusesOne, terms_among, terms_for}
-pub use Rattle.sched_workers.specs.Answers.{Answers, Called, Waited, start_of, with_number}
+pub use Rattle.node_with_workers.specs.Clients.{CallerEnters, SeatGoesOn, HasCalled, IfRefused, MainOpens}
+pub use Rattle.node_with_workers.specs.Runs.{HaveCalled, IsClientRun, IsRunOfAll, RefusesOne, terms_among, terms_of_main}
+pub use Rattle.sched_workers.specs.Answers.{AnswersReply, Called, Waited, start_of, with_handle_number}
 pub use Rattle.std.proofs.Common.{Err, IfErr, IfOk, IfSome, List, None, Ok, OkIff, Option, Result, Some, Vec, [], ap, append_assoc, arith, drop, false, get_or, inl, inr, length, map, negsuc, pos, refl, rules, slice_get, slice_set, subst, suc, sum_by, sym, take, unsigned_abs, vec_len, zero, ℕ, ℤ, ⊎_elim, ◌*◌, ◌++◌, ◌+◌, ◌-◌, ◌<◌, ◌^◌, ◌∙◌, ◌∷◌, ◌≡◌, ◌≤◌, ◌⊎◌}
 pub use Rattle.std.proofs.Math.Seq.{drop-append_seam, take-add, take-append_seam}
 pub use Rattle.std.proofs.lemmas.Bool.Decides.{nat_tests}
@@ -19,15 +19,15 @@ pub use Rattle.std.proofs.lemmas.List.Sums.{sum_by-append}
 pub use Rattle.std.proofs.lemmas.Option.{get_or_from_slice_get, none-some, same_Some, slice_get_read, slice_get_within}
 pub use Rattle.std.specs.List.{All, AllZip}
 pub use Rattle.std.specs.declared.alloc.Global.{Global}
-pub use Rattle.typed_pieces.specs.Levels.{AreOpen, Gives, Waits, parts_of, pending_of}
+pub use Rattle.typed_pieces.specs.Levels.{AreOpen, GivesResult, Waits, parts_of, pending_of}
 pub use Rattle.typed_pieces.specs.Places.{AreFrom, AreKept, IsKeptAt}
 pub use Rattle.typed_pieces.specs.Runs.{EndsRefused, FailsBy, HasAwaited, HasRun, HasRunAll, HasStarted, RefusesPieces, StopsAt, at_action, at_group, at_start, at_look, spent, every_worker, starts_of}
 pub use Rattle.typed_pieces.specs.Split.{AllKept, IsKeptBy, JoinsTo}
-pub use Rattle.typed_pieces.specs.SplitRuns.{AreCounted, HaveRun, IsOver, SplitFails, pieces_of}
+pub use Rattle.typed_pieces.specs.SplitRuns.{AreLevelsCounted, HaveRun, IsOver, SplitFails, pieces_of_levels}
 pub use Rattle.typed_pieces.specs.declared.level.Pending.{Pending}
 pub use Rattle.typed_pieces.specs.declared.split_run.LevelRun.{LevelRun}
-pub use Rattle.workload_runners.specs.Replies.{done, given, handle, mtapi}
-pub use Rattle.workload_runners.specs.Turns.{SameSeat, Seat}
+pub use Rattle.workload_runners.specs.Replies.{done, given, handle_told, mtapi_standard}
+pub use Rattle.workload_runners.specs.Turns.{SameNodeSeat, Seat}
 pub use Rattle.workload_runs.specs.declared.calls.Wanted.{Wanted}
 pub use base.Logic.{mono_r, via}
 pub use borrow.Fn.Kinds.{sig_of}

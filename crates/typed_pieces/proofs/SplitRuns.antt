@@ -1,5 +1,5 @@
 -- Of the levels of work that splits.
-use Rattle.typed_pieces.proofs.Names.{◌≡◌, ◌≤◌, ◌<◌, ℕ, ◌+◌, ◌∙◌, List, [], ◌∷◌, ◌++◌, ap, subst, sym, arith, length, map, Vec, map-append, Global, All-nil, All-push, sum_by-append, NodeSettings, HasRunAll, AreOpen, AreCounted, HaveRun, IsOver, SplitFails, pieces_of, Pending, LevelRun}
+use Rattle.typed_pieces.proofs.Names.{◌≡◌, ◌≤◌, ◌<◌, ℕ, ◌+◌, ◌∙◌, List, [], ◌∷◌, ◌++◌, ap, subst, sym, arith, length, map, Vec, map-append, Global, All-nil, All-push, sum_by-append, NodeSettings, HasRunAll, AreOpen, AreLevelsCounted, HaveRun, IsOver, SplitFails, pieces_of_levels, Pending, LevelRun}
 use Rattle.typed_pieces.specs.declared.split_failure.SplitFailure.{SplitFailure}
 use Rattle.typed_pieces.specs.declared.split_failure.SplitFailure.TheVariants as failure
 use Rattle.typed_pieces.specs.declared.unfinished.Unfinished.{Unfinished}
@@ -7,7 +7,7 @@ use Rattle.typed_pieces.specs.declared.unfinished.Unfinished.{Unfinished}
 -- these levels have run, with so many pieces in all, which is at most so many
 pub record Ran (settings : NodeSettings) (most before : ℕ) (levels : List LevelRun) : Type 0 where
   pub ran : HaveRun settings levels
-  pub many : pieces_of levels ≡ before
+  pub many : pieces_of_levels levels ≡ before
   pub few : before ≤ most
 
 -- no level has run
@@ -15,7 +15,7 @@ pub ran_none : (settings : NodeSettings) (most : ℕ) (levels : List LevelRun) �
 ran_none settings most levels none =
     record {
       ran = subst (λ l. HaveRun settings l) (sym none) (All-nil (λ (l : LevelRun). HasRunAll settings l.pieces l.journal));
-      many = ap pieces_of none;
+      many = ap pieces_of_levels none;
       few = omega arith;
     }
 
@@ -24,25 +24,26 @@ pub ran_more : (settings : NodeSettings) (most before after : ℕ) (levels more 
     → more ≡ levels ++ level ∷ [] → HasRunAll settings level.pieces level.journal → after ≡ before + level.pieces → after ≤ most
     → Ran settings most before levels → Ran settings most after more
 ran_more settings most before after levels more level is here next within r =
-    let many : pieces_of levels ≡ before = r.many in
+    let many : pieces_of_levels levels ≡ before = r.many in
     let one = sum_by-append (λ (l : LevelRun). l.pieces) levels (level ∷ []) in
-    let all : pieces_of (levels ++ level ∷ []) ≡ after = omega (arith, one, many, next) in
+    let all : pieces_of_levels (levels ++ level ∷ []) ≡ after = omega (arith, one, many, next) in
     record {
       ran = subst (λ l. HaveRun settings l) (sym is) (All-push (λ (l : LevelRun). HasRunAll settings l.pieces l.journal) levels level r.ran here);
-      many = subst (λ l. pieces_of l ≡ after) (sym is) all;
+      many = subst (λ l. pieces_of_levels l ≡ after) (sym is) all;
       few = within;
     }
 
 -- where no level has run, none is counted
-pub counted_none : {D J : Type 0} (levels : List LevelRun) (waiting : List (Vec (Pending D J) Global)) → levels ≡ [] → waiting ≡ [] → AreCounted levels waiting
+pub counted_none : {D J : Type 0} (levels : List LevelRun) (waiting : List (Vec (Pending D J) Global)) → levels ≡ [] → waiting ≡ []
+    → AreLevelsCounted levels waiting
 counted_none {D} {J} levels waiting none empty =
     ap (λ (l : List LevelRun). map (λ x. x.pieces) l) none ∙ sym (ap (λ (l : List (Vec (Pending D J) Global)). map (λ x. length x.items) l) empty)
 
 -- one more level is
 pub counted_more : {D J : Type 0} (levels more : List LevelRun) (waiting further : List (Vec (Pending D J) Global)) (level : LevelRun)
     (pending : Vec (Pending D J) Global)
-    → more ≡ levels ++ level ∷ [] → further ≡ waiting ++ pending ∷ [] → level.pieces ≡ length pending.items → AreCounted levels waiting
-    → AreCounted more further
+    → more ≡ levels ++ level ∷ [] → further ≡ waiting ++ pending ∷ [] → level.pieces ≡ length pending.items → AreLevelsCounted levels waiting
+    → AreLevelsCounted more further
 counted_more {D} {J} levels more waiting further level pending is also here counted =
     let count = λ (l : List LevelRun). map (λ x. x.pieces) l in
     let wait = λ (l : List (Vec (Pending D J) Global)). map (λ x. length x.items) l in
@@ -55,7 +56,7 @@ counted_more {D} {J} levels more waiting further level pending is also here coun
 -- with the parts of the last level there would be too many
 pub is_over : {P D J : Type 0} (promise : P → D → Type 0) (joined : J → List D → D → Type 0) (settings : NodeSettings) (root : P) (most before parts : ℕ)
     (levels : List LevelRun) (waiting : List (Vec (Pending D J) Global)) (next : List P)
-    → Ran settings most before levels → AreOpen promise joined (root ∷ []) waiting next → AreCounted levels waiting → length next ≡ parts
+    → Ran settings most before levels → AreOpen promise joined (root ∷ []) waiting next → AreLevelsCounted levels waiting → length next ≡ parts
     → (e : SplitFailure) (Why : Unfinished → Type 0) → SplitFails e (λ _. ⊥) (λ ran over. (ran ≡ before) × (over ≡ parts) × (most < before + parts))
     → SplitFails e Why (IsOver promise joined settings root most)
 is_over promise joined settings root most before parts levels waiting next r waits counted many (failure.Run u) Why limit = absurd limit

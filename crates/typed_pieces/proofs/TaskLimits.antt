@@ -1,5 +1,5 @@
 -- A run of pieces that is refused with ErrTaskLimit has more pieces than its node may have tasks.
-use Rattle.typed_pieces.proofs.Names.{◌≡◌, ◌≤◌, ◌<◌, ℕ, ◌+◌, zero, suc, pos, false, Some, List, [], ◌∷◌, ◌++◌, length, Result, Err, IfErr, inl, inr, refl, sym, ap, subst, ◌∙◌, append_assoc, arith, nat_tests, entries_of, entry, NodeSettings, MtapiStatus, NodeEntry, Legal, Journal, Seat, MainOpens, IsRun, HasStarted, StopsAt, at_action, at_group, at_start, at_look, spent, every_worker, starts_of, terms_for}
+use Rattle.typed_pieces.proofs.Names.{◌≡◌, ◌≤◌, ◌<◌, ℕ, ◌+◌, zero, suc, pos, false, Some, List, [], ◌∷◌, ◌++◌, length, Result, Err, IfErr, inl, inr, refl, sym, ap, subst, ◌∙◌, append_assoc, arith, nat_tests, entries_of, entry, NodeSettings, MtapiStatus, NodeEntry, Legal, Journal, Seat, MainOpens, IsClientRun, HasStarted, StopsAt, at_action, at_group, at_start, at_look, spent, every_worker, starts_of, terms_of_main}
 use Rattle.std.specs.Prelude.{is_some, replicate, cond, true, Bool, ◌==◌}
 use Rattle.mtapi_values.specs.declared.handles.GroupHandle.{GroupHandle}
 use Rattle.mtapi_values.specs.declared.handles.ObjectKind.TheVariants as kind
@@ -17,11 +17,11 @@ use Rattle.history_law.specs.Words.{makes_object}
 use Rattle.history_law.proofs.Bounds.{by_seats}
 use Rattle.limit_laws.specs.TaskLimit.{FindsNoRoom, tasks_accepted}
 use Rattle.limit_laws.proofs.TaskLimit.{limit_is_reached}
-use Rattle.workload_runners.specs.Rounds.{Round, WorkerAs, Tallying, all_in, entries_in, asks, retries, tally_steps}
+use Rattle.workload_runners.specs.Rounds.{Round, WorkerAs, Tallying, all_in, entries_in, watch_asks, retries, tally_steps}
 use Rattle.workload_runners.specs.Rounds.{Rested, Ran, Watched, Tallied, GivesUp, Reads, Writes}
 use Rattle.workload_runners.proofs.Names.{entries-append}
 use Rattle.workload_runners.proofs.OwnParts.{own_at}
-use Rattle.node_with_workers.specs.Clients.{IsRefused}
+use Rattle.node_with_workers.specs.Clients.{IsCallRefused}
 use Rattle.node_with_workers.specs.Runs.{Refuses}
 use Rattle.typed_pieces.specs.Runs.{MeansTooMany}
 use Rattle.typed_pieces.proofs.Runs.{AwaitsPieces}
@@ -37,7 +37,7 @@ both (x ∷ xs) ys = let rest = both xs ys in omega arith
 
 -- a worker's rounds accept none
 
-no_asks : (w : ℕ) (t : _) (bs : List Bool) → tasks_accepted (asks w t bs) ≡ 0
+no_asks : (w : ℕ) (t : _) (bs : List Bool) → tasks_accepted (watch_asks w t bs) ≡ 0
 no_asks w t [] = refl
 no_asks w t (b ∷ bs) = let rest = no_asks w t bs in omega arith
 
@@ -55,7 +55,7 @@ no_round w Rested = refl
 no_round w (Ran t a k args done) = refl
 no_round w (Watched t a k args reported end) =
     let asked = no_asks w t reported in
-    let all = both (asks w t reported) (entry w (WatchEnd t) (reply.Ended end) ∷ []) in
+    let all = both (watch_asks w t reported) (entry w (WatchEnd t) (reply.Ended end) ∷ []) in
     omega arith
 no_round w (Tallied t a k args pending steps end) =
     let tried = no_retries w t pending in
@@ -124,11 +124,11 @@ refused_one w o = grind (arith, nat_tests)
 
 -- the calls that main made before one that was answered ErrTaskLimit: the op starts a task, and they started as many as there may be
 pub refused_in : {C T : Type 0} (promise : C → Seat → Seat → T → Type 0) (client : C) (settings : NodeSettings) (told : T) (j : Journal)
-    → (r : IsRun promise client settings told j) → (xs : List NodeEntry) (o : Op)
+    → (r : IsClientRun promise client settings told j) → (xs : List NodeEntry) (o : Op)
     → r.called.after.mine ≡ xs ++ entry settings.workers o (reply.Mtapi ErrTaskLimit) ∷ []
     → (makes_object kind.Task o ≡ true) × (settings.tasks ≤ tasks_accepted xs)
 refused_in promise client settings told j r xs o mine =
-    let terms = terms_for settings in
+    let terms = terms_of_main settings in
     let w = settings.workers in
     let e = entry w o (reply.Mtapi ErrTaskLimit) in
     let main = r.ended.main in
@@ -143,7 +143,8 @@ refused_in promise client settings told j r xs o mine =
     let law : FindsNoRoom terms A e = limit_is_reached terms A e legal refl in
     let front : Legal terms A = Legal-prefix terms A (e ∷ []) legal in
     let by_main : tasks_accepted A ≤ tasks_accepted (entries_of w A) =
-    all_by w A (by_seats (opening terms) A front.from) (λ k l. none A (e ∷ tail) k (whole ∙ append_assoc A (e ∷ []) tail) (by_worker k _ (r.ended.worked k l).0)) in
+    all_by w A (by_seats (opening terms) A front.from)
+    (λ k l. none A (e ∷ tail) k (whole ∙ append_assoc A (e ∷ []) tail) (by_worker k _ (r.ended.worked k l).0)) in
     let more : tasks_accepted (entries_of w A) ≤ tasks_accepted (entries_of w main.before) = part w main.before A (e ∷ cut.1) cut.2 in
     let sum : tasks_accepted (entries_of w main.before) ≡ tasks_accepted xs =
     let all = ap tasks_accepted own_is in
@@ -186,9 +187,10 @@ other_op : (A : Type 0) (o : Op) → makes_object kind.Task o ≡ true → makes
 other_op A o is isnt = absurd (cc)
 
 pub stopped_by_limit : {C : Type 0} (places : C → ℕ) (client : C) (settings : NodeSettings) (told : Result (Unit {0}) MtapiStatus) (j : Journal)
-    → IsRun (AwaitsPieces places) client settings told j → told ≡ Err ErrTaskLimit → settings.tasks < places client
+    → IsClientRun (AwaitsPieces places) client settings told j → told ≡ Err ErrTaskLimit → settings.tasks < places client
 stopped_by_limit places client settings told j r is =
-    by_call (subst (λ (x : Result (Unit {0}) MtapiStatus). IfErr x (λ status. StopsAt (places client) status r.called.before r.called.after)) is r.called.promised.1)
+    by_call (subst (λ (x : Result (Unit {0}) MtapiStatus). IfErr x
+    (λ status. StopsAt (places client) status r.called.before r.called.after)) is r.called.promised.1)
   where
     w : ℕ
     w = settings.workers
@@ -205,7 +207,8 @@ stopped_by_limit places client settings told j r is =
     by_call : StopsAt (places client) ErrTaskLimit r.called.before r.called.after → settings.tasks < places client
     by_call (at_action x) =
         let a = r.called.before in
-        other_op (settings.tasks < places client) (ActionCreate 1 Echo every_worker) (at a.mine a.number (ActionCreate 1 Echo every_worker) r.called.number x.mine).0
+        other_op (settings.tasks < places client) (ActionCreate 1 Echo every_worker)
+        (at a.mine a.number (ActionCreate 1 Echo every_worker) r.called.number x.mine).0
         refl
     by_call (at_group action x) =
         let a = r.called.before in
@@ -224,7 +227,7 @@ stopped_by_limit places client settings told j r is =
 
 -- and neither the opening of the node nor its end is refused so
 
-never_by : (t : Terms) (who : ℕ) (es : List NodeEntry) (o : Op) → makes_object kind.Task o ≡ false → IsRefused t who es o ErrTaskLimit → ⊥
+never_by : (t : Terms) (who : ℕ) (es : List NodeEntry) (o : Op) → makes_object kind.Task o ≡ false → IsCallRefused t who es o ErrTaskLimit → ⊥
 never_by t who es o other x = other_op ⊥ o (limit_is_reached t x.history (entry who o (reply.Mtapi ErrTaskLimit)) x.legal refl).asked other
 
 pub refused_otherwise : {C T : Type 0} (promise : C → Seat → Seat → T → Type 0) (client : C) (settings : NodeSettings) (status : MtapiStatus) (places : ℕ)
@@ -238,7 +241,7 @@ refused_otherwise promise client settings status places x is = absurd (never (su
 
 -- so the client of all pieces that is refused with ErrTaskLimit has more of them
 pub too_many : {C : Type 0} (places : C → ℕ) (client : C) (settings : NodeSettings) (told : Result (Unit {0}) MtapiStatus) (status : MtapiStatus)
-    (j : Journal) (n : ℕ) → IsRun (AwaitsPieces places) client settings told j → told ≡ Err status → places client ≤ n → MeansTooMany settings n status
+    (j : Journal) (n : ℕ) → IsClientRun (AwaitsPieces places) client settings told j → told ≡ Err status → places client ≤ n → MeansTooMany settings n status
 too_many places client settings told status j n r is few e =
     let stopped = stopped_by_limit places client settings told j r (is ∙ ap Err e) in
     omega (arith, stopped, few)

@@ -1,6 +1,6 @@
 -- What the worked rows of work that splits say, by computing.
-use Rattle.typed_pieces.proofs.Names.{◌≡◌, ◌+◌, ◌*◌, ℕ, List, [], ◌∷◌, ◌++◌, length, map, sum_by, take, drop, refl, sym, ap, subst, ◌∙◌, arith, drop-append_seam, take-append_seam, length-append, All-cons, All-nil, sum_by-append, NodeSettings, Journal, HasRunAll, AllKept, JoinsTo, AreCounted, Pending, LevelRun, get_or}
-use Rattle.typed_pieces.specs.Worked.{Adds, AreThree, IsTriple, Open, Wait, Waiting, WorkedGives, WorkedLevels, WorkedResults, WorkedRuns, WorkedWaits, came, run, total}
+use Rattle.typed_pieces.proofs.Names.{◌≡◌, ◌+◌, ◌*◌, ℕ, List, [], ◌∷◌, ◌++◌, length, map, sum_by, take, drop, refl, sym, ap, subst, ◌∙◌, arith, drop-append_seam, take-append_seam, length-append, All-cons, All-nil, sum_by-append, NodeSettings, Journal, HasRunAll, AllKept, JoinsTo, AreLevelsCounted, Pending, LevelRun, get_or}
+use Rattle.typed_pieces.specs.Worked.{AddsUp, AreThree, IsTriple, Open, Wait, Waiting, WorkedGives, WorkedLevels, WorkedResults, WorkedRuns, WorkedWaits, came, run, total_of}
 use Rattle.typed_pieces.specs.declared.level.Pending.TheVariants.{Done, Joins}
 use Rattle.typed_pieces.proofs.Levels.{waits_many}
 
@@ -23,7 +23,7 @@ results = record {
 
 -- Joins
 
-total_tripled : (ps : List ℕ) → total (map (λ p. 3 * p) ps) ≡ 3 * total ps
+total_tripled : (ps : List ℕ) → total_of (map (λ p. 3 * p) ps) ≡ 3 * total_of ps
 total_tripled [] = refl
 total_tripled (p ∷ ps) = let rest = total_tripled ps in omega arith
 
@@ -31,11 +31,11 @@ tripled : (ps : List ℕ) → AllKept IsTriple ps (map (λ p. 3 * p) ps)
 tripled [] = refl
 tripled (p ∷ ps) = (3 * p, map (λ q. 3 * q) ps, refl, refl, tripled ps)
 
-joins : (p join : ℕ) (own : List ℕ) → join + 3 * total own ≡ 3 * p → JoinsTo IsTriple Adds p own join
-joins p join own is ds d all added = added ∙ (ap (λ n. join + n) (ap total (tripled_is own ds all) ∙ total_tripled own) ∙ is)
+joins : (p join : ℕ) (own : List ℕ) → join + 3 * total_of own ≡ 3 * p → JoinsTo IsTriple AddsUp p own join
+joins p join own is ds d all added = added ∙ (ap (λ n. join + n) (ap total_of (tripled_is own ds all) ∙ total_tripled own) ∙ is)
 
-joined : (p join : ℕ) (own : List ℕ) → JoinsTo IsTriple Adds p own join → 3 * p ≡ join + 3 * total own
-joined p join own to = sym (to (map (λ q. 3 * q) own) (join + total (map (λ q. 3 * q) own)) (tripled own) refl) ∙ ap (λ n. join + n) (total_tripled own)
+joined : (p join : ℕ) (own : List ℕ) → JoinsTo IsTriple AddsUp p own join → 3 * p ≡ join + 3 * total_of own
+joined p join own to = sym (to (map (λ q. 3 * q) own) (join + total_of (map (λ q. 3 * q) own)) (tripled own) refl) ∙ ap (λ n. join + n) (total_tripled own)
 
 -- Levels
 
@@ -43,7 +43,7 @@ joined p join own to = sym (to (map (λ q. 3 * q) own) (join + total (map (λ q.
 abbrev values : List (Pending ℕ ℕ) → List ℕ → List ℕ
 values [] parts = []
 values (Done d ∷ level) parts = d ∷ values level parts
-values (Joins count join ∷ level) parts = (join + 3 * total (take count parts)) ∷ values level (drop count parts)
+values (Joins count join ∷ level) parts = (join + 3 * total_of (take count parts)) ∷ values level (drop count parts)
 
 needs : (pieces : List ℕ) (level : List (Pending ℕ ℕ)) (parts : List ℕ) → Wait pieces level parts → map (λ p. 3 * p) pieces ≡ values level parts
 needs pieces [] parts w = ap (map (λ p. 3 * p)) w.0
@@ -51,7 +51,7 @@ needs pieces (Done d ∷ level) parts w = ap (map (λ p. 3 * p)) w.2 ∙ (λ i. 
 needs pieces (Joins count join ∷ level) parts w =
     let own : take count parts ≡ w.2 = ap (take count) w.5 ∙ (ap (λ n. take n (w.2 ++ w.3)) (sym w.6) ∙ take-append_seam w.2 w.3) in
     let others : drop count parts ≡ w.3 = ap (drop count) w.5 ∙ (ap (λ n. drop n (w.2 ++ w.3)) (sym w.6) ∙ drop-append_seam w.2 w.3) in
-    let here : 3 * w.0 ≡ join + 3 * total (take count parts) = joined w.0 join w.2 w.7 ∙ ap (λ l. join + 3 * total l) (sym own) in
+    let here : 3 * w.0 ≡ join + 3 * total_of (take count parts) = joined w.0 join w.2 w.7 ∙ ap (λ l. join + 3 * total_of l) (sym own) in
     let rest : map (λ p. 3 * p) w.1 ≡ values level (drop count parts) = needs w.1 level w.3 w.8 ∙ ap (values level) (sym others) in
     ap (map (λ p. 3 * p)) w.4 ∙ (λ i. here i ∷ rest i)
 
@@ -144,7 +144,7 @@ two_open a b c s = (4 ∷ 11 ∷ 13 ∷ 9 ∷ [], first_so a b c s, (2 ∷ 5 ∷
 not_third : (a b c : Waiting) → AreThree a b c → (own next : List ℕ) → Wait (40 ∷ []) a.items own → Wait own c.items next → ⊥
 not_third a b c s own next w v =
     let parts = parts_asked (40 ∷ []) a.items own w ∙ ap asked s.first in
-    let pieces = waits_many IsTriple Adds own c.items next v ∙ ap length s.third in
+    let pieces = waits_many IsTriple AddsUp own c.items next v ∙ ap length s.third in
     omega (arith, parts, pieces)
 
 pub levels : (a b c : Waiting) → AreThree a b c → WorkedLevels a b c
@@ -157,7 +157,7 @@ levels a b c s = record {
       let is : 123 ≡ 120 = at_place (41 ∷ []) (Joins 4 9 ∷ []) (4 ∷ 11 ∷ 13 ∷ 9 ∷ []) 0 (subst (λ l. Wait (41 ∷ []) (Joins 4 9 ∷ []) l) o.2 w) in
       omega (arith, is);
   none_open = λ o. let none : 1 ≡ 0 = ap length o in omega (arith, none);
-  without_first = λ o. let one = waits_many IsTriple Adds (40 ∷ []) b.items o.0 o.1 ∙ ap length s.second in omega (arith, one);
+  without_first = λ o. let one = waits_many IsTriple AddsUp (40 ∷ []) b.items o.0 o.1 ∙ ap length s.second in omega (arith, one);
   without_second = λ o. not_third a b c s o.0 o.2.0 o.1 o.2.1;
   without_third = λ o.
       let parts = parts_asked o.0 b.items o.2.0 o.2.1 ∙ ap asked s.second in
@@ -171,23 +171,23 @@ levels a b c s = record {
 three_counts : (a b c : Waiting) → AreThree a b c → map (λ (w : Waiting). length w.items) (a ∷ b ∷ c ∷ []) ≡ 1 ∷ 4 ∷ 3 ∷ []
 three_counts a b c s = λ i. ap length s.first i ∷ ap length s.second i ∷ ap length s.third i ∷ []
 
-no_levels : (waiting : List Waiting) → Open 40 waiting [] → AreCounted [] waiting → ⊥
+no_levels : (waiting : List Waiting) → Open 40 waiting [] → AreLevelsCounted [] waiting → ⊥
 no_levels [] o counts = let none : 1 ≡ 0 = ap length o in omega (arith, none)
 no_levels (w ∷ ws) o counts = absurd cc
 
-two_roots : (waiting : List Waiting) (m n : ℕ) (i j k : Journal) → Open 40 waiting [] → AreCounted (run 2 i ∷ run m j ∷ run n k ∷ []) waiting → ⊥
+two_roots : (waiting : List Waiting) (m n : ℕ) (i j k : Journal) → Open 40 waiting [] → AreLevelsCounted (run 2 i ∷ run m j ∷ run n k ∷ []) waiting → ⊥
 two_roots [] m n i j k o counts = absurd cc
 two_roots (w ∷ ws) m n i j k o counts =
-    let one : 1 ≡ length w.items = waits_many IsTriple Adds (40 ∷ []) w.items o.0 o.1 in
+    let one : 1 ≡ length w.items = waits_many IsTriple AddsUp (40 ∷ []) w.items o.0 o.1 in
     let two : 2 ≡ length w.items = cc in
     omega (arith, one, two)
 
-none_ran : (levels : List LevelRun) (waiting : List Waiting) (next : List ℕ) → Open 40 waiting next → AreCounted levels waiting
+none_ran : (levels : List LevelRun) (waiting : List Waiting) (next : List ℕ) → Open 40 waiting next → AreLevelsCounted levels waiting
     → sum_by (λ (l : LevelRun). l.pieces) levels ≡ 0 → length next ≡ 2 → ⊥
 none_ran levels [] next o counts none two = let one : 1 ≡ length next = ap length o in omega (arith, one, two)
 none_ran [] (w ∷ ws) next o counts none two = absurd cc
 none_ran (l ∷ levels) (w ∷ ws) next o counts none two =
-    let one : 1 ≡ length w.items = waits_many IsTriple Adds (40 ∷ []) w.items o.0 o.1 in
+    let one : 1 ≡ length w.items = waits_many IsTriple AddsUp (40 ∷ []) w.items o.0 o.1 in
     let same : l.pieces ≡ length w.items = cc in
     let all = sum_by-append (λ (x : LevelRun). x.pieces) (l ∷ []) levels in
     let first : sum_by (λ (x : LevelRun). x.pieces) (l ∷ []) ≡ l.pieces = omega arith in
@@ -197,7 +197,7 @@ pub runs : (settings : NodeSettings) (i j k : Journal) (a b c : Waiting) → Has
     → WorkedRuns settings i j k a b c
 runs settings i j k a b c one four s =
     let counts = three_counts a b c s in
-    let two : AreCounted (run 1 i ∷ run 4 j ∷ []) (a ∷ b ∷ []) = cc in
+    let two : AreLevelsCounted (run 1 i ∷ run 4 j ∷ []) (a ∷ b ∷ []) = cc in
     let Ran : LevelRun → Type 0 = λ l. HasRunAll settings l.pieces l.journal in
     record {
       counted = sym counts;

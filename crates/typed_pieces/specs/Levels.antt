@@ -27,9 +27,9 @@ Waits {P} promise joined pieces (pending.Joins count join ∷ level) parts =
     × (pieces ≡ p ∷ ps) × (parts ≡ own ++ others) × (length own ≡ count) × JoinsTo promise joined p own join × Waits promise joined ps level others
 
 -- a piece that waits so has this result, where these are the results of the parts of its level that are left, and these are left after it
-abbrev pub Gives : {D J : Type 0} → (J → List D → D → Type 0) → Pending D J → List D → D → List D → Type 0
-Gives joined (pending.Done e) results d left = (d ≡ e) × (left ≡ results)
-Gives joined (pending.Joins count join) results d left = joined join (take count results) d × (left ≡ drop count results)
+abbrev pub GivesResult : {D J : Type 0} → (J → List D → D → Type 0) → Pending D J → List D → D → List D → Type 0
+GivesResult joined (pending.Done e) results d left = (d ≡ e) × (left ≡ results)
+GivesResult joined (pending.Joins count join) results d left = joined join (take count results) d × (left ≡ drop count results)
 
 -- the pieces wait by these levels, each for the next, and these are the parts of the last
 abbrev pub AreOpen : {P D J : Type 0} → (P → D → Type 0) → (J → List D → D → Type 0) → List P → List (Vec (Pending D J) Global) → List P → Type 0

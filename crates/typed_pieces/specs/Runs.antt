@@ -12,15 +12,15 @@ use Rattle.mtapi_machine.specs.declared.ops.Op.TheVariants.{ActionCreate, GroupC
 use Rattle.mtapi_machine.specs.declared.replies.Reply.TheVariants as reply
 use Rattle.mtapi_machine.specs.Legal.{NodeEntry}
 use Rattle.node_journals.specs.declared.entries.Journal.{Journal}
-use Rattle.workload_runners.specs.Turns.{Seat, SameSeat}
-use Rattle.node_with_workers.specs.Runs.{IsRun, Refuses}
+use Rattle.workload_runners.specs.Turns.{Seat, SameNodeSeat}
+use Rattle.node_with_workers.specs.Runs.{IsClientRun, Refuses}
 use Rattle.node_with_workers.specs.declared.failure.Failure.{Failure}
 use Rattle.typed_pieces.specs.declared.unfinished.Unfinished.{Unfinished}
 use Rattle.typed_pieces.specs.declared.unfinished.Unfinished.TheVariants as unfinished
 
 -- There is one legal history of a node with these settings and main alone, which main opened and ended. The journal is what is kept of it.
 abbrev pub HasRun : NodeSettings → Journal → Type 0
-HasRun settings journal = IsRun {C = Unit {0}} {T = Unit {0}} (λ _ _ _ _. Unit {0}) tt settings tt journal
+HasRun settings journal = IsClientRun {C = Unit {0}} {T = Unit {0}} (λ _ _ _ _. Unit {0}) tt settings tt journal
 
 -- the usual affinity: every worker
 abbrev pub every_worker : Mask
@@ -34,7 +34,7 @@ starts_of who group place (task ∷ tasks) =
 
 -- the seat made these calls, and no other one
 pub record MadeJust (calls : List NodeEntry) (old new : Seat) : Type 0 where
-  pub same : SameSeat old new
+  pub same : SameNodeSeat old new
   pub mine : new.mine ≡ old.mine ++ calls
 
 -- the seat made these calls alone: one that made an action of kind echo, one that made this group, and a start in it of the piece at each of the
@@ -76,7 +76,7 @@ pub data StopsAt (places : ℕ) (status : MtapiStatus) (old new : Seat) : Type 0
 -- the same, and in that history main's calls between its opening and its end are those that start a task for the piece at each of so many places,
 -- and its looks until it was told that all of them had ended
 abbrev pub HasRunAll : NodeSettings → ℕ → Journal → Type 0
-HasRunAll settings places journal = IsRun {C = Unit {0}} {T = Unit {0}} (λ _ old new _. HasAwaited places old new) tt settings tt journal
+HasRunAll settings places journal = IsClientRun {C = Unit {0}} {T = Unit {0}} (λ _ old new _. HasAwaited places old new) tt settings tt journal
 
 -- the last call of this seat was refused with this status; or a further one wasn't made, since the turns were used up
 abbrev pub EndsRefused : MtapiStatus → Seat → Type 0
@@ -88,7 +88,7 @@ EndsRefused status s =
 abbrev pub RefusesPieces : NodeSettings → MtapiStatus → Type 0
 RefusesPieces settings status =
     Refuses {C = Unit {0}} {T = Unit {0}} (λ _ _ _ _. Unit {0}) tt settings status
-    ⊎ ((j : Journal) × IsRun {C = Unit {0}} {T = MtapiStatus} (λ _ _ s refused. EndsRefused refused s) tt settings status j)
+    ⊎ ((j : Journal) × IsClientRun {C = Unit {0}} {T = MtapiStatus} (λ _ _ s refused. EndsRefused refused s) tt settings status j)
 
 -- the status says that the node may have no further task only where there are more pieces than tasks
 abbrev pub MeansTooMany : NodeSettings → ℕ → MtapiStatus → Type 0

@@ -14,21 +14,21 @@ as_place (pos n) = if nat_lt n (2 ^ 32) then Some n else None
 as_place (negsuc n) = None
 
 -- the place that a task's end tells: of an action of kind echo, the one number that the task was given
-abbrev pub place_of : TaskEnd → Option ℕ
-place_of (end.Completed (number ∷ [])) = as_place number
-place_of _ = None
+abbrev pub place_in_end : TaskEnd → Option ℕ
+place_in_end (end.Completed (number ∷ [])) = as_place number
+place_in_end _ = None
 
 -- what is read of the member of a group that ended first: the place that its end tells
 abbrev pub first_place : Reply → Option (Option ℕ)
-first_place (reply.Given task e) = Some (place_of e)
+first_place (reply.Given task e) = Some (place_in_end e)
 first_place _ = None
 
 -- the place alone of what a wait for any member of a group gave
 abbrev pub place_alone : Result (TaskHandle × TaskEnd) MtapiStatus → Result (Option ℕ) MtapiStatus
-place_alone (Ok member) = Ok (place_of member.1)
+place_alone (Ok member) = Ok (place_in_end member.1)
 place_alone (Err status) = Err status
 
 -- the same answer with the status alone
-abbrev pub by_status : {A : Type 0} → Result A PieceRefusal → Result A MtapiStatus
-by_status (Ok a) = Ok a
-by_status (Err refused) = Err refused.status
+abbrev pub with_status_alone : {A : Type 0} → Result A PieceRefusal → Result A MtapiStatus
+with_status_alone (Ok a) = Ok a
+with_status_alone (Err refused) = Err refused.status

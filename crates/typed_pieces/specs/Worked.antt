@@ -6,8 +6,8 @@ use Rattle.mtapi_values.specs.Attributes.{NodeSettings}
 use Rattle.node_journals.specs.declared.entries.Journal.{Journal}
 use Rattle.typed_pieces.specs.Runs.{HasRunAll}
 use Rattle.typed_pieces.specs.Split.{AllKept}
-use Rattle.typed_pieces.specs.Levels.{AreOpen, Gives, Waits}
-use Rattle.typed_pieces.specs.SplitRuns.{AreCounted, AreLevels, IsOver}
+use Rattle.typed_pieces.specs.Levels.{AreOpen, GivesResult, Waits}
+use Rattle.typed_pieces.specs.SplitRuns.{AreLevelsCounted, AreLevelsOf, IsOver}
 use Rattle.typed_pieces.specs.declared.level.Pending.{Pending}
 use Rattle.typed_pieces.specs.declared.level.Pending.TheVariants.{Done, Joins}
 use Rattle.typed_pieces.specs.declared.split_run.LevelRun.{LevelRun}
@@ -15,12 +15,12 @@ use Rattle.typed_pieces.specs.declared.split_run.LevelRun.{LevelRun}
 abbrev pub IsTriple : ℕ → ℕ → Type 0
 IsTriple piece result = result ≡ 3 * piece
 
-abbrev pub total : List ℕ → ℕ
-total [] = 0
-total (n ∷ ns) = n + total ns
+abbrev pub total_of : List ℕ → ℕ
+total_of [] = 0
+total_of (n ∷ ns) = n + total_of ns
 
-abbrev pub Adds : ℕ → List ℕ → ℕ → Type 0
-Adds join results result = result ≡ join + total results
+abbrev pub AddsUp : ℕ → List ℕ → ℕ → Type 0
+AddsUp join results result = result ≡ join + total_of results
 
 abbrev pub AreTriples : List ℕ → Type 0
 AreTriples results = AllKept IsTriple (4 ∷ 11 ∷ 7 ∷ []) results
@@ -39,7 +39,7 @@ abbrev pub came : List (Pending ℕ ℕ)
 came = Done 12 ∷ Joins 2 12 ∷ Joins 1 18 ∷ Done 27 ∷ []
 
 abbrev pub Wait : List ℕ → List (Pending ℕ ℕ) → List ℕ → Type 0
-Wait = Waits IsTriple Adds
+Wait = Waits IsTriple AddsUp
 
 -- 11 waits for 2 and 5, and 13 for 7
 pub record WorkedWaits : Type 0 where
@@ -56,7 +56,7 @@ pub record WorkedWaits : Type 0 where
 
 -- where the results of the parts that are left are 6, 15 and 21
 abbrev pub Give : Pending ℕ ℕ → ℕ → List ℕ → Type 0
-Give pending = Gives Adds pending (6 ∷ 15 ∷ 21 ∷ [])
+Give pending = GivesResult AddsUp pending (6 ∷ 15 ∷ 21 ∷ [])
 
 -- one that is done takes none of them, and one that joins the first ones, as many as it has parts
 pub record WorkedGives : Type 0 where
@@ -80,7 +80,7 @@ pub record AreThree (a b c : Waiting) : Type 0 where
   pub third : c.items ≡ Done 6 ∷ Done 15 ∷ Done 21 ∷ []
 
 abbrev pub Open : ℕ → List Waiting → List ℕ → Type 0
-Open root = AreOpen IsTriple Adds (root ∷ [])
+Open root = AreOpen IsTriple AddsUp (root ∷ [])
 
 -- the parts of a level are the pieces of the next, from the root down
 pub record WorkedLevels (a b c : Waiting) : Type 0 where
@@ -98,18 +98,18 @@ abbrev pub run : ℕ → Journal → LevelRun
 run pieces journal = record { pieces = pieces; journal = journal }
 
 abbrev pub Levels : List LevelRun → Type 0
-Levels = AreLevels IsTriple Adds 40
+Levels = AreLevelsOf IsTriple AddsUp 40
 
 abbrev pub Over : NodeSettings → ℕ → ℕ → ℕ → Type 0
-Over settings = IsOver IsTriple Adds settings 40
+Over settings = IsOver IsTriple AddsUp settings 40
 
 -- Each level has run as many pieces as it has. After five of the root 40 have run, three more are too many if there may be seven.
 pub record WorkedRuns (settings : NodeSettings) (i j k : Journal) (a b c : Waiting) : Type 0 where
-  pub counted : AreCounted (run 1 i ∷ run 4 j ∷ run 3 k ∷ []) (a ∷ b ∷ c ∷ [])
-  pub one_more : AreCounted (run 1 i ∷ run 5 j ∷ run 3 k ∷ []) (a ∷ b ∷ c ∷ []) → ⊥
-  pub one_less : AreCounted (run 1 i ∷ run 4 j ∷ run 2 k ∷ []) (a ∷ b ∷ c ∷ []) → ⊥
-  pub counts_moved : AreCounted (run 1 i ∷ run 3 k ∷ run 4 j ∷ []) (a ∷ b ∷ c ∷ []) → ⊥
-  pub level_left_out : AreCounted (run 1 i ∷ run 4 j ∷ []) (a ∷ b ∷ c ∷ []) → ⊥
+  pub counted : AreLevelsCounted (run 1 i ∷ run 4 j ∷ run 3 k ∷ []) (a ∷ b ∷ c ∷ [])
+  pub one_more : AreLevelsCounted (run 1 i ∷ run 5 j ∷ run 3 k ∷ []) (a ∷ b ∷ c ∷ []) → ⊥
+  pub one_less : AreLevelsCounted (run 1 i ∷ run 4 j ∷ run 2 k ∷ []) (a ∷ b ∷ c ∷ []) → ⊥
+  pub counts_moved : AreLevelsCounted (run 1 i ∷ run 3 k ∷ run 4 j ∷ []) (a ∷ b ∷ c ∷ []) → ⊥
+  pub level_left_out : AreLevelsCounted (run 1 i ∷ run 4 j ∷ []) (a ∷ b ∷ c ∷ []) → ⊥
   pub levels : Levels (run 1 i ∷ run 4 j ∷ run 3 k ∷ [])
   pub no_levels : Levels [] → ⊥
   pub two_roots : Levels (run 2 i ∷ run 4 j ∷ run 3 k ∷ []) → ⊥

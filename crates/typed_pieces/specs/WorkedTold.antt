@@ -10,9 +10,9 @@ use Rattle.mtapi_values.specs.declared.statuses.MtapiStatus.TheVariants as statu
 use Rattle.mtapi_machine.specs.declared.ops.Op.TheVariants.{TaskStart}
 use Rattle.mtapi_machine.specs.declared.replies.Reply.TheVariants as reply
 use Rattle.mtapi_values.specs.declared.statuses.MrapiStatus.TheVariants as resource
-use Rattle.workload_runners.specs.Replies.{mtapi, mrapi}
+use Rattle.workload_runners.specs.Replies.{mtapi_standard, mrapi_standard}
 use Rattle.typed_pieces.specs.Runs.{every_worker, starts_of}
-use Rattle.typed_pieces.specs.Told.{as_place, place_of, first_place, place_alone}
+use Rattle.typed_pieces.specs.Told.{as_place, place_in_end, first_place, place_alone}
 
 -- these numbers, against the places that they are: none below 0, and none from 2^32 on
 pub record WorkedPlaces : Type 0 where
@@ -20,13 +20,13 @@ pub record WorkedPlaces : Type 0 where
   pub high : map as_place (pos 4294967295 ∷ pos 4294967296 ∷ []) ≡ (Some 4294967295 ∷ None ∷ [])
 
 -- ends of tasks: with one number, none, two, one that is no place, and without a completion
-abbrev pub ends : List TaskEnd
-ends = end.Completed (pos 7 ∷ []) ∷ end.Completed [] ∷ end.Completed (pos 7 ∷ pos 8 ∷ []) ∷ end.Completed (negsuc 0 ∷ [])
+abbrev pub some_ends : List TaskEnd
+some_ends = end.Completed (pos 7 ∷ []) ∷ end.Completed [] ∷ end.Completed (pos 7 ∷ pos 8 ∷ []) ∷ end.Completed (negsuc 0 ∷ [])
     ∷ end.Completed (pos 4294967296 ∷ []) ∷ end.Cancelled ∷ end.Failed status.ErrActionFailed ∷ []
 
 -- The place that an end tells, and what is told of the member of a group that ended first.
-pub record WorkedEnds (task : TaskHandle) : Type 0 where
-  pub places : map place_of ends ≡ (Some 7 ∷ None ∷ None ∷ None ∷ None ∷ None ∷ None ∷ [])
+pub record WorkedToldEnds (task : TaskHandle) : Type 0 where
+  pub places : map place_in_end some_ends ≡ (Some 7 ∷ None ∷ None ∷ None ∷ None ∷ None ∷ None ∷ [])
   pub first : map first_place (reply.Given task (end.Completed (pos 9 ∷ [])) ∷ reply.Given task end.Cancelled ∷ reply.Ok ∷ reply.Handle 9 ∷ reply.Number (pos 9)
       ∷ reply.Ended (end.Completed (pos 9 ∷ [])) ∷ reply.Pending ∷ reply.Mtapi status.GroupCompleted ∷ [])
       ≡ (Some (Some 9) ∷ Some None ∷ None ∷ None ∷ None ∷ None ∷ None ∷ None ∷ [])
@@ -34,12 +34,12 @@ pub record WorkedEnds (task : TaskHandle) : Type 0 where
       ≡ (Ok (Some 3) ∷ Ok None ∷ Err status.Timeout ∷ [])
 
 -- the workers that a node may have, the first and the last of them, and the last core
-abbrev pub workers : List ℕ
-workers = 0 ∷ 1 ∷ 2 ∷ 3 ∷ 4 ∷ 5 ∷ 6 ∷ 7 ∷ 8 ∷ 9 ∷ 10 ∷ 11 ∷ 12 ∷ 13 ∷ 14 ∷ 15 ∷ 63 ∷ []
+abbrev pub some_workers : List ℕ
+some_workers = 0 ∷ 1 ∷ 2 ∷ 3 ∷ 4 ∷ 5 ∷ 6 ∷ 7 ∷ 8 ∷ 9 ∷ 10 ∷ 11 ∷ 12 ∷ 13 ∷ 14 ∷ 15 ∷ 63 ∷ []
 
 -- Pieces are started on every worker, each as a task of job 1 with its place, priority 0 and no detachment, in the group.
 pub record WorkedStarts (group : GroupHandle) : Type 0 where
-  pub cores : map (λ core. in_mask core every_worker.0) workers
+  pub cores : map (λ core. in_mask core every_worker.0) some_workers
       ≡ (true ∷ true ∷ true ∷ true ∷ true ∷ true ∷ true ∷ true ∷ true ∷ true ∷ true ∷ true ∷ true ∷ true ∷ true ∷ true ∷ true ∷ [])
   pub mask : every_worker ≡ record { 0 = 18446744073709551615 }
   pub none : starts_of 3 group 5 [] ≡ []
@@ -49,13 +49,13 @@ pub record WorkedStarts (group : GroupHandle) : Type 0 where
 
 -- what a call answers once the turns are used up, of either standard, and which statuses say so
 pub record WorkedSpent : Type 0 where
-  pub tasks : mtapi.spent ≡ status.ErrSpent
-  pub resources : mrapi.spent ≡ resource.ErrSpent
-  pub says : map mtapi.is_spent (status.ErrSpent ∷ status.Timeout ∷ status.ErrTaskLimit ∷ []) ≡ (true ∷ false ∷ false ∷ [])
-  pub resource_says : map mrapi.is_spent (resource.ErrSpent ∷ resource.Timeout ∷ resource.ErrMutexExists ∷ []) ≡ (true ∷ false ∷ false ∷ [])
+  pub tasks : mtapi_standard.spent ≡ status.ErrSpent
+  pub resources : mrapi_standard.spent ≡ resource.ErrSpent
+  pub says : map mtapi_standard.is_spent (status.ErrSpent ∷ status.Timeout ∷ status.ErrTaskLimit ∷ []) ≡ (true ∷ false ∷ false ∷ [])
+  pub resource_says : map mrapi_standard.is_spent (resource.ErrSpent ∷ resource.Timeout ∷ resource.ErrMutexExists ∷ []) ≡ (true ∷ false ∷ false ∷ [])
 
 pub record WorkedTold : Type 0 where
   pub places : WorkedPlaces
-  pub ends : (task : TaskHandle) → WorkedEnds task
+  pub ends : (task : TaskHandle) → WorkedToldEnds task
   pub starts : (group : GroupHandle) → WorkedStarts group
   pub spent : WorkedSpent

@@ -1,8 +1,8 @@
 //! The client of a node whose workers run pieces.
 
 ghost use Rattle.std.specs.Prelude.{List};
-ghost use Rattle.workload_runners.specs.Turns.{Seat, SameSeat};
-ghost use Rattle.node_with_workers.specs.Clients.{GoesOn};
+ghost use Rattle.workload_runners.specs.Turns.{Seat, SameNodeSeat};
+ghost use Rattle.node_with_workers.specs.Clients.{SeatGoesOn};
 
 use crate::piece::Piece;
 use crate::pieces::Pieces;
@@ -28,8 +28,8 @@ pub trait PieceClient<J: Piece>: Drop {
         caller: &mut Caller,
         pieces: &Pieces<L, J>,
     ) -> Self::Told
-        ensures same { SameSeat caller.old caller.new }
-        ensures goes_on { GoesOn caller.old caller.new }
+        ensures same { SameNodeSeat caller.old caller.new }
+        ensures goes_on { SeatGoesOn caller.old caller.new }
         ensures kept { promise self L.pieces caller.old caller.new result };
 }
 

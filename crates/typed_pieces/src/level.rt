@@ -2,7 +2,7 @@
 
 ghost use Rattle.std.specs.Prelude.{◌≡◌, List, [], ◌∷◌, ◌++◌, IfOk, take, drop};
 ghost use Rattle.typed_pieces.specs.Split.{AllKept, IsKeptBy};
-ghost use Rattle.typed_pieces.specs.Levels.{AreOpen, Gives, Waits, parts_of, pending_of};
+ghost use Rattle.typed_pieces.specs.Levels.{AreOpen, GivesResult, Waits, parts_of, pending_of};
 
 use crate::split::{Outcome, Split};
 use std::alloc::{AllocError, Global};
@@ -99,7 +99,7 @@ fn result_of<P: Split>(
     pending: Pending<P::Done, P::Join>,
     results: &mut VecDeque<P::Done>,
 ) -> Result<P::Done, AllocError>
-    ensures { IfOk result (λ d. Gives P.joined pending results.old.items d results.new.items) }
+    ensures { IfOk result (λ d. GivesResult P.joined pending results.old.items d results.new.items) }
 {
     match pending {
         Pending::Done(done) => Ok(done),

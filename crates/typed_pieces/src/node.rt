@@ -3,7 +3,7 @@
 ghost use Rattle.std.specs.Prelude.{◌≡◌, ◌≤◌, IfOk, IfErr, map, vec_len};
 ghost use Rattle.std.specs.List.{All};
 ghost use Rattle.node_with_workers.specs.Clients.{IfNoThread, IfRefused};
-ghost use Rattle.node_with_workers.specs.Runs.{IsRun, IsRunOfAll, Refuses, RefusesOne};
+ghost use Rattle.node_with_workers.specs.Runs.{IsClientRun, IsRunOfAll, Refuses, RefusesOne};
 ghost use Rattle.typed_pieces.specs.Places.{AreKept};
 
 use crate::client::{PieceClient, WithPieces};
@@ -205,7 +205,7 @@ pub fn with_pieces<J: Piece + Send, C: PieceClient<J>, R: Threads + Wait + Sync>
 where
     J::Done: Send,
     requires ready { All J.ready pieces.items }
-    ensures run { IfOk result (λ w. IsRun (λ c. C.promise c pieces.items) client settings w.told w.journal) }
+    ensures run { IfOk result (λ w. IsClientRun (λ c. C.promise c pieces.items) client settings w.told w.journal) }
     ensures causes { IfErr result (λ e. IfRefused e (Refuses (λ c. C.promise c pieces.items) client settings)) }
     ensures unbegun { IfErr result (λ e. IfNoThread e settings.workers) }
     ensures kept { IfOk result (λ w. AreKept J.promise pieces.items w.results.items) }

@@ -2,8 +2,8 @@
 
 ghost use Rattle.std.specs.Prelude.{◌≡◌, [], ◌∷◌, pos, Some, None, IfSome, IfErr};
 ghost use Rattle.typed_pieces.specs.Places.{IsKeptAt};
-ghost use Rattle.sched_workers.specs.Answers.{Called, Waited, with_number, enqueue_of, start_of};
-ghost use Rattle.workload_runners.specs.Replies.{done, handle, mtapi};
+ghost use Rattle.sched_workers.specs.Answers.{Called, Waited, with_handle_number, enqueue_of, start_of};
+ghost use Rattle.workload_runners.specs.Replies.{done, handle_told, mtapi_standard};
 ghost use Rattle.workload_runs.specs.declared.calls.Wanted.TheVariants.{FirstMember};
 ghost use Rattle.mtapi_values.specs.Timeouts.{looks_of};
 ghost use Rattle.mtapi_values.specs.declared.kinds.Kind.TheVariants.{Echo};
@@ -43,7 +43,7 @@ fn as_place(number: i64) -> Option<u32>
 
 // The place of the piece whose task ended so.
 fn place_of(end: &TaskEnd) -> Option<u32>
-    ensures { result ≡ told.place_of end.now }
+    ensures { result ≡ told.place_in_end end.now }
 {
     match end {
         TaskEnd::Completed(args) => match args.as_slice() {
@@ -72,7 +72,7 @@ fn named<A>(
     call: PieceCall,
     place: Option<u32>,
 ) -> Result<A, PieceRefusal>
-    ensures same { told.by_status result ≡ answer }
+    ensures same { told.with_status_alone result ≡ answer }
     ensures named { IfErr result (λ r. (r.call ≡ call) × (r.place ≡ place)) }
 {
     match answer {
@@ -91,7 +91,7 @@ pub(crate) fn make_action<R: Wait>(
     caller: &mut Caller,
     job: u32,
 ) -> Result<ActionHandle, MtapiStatus>
-    ensures { Called mtapi handle (ActionCreate job Echo every_worker) caller.old caller.new (with_number (λ h. h.0) result) }
+    ensures { Called mtapi_standard handle_told (ActionCreate job Echo every_worker) caller.old caller.new (with_handle_number (λ h. h.0) result) }
 {
     caller.action_create(rt, job, Kind::Echo, ActionAttr::new())
 }
@@ -105,7 +105,7 @@ pub(crate) fn start_place<R: Wait>(
     attr: TaskAttr,
     group: Option<GroupHandle>,
 ) -> Result<TaskHandle, MtapiStatus>
-    ensures { Called mtapi handle (start_of job (pos place ∷ []) attr group) caller.old caller.new (with_number (λ h. h.0) result) }
+    ensures { Called mtapi_standard handle_told (start_of job (pos place ∷ []) attr group) caller.old caller.new (with_handle_number (λ h. h.0) result) }
 {
     caller.task_start(rt, job, &args_of(place), attr, group)
 }
@@ -119,7 +119,7 @@ fn enqueue_place<R: Wait>(
     attr: TaskAttr,
     group: Option<GroupHandle>,
 ) -> Result<TaskHandle, MtapiStatus>
-    ensures { Called mtapi handle (enqueue_of queue (pos place ∷ []) attr group) caller.old caller.new (with_number (λ h. h.0) result) }
+    ensures { Called mtapi_standard handle_told (enqueue_of queue (pos place ∷ []) attr group) caller.old caller.new (with_handle_number (λ h. h.0) result) }
 {
     caller.task_enqueue(rt, queue, &args_of(place), attr, group)
 }
@@ -142,7 +142,7 @@ impl<'a, L: Handed<J>, J: Piece> Pieces<'a, L, J> {
         caller: &mut Caller,
         job: u32,
     ) -> Result<ActionHandle, PieceRefusal>
-        ensures called { Called mtapi handle (ActionCreate job Echo every_worker) caller.old caller.new (with_number (λ h. h.0) (told.by_status result)) }
+        ensures called { Called mtapi_standard handle_told (ActionCreate job Echo every_worker) caller.old caller.new (with_handle_number (λ h. h.0) (told.with_status_alone result)) }
         ensures named { IfErr result (λ r. (r.call ≡ call.Action) × (r.place ≡ None)) }
     {
         named(make_action(rt, caller, job), PieceCall::Action, None)
@@ -163,7 +163,7 @@ impl<'a, L: Handed<J>, J: Piece> Pieces<'a, L, J> {
         attr: TaskAttr,
         group: Option<GroupHandle>,
     ) -> Result<TaskHandle, PieceRefusal>
-        ensures called { Called mtapi handle (start_of job (pos place ∷ []) attr group) caller.old caller.new (with_number (λ h. h.0) (told.by_status result)) }
+        ensures called { Called mtapi_standard handle_told (start_of job (pos place ∷ []) attr group) caller.old caller.new (with_handle_number (λ h. h.0) (told.with_status_alone result)) }
         ensures named { IfErr result (λ r. (r.call ≡ call.Start) × (r.place ≡ Some place)) }
     {
         let started = start_place(rt, caller, place, job, attr, group);
@@ -185,7 +185,7 @@ impl<'a, L: Handed<J>, J: Piece> Pieces<'a, L, J> {
         attr: TaskAttr,
         group: Option<GroupHandle>,
     ) -> Result<TaskHandle, PieceRefusal>
-        ensures called { Called mtapi handle (enqueue_of queue (pos place ∷ []) attr group) caller.old caller.new (with_number (λ h. h.0) (told.by_status result)) }
+        ensures called { Called mtapi_standard handle_told (enqueue_of queue (pos place ∷ []) attr group) caller.old caller.new (with_handle_number (λ h. h.0) (told.with_status_alone result)) }
         ensures named { IfErr result (λ r. (r.call ≡ call.Enqueue) × (r.place ≡ Some place)) }
     {
         let enqueued = enqueue_place(rt, caller, place, queue, attr, group);
@@ -206,7 +206,7 @@ impl<'a, L: Handed<J>, J: Piece> Pieces<'a, L, J> {
         place: u32,
         task: TaskHandle,
     ) -> Result<(), PieceRefusal>
-        ensures called { Called mtapi done (TaskCancel task) caller.old caller.new (told.by_status result) }
+        ensures called { Called mtapi_standard done (TaskCancel task) caller.old caller.new (told.with_status_alone result) }
         ensures named { IfErr result (λ r. (r.call ≡ call.Cancel) × (r.place ≡ Some place)) }
     {
         named(caller.task_cancel(rt, task), PieceCall::Cancel, Some(place))?;
@@ -228,7 +228,7 @@ impl<'a, L: Handed<J>, J: Piece> Pieces<'a, L, J> {
         group: GroupHandle,
         timeout: Timeout,
     ) -> Result<Option<u32>, PieceRefusal>
-        ensures called { Waited mtapi told.first_place (FirstMember group) (looks_of timeout) caller.old caller.new (told.by_status result) }
+        ensures called { Waited mtapi_standard told.first_place (FirstMember group) (looks_of timeout) caller.old caller.new (told.with_status_alone result) }
         ensures named { IfErr result (λ r. (r.call ≡ call.WaitAny) × (r.place ≡ None)) }
     {
         let place = place_alone(caller.group_wait_any(rt, group, timeout));

@@ -32,7 +32,7 @@ const JOB: u32 = 1;
 
 impl<J: Piece> PieceClient<J> for AllPieces {
     ghost use Rattle.std.specs.Prelude.{IfOk, IfErr};
-    ghost use Rattle.workload_runners.specs.Turns.{SameSeat};
+    ghost use Rattle.workload_runners.specs.Turns.{SameNodeSeat};
     ghost use Rattle.typed_pieces.specs.Runs.{HasAwaited, StopsAt};
 
     type Told = Result<(), MtapiStatus>;

@@ -4,7 +4,7 @@ ghost use Rattle.std.specs.Prelude.{◌≡◌, ◌<◌, ◌≤◌, ◌+◌, ◌^
 ghost use Rattle.node_with_workers.specs.Clients.{IfRefused};
 ghost use Rattle.typed_pieces.specs.Runs.{FailsBy, HasRunAll, IfNoResult, RefusesPieces};
 ghost use Rattle.typed_pieces.specs.Levels.{AreOpen, Waits};
-ghost use Rattle.typed_pieces.specs.SplitRuns.{AreCounted, AreLevels, HaveRun, IsOver, SplitFails, pieces_of};
+ghost use Rattle.typed_pieces.specs.SplitRuns.{AreLevelsCounted, AreLevelsOf, HaveRun, IsOver, SplitFails, pieces_of_levels};
 
 use crate::context::TaskContext;
 use crate::level::{Level, Pending, level_of, results_up};
@@ -123,9 +123,9 @@ where
     P::Done: Send,
     P::Join: Send,
     ensures waits { IfOk result (λ r. AreOpen P.promise P.joined (root ∷ []) r.0.items []) }
-    ensures counts { IfOk result (λ r. AreCounted r.1.items r.0.items) }
+    ensures counts { IfOk result (λ r. AreLevelsCounted r.1.items r.0.items) }
     ensures run { IfOk result (λ r. HaveRun settings r.1.items) }
-    ensures within { IfOk result (λ r. pieces_of r.1.items ≤ most) }
+    ensures within { IfOk result (λ r. pieces_of_levels r.1.items ≤ most) }
     ensures causes { IfErr result (λ e. SplitFails e (λ u. FailsBy u (λ f. IfRefused f (RefusesPieces settings))) (IsOver P.promise P.joined settings root most)) }
     ensures missing { IfErr result (λ e. SplitFails e (λ u. IfNoResult u (λ place. place < most)) (λ _ _. Unit {0})) }
 {
@@ -165,8 +165,8 @@ where
     P::Done: Send,
     P::Join: Send,
     ensures run { IfOk result (λ r. HaveRun settings r.levels.items) }
-    ensures within { IfOk result (λ r. pieces_of r.levels.items ≤ most) }
-    ensures levels { IfOk result (λ r. AreLevels P.promise P.joined root r.levels.items) }
+    ensures within { IfOk result (λ r. pieces_of_levels r.levels.items ≤ most) }
+    ensures levels { IfOk result (λ r. AreLevelsOf P.promise P.joined root r.levels.items) }
     ensures kept { IfOk result (λ r. P.promise root r.result) }
     ensures causes { IfErr result (λ e. SplitFails e (λ u. FailsBy u (λ f. IfRefused f (RefusesPieces settings))) (IsOver P.promise P.joined settings root most)) }
     ensures missing { IfErr result (λ e. SplitFails e (λ u. IfNoResult u (λ place. place < most)) (λ _ _. Unit {0})) }
@@ -199,8 +199,8 @@ where
     P::Done: Send,
     P::Join: Send,
     ensures run { IfOk result (λ r. HaveRun settings r.levels.items) }
-    ensures within { IfOk result (λ r. pieces_of r.levels.items ≤ settings.tasks) }
-    ensures levels { IfOk result (λ r. AreLevels P.promise P.joined root r.levels.items) }
+    ensures within { IfOk result (λ r. pieces_of_levels r.levels.items ≤ settings.tasks) }
+    ensures levels { IfOk result (λ r. AreLevelsOf P.promise P.joined root r.levels.items) }
     ensures kept { IfOk result (λ r. P.promise root r.result) }
     ensures causes { IfErr result (λ e. SplitFails e (λ u. FailsBy u (λ f. IfRefused f (RefusesPieces settings))) (IsOver P.promise P.joined settings root settings.tasks)) }
     ensures missing { IfErr result (λ e. SplitFails e (λ u. IfNoResult u (λ place. place < settings.tasks)) (λ _ _. Unit {0})) }

@@ -1,6 +1,6 @@
 -- The canonical text of what a text gives, read again.
 use Rattle.std.proofs.lemmas.Bool.Decides.{nat_tests}
-use Rattle.workload_file.proofs.Cited.{◌≡◌, ℕ, ◌+◌, ◌≤◌, List, [], ◌∷◌, ◌++◌, length, true, false, eqb, Some, Ok, refl, sym, ap, subst, ◌∙◌, arith, length-append, All, ◌-◌, Option, None, ◌⊎◌, inl, inr, map, append_assoc, list_all, flat_map, bytes_eq, and_parts, and_from, ne_eqb, eqb-true, cases_Bool, eq-eqb, not-false, NodeSettings, Word, Naming, OptionValue, Statement, Reading, LineEffect, row, word_text, word_of, words, naming, fields, setting_values, place_of, use_in, is_unbound, name_in, options_in, is_misplaced, line_gives, with_change, line_adds, lines_add, start, finished, workload_of, bound_name, values_in, change_of, or_zero, change_with, value_text, options_words, bound_words, used_words, line_text, statement_text, node_text, caller_text, Line, if_any, statement_lines_behind, lines_of_part, lines_of, laid_out, canonical, led, between, led_append, append-nil, slice_split_at, slice_split_none, Part, Workload, words_of, statement_lines, line_if_any, part_lines}
+use Rattle.workload_file.proofs.Cited.{◌≡◌, ℕ, ◌+◌, ◌≤◌, List, [], ◌∷◌, ◌++◌, length, true, false, eqb, Some, Ok, refl, sym, ap, subst, ◌∙◌, arith, length-append, All, ◌-◌, Option, None, ◌⊎◌, inl, inr, map, append_assoc, list_all, flat_map, bytes_eq, and_parts, and_from, ne_eqb, eqb-true, cases_Bool, eq-eqb, not-false, NodeSettings, Word, Naming, OptionValue, Statement, Reading, LineEffect, statement_row, word_text, word_of, words, naming, fields, setting_values, place_of, use_in, is_unbound, name_in, options_in, is_misplaced, line_gives, with_change, line_adds, lines_add, empty_reading, finished, workload_of, bound_name, values_in, change_of, number_or_zero, change_with, value_text, options_words, bound_words, used_words, line_text, statement_text, node_text, caller_text, TextLine, if_any, statement_lines_behind, lines_of_part, workload_lines, laid_out, canonical, led, between, led_append, append-nil, slice_split_at, slice_split_none, Part, Workload, words_of, statement_lines, line_if_any, part_lines}
 use Rattle.workload_file.specs.declared.table.Word.TheVariants as word
 use Rattle.workload_file.specs.declared.table.Naming.TheVariants as rule
 use Rattle.workload_file.specs.declared.reading.LineEffect.TheVariants as change
@@ -27,20 +27,20 @@ unfolding word_of
 word_spelled first w e = bytes_are (word_text w) first (find_passes (λ w. bytes_eq (word_text w) first) words w e)
 
 pub deed_naming : (w : Word) → is_deed w ≡ true → naming w ≡ rule.Caller → ⊥
-unfolding row
+unfolding statement_row
 deed_naming w e1 e2 = grind (arith, nat_tests)
 
 -- the words between the first one and the options
 names_written : (before : List Statement) (n : Naming) (name : List ℕ) (ps : List (List ℕ)) → (n ≡ rule.Caller → ⊥)
     → is_unbound n (use_in before n name) ≡ false
-    → bound_words (bound_name n name) ++ (used_words before (place_at n (or_zero (use_in before n name))) ++ ps) ≡ named n name ++ ps
+    → bound_words (bound_name n name) ++ (used_words before (place_at n (number_or_zero (use_in before n name))) ++ ps) ≡ named n name ++ ps
 names_written before rule.Caller name ps c u = absurd (c refl)
 names_written before (rule.Uses s) name ps c u = let p = place_found (place_of s name before) u in rw (p.1, (place_is s name before p.0 p.1).1) refl
 names_written before _ name ps c u = refl
 
 node_options : (before : List Statement) (settings : NodeSettings)
     → options_words [] (fields word.Node) (setting_values settings) ≡ options_words before (fields word.Node) (setting_values settings)
-unfolding options_words row value_text
+unfolding options_words statement_row value_text
 node_options before settings = refl
 
 split_again : (n : Naming) (rest : List (List ℕ)) (name : List ℕ) (ps : List (List ℕ)) → name_in n rest ≡ name
@@ -48,17 +48,17 @@ split_again : (n : Naming) (rest : List (List ℕ)) (name : List ℕ) (ps : List
 split_again n rest name ps e1 = grind (arith, nat_tests)
 
 node_named : (name : List ℕ) → named (naming word.Node) name ≡ []
-unfolding row
+unfolding statement_row
 node_named name = refl
 
 caller_named : (name : List ℕ) → named (naming word.Caller) name ≡ name ∷ []
-unfolding row
+unfolding statement_row
 caller_named name = refl
 
 -- a caller line has no options
 caller_options : (before : List Statement) (options : List (List ℕ))
     → options_words before (fields word.Caller) (values_in before options (fields word.Caller)) ≡ []
-unfolding row options_words
+unfolding statement_row options_words
 caller_options before options = refl
 
 -- ---- the words of the line that is written
@@ -167,8 +167,8 @@ line_again r line text c e =
 
 -- ---- the lines of what is read so far
 
-abbrev shown : Reading → List Line
-shown r = lines_of (finished r)
+abbrev shown : Reading → List TextLine
+shown r = workload_lines (finished r)
 
 pub line_shown : (line : ℕ) (text : List ℕ) → 1 ≤ line → if_any line text ≡ (line, text) ∷ []
 line_shown line text le = let n : line ≡ 0 → ⊥ = λ (e : line ≡ 0). omega arith in rw (ne_eqb line 0 n) refl
@@ -199,10 +199,10 @@ pub parts_count : (ps : List Part) → length (flat_map lines_of_part ps) ≡ le
 parts_count [] = refl
 parts_count (p ∷ ps) = grind (arith, nat_tests, parts_count ps, length-append, lines_of_part, flat_map, part_lines, part_count)
 
-pub lines_count : (load : Workload) → length (lines_of load) ≡ length (statement_lines load)
+pub lines_count : (load : Workload) → length (workload_lines load) ≡ length (statement_lines load)
 lines_count load = grind (arith, nat_tests, length-append, if_any, node_text, flat_map, lines_of_part, line_if_any, part_lines, any_count, parts_count)
 
-empty_back : (xs ys : List Line) → length (xs ++ ys) ≡ 0 → (xs ++ ys ≡ []) × (ys ≡ [])
+empty_back : (xs ys : List TextLine) → length (xs ++ ys) ≡ 0 → (xs ++ ys ≡ []) × (ys ≡ [])
 empty_back [] [] h = (refl, refl)
 empty_back [] (y ∷ ys) h = absurd (omega arith)
 empty_back (x ∷ xs) ys h = absurd (omega arith)
@@ -240,19 +240,19 @@ pub empty_adds : (r : Reading) (line : ℕ) → line_adds r line [] ≡ Ok r
 unfolding line_adds line_gives words_of with_change
 empty_adds r line = refl
 
-unfoldable pub From : ℕ → List Line → Type 0
+unfoldable pub From : ℕ → List TextLine → Type 0
 From line [] = Unit {0}
 From line (l ∷ ls) = line ≤ l.0
 
-from_less : (line : ℕ) (ls : List Line) → From (line + 1) ls → From line ls
+from_less : (line : ℕ) (ls : List TextLine) → From (line + 1) ls → From line ls
 unfolding From
 from_less line ls e1 = grind (arith, nat_tests)
 
-pub laid_step : (line : ℕ) (l : Line) (ls : List Line) → line + 1 ≤ l.0 → laid_out line (l ∷ ls) ≡ 10 ∷ laid_out (line + 1) (l ∷ ls)
+pub laid_step : (line : ℕ) (l : TextLine) (ls : List TextLine) → line + 1 ≤ l.0 → laid_out line (l ∷ ls) ≡ 10 ∷ laid_out (line + 1) (l ∷ ls)
 unfolding laid_out
 laid_step line l ls e1 = grind (arith, nat_tests)
 
-pub laid_here : (line : ℕ) (text : List ℕ) (ls : List Line) → laid_out line ((line, text) ∷ ls) ≡ text ++ laid_out line ls
+pub laid_here : (line : ℕ) (text : List ℕ) (ls : List TextLine) → laid_out line ((line, text) ∷ ls) ≡ text ++ laid_out line ls
 unfolding laid_out
 laid_here line text ls = let n : line - line ≡ 0 = omega arith in rw n refl
 
@@ -265,27 +265,27 @@ unfolding lines_add
 empty_more r end line h = ok_is r end (rw (empty_adds r line) at h)
 
 -- a line, and the lines behind it
-pub next_adds : (r s end : Reading) (line : ℕ) (text : List ℕ) (ls : List Line) → All (λ b. eqb b 10 ≡ false) text → From (line + 1) ls
+pub next_adds : (r s end : Reading) (line : ℕ) (text : List ℕ) (ls : List TextLine) → All (λ b. eqb b 10 ≡ false) text → From (line + 1) ls
     → line_adds r line text ≡ Ok s → lines_add s (line + 1) (between 10 (laid_out (line + 1) ls)) ≡ Ok end
     → lines_add r line (between 10 (text ++ laid_out line ls)) ≡ Ok end
 unfolding From
 next_adds r s end line text ls e1 e2 e3 e4 =
     grind (arith, nat_tests, laid_out, laid_none, append-nil, slice_split_none, empty_more, lines_add, one_adds, laid_step, slice_split_at, eq-eqb, one_more)
 
-laid_less : (line : ℕ) (ls : List Line) → From (line + 1) ls → length (laid_out line ls) ≤ length (laid_out (line + 1) ls) + 1
+laid_less : (line : ℕ) (ls : List TextLine) → From (line + 1) ls → length (laid_out line ls) ≤ length (laid_out (line + 1) ls) + 1
 unfolding From
 laid_less line ls e1 = grind (arith, nat_tests, laid_none, laid_step)
 
 -- the lines that are written of the lines from this one on
 record IsReread (r s : Reading) (line : ℕ) (texts : List (List ℕ)) : Type 0 where
-  lines : List Line
+  lines : List TextLine
   shows : shown s ≡ shown r ++ lines
   from : From line lines
   read : lines_add r line (between 10 (laid_out line lines)) ≡ Ok s
   short : (length (laid_out line lines) + 1 ≤ length (led 10 texts)) ⊎ ((texts ≡ []) × (lines ≡ []))
 
 -- how long the lines behind one line are
-behind : (line : ℕ) (text written : List ℕ) (texts : List (List ℕ)) (ls : List Line) → From (line + 1) ls → length written ≤ length text
+behind : (line : ℕ) (text written : List ℕ) (texts : List (List ℕ)) (ls : List TextLine) → From (line + 1) ls → length written ≤ length text
     → (length (laid_out (line + 1) ls) + 1 ≤ length (led 10 texts)) ⊎ ((texts ≡ []) × (ls ≡ []))
     → length (written ++ laid_out line ls) + 1 ≤ length (led 10 (text ∷ texts))
 behind line text written texts ls e1 e2 e3 = grind (arith, nat_tests, laid_less, length-append, laid_out, laid_none)
@@ -336,8 +336,8 @@ reread (text ∷ texts) r s line f le e =
     let rest = reread texts b.0 s (line + 1) (adds_keeps r b.0 line text f le b.1) (omega arith) b.2 in
     by_change r b.0 s line text texts d.0 f le d.1 (ok_is _ b.0 d.2) rest
 
-nothing_shown : shown start ≡ []
-unfolding start statement_lines_behind
+nothing_shown : shown empty_reading ≡ []
+unfolding empty_reading statement_lines_behind
 nothing_shown = refl
 
 -- the canonical text gives the same workload, and is no longer than the text
@@ -345,12 +345,12 @@ record IsSame (bytes : List ℕ) (load : Workload) : Type 0 where
   again : workload_of (canonical load) ≡ Ok load
   short : length (canonical load) ≤ length bytes
 
-whole_short : (bytes : List ℕ) (lines : List Line)
+whole_short : (bytes : List ℕ) (lines : List TextLine)
     → (length (laid_out 1 lines) + 1 ≤ length (led 10 (between 10 bytes))) ⊎ ((between 10 bytes ≡ []) × (lines ≡ [])) → length (laid_out 1 lines) ≤ length bytes
 whole_short bytes lines (inl h) = omega (arith, h, text_led 10 bytes)
 whole_short bytes lines (inr h) = grind (arith, nat_tests, laid_out, laid_none)
 
-read_whole : (lines : List Line) (end : Reading) → lines_add start 1 (between 10 (laid_out 1 lines)) ≡ Ok end
+read_whole : (lines : List TextLine) (end : Reading) → lines_add empty_reading 1 (between 10 (laid_out 1 lines)) ≡ Ok end
     → workload_of (laid_out 1 lines) ≡ Ok (finished end)
 unfolding workload_of
 read_whole lines end e = rw e refl
@@ -358,12 +358,12 @@ read_whole lines end e = rw e refl
 same_load : (bytes : List ℕ) (load : Workload) → workload_of bytes ≡ Ok load → IsSame bytes load
 unfolding workload_of
 same_load bytes load e =
-    let b = bind_ok (lines_add start 1 (between 10 bytes)) _ load e in
-    let h = reread (between 10 bytes) start b.0 1 start_formed (omega arith) b.1 in
-    let shows : shown b.0 ≡ h.lines = h.shows ∙ ap (λ (l : List Line). l ++ h.lines) nothing_shown in
+    let b = bind_ok (lines_add empty_reading 1 (between 10 bytes)) _ load e in
+    let h = reread (between 10 bytes) empty_reading b.0 1 start_formed (omega arith) b.1 in
+    let shows : shown b.0 ≡ h.lines = h.shows ∙ ap (λ (l : List TextLine). l ++ h.lines) nothing_shown in
     subst (λ (l : Workload). IsSame bytes l) (ok_is (finished b.0) load b.2) (record {
-      again = subst (λ (l : List Line). workload_of (laid_out 1 l) ≡ Ok (finished b.0)) (sym shows) (read_whole h.lines b.0 h.read);
-      short = subst (λ (l : List Line). length (laid_out 1 l) ≤ length bytes) (sym shows) (whole_short bytes h.lines h.short);
+      again = subst (λ (l : List TextLine). workload_of (laid_out 1 l) ≡ Ok (finished b.0)) (sym shows) (read_whole h.lines b.0 h.read);
+      short = subst (λ (l : List TextLine). length (laid_out 1 l) ≤ length bytes) (sym shows) (whole_short bytes h.lines h.short);
     })
 
 pub canonical_short : (bytes : List ℕ) (load : Workload) → workload_of bytes ≡ Ok load → length (canonical load) ≤ length bytes

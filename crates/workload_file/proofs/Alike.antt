@@ -1,6 +1,6 @@
 -- Comments, spaces, the order of options and written-out defaults.
 use Rattle.std.proofs.lemmas.Bool.Decides.{nat_tests}
-use Rattle.workload_file.proofs.Cited.{◌≡◌, ℕ, ◌≤◌, List, [], ◌∷◌, ◌++◌, length, replicate, Bool, true, false, not, cond, eqb, ◌&&◌, ◌||◌, Option, Some, None, Ok, refl, sym, ap, subst, ◌∙◌, arith, inl, inr, zero, suc, ◌+◌, map, nat_le, nat_lt, filter, is_some, option_and_then, slice_get, option_map, find, list_any, list_all, onto_first, position_or_len, bytes_eq, and_parts, or_parts, or_from, cases_Bool, le-ltb, not-false, append-nil, map-append, length-map, length-slice_split, between, Word, Naming, Key, Field, OptionValue, Statement, Workload, Reading, LineEffect, is_name, is_name_byte, begins_with_letter, words_of, naming, fields, key_text, word_of, key_of, value_of, is_known, has_twice, gives, text_of, has_second, name_in, options_in, use_in, is_called, bound_at, is_binding, place_of, is_taken, is_misplaced, is_ninth_caller, is_unbound, value_given, value_absent, value_at, values_in, change_with, change_of, or_unbound, line_gives, line_adds, lines_add, at_line, start, workload_of, with_change, finished, IsPlain, has_equals, IsSwapped, IsWrittenOut, AddsAlike, DifferAt, AddsNothing, IsInserted, still, still_part, AreStill, GivesStill, is_statement, is_printable, slice_get-map, Sort, OptionShape, Part, is_begin, length-append, length-replicate, filter-append}
+use Rattle.workload_file.proofs.Cited.{◌≡◌, ℕ, ◌≤◌, List, [], ◌∷◌, ◌++◌, length, replicate, Bool, true, false, not, cond, eqb, ◌&&◌, ◌||◌, Option, Some, None, Ok, refl, sym, ap, subst, ◌∙◌, arith, inl, inr, zero, suc, ◌+◌, map, nat_le, nat_lt, filter, is_some, option_and_then, slice_get, option_map, find, list_any, list_all, onto_first, position_or_len, bytes_eq, and_parts, or_parts, or_from, cases_Bool, le-ltb, not-false, append-nil, map-append, length-map, length-slice_split, between, Word, Naming, Key, Field, OptionValue, Statement, Workload, Reading, LineEffect, is_name, is_name_byte, begins_with_letter, words_of, naming, fields, key_text, word_of, key_of, value_of, is_known, has_twice, gives_option, text_of, has_second, name_in, options_in, use_in, is_called, bound_at, is_binding, place_of, is_taken, is_misplaced, is_ninth_caller, is_unbound, value_given, value_absent, option_value_at, values_in, change_with, change_of, or_unbound, line_gives, line_adds, lines_add, at_line, empty_reading, workload_of, with_change, finished, IsPlain, has_equals, IsSwapped, IsWrittenOut, AddsAlike, DifferAt, AddsNothing, IsInserted, still, still_part, AreStill, GivesStill, is_statement, is_printable, slice_get-map, Sort, OptionShape, Part, is_begin, length-append, length-replicate, filter-append}
 use Rattle.workload_file.specs.declared.table.Naming.TheVariants as rule
 use Rattle.workload_file.specs.declared.reading.LineEffect.TheVariants as change
 use Rattle.workload_file.proofs.Facts.{IsRead, bind_ok, at_line_ok, here, is_sound, stated, states, silent, silence, ok_is, one_more, gives_adds}
@@ -250,7 +250,8 @@ name_push _ (x ∷ xs) o h = (refl, refl)
 any_named : (q : List ℕ → Bool) (n : Naming) (rest : List (List ℕ)) → list_any q rest ≡ false → list_any q (options_in n rest) ≡ false
 any_named q n rest e1 = grind (arith, nat_tests)
 
-twice_push : (k : Key) (ps : List (List ℕ)) (o : List ℕ) → key_of o ≡ key_text k → has_twice ps ≡ false → gives k ps ≡ false → has_twice (ps ++ o ∷ []) ≡ false
+twice_push : (k : Key) (ps : List (List ℕ)) (o : List ℕ) → key_of o ≡ key_text k → has_twice ps ≡ false → gives_option k ps ≡ false
+    → has_twice (ps ++ o ∷ []) ≡ false
 unfolding has_twice
 twice_push k [] o e h g = refl
 twice_push k (p ∷ ps) o e h g = grind (arith, nat_tests, twice_push k ps o e, or_parts, bytes_eq, key_of, apart_sym, key_text, or_from, any_push)
@@ -263,21 +264,21 @@ text_other : (k : Key) (ps : List (List ℕ)) (o : List ℕ) → bytes_eq (key_o
 unfolding text_of
 text_other k ps o f = ap (option_map value_of) (find_push (λ w. bytes_eq (key_of w) (key_text k)) ps o f)
 
-text_absent : (k : Key) (ps : List (List ℕ)) → gives k ps ≡ false → text_of k ps ≡ None
+text_absent : (k : Key) (ps : List (List ℕ)) → gives_option k ps ≡ false → text_of k ps ≡ None
 text_absent k ps h = ap (text_of k) (sym (append-nil ps)) ∙ text_nothing k ps [] h refl
 
 -- an option that is written out, and what it gives
 record IsOut (before : List Statement) (f : Field) (ps : List (List ℕ)) (o value : List ℕ) : Type 0 where
   key : key_of o ≡ key_text f.key
   text : value_of o ≡ value
-  absent : gives f.key ps ≡ false
+  absent : gives_option f.key ps ≡ false
   reads : value_given before f.shape value ≡ value_absent f.absent f.shape
 
 values_other : (before : List Statement) (ps : List (List ℕ)) (o : List ℕ) (k : Key) (fs : List Field) → key_of o ≡ key_text k
     → list_any (λ g. bytes_eq (key_text g.key) (key_text k)) fs ≡ false → values_in before (ps ++ o ∷ []) fs ≡ values_in before ps fs
 values_other before ps o k [] e h = refl
 values_other before ps o k (g ∷ gs) e h =
-    grind (arith, nat_tests, values_other before ps o k gs e, or_parts, bytes_eq, key_text, list_any, key_of, apart_sym, value_at, text_other)
+    grind (arith, nat_tests, values_other before ps o k gs e, or_parts, bytes_eq, key_text, list_any, key_of, apart_sym, option_value_at, text_other)
 
 values_out : (before : List Statement) (ps : List (List ℕ)) (o value : List ℕ) (f : Field) (fs : List Field) → IsOut before f ps o value → AreApart fs
     → IsField fs f → values_in before (ps ++ o ∷ []) fs ≡ values_in before ps fs
@@ -287,22 +288,24 @@ values_out before ps o value f (g ∷ gs) out apart is =
       | inl t ↦
           let found = rw t at is in
           let same : g ≡ f = cc in
-          let with_it : value_at before f (text_of f.key (ps ++ o ∷ [])) ≡ value_given before f.shape value =
-          ap (value_at before f) (text_skip f.key ps [] o value out.absent out.key out.text) in
-          let without : value_at before f (text_of f.key ps) ≡ value_absent f.absent f.shape = ap (value_at before f) (text_absent f.key ps out.absent) in
-          let first : value_at before g (text_of g.key (ps ++ o ∷ [])) ≡ value_at before g (text_of g.key ps) = rw same (with_it ∙ (out.reads ∙ sym without)) in
+          let with_it : option_value_at before f (text_of f.key (ps ++ o ∷ [])) ≡ value_given before f.shape value =
+          ap (option_value_at before f) (text_skip f.key ps [] o value out.absent out.key out.text) in
+          let without : option_value_at before f (text_of f.key ps) ≡ value_absent f.absent f.shape =
+          ap (option_value_at before f) (text_absent f.key ps out.absent) in
+          let first : option_value_at before g (text_of g.key (ps ++ o ∷ [])) ≡ option_value_at before g (text_of g.key ps) =
+          rw same (with_it ∙ (out.reads ∙ sym without)) in
           let rest = values_other before ps o f.key gs out.key
           (subst (λ (x : Field). list_any (λ h. bytes_eq (key_text h.key) (key_text x.key)) gs ≡ false) same apart.0) in
           λ i. first i ∷ rest i
       | inr n ↦
           let other : bytes_eq (key_of o) (key_text g.key) ≡ false = rw out.key (apart_sym (key_text g.key) (key_text f.key) n) in
-          let first = ap (value_at before g) (text_other g.key ps o other) in
+          let first = ap (option_value_at before g) (text_other g.key ps o other) in
           let rest = values_out before ps o value f gs out apart.1 (rw n at is) in
           λ i. first i ∷ rest i
     ]
 
 written_out : (r : Reading) (line : ℕ) (first : List ℕ) (rest : List (List ℕ)) (w : Word) (f : Field) (value : List ℕ) → word_of first ≡ Some w
-    → IsField (fields w) f → gives f.key rest ≡ false → value_given (here r) f.shape value ≡ value_absent f.absent f.shape
+    → IsField (fields w) f → gives_option f.key rest ≡ false → value_given (here r) f.shape value ≡ value_absent f.absent f.shape
     → Instead r line first rest (rest ++ (key_text f.key ++ 61 ∷ value) ∷ [])
 unfolding Instead
 written_out r line first rest w f value e1 e2 e3 e4 =
@@ -396,7 +399,7 @@ given_alike : (r q : Reading) (s : OptionShape) (text : List ℕ) → AreAlike r
 unfolding value_given
 given_alike r q s text e1 = grind (arith, nat_tests, is_name, or_unbound, place_alike)
 
-value_alike : (r q : Reading) (f : Field) (o : Option (List ℕ)) → AreAlike r q → value_at (here r) f o ≡ value_at (here q) f o
+value_alike : (r q : Reading) (f : Field) (o : Option (List ℕ)) → AreAlike r q → option_value_at (here r) f o ≡ option_value_at (here q) f o
 value_alike r q f o e1 = grind (arith, nat_tests, given_alike)
 
 values_alike : (r q : Reading) (options : List (List ℕ)) (fs : List Field) → AreAlike r q → values_in (here r) options fs ≡ values_in (here q) options fs
@@ -496,8 +499,8 @@ pub text_inserted : (bytes others text : List ℕ) (load : Workload) → IsInser
     → GivesStill others load
 unfolding workload_of
 text_inserted bytes others text load i none e =
-    let b = bind_ok (lines_add start 1 (between 10 bytes)) _ load e in
-    let h = lines_inserted i.before i.after text start b.0 1 none (subst (λ (ts : List (List ℕ)). lines_add start 1 ts ≡ Ok b.0) i.lines b.1) in
+    let b = bind_ok (lines_add empty_reading 1 (between 10 bytes)) _ load e in
+    let h = lines_inserted i.before i.after text empty_reading b.0 1 none (subst (λ (ts : List (List ℕ)). lines_add empty_reading 1 ts ≡ Ok b.0) i.lines b.1) in
     record {
       given = finished h.state;
       gives = rw (i.other_lines, h.adds) refl;

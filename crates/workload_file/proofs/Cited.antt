@@ -15,7 +15,7 @@ pub use Rattle.number_text.proofs.Reading.{bind_some, cores_fit, list_fits, whol
 pub use Rattle.number_text.proofs.Spelling.{cores_spelled, list_spelled, number_spelled, whole_spelled}
 pub use Rattle.number_text.specs.Cores.{cores_text}
 pub use Rattle.number_text.specs.Lists.{between, led, list_of, pieces_of}
-pub use Rattle.number_text.specs.Numbers.{whole}
+pub use Rattle.number_text.specs.Numbers.{whole_number}
 pub use Rattle.std.proofs.Math.ListN.{drop_of_length-le}
 pub use Rattle.std.proofs.lemmas.Bool.{and_from, and_parts, cases_Bool, cases_eq, eq-eqb, eqb-true, le-leb, le-ltb, leb-false, leb-true, lt-ltb, ltb-false, ltb-true, ne_eqb, not-false, not-true, or_cases, or_from, or_left, or_parts, or_right}
 pub use Rattle.std.proofs.lemmas.List.{length-replicate, append-nil, length-map, length_push, map-append, replicate_more, take_all, take_more}
@@ -35,20 +35,20 @@ pub use Rattle.std.specs.Option.{option_map}
 pub use Rattle.std.specs.Prelude.{IfSome, OnOk, codes, filter, is_some, nat_le, nat_lt, option_and_then, slice_get}
 pub use Rattle.std.specs.Str.{bytes_eq}
 pub use Rattle.workload_file.specs.Alike.{AddsAlike, AddsNothing, AreStill, DifferAt, GivesStill, IsInserted, IsPlain, IsSwapped, IsWrittenOut, has_equals, still, still_part}
-pub use Rattle.workload_file.specs.Changes.{bound_name, change_of, is_bad, is_missing, names_nothing, or_bad, or_unbound, or_zero, usual_settings, value_at, values_in}
+pub use Rattle.workload_file.specs.Changes.{bound_name, change_of, is_bad, is_missing, names_nothing, or_bad, or_unbound, number_or_zero, usual_settings, option_value_at, values_in}
 pub use Rattle.workload_file.specs.Deeds.{Spelled, setting_values, used_place, used_with, values, word_for}
 pub use Rattle.workload_file.specs.Faulty.{first_met, is_comment, is_printable, is_statement, statement_causes, word_causes, words_meet}
-pub use Rattle.workload_file.specs.Formed.{AllFit, AreStatements, Fits, HaveDifferentNames, IsBoundAt, IsFurther, IsMain, IsNew, IsPart, IsStatement, IsTimeout, MainFirst, Rise, WellFormed, begins, has_name, line_if_any, part_lines, statement_lines}
+pub use Rattle.workload_file.specs.Formed.{AllFit, AreStatements, FitsShape, HaveDifferentNames, IsBoundAt, IsFurther, IsMain, IsNew, IsPart, IsStatement, IsTimeout, MainFirst, Rise, WellFormed, begins, has_name, line_if_any, part_lines, statement_lines}
 pub use Rattle.workload_file.specs.Indexed.{IsReader, first_of_two}
 pub use Rattle.workload_file.specs.Led.{last_line}
 pub use Rattle.workload_file.specs.Loading.{ReadsClean}
 pub use Rattle.workload_file.specs.Names.{bound_at, has_second, is_binding, is_called, is_unbound, name_in, options_in, use_in}
-pub use Rattle.workload_file.specs.Options.{key_of, field_of, gives, is_known, value_of}
+pub use Rattle.workload_file.specs.Options.{key_of, field_of, gives_option, is_known, value_of}
 pub use Rattle.workload_file.specs.Reading.{Fails, IsFirstFault, at_line, finished, name_text, refused_for, unless, words_say, ◌>>=◌}
 pub use Rattle.workload_file.specs.Table.{fields, naming, word_text, words}
-pub use Rattle.workload_file.specs.Texts.{texts}
+pub use Rattle.workload_file.specs.Texts.{texts_of_words}
 pub use Rattle.workload_file.specs.Values.{begins_with_letter, is_letter, is_name_byte}
-pub use Rattle.workload_file.specs.Written.{Line, bound_words, caller_text, canonical, if_any, is_usual, line_text, lines_of, lines_of_part, name_at, name_of, node_text, option_words, statement_text, used_words}
+pub use Rattle.workload_file.specs.Written.{TextLine, bound_words, caller_text, canonical, if_any, is_usual, line_text, workload_lines, lines_of_part, name_at, name_of, node_text, option_words, statement_text, used_words}
 pub use Rattle.workload_file.specs.declared.faults.Cause.{Cause}
 pub use Rattle.workload_file.specs.declared.faults.Fault.{Fault}
 pub use Rattle.workload_file.specs.declared.faults.LineError.{LineError}
@@ -69,14 +69,14 @@ pub use Rattle.workload_file.specs.declared.workload.Workload.{Workload}
 pub use denote.Ref.{Bor}
 unfoldable pub use Rattle.mtapi_values.specs.Kinds.{kind_named}
 unfoldable pub use Rattle.number_text.proofs.Pieces.{Lacks}
-unfoldable pub use Rattle.workload_file.specs.Changes.{change_with, settings_by, value_absent, value_given, with_setting}
+unfoldable pub use Rattle.workload_file.specs.Changes.{change_with, settings_by, value_absent, value_given, with_node_setting}
 unfoldable pub use Rattle.workload_file.specs.Cuts.{words_of}
 unfoldable pub use Rattle.workload_file.specs.Deeds.{args_in, cores_in, deed_spelled, deed_with, flag_in, is_begin, kind_in, lock_deed}
-unfoldable pub use Rattle.workload_file.specs.Deeds.{mode_in, number_in, place_in, place_there, queue_deed, segment_deed, timeout_in, whole_in}
+unfoldable pub use Rattle.workload_file.specs.Deeds.{mode_in, number_given, place_in, place_there, queue_deed, segment_deed, timeout_in, whole_in}
 unfoldable pub use Rattle.workload_file.specs.Faulty.{is_faulty}
 unfoldable pub use Rattle.workload_file.specs.Names.{is_misplaced, is_ninth_caller, is_taken, place_of}
 unfoldable pub use Rattle.workload_file.specs.Options.{has_twice, text_of}
-unfoldable pub use Rattle.workload_file.specs.Reading.{line_adds, line_gives, lines_add, start, with_change, workload_of}
-unfoldable pub use Rattle.workload_file.specs.Table.{key_text, row, word_of}
-unfoldable pub use Rattle.workload_file.specs.Values.{cores_of, flag_of, is_name, mode_of, number, number_within, timeout_of}
+unfoldable pub use Rattle.workload_file.specs.Reading.{line_adds, line_gives, lines_add, empty_reading, with_change, workload_of}
+unfoldable pub use Rattle.workload_file.specs.Table.{key_text, statement_row, word_of}
+unfoldable pub use Rattle.workload_file.specs.Values.{cores_of, flag_of, is_name, mode_of, number_in_32, number_from_to, timeout_of}
 unfoldable pub use Rattle.workload_file.specs.Written.{is_default, laid_out, options_words, statement_lines_behind, timeout_text, value_text}

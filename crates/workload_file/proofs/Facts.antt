@@ -1,6 +1,6 @@
 -- What is known of a line that was read without a fault, and the other way round.
 use Rattle.std.proofs.lemmas.Bool.Decides.{nat_tests}
-use Rattle.workload_file.proofs.Cited.{◌≡◌, ℕ, List, [], ◌∷◌, length, Bool, true, false, not, cond, ◌&&◌, Option, Some, None, Result, Ok, Err, refl, sym, ap, ◌∙◌, ◌||◌, ◌+◌, ◌++◌, arith, nat_le, find, list_all, list_any, not-false, or_parts, or_from, and_parts, and_from, Word, OptionValue, Cause, Reading, LineEffect, Statement, is_name, naming, fields, word_of, is_known, has_twice, has_second, name_in, options_in, use_in, is_taken, is_unbound, is_misplaced, is_ninth_caller, words_of, values_in, is_bad, is_missing, names_nothing, change_of, is_comment, is_statement, is_faulty, words_meet, statement_causes, word_causes, first_met, ◌>>=◌, unless, words_say, line_gives, at_line, with_change, line_adds, lines_add, start, finished, workload_of, refused_for, IsFirstFault, IsPlain, Fault, between}
+use Rattle.workload_file.proofs.Cited.{◌≡◌, ℕ, List, [], ◌∷◌, length, Bool, true, false, not, cond, ◌&&◌, Option, Some, None, Result, Ok, Err, refl, sym, ap, ◌∙◌, ◌||◌, ◌+◌, ◌++◌, arith, nat_le, find, list_all, list_any, not-false, or_parts, or_from, and_parts, and_from, Word, OptionValue, Cause, Reading, LineEffect, Statement, is_name, naming, fields, word_of, is_known, has_twice, has_second, name_in, options_in, use_in, is_taken, is_unbound, is_misplaced, is_ninth_caller, words_of, values_in, is_bad, is_missing, names_nothing, change_of, is_comment, is_statement, is_faulty, words_meet, statement_causes, word_causes, first_met, ◌>>=◌, unless, words_say, line_gives, at_line, with_change, line_adds, lines_add, empty_reading, finished, workload_of, refused_for, IsFirstFault, IsPlain, Fault, between}
 use Rattle.workload_file.specs.declared.values.OptionValue.TheVariants as given
 use Rattle.workload_file.specs.declared.faults.Cause.TheVariants as cause
 
@@ -316,7 +316,7 @@ kept_fault x f e1 = grind (arith, nat_tests)
 pub text_refused : (bytes : List ℕ) (fault : Fault) → workload_of bytes ≡ Err fault → IsFirstFault bytes fault
 unfolding workload_of
 text_refused bytes fault e =
-    let h = fault_in (between 10 bytes) start 1 fault (kept_fault (lines_add start 1 (between 10 bytes)) fault e) in
+    let h = fault_in (between 10 bytes) empty_reading 1 fault (kept_fault (lines_add empty_reading 1 (between 10 bytes)) fault e) in
     grind (arith, nat_tests)
 
 pub refused_text : (bytes : List ℕ) (fault : Fault) → IsFirstFault bytes fault → workload_of bytes ≡ Err fault

@@ -1,14 +1,14 @@
 -- The fields of a statement, the kinds of statements, and what each kind says.
 use Rattle.std.proofs.lemmas.Bool.Decides.{nat_tests}
 use Rattle.std.proofs.Common.{arith}
-use Rattle.workload_file.proofs.Cited.{◌≡◌, List, [], ◌∷◌, Bool, true, Some, refl, ℕ, false, None, subst, ◌&&◌, ◌||◌, not, ℤ, Option, ◌++◌, eqb, AllByRecursion, find, list_all, list_any, bytes_eq, and_parts, or_parts, not-true, Word, Field, row, word_text, words, word_of, naming, fields, key_text, nat_le, OptionShape, Absent, OptionValue, Deed, Statement, Reading, LineEffect, use_in, deed_with, deed_spelled, queue_deed, lock_deed, segment_deed, setting_values, number_in, whole_in, args_in, cores_in, kind_in, flag_in, mode_in, timeout_in, place_in, place_there, values_in, or_zero, bound_name, settings_by, change_with, change_of, Kind, Timeout, Args, Mask, NodeSettings, Key, Naming, key_of, value_of}
+use Rattle.workload_file.proofs.Cited.{◌≡◌, List, [], ◌∷◌, Bool, true, Some, refl, ℕ, false, None, subst, ◌&&◌, ◌||◌, not, ℤ, Option, ◌++◌, eqb, AllByRecursion, find, list_all, list_any, bytes_eq, and_parts, or_parts, not-true, Word, Field, statement_row, word_text, words, word_of, naming, fields, key_text, nat_le, OptionShape, Absent, OptionValue, Deed, Statement, Reading, LineEffect, use_in, deed_with, deed_spelled, queue_deed, lock_deed, segment_deed, setting_values, number_given, whole_in, args_in, cores_in, kind_in, flag_in, mode_in, timeout_in, place_in, place_there, values_in, number_or_zero, bound_name, settings_by, change_with, change_of, Kind, Timeout, Args, Mask, NodeSettings, Key, Naming, key_of, value_of}
 use Rattle.workload_file.specs.declared.table.Word.TheVariants as word
 use Rattle.workload_file.specs.declared.table.OptionShape.TheVariants as shape
 use Rattle.workload_file.specs.declared.table.Absent.TheVariants as absent
 use Rattle.workload_file.specs.declared.values.OptionValue.TheVariants as given
 use Rattle.workload_file.specs.declared.reading.LineEffect.TheVariants as change
 use Rattle.workload_file.specs.declared.table.Naming.TheVariants as rule
-use Rattle.workload_file.specs.Indexed.{name_of}
+use Rattle.workload_file.specs.Indexed.{name_in_effect}
 use Rattle.workload_file.proofs.Finds.{find_all}
 use Rattle.workload_file.proofs.Facts.{here}
 use Rattle.workload_file.proofs.Places.{bytes_same, apart_sym}
@@ -17,7 +17,7 @@ use Rattle.workload_file.proofs.Phrases.{is_inner}
 -- ==== what holds of each row of the table, tested row by row
 
 pub word_found : (w : Word) → word_of (word_text w) ≡ Some w
-unfolding word_of row
+unfolding word_of statement_row
 word_found w = grind (arith, nat_tests)
 
 first_word : (w : Word) → find (λ x. bytes_eq (word_text x) (word_text w)) words ≡ Some w
@@ -47,7 +47,7 @@ made line w name d = record { line = line; name = bound_name (naming w) name; de
 
 -- the deed that is said
 abbrev pub deed_said : Reading → Word → List ℕ → List (List ℕ) → Deed
-deed_said r w name options = deed_with w (or_zero (use_in (here r) (naming w) name)) (values_in (here r) options (fields w))
+deed_said r w name options = deed_with w (number_or_zero (use_in (here r) (naming w) name)) (values_in (here r) options (fields w))
 
 -- what a statement that was read says, by its kind
 pub data IsEffectOf (r : Reading) (line : ℕ) (w : Word) (name : List ℕ) (options : List (List ℕ)) (c : LineEffect) : Type 0 where
@@ -65,8 +65,8 @@ says r line w name options c e = subst (IsEffectOf r line w name options) e (sai
 
 -- the name that a statement binds
 pub name_changed : (line : ℕ) (w : Word) (name : List ℕ) (place : Option ℕ) (vs : List OptionValue)
-    → name_of (change_with line w name place vs) ≡ bound_name (naming w) name
-unfolding change_with row
+    → name_in_effect (change_with line w name place vs) ≡ bound_name (naming w) name
+unfolding change_with statement_row
 name_changed line w name place vs = grind (arith, nat_tests)
 
 -- ---- the fields of a statement
@@ -85,7 +85,7 @@ apart_from [] h = tt
 apart_from (f ∷ fs) h = grind (arith, nat_tests, apart_from fs, and_parts, bytes_eq, key_text, not-true)
 
 every_apart : list_all (λ w. are_apart (fields w)) words ≡ true
-unfolding row key_text
+unfolding statement_row key_text
 every_apart = refl
 
 pub fields_apart : (w : Word) → AreApart (fields w)
@@ -121,7 +121,7 @@ is_good absent.Usual (shape.Named s) = true
 is_good _ _ = false
 
 every_good : list_all (λ w. list_all (λ f. is_good f.absent f.shape) (fields w)) words ≡ true
-unfolding row
+unfolding statement_row
 every_good = refl
 
 pub fields_good : (w : Word) → AllByRecursion (λ f. is_good f.absent f.shape ≡ true) (fields w)
@@ -255,7 +255,8 @@ place_at (rule.Binds sort) place = None
 
 deed_held : (w : Word) (place : ℕ) (x : AllHeld (fields w)) → is_deed w ≡ true
     → deed_spelled (deed_with w place (all_with (fields w) x)) ≡ record { word = w; place = place_at (naming w) place; values = all_with (fields w) x }
-unfolding row deed_spelled deed_with queue_deed lock_deed segment_deed number_in whole_in args_in cores_in kind_in flag_in mode_in timeout_in place_in
+unfolding statement_row deed_spelled deed_with queue_deed lock_deed segment_deed number_given whole_in args_in cores_in kind_in flag_in mode_in timeout_in
+    place_in
     place_there
 deed_held w place x e1 = grind (arith, nat_tests)
 
@@ -267,7 +268,7 @@ deed_is w place vs h f = let held = all_held (fields w) vs f in rw held.1 (deed_
 -- ---- settings
 
 node_held : (x : AllHeld (fields word.Node)) → (s : NodeSettings) × (setting_values s ≡ all_with (fields word.Node) x)
-unfolding row
+unfolding statement_row
 node_held (a, (b, (c, (d, (e, (f, (g, (h, _)))))))) =
     (record { workers = a; tasks = b; actions = c; groups = d; queues = e; objects = f; priorities = g; generations = h }, refl)
 

@@ -1,6 +1,6 @@
 -- Each line keeps what is read well formed.
 use Rattle.std.proofs.lemmas.Bool.Decides.{nat_tests}
-use Rattle.workload_file.proofs.Cited.{◌≡◌, ℕ, ◌+◌, ◌≤◌, ◌<◌, List, [], ◌∷◌, ◌++◌, length, Bool, true, false, not, cond, Option, Some, refl, sym, ap, arith, inl, inr, append_assoc, ◌&&◌, None, Ok, subst, ◌∙◌, ◌⊎◌, is_some, IfSome, AllByRecursion, list_any, flat_map, position_or_len, list_all, bytes_eq, or_parts, or_from, eqb-true, lt-ltb, not-false, leb-false, ne_eqb, append-nil, length_push, map-append, NodeSettings, Word, Naming, Deed, Statement, Part, Reading, is_name, row, naming, fields, deed_spelled, word_for, used_place, values, used_with, setting_values, is_begin, number_in, Spelled, is_called, bound_at, is_taken, is_misplaced, place_of, has_second, name_in, options_in, use_in, is_unbound, is_ninth_caller, finished, with_change, line_gives, line_adds, lines_add, start, workload_of, with_setting, usual_settings, bound_name, values_in, settings_by, or_zero, AllFit, IsBoundAt, has_name, IsNew, IsStatement, AreStatements, begins, IsPart, IsMain, IsFurther, MainFirst, HaveDifferentNames, statement_lines, Rise, line_if_any, part_lines, WellFormed, Workload, LineEffect, between}
+use Rattle.workload_file.proofs.Cited.{◌≡◌, ℕ, ◌+◌, ◌≤◌, ◌<◌, List, [], ◌∷◌, ◌++◌, length, Bool, true, false, not, cond, Option, Some, refl, sym, ap, arith, inl, inr, append_assoc, ◌&&◌, None, Ok, subst, ◌∙◌, ◌⊎◌, is_some, IfSome, AllByRecursion, list_any, flat_map, position_or_len, list_all, bytes_eq, or_parts, or_from, eqb-true, lt-ltb, not-false, leb-false, ne_eqb, append-nil, length_push, map-append, NodeSettings, Word, Naming, Deed, Statement, Part, Reading, is_name, statement_row, naming, fields, deed_spelled, word_for, used_place, values, used_with, setting_values, is_begin, number_given, Spelled, is_called, bound_at, is_taken, is_misplaced, place_of, has_second, name_in, options_in, use_in, is_unbound, is_ninth_caller, finished, with_change, line_gives, line_adds, lines_add, empty_reading, workload_of, with_node_setting, usual_settings, bound_name, values_in, settings_by, number_or_zero, AllFit, IsBoundAt, has_name, IsNew, IsStatement, AreStatements, begins, IsPart, IsMain, IsFurther, MainFirst, HaveDifferentNames, statement_lines, Rise, line_if_any, part_lines, WellFormed, Workload, LineEffect, between}
 use Rattle.workload_file.specs.declared.table.Word.TheVariants as word
 use Rattle.workload_file.specs.declared.table.Naming.TheVariants as rule
 use Rattle.workload_file.proofs.Facts.{IsRead, here, is_sound, bind_ok, ok_is, at_line_ok, stated}
@@ -117,7 +117,7 @@ new_name r n name e1 e2 = grind (arith, nat_tests, not-false, is_name, unbound_a
 
 -- the name that a statement uses is bound
 pub use_is : (before : List Statement) (n : Naming) (name : List ℕ) → is_unbound n (use_in before n name) ≡ false
-    → IfSome (used_with n (place_at n (or_zero (use_in before n name)))) (λ u. IsBoundAt u.0 before u.1)
+    → IfSome (used_with n (place_at n (number_or_zero (use_in before n name)))) (λ u. IsBoundAt u.0 before u.1)
 use_is before (rule.Uses s) name h = let p = place_found (place_of s name before) h in rw p.1 (place_is s name before p.0 p.1).0
 use_is before _ name h = tt
 
@@ -129,12 +129,13 @@ pub record IsGiven (before : List Statement) (w : Word) (place : Option ℕ) (d 
   pub fits : AllFit before (fields w) (values d)
 
 pub deed_given : (r : Reading) (first : List ℕ) (rest : List (List ℕ)) (w : Word) (name : List ℕ) (options : List (List ℕ)) → is_deed w ≡ true
-    → IsRead r first rest w name options → IsGiven (here r) w (place_at (naming w) (or_zero (use_in (here r) (naming w) name))) (deed_said r w name options)
+    → IsRead r first rest w name options → IsGiven (here r) w (place_at (naming w) (number_or_zero (use_in (here r) (naming w) name)))
+    (deed_said r w name options)
     × (values (deed_said r w name options) ≡ values_in (here r) options (fields w))
 deed_given r first rest w name options h read =
     let vs = values_in (here r) options (fields w) in
     let are = values_are (here r) options (fields w) (fields_good w) read.sound in
-    let is = deed_is w (or_zero (use_in (here r) (naming w) name)) vs h are.1 in
+    let is = deed_is w (number_or_zero (use_in (here r) (naming w) name)) vs h are.1 in
     let same : values (deed_said r w name options) ≡ vs = ap (λ (x : Spelled). x.values) is in (
       record {
         word = ap (λ (x : Spelled). x.word) is;
@@ -163,7 +164,7 @@ begin_free r w e1 e2 = grind (arith, nat_tests, or_parts, is_begin, eqb-true, no
 
 -- the settings whose values fit are given by their values
 pub node_settings : (before : List Statement) (s : NodeSettings) → AllFit before (fields word.Node) (setting_values s) → settings_by (setting_values s) ≡ s
-unfolding row settings_by number_in with_setting
+unfolding statement_row settings_by number_given with_node_setting
 node_settings before s fit = grind (arith, nat_tests)
 
 -- the settings of a node line fit, and their values are those of its options
@@ -248,7 +249,7 @@ statement_keeps r line first rest w name options place d f le read g =
 
 caller_keeps : (r : Reading) (line : ℕ) (first : List ℕ) (rest : List (List ℕ)) (name : List ℕ) (options : List (List ℕ)) → IsFormed r line → 1 ≤ line
     → IsRead r first rest word.Caller name options → IsFormed (with_caller r line name) (line + 1)
-unfolding is_taken is_ninth_caller row
+unfolding is_taken is_ninth_caller statement_row
 caller_keeps r line first rest name options e1 e2 e3 =
     grind (arith, nat_tests, not-false, lines_caller, leb-false, or_parts, length_push, main_push, names_push, any_push, push_all, rise_push, below_push)
 
@@ -264,7 +265,7 @@ empty_parts (x ∷ xs) ys h = absurd (omega arith)
 
 node_fits : (before : List Statement) (settings : NodeSettings) → AllFit before (fields word.Node) (setting_values settings)
     → AllFit [] (fields word.Node) (setting_values settings)
-unfolding row
+unfolding statement_row
 node_fits before settings h = h
 
 node_keeps : (r : Reading) (line : ℕ) (settings : NodeSettings) → IsFormed r line → 1 ≤ line → is_misplaced r word.Node ≡ false
@@ -307,11 +308,11 @@ lines_keep [] r s line f le e = (line, subst (λ (x : Reading). IsFormed x line)
 lines_keep (text ∷ texts) r s line f le e = grind (arith, nat_tests, lines_keep texts, bind_ok, line_adds, adds_keeps)
 
 usual_fit : AllFit [] (fields word.Node) (setting_values usual_settings)
-unfolding row
+unfolding statement_row
 usual_fit = grind (arith, nat_tests)
 
-pub start_formed : IsFormed start 1
-unfolding start is_name
+pub start_formed : IsFormed empty_reading 1
+unfolding empty_reading is_name
 start_formed = grind (arith, nat_tests, usual_fit)
 
 formed_load : (r : Reading) (line : ℕ) → IsFormed r line → WellFormed (finished r)
@@ -320,6 +321,6 @@ formed_load r line e1 = grind (arith, nat_tests, length_push)
 pub workload_formed : (bytes : List ℕ) (load : Workload) → workload_of bytes ≡ Ok load → WellFormed load
 unfolding workload_of
 workload_formed bytes load e =
-    let b = bind_ok (lines_add start 1 (between 10 bytes)) _ load e in
-    let f = lines_keep (between 10 bytes) start b.0 1 start_formed (omega arith) b.1 in
+    let b = bind_ok (lines_add empty_reading 1 (between 10 bytes)) _ load e in
+    let f = lines_keep (between 10 bytes) empty_reading b.0 1 start_formed (omega arith) b.1 in
     subst WellFormed (ok_is (finished b.0) load b.2) (formed_load b.0 f.0 f.1)

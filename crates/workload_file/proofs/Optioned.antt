@@ -1,6 +1,6 @@
 -- The options that are written of values are options of the statement, and give the values.
 use Rattle.std.proofs.lemmas.Bool.Decides.{nat_tests}
-use Rattle.workload_file.proofs.Cited.{◌≡◌, ℕ, ◌-◌, List, [], ◌∷◌, ◌++◌, Bool, true, false, Option, Some, None, refl, sym, ap, ◌<◌, eqb, subst, inl, inr, append_assoc, arith, length, length-append, AllByRecursion, list_any, find, list_all, bytes_eq, or_parts, and_from, and_parts, or_from, cases_Bool, lt-ltb, Key, Field, key_text, key_of, value_of, gives, text_of, field_of, is_known, has_twice, value_text, is_default, options_words, is_some, nat_lt, option_map, OptionShape, Absent, OptionValue, Statement, value_given, value_absent, value_at, values_in}
+use Rattle.workload_file.proofs.Cited.{◌≡◌, ℕ, ◌-◌, List, [], ◌∷◌, ◌++◌, Bool, true, false, Option, Some, None, refl, sym, ap, ◌<◌, eqb, subst, inl, inr, append_assoc, arith, length, length-append, AllByRecursion, list_any, find, list_all, bytes_eq, or_parts, and_from, and_parts, or_from, cases_Bool, lt-ltb, Key, Field, key_text, key_of, value_of, gives_option, text_of, field_of, is_known, has_twice, value_text, is_default, options_words, is_some, nat_lt, option_map, OptionShape, Absent, OptionValue, Statement, value_given, value_absent, option_value_at, values_in}
 use Rattle.workload_file.proofs.Facts.{some, is_sound}
 use Rattle.workload_file.proofs.Finds.{find_skip, find_nothing, find_all}
 use Rattle.workload_file.proofs.Invariant.{any_push}
@@ -12,19 +12,19 @@ use Rattle.workload_file.proofs.Spelling.{value_is, absent_is, spelled}
 -- ==== what options that are left out or written give
 
 abbrev pub Free : List (List ℕ) → List Field → Type 0
-Free ws fs = AllByRecursion (λ f. gives f.key ws ≡ false) fs
+Free ws fs = AllByRecursion (λ f. gives_option f.key ws ≡ false) fs
 
 pub free_push : (ws : List (List ℕ)) (word : List ℕ) (k : Key) (fs : List Field) → key_of word ≡ key_text k
     → list_any (λ g. bytes_eq (key_text g.key) (key_text k)) fs ≡ false → Free ws fs → Free (ws ++ word ∷ []) fs
 free_push ws word k [] e h f = tt
 free_push ws word k (g ∷ fs) e h f = grind (arith, nat_tests, free_push ws word k fs e, or_parts, bytes_eq, key_of, key_text, apart_sym, any_push)
 
-pub text_skip : (k : Key) (xs ys : List (List ℕ)) (word text : List ℕ) → gives k xs ≡ false → key_of word ≡ key_text k → value_of word ≡ text
+pub text_skip : (k : Key) (xs ys : List (List ℕ)) (word text : List ℕ) → gives_option k xs ≡ false → key_of word ≡ key_text k → value_of word ≡ text
     → text_of k (xs ++ word ∷ ys) ≡ Some text
 unfolding text_of
 text_skip k xs ys word text e1 e2 e3 = grind (arith, nat_tests, bytes_eq, key_of, key_text, bytes_same, find_skip)
 
-pub text_nothing : (k : Key) (xs ys : List (List ℕ)) → gives k xs ≡ false → gives k ys ≡ false → text_of k (xs ++ ys) ≡ None
+pub text_nothing : (k : Key) (xs ys : List (List ℕ)) → gives_option k xs ≡ false → gives_option k ys ≡ false → text_of k (xs ++ ys) ≡ None
 unfolding text_of
 text_nothing k xs ys h g = rw (find_nothing (λ (w : List ℕ). bytes_eq (key_of w) (key_text k)) xs ys h g) refl
 
@@ -61,7 +61,7 @@ value_inner own k h =
 
 field_read : (before : List Statement) (all : List Field) (options : List (List ℕ)) (f : Field) (o : Option (List ℕ)) → is_good f.absent f.shape ≡ true
     → list_all (is_known all) options ≡ true → list_all is_word options ≡ true → find (λ w. bytes_eq (key_of w) (key_text f.key)) options ≡ o
-    → is_sound (value_at before f (option_map value_of o)) ≡ true → IsWritten before f (value_at before f (option_map value_of o))
+    → is_sound (option_value_at before f (option_map value_of o)) ≡ true → IsWritten before f (option_value_at before f (option_map value_of o))
 field_read before all options f None good known words is h =
     let u = absent_is before f.absent f.shape good h in
     left u.default u.shaped
@@ -141,7 +141,7 @@ opts_words all before fs vs p h = all_opts is_word (IsField all) before fs vs (�
 -- ---- keys
 
 no_key : (k : Key) (before : List Statement) (fs : List Field) (vs : List OptionValue) → list_any (λ g. bytes_eq (key_text g.key) (key_text k)) fs ≡ false
-    → AllWritten before fs vs → gives k (opts before fs vs) ≡ false
+    → AllWritten before fs vs → gives_option k (opts before fs vs) ≡ false
 no_key k before [] [] a h = rw (opts_none before) refl
 no_key k before (f ∷ fs) (v ∷ vs) a (left d shaped, h) = let both = or_parts _ _ a in rw (opts_left before f fs v vs d) (no_key k before fs vs both.1 h)
 no_key k before (f ∷ fs) (v ∷ vs) a (word d s, h) = grind (arith, nat_tests, no_key k before fs vs, or_parts, option_is, value_text, opts_word, or_from)
@@ -172,13 +172,13 @@ pub values_from : (before : List Statement) (ws : List (List ℕ)) (fs : List Fi
 values_from before ws [] [] h a good free = refl
 values_from before ws (f ∷ fs) (v ∷ vs) (left d shaped, h) a good free =
     let none = text_nothing f.key ws (opts before fs vs) free.0 (no_key f.key before fs vs a.0 h) in
-    let here : value_at before f (text_of f.key (ws ++ opts before fs vs)) ≡ v = rw none (default_value f.absent f.shape v good.0 d shaped) in
+    let here : option_value_at before f (text_of f.key (ws ++ opts before fs vs)) ≡ v = rw none (default_value f.absent f.shape v good.0 d shaped) in
     let rest = values_from before ws fs vs h a.1 good.1 free.1 in
     subst (λ (ps : List (List ℕ)). values_in before (ws ++ ps) (f ∷ fs) ≡ v ∷ vs) (sym (opts_left before f fs v vs d)) (λ i. here i ∷ rest i)
 values_from before ws (f ∷ fs) (v ∷ vs) (word d s, h) a good free =
     let o = option_is f.key (value_text before v) in
     let text = text_skip f.key ws (opts before fs vs) (opt before f v) (value_text before v) free.0 o.key o.value in
-    let here : value_at before f (text_of f.key (ws ++ opt before f v ∷ opts before fs vs)) ≡ v = rw text s.reads in
+    let here : option_value_at before f (text_of f.key (ws ++ opt before f v ∷ opts before fs vs)) ≡ v = rw text s.reads in
     let rest = values_from before (ws ++ opt before f v ∷ []) fs vs h a.1 good.1 (free_push ws (opt before f v) f.key fs o.key a.0 free.1) in
     let moved = subst (λ (ps : List (List ℕ)). values_in before ps fs ≡ vs) (append_assoc ws (opt before f v ∷ []) (opts before fs vs)) rest in
     subst (λ (ps : List (List ℕ)). values_in before (ws ++ ps) (f ∷ fs) ≡ v ∷ vs) (sym (opts_word before f fs v vs d)) (λ i. here i ∷ moved i)

@@ -1,6 +1,6 @@
 -- Words that are joined are cut into the same words, and a line of fewer words is shorter.
 use Rattle.std.proofs.lemmas.Bool.Decides.{nat_tests}
-use Rattle.workload_file.proofs.Cited.{Lacks, between_joined, rest_of, first_rest, ◌≡◌, ℕ, ◌+◌, ◌≤◌, List, [], ◌∷◌, ◌++◌, length, Bool, true, false, not, cond, ◌&&◌, eqb, refl, ap, ◌∙◌, arith, length-append, All, Result, Ok, sym, ◌-◌, replicate, append_assoc, take, get_or, ◌<◌, ◌⊎◌, nat_lt, filter, AllByRecursion, list_all, join_with_byte, onto_first, flat_map, and_parts, and_from, not-true, ne_eqb, All-from_recursion, length-slice_split, join_with_byte-slice_split, between, led, words_of, is_printable, line_text, Line, if_any, laid_out, statement_lines_behind, statement_text, lines_of_part, joined, led_append, Bor, map-append, append-nil, take_more, replicate_more, texts, Reading, Fault, LineError, line_adds, lines_add, Fails, Statement, Part, last_line}
+use Rattle.workload_file.proofs.Cited.{Lacks, between_joined, rest_of, first_rest, ◌≡◌, ℕ, ◌+◌, ◌≤◌, List, [], ◌∷◌, ◌++◌, length, Bool, true, false, not, cond, ◌&&◌, eqb, refl, ap, ◌∙◌, arith, length-append, All, Result, Ok, sym, ◌-◌, replicate, append_assoc, take, get_or, ◌<◌, ◌⊎◌, nat_lt, filter, AllByRecursion, list_all, join_with_byte, onto_first, flat_map, and_parts, and_from, not-true, ne_eqb, All-from_recursion, length-slice_split, join_with_byte-slice_split, between, led, words_of, is_printable, line_text, TextLine, if_any, laid_out, statement_lines_behind, statement_text, lines_of_part, joined, led_append, Bor, map-append, append-nil, take_more, replicate_more, texts_of_words, Reading, Fault, LineError, line_adds, lines_add, Fails, Statement, Part, last_line}
 
 -- ---- what words consist of
 
@@ -110,20 +110,20 @@ words_shorter text = omega (arith, filter_shorter (λ w. nat_lt 0 (length w)) (b
 
 -- ==== words that are pushed one by one
 
-pub texts_push : (words : List (Bor (List ℕ))) (w : Bor (List ℕ)) → texts (words ++ w ∷ []) ≡ texts words ++ w.now ∷ []
+pub texts_push : (words : List (Bor (List ℕ))) (w : Bor (List ℕ)) → texts_of_words (words ++ w ∷ []) ≡ texts_of_words words ++ w.now ∷ []
 texts_push words w = map-append (λ w. w.now) words (w ∷ [])
 
 -- ==== the lines of a text, one after the other, as a loop reads them
 
-pub lines_more : (r s : Reading) (line : ℕ) (text : List ℕ) (texts : List (List ℕ)) (total : Result Reading Fault) → line_adds r line text ≡ Ok s
-    → lines_add r line (text ∷ texts) ≡ total → lines_add s (line + 1) texts ≡ total
+pub lines_more : (r s : Reading) (line : ℕ) (text : List ℕ) (texts_of_words : List (List ℕ)) (total : Result Reading Fault) → line_adds r line text ≡ Ok s
+    → lines_add r line (text ∷ texts_of_words) ≡ total → lines_add s (line + 1) texts_of_words ≡ total
 unfolding lines_add
-lines_more r s line text texts total e h = rw e at h
+lines_more r s line text texts_of_words total e h = rw e at h
 
-pub lines_end : (e : LineError) (r : Reading) (line : ℕ) (text : List ℕ) (texts : List (List ℕ)) (total : Result Reading Fault)
-    → Fails e (line_adds r line text) → lines_add r line (text ∷ texts) ≡ total → Fails e total
+pub lines_end : (e : LineError) (r : Reading) (line : ℕ) (text : List ℕ) (texts_of_words : List (List ℕ)) (total : Result Reading Fault)
+    → Fails e (line_adds r line text) → lines_add r line (text ∷ texts_of_words) ≡ total → Fails e total
 unfolding lines_add
-lines_end e r line text texts total e1 e2 = grind (arith, nat_tests)
+lines_end e r line text texts_of_words total e1 e2 = grind (arith, nat_tests)
 
 pub lines_done : (r : Reading) (line : ℕ) (total : Result Reading Fault) → lines_add r line [] ≡ total → total ≡ Ok r
 unfolding lines_add
@@ -131,12 +131,12 @@ lines_done r line total h = sym h
 
 -- ==== lines laid out one behind the other
 
-pub laid-append : (at : ℕ) (xs ys : List Line) → laid_out at (xs ++ ys) ≡ laid_out at xs ++ laid_out (last_line at xs) ys
+pub laid-append : (at : ℕ) (xs ys : List TextLine) → laid_out at (xs ++ ys) ≡ laid_out at xs ++ laid_out (last_line at xs) ys
 unfolding laid_out
 laid-append at [] ys = refl
 laid-append at (x ∷ xs) ys = rw (laid-append x.0 xs ys) (simp append_assoc)
 
-pub last-append : (at : ℕ) (xs ys : List Line) → last_line at (xs ++ ys) ≡ last_line (last_line at xs) ys
+pub last-append : (at : ℕ) (xs ys : List TextLine) → last_line at (xs ++ ys) ≡ last_line (last_line at xs) ys
 last-append at [] ys = refl
 last-append at (x ∷ xs) ys = last-append x.0 xs ys
 
@@ -159,12 +159,12 @@ unfolding statement_lines_behind
 statements_none before = refl
 
 -- one more line
-pub text_more : (first now fed text out : List ℕ) (at line : ℕ) (xs : List Line) → now ≡ first ++ laid_out at xs
+pub text_more : (first now fed text out : List ℕ) (at line : ℕ) (xs : List TextLine) → now ≡ first ++ laid_out at xs
     → fed ≡ now ++ replicate (line - last_line at xs) 10 → out ≡ fed ++ text → out ≡ first ++ laid_out at (xs ++ (line, text) ∷ [])
 text_more first now fed text out at line xs a b c =
     rw (c, b, a, laid-append at xs ((line, text) ∷ []), laid_one (last_line at xs) line text) (simp append_assoc)
 
-pub line_more : (at line : ℕ) (text : List ℕ) (xs : List Line) → last_line at (xs ++ (line, text) ∷ []) ≡ line
+pub line_more : (at line : ℕ) (text : List ℕ) (xs : List TextLine) → last_line at (xs ++ (line, text) ∷ []) ≡ line
 line_more at line text xs = rw (last-append at xs ((line, text) ∷ [])) refl
 
 -- a line that may be absent
@@ -177,11 +177,11 @@ pub one_line : (now fed out text : List ℕ) (at line : ℕ) → (line ≡ 0 →
 one_line now fed out text at line n a b = rw (b, a, ne_eqb line 0 n, laid_one at line text) (append_assoc now (replicate (line - at) 10) text)
 
 -- lines behind other lines
-pub more_lines : (now mid out : List ℕ) (at to : ℕ) (xs ys : List Line) → mid ≡ now ++ laid_out at xs → to ≡ last_line at xs → out ≡ mid ++ laid_out to ys
+pub more_lines : (now mid out : List ℕ) (at to : ℕ) (xs ys : List TextLine) → mid ≡ now ++ laid_out at xs → to ≡ last_line at xs → out ≡ mid ++ laid_out to ys
     → out ≡ now ++ laid_out at (xs ++ ys)
 more_lines now mid out at to xs ys a b c = rw (c, a, b, laid-append at xs ys) (append_assoc now (laid_out at xs) (laid_out (last_line at xs) ys))
 
-pub more_last : (at to end : ℕ) (xs ys : List Line) → to ≡ last_line at xs → end ≡ last_line to ys → end ≡ last_line at (xs ++ ys)
+pub more_last : (at to end : ℕ) (xs ys : List TextLine) → to ≡ last_line at xs → end ≡ last_line to ys → end ≡ last_line at (xs ++ ys)
 more_last at to end xs ys a b = rw (b, a, last-append at xs ys) refl
 
 -- ---- slices as their first and their rest

@@ -1,11 +1,11 @@
 -- Options at their places, and words that add nothing.
 use Rattle.std.proofs.lemmas.Bool.Decides.{nat_tests}
-use Rattle.workload_file.proofs.Cited.{◌≡◌, ℕ, zero, suc, ◌<◌, ◌≤◌, ◌+◌, ◌-◌, ◌⊎◌, List, [], ◌∷◌, ◌++◌, length, Bool, true, false, cond, eqb, Option, Some, None, Ok, is_some, refl, sym, ap, ◌∙◌, arith, inl, inr, map, get_or, take, drop, replicate, find, list_any, list_all, bytes_eq, option_map, or_parts, and_parts, and_from, cases_Bool, Field, Key, Word, Statement, OptionValue, Reading, fields, key_text, key_of, value_of, text_of, field_of, is_known, has_twice, value_at, values_in, length-map, length-append, take_more, take_all, with_change, is_statement, is_comment, words_meet, word_causes, words_say, rest_of, first_rest, some_cond}
+use Rattle.workload_file.proofs.Cited.{◌≡◌, ℕ, zero, suc, ◌<◌, ◌≤◌, ◌+◌, ◌-◌, ◌⊎◌, List, [], ◌∷◌, ◌++◌, length, Bool, true, false, cond, eqb, Option, Some, None, Ok, is_some, refl, sym, ap, ◌∙◌, arith, inl, inr, map, get_or, take, drop, replicate, find, list_any, list_all, bytes_eq, option_map, or_parts, and_parts, and_from, cases_Bool, Field, Key, Word, Statement, OptionValue, Reading, fields, key_text, key_of, value_of, text_of, field_of, is_known, has_twice, option_value_at, values_in, length-map, length-append, take_more, take_all, with_change, is_statement, is_comment, words_meet, word_causes, words_say, rest_of, first_rest, some_cond}
 use Rattle.std.specs.Prelude.{set}
 use Rattle.std.proofs.lemmas.List.{drop_all, drop_more, length-drop, map-set}
 use Rattle.std.specs.Option.{option_copied}
 use Rattle.workload_file.specs.Options.{opens}
-use Rattle.workload_file.specs.Texts.{texts}
+use Rattle.workload_file.specs.Texts.{texts_of_words}
 use Rattle.workload_file.specs.Steps.{texts_in, IsOptionAt, values_of, unless_met}
 use Rattle.workload_file.proofs.Facts.{some, nothing, none_some, silent_says}
 use Rattle.workload_file.proofs.Fields.{AreApart, fields_apart, option_is}
@@ -165,39 +165,41 @@ either word ws here twice rest e1 e2 e3 = grind (arith, nat_tests)
 
 -- ---- words as references
 
-split : (words : List (Bor (List ℕ))) (d : Bor (List ℕ)) → 1 ≤ length words → texts words ≡ (get_or words 0 d).now ∷ texts (rest_of words)
-split words d h = ap texts (first_rest words d h)
+split : (words : List (Bor (List ℕ))) (d : Bor (List ℕ)) → 1 ≤ length words → texts_of_words words ≡ (get_or words 0 d).now ∷ texts_of_words (rest_of words)
+split words d h = ap texts_of_words (first_rest words d h)
 
 pub place_low : (xs : List (Option (Bor (List ℕ)))) (n : ℕ) (words : List (Bor (List ℕ))) (word : List ℕ) (w : Word) (place : ℕ) → n ≡ length xs
-    → map option_copied xs ≡ texts_in (fields w) (texts words) → IsOptionAt (fields w) word place → place < n
+    → map option_copied xs ≡ texts_in (fields w) (texts_of_words words) → IsOptionAt (fields w) word place → place < n
 place_low xs n words word w place e1 e2 e3 = grind (arith, nat_tests, option_below, texts_long)
 
 -- the words from a place on, with the one before it
 before : (words : List (Bor (List ℕ))) (at : ℕ) (d : Bor (List ℕ)) → 0 < at → at ≤ length words
-    → texts (drop (at - 1) words) ≡ (get_or words (at - 1) d).now ∷ texts (drop at words)
+    → texts_of_words (drop (at - 1) words) ≡ (get_or words (at - 1) d).now ∷ texts_of_words (drop at words)
 before words at d e1 e2 = grind (arith, nat_tests, get_or, drop_more)
 
 pub given_more : (xs : List (Option (Bor (List ℕ)))) (words : List (Bor (List ℕ))) (at : ℕ) (d v : Bor (List ℕ)) (w : Word) (place : ℕ) → 0 < at
-    → at ≤ length words → map option_copied xs ≡ texts_in (fields w) (texts (drop at words)) → IsOptionAt (fields w) (get_or words (at - 1) d).now place
-    → v.now ≡ value_of (get_or words (at - 1) d).now → map option_copied (set xs place (Some v)) ≡ texts_in (fields w) (texts (drop (at - 1) words))
+    → at ≤ length words → map option_copied xs ≡ texts_in (fields w) (texts_of_words (drop at words))
+    → IsOptionAt (fields w) (get_or words (at - 1) d).now place
+    → v.now ≡ value_of (get_or words (at - 1) d).now → map option_copied (set xs place (Some v)) ≡ texts_in (fields w) (texts_of_words (drop (at - 1) words))
 given_more xs words at d v w place e1 e2 e3 e4 e5 = grind (arith, nat_tests, get_or, map-set, option_copied, texts_in, texts_put, fields_apart, before)
 
 pub twice_more : (xs : List (Option (Bor (List ℕ)))) (words : List (Bor (List ℕ))) (at : ℕ) (d : Bor (List ℕ)) (w : Word) (place : ℕ)
-    (x : Option (Bor (List ℕ))) (here twice rest : Bool) → 0 < at → at ≤ length words → map option_copied xs ≡ texts_in (fields w) (texts (drop at words))
-    → IsOptionAt (fields w) (get_or words (at - 1) d).now place → rest ≡ has_twice (texts (drop at words)) → x ≡ get_or xs place x → here ≡ is_some x
-    → ((here ≡ true) × (twice ≡ true)) ⊎ ((here ≡ false) × (twice ≡ rest)) → twice ≡ has_twice (texts (drop (at - 1) words))
+    (x : Option (Bor (List ℕ))) (here twice rest : Bool) → 0 < at → at ≤ length words
+    → map option_copied xs ≡ texts_in (fields w) (texts_of_words (drop at words))
+    → IsOptionAt (fields w) (get_or words (at - 1) d).now place → rest ≡ has_twice (texts_of_words (drop at words)) → x ≡ get_or xs place x → here ≡ is_some x
+    → ((here ≡ true) × (twice ≡ true)) ⊎ ((here ≡ false) × (twice ≡ rest)) → twice ≡ has_twice (texts_of_words (drop (at - 1) words))
 twice_more xs words at d w place x here twice rest low high is option later found e by =
     let word = (get_or words (at - 1) d).now in
-    let there : here ≡ list_any (λ v. bytes_eq (key_of v) (key_of word)) (texts (drop at words)) =
-    e ∙ (ap is_some found ∙ given_twice xs (fields w) (texts (drop at words)) word place x is option) in
-    rw (before words at d low high) (either word (texts (drop at words)) here twice rest there later by)
+    let there : here ≡ list_any (λ v. bytes_eq (key_of v) (key_of word)) (texts_of_words (drop at words)) =
+    e ∙ (ap is_some found ∙ given_twice xs (fields w) (texts_of_words (drop at words)) word place x is option) in
+    rw (before words at d low high) (either word (texts_of_words (drop at words)) here twice rest there later by)
 
 pub known_more : (p : List ℕ → Bool) (words : List (Bor (List ℕ))) (at : ℕ) (d : Bor (List ℕ)) → 0 < at → at ≤ length words
-    → true ≡ list_all p (texts (drop at words)) → p (get_or words (at - 1) d).now ≡ true → true ≡ list_all p (texts (drop (at - 1) words))
+    → true ≡ list_all p (texts_of_words (drop at words)) → p (get_or words (at - 1) d).now ≡ true → true ≡ list_all p (texts_of_words (drop (at - 1) words))
 known_more p words at d low high all e = rw (before words at d low high, e) all
 
 pub unknown_at : (p : List ℕ → Bool) (words : List (Bor (List ℕ))) (i : ℕ) (d : Bor (List ℕ)) → i < length words → p (get_or words i d).now ≡ false
-    → false ≡ list_all p (texts words)
+    → false ≡ list_all p (texts_of_words words)
 unknown_at p [] i d lt e = absurd (omega (arith, lt))
 unknown_at p (w ∷ ws) zero d lt e = rw e refl
 unknown_at p (w ∷ ws) (suc i) d lt e = elim (cases_Bool (p w.now)) [ inl t ↦ rw t (unknown_at p ws i d (omega (arith, lt)) e) | inr n ↦ rw n refl ]
@@ -205,7 +207,7 @@ unknown_at p (w ∷ ws) (suc i) d lt e = elim (cases_Bool (p w.now)) [ inl t ↦
 pub no_words : (words : List (Bor (List ℕ))) → drop (length words) words ≡ []
 no_words words = drop_all (length words) words (omega arith)
 
-pub none_twice : (words : List (Bor (List ℕ))) → length words < 1 → false ≡ has_twice (texts words)
+pub none_twice : (words : List (Bor (List ℕ))) → length words < 1 → false ≡ has_twice (texts_of_words words)
 unfolding has_twice
 none_twice words h = rw (none_below words h) refl
 
@@ -225,7 +227,7 @@ fresh_texts xs old n len fs none zero_len long e =
 
 pub values_given : (before : List Statement) (fs : List Field) (ws : List (List ℕ)) → values_of before fs (texts_in fs ws) ≡ values_in before ws fs
 values_given before [] ws = refl
-values_given before (f ∷ fs) ws = ap (λ (vs : List OptionValue). value_at before f (text_of f.key ws) ∷ vs) (values_given before fs ws)
+values_given before (f ∷ fs) ws = ap (λ (vs : List OptionValue). option_value_at before f (text_of f.key ws) ∷ vs) (values_given before fs ws)
 
 pub values_read : (before : List Statement) (w : Word) (ws : List (List ℕ)) (given : List (Option (Bor (List ℕ)))) (fs : List Field) (vs : List OptionValue)
     → fs ≡ fields w → map option_copied given ≡ texts_in (fields w) ws → vs ≡ values_of before fs (map option_copied given)
@@ -240,9 +242,9 @@ unfolding with_change
 silent_adds r line words h = let s = silent_says r line words h in rw (s.0, s.1) refl
 
 pub none_adds : (r : Reading) (line : ℕ) (words : List (Bor (List ℕ))) → length words < 1
-    → unless_met r line (find (words_meet r (texts words)) word_causes) (words_say r line (texts words)) ≡ Ok r
+    → unless_met r line (find (words_meet r (texts_of_words words)) word_causes) (words_say r line (texts_of_words words)) ≡ Ok r
 none_adds r line words h = rw (none_below words h) (silent_adds r line [] refl)
 
 pub comment_adds : (r : Reading) (line : ℕ) (words : List (Bor (List ℕ))) (d : Bor (List ℕ)) → 1 ≤ length words → is_comment (get_or words 0 d).now ≡ true
-    → unless_met r line (find (words_meet r (texts words)) word_causes) (words_say r line (texts words)) ≡ Ok r
-comment_adds r line words d some c = silent_adds r line (texts words) (rw (split words d some, c) refl)
+    → unless_met r line (find (words_meet r (texts_of_words words)) word_causes) (words_say r line (texts_of_words words)) ≡ Ok r
+comment_adds r line words d some c = silent_adds r line (texts_of_words words) (rw (split words d some, c) refl)

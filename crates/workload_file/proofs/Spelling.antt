@@ -1,9 +1,9 @@
 -- A value that was read is in its range, and is written as it was read.
 use Rattle.std.proofs.lemmas.Bool.Decides.{nat_tests}
-use Rattle.workload_file.proofs.Cited.{some_cond, ◌≡◌, ℕ, ◌+◌, ◌-◌, ◌^◌, ◌≤◌, ◌<◌, List, [], ◌∷◌, ◌++◌, length, Bool, true, false, not, cond, ◌&&◌, eqb, Option, Some, None, refl, sym, ap, subst, ◌∙◌, arith, ◌⊎◌, inl, inr, get_or, zero, suc, length-append, nat_le, is_some, option_and_then, slice_get, codes, list_any, position_or_len, AllByRecursion, find, list_all, decimal, bytes_eq, eqb-true, and_parts, cases_Bool, and_from, or_parts, or_left, or_right, position-Some, split_at_first, passes_at_first, Kind, Timeout, kind_all, kind_word, kind_named, list_of, led, cores_text, cores_fit, bind_some, whole_fits, list_fits, number_spelled, cores_spelled, whole_spelled, list_spelled, Sort, Statement, number, number_within, cores_of, timeout_of, flag_of, mode_of, is_name, key_of, value_of, is_known, text_of, place_of, bound_at, is_called, is_binding, name_text, timeout_text, name_at, name_of, value_text, is_default, option_words, options_words, IsBoundAt, IsTimeout, Fits, AllFit, option_map, whole, led_append, OptionShape, Absent, Key, Field, OptionValue, key_text, or_bad, or_unbound, value_given, value_absent, value_at, values_in}
+use Rattle.workload_file.proofs.Cited.{some_cond, ◌≡◌, ℕ, ◌+◌, ◌-◌, ◌^◌, ◌≤◌, ◌<◌, List, [], ◌∷◌, ◌++◌, length, Bool, true, false, not, cond, ◌&&◌, eqb, Option, Some, None, refl, sym, ap, subst, ◌∙◌, arith, ◌⊎◌, inl, inr, get_or, zero, suc, length-append, nat_le, is_some, option_and_then, slice_get, codes, list_any, position_or_len, AllByRecursion, find, list_all, decimal, bytes_eq, eqb-true, and_parts, cases_Bool, and_from, or_parts, or_left, or_right, position-Some, split_at_first, passes_at_first, Kind, Timeout, kind_all, kind_word, kind_named, list_of, led, cores_text, cores_fit, bind_some, whole_fits, list_fits, number_spelled, cores_spelled, whole_spelled, list_spelled, Sort, Statement, number_in_32, number_from_to, cores_of, timeout_of, flag_of, mode_of, is_name, key_of, value_of, is_known, text_of, place_of, bound_at, is_called, is_binding, name_text, timeout_text, name_at, name_of, value_text, is_default, option_words, options_words, IsBoundAt, IsTimeout, FitsShape, AllFit, option_map, whole_number, led_append, OptionShape, Absent, Key, Field, OptionValue, key_text, or_bad, or_unbound, value_given, value_absent, option_value_at, values_in}
 use Rattle.number_text.specs.Lists.{◌>>=◌}
 use Rattle.mtapi_values.specs.declared.timeouts.Timeout.TheVariants as timeout
-use Rattle.number_text.specs.Cores.{cores_of as listed_cores}
+use Rattle.number_text.specs.Cores.{cores_in_text as listed_cores}
 use Rattle.number_text.proofs.Reading.{within_is as wide_is}
 use Rattle.workload_file.specs.declared.table.OptionShape.TheVariants as shape
 use Rattle.workload_file.specs.declared.values.OptionValue.TheVariants as given
@@ -37,8 +37,8 @@ within : (low high n : ℕ) (o : Option ℕ) → option_and_then (λ m. cond (na
 within low high n o e1 = grind (arith, nat_tests)
 
 -- what a number is
-pub within_is : (low high n : ℕ) (text : List ℕ) → number_within low high text ≡ Some n → ((low ≤ n) × (n ≤ high)) × (decimal n ≡ text)
-unfolding number_within number
+pub within_is : (low high n : ℕ) (text : List ℕ) → number_from_to low high text ≡ Some n → ((low ≤ n) × (n ≤ high)) × (decimal n ≡ text)
+unfolding number_from_to number_in_32
 within_is low high n text e1 = grind (arith, nat_tests, within, number_spelled, wide_is)
 
 -- ---- sets of cores, kinds, timeouts and words
@@ -70,7 +70,7 @@ unfolding mode_of
 mode_text text b e = two_words (codes "writer") (codes "reader") text b e
 
 abbrev looks_of : List ℕ → Option Timeout
-looks_of text = number_within 0 1000000 text >>= λ n. Some (timeout.Looks n)
+looks_of text = number_from_to 0 1000000 text >>= λ n. Some (timeout.Looks n)
 
 abbrev TimeoutOf : List ℕ → Timeout → Type 0
 TimeoutOf text t = IsTimeout t × (timeout_text t ≡ text)
@@ -85,7 +85,7 @@ timeout_is text t e =
           elim (cond_some (bytes_eq text (codes "inf")) timeout.Infinite t (looks_of text) e2) [
             | inl h ↦ subst (TimeoutOf text) h.1 (tt, sym (bytes_are text (codes "inf") h.0))
             | inr e3 ↦
-                let a = bind_some (number_within 0 1000000 text) (λ n. Some (timeout.Looks n)) t e3 in
+                let a = bind_some (number_from_to 0 1000000 text) (λ n. Some (timeout.Looks n)) t e3 in
                 let w = within_is 0 1000000 a.0 text a.1 in
                 subst (TimeoutOf text) (some_is (timeout.Looks a.0) t a.2) (w.0.1, w.1)
           ]
@@ -136,7 +136,7 @@ place_is s name sts i e = let p = place_some s name sts i e in (p.0, place_text 
 
 -- what a value that was read of a text is
 pub record IsValue (before : List Statement) (s : OptionShape) (text : List ℕ) (v : OptionValue) : Type 0 where
-  pub fits : Fits before s v
+  pub fits : FitsShape before s v
   pub shaped : is_shaped s v ≡ true
   pub there : is_there v ≡ true
   pub written : (a : Absent) → is_good a s ≡ true → is_default a v ≡ false → value_text before v ≡ text
@@ -156,11 +156,11 @@ pub value_is : (before : List Statement) (s : OptionShape) (text : List ℕ) →
     → IsValue before s text (value_given before s text)
 unfolding value_given value_text
 value_is before (shape.Number low high) text h =
-    let m = read_some given.Number (number_within low high text) h in
+    let m = read_some given.Number (number_from_to low high text) h in
     let w = within_is low high m.0 text m.1 in
     rw m.1 (record { fits = w.0; shaped = refl; there = refl; written = λ a good d. w.1 })
 value_is before shape.Whole text h =
-    let m = read_some given.Whole (whole text) h in
+    let m = read_some given.Whole (whole_number text) h in
     rw m.1 (record { fits = whole_fits text m.0 m.1; shaped = refl; there = refl; written = λ a good d. whole_spelled text m.0 m.1 })
 value_is before shape.Args text h =
     let m = read_some given.Args (list_of text) h in
@@ -190,7 +190,7 @@ value_is before (shape.Named sort) text h =
 
 -- what the value of an absent option is
 pub record IsUsual (before : List Statement) (a : Absent) (s : OptionShape) (v : OptionValue) : Type 0 where
-  pub fits : Fits before s v
+  pub fits : FitsShape before s v
   pub shaped : is_shaped s v ≡ true
   pub may : is_refused a ≡ false
   pub default : is_default a v ≡ true
@@ -202,8 +202,8 @@ absent_is before a s e1 e2 = grind (arith, nat_tests)
 
 -- ---- all values
 
-field_is : (before : List Statement) (f : Field) (o : Option (List ℕ)) → is_good f.absent f.shape ≡ true → is_sound (value_at before f o) ≡ true
-    → Fits before f.shape (value_at before f o) × (is_filled f (value_at before f o) ≡ true)
+field_is : (before : List Statement) (f : Field) (o : Option (List ℕ)) → is_good f.absent f.shape ≡ true → is_sound (option_value_at before f o) ≡ true
+    → FitsShape before f.shape (option_value_at before f o) × (is_filled f (option_value_at before f o) ≡ true)
 field_is before f None good h =
     let u = absent_is before f.absent f.shape good h in
     (u.fits, and_from _ _ u.shaped (or_left (not (is_refused f.absent)) (is_there (value_absent f.absent f.shape)) (ap not u.may)))
@@ -219,7 +219,7 @@ pub values_are : (before : List Statement) (options : List (List ℕ)) (fs : Lis
     → AllFit before fs (values_in before options fs) × (are_filled fs (values_in before options fs) ≡ true)
 values_are before options [] good h = (tt, refl)
 values_are before options (f ∷ fs) good h =
-    let both = and_parts (is_sound (value_at before f (text_of f.key options))) (list_all is_sound (values_in before options fs)) h in
+    let both = and_parts (is_sound (option_value_at before f (text_of f.key options))) (list_all is_sound (values_in before options fs)) h in
     let first = field_is before f (text_of f.key options) good.0 both.0 in
     let rest = values_are before options fs good.1 both.1 in
     ((first.0, rest.0), and_from _ _ first.1 rest.1)
@@ -250,8 +250,8 @@ found_part k (w ∷ ws) word e = grind (arith, nat_tests, found_part k ws word, 
 -- an option is left out, or is the word that gave it
 picked : (before : List Statement) (all : List Field) (options : List (List ℕ)) (f : Field) (o : Option (List ℕ)) → is_good f.absent f.shape ≡ true
     → list_all (is_known all) options ≡ true → find (λ w. bytes_eq (key_of w) (key_text f.key)) options ≡ o
-    → is_sound (value_at before f (option_map value_of o)) ≡ true
-    → length (led 32 (option_words before f (value_at before f (option_map value_of o)))) ≤ part f.key options
+    → is_sound (option_value_at before f (option_map value_of o)) ≡ true
+    → length (led 32 (option_words before f (option_value_at before f (option_map value_of o)))) ≤ part f.key options
 picked before all options f None good known is h = rw (absent_is before f.absent f.shape good h).default (omega arith)
 picked before all options f (Some word) good known is h =
     elim (cases_Bool (is_default f.absent (value_given before f.shape (value_of word)))) [
@@ -261,8 +261,8 @@ picked before all options f (Some word) good known is h =
           let key : key_of word ≡ key_text f.key =
           bytes_are (key_of word) (key_text f.key) (find_passes (λ w. bytes_eq (key_of w) (key_text f.key)) options word is) in
           let k = and_parts _ _ (find_all (λ w. bytes_eq (key_of w) (key_text f.key)) (is_known all) options word is known) in
-          let whole : word ≡ key_text f.key ++ 61 ∷ value_of word = rw (← key) (spelled word k.0) in
-          rw (d, text, ← whole) (omega (arith, found_part f.key options word is, length-append word []))
+          let whole_number : word ≡ key_text f.key ++ 61 ∷ value_of word = rw (← key) (spelled word k.0) in
+          rw (d, text, ← whole_number) (omega (arith, found_part f.key options word is, length-append word []))
     ]
 
 options_cons : (before : List Statement) (f : Field) (fs : List Field) (v : OptionValue) (vs : List OptionValue)

@@ -12,7 +12,7 @@ use Rattle.workload_file.specs.declared.workload.Workload.{Workload}
 use Rattle.workload_file.specs.declared.values.OptionValue.{OptionValue}
 use Rattle.workload_file.specs.Cuts.{words_of}
 use Rattle.workload_file.specs.Table.{word_of, key_text, fields}
-use Rattle.workload_file.specs.Options.{gives}
+use Rattle.workload_file.specs.Options.{gives_option}
 use Rattle.workload_file.specs.Changes.{value_given, value_absent}
 use Rattle.workload_file.specs.Faulty.{is_printable}
 use Rattle.workload_file.specs.Reading.{line_adds, workload_of}
@@ -49,7 +49,7 @@ pub record IsWrittenOut (text other : List ℕ) : Type 0 where
   pub others : words_of other ≡ first ∷ (rest ++ (key_text field.key ++ 61 ∷ value) ∷ [])
   pub statement : word_of first ≡ Some word
   pub option : find (λ f. bytes_eq (key_text f.key) (key_text field.key)) (fields word) ≡ Some field
-  pub absent : gives field.key rest ≡ false
+  pub absent : gives_option field.key rest ≡ false
   pub usual : value_absent field.absent field.shape ≡ given
   pub reads : (before : List Statement) → value_given before field.shape value ≡ given
 

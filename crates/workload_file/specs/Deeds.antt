@@ -92,9 +92,9 @@ values d = (deed_spelled d).values
 
 -- ---- what a value holds: of a value of another shape the default, which no statement without a fault reads
 
-unfoldable pub number_in : OptionValue → ℕ
-number_in (given.Number n) = n
-number_in _ = 0
+unfoldable pub number_given : OptionValue → ℕ
+number_given (given.Number n) = n
+number_given _ = 0
 
 unfoldable pub whole_in : OptionValue → ℤ
 whole_in (given.Whole z) = z
@@ -137,29 +137,29 @@ place_there _ = 0
 
 -- the deeds on segments
 unfoldable pub segment_deed : Word → ℕ → List OptionValue → Deed
-segment_deed word.Shmem place (id ∷ cells ∷ []) = deed.Shmem (number_in id) (number_in cells)
-segment_deed word.ShmemGet place (id ∷ []) = deed.ShmemGet (number_in id)
+segment_deed word.Shmem place (id ∷ cells ∷ []) = deed.Shmem (number_given id) (number_given cells)
+segment_deed word.ShmemGet place (id ∷ []) = deed.ShmemGet (number_given id)
 segment_deed word.ShmemDelete place [] = deed.ShmemDelete place
 segment_deed word.Attach place [] = deed.Attach place
 segment_deed word.Detach place [] = deed.Detach place
-segment_deed word.Read place (cell ∷ []) = deed.Read place (number_in cell)
-segment_deed word.Write place (cell ∷ value ∷ []) = deed.Write place (number_in cell) (whole_in value)
+segment_deed word.Read place (cell ∷ []) = deed.Read place (number_given cell)
+segment_deed word.Write place (cell ∷ value ∷ []) = deed.Write place (number_given cell) (whole_in value)
 segment_deed w place values = deed.Begin
 
 -- the deeds on mutexes, semaphores and reader-writer locks, and what follows
 unfoldable pub lock_deed : Word → ℕ → List OptionValue → Deed
-lock_deed word.Mutex place (id ∷ recursive ∷ []) = deed.Mutex (number_in id) (flag_in recursive)
-lock_deed word.MutexGet place (id ∷ []) = deed.MutexGet (number_in id)
+lock_deed word.Mutex place (id ∷ recursive ∷ []) = deed.Mutex (number_given id) (flag_in recursive)
+lock_deed word.MutexGet place (id ∷ []) = deed.MutexGet (number_given id)
 lock_deed word.MutexDelete place [] = deed.MutexDelete place
 lock_deed word.Lock place (timeout ∷ []) = deed.Lock place (timeout_in timeout)
-lock_deed word.Unlock place (key ∷ []) = deed.Unlock place (number_in key)
-lock_deed word.Sem place (id ∷ limit ∷ []) = deed.Sem (number_in id) (number_in limit)
-lock_deed word.SemGet place (id ∷ []) = deed.SemGet (number_in id)
+lock_deed word.Unlock place (key ∷ []) = deed.Unlock place (number_given key)
+lock_deed word.Sem place (id ∷ limit ∷ []) = deed.Sem (number_given id) (number_given limit)
+lock_deed word.SemGet place (id ∷ []) = deed.SemGet (number_given id)
 lock_deed word.SemDelete place [] = deed.SemDelete place
 lock_deed word.SemLock place (timeout ∷ []) = deed.SemLock place (timeout_in timeout)
 lock_deed word.SemUnlock place [] = deed.SemUnlock place
-lock_deed word.Rwl place (id ∷ limit ∷ []) = deed.Rwl (number_in id) (number_in limit)
-lock_deed word.RwlGet place (id ∷ []) = deed.RwlGet (number_in id)
+lock_deed word.Rwl place (id ∷ limit ∷ []) = deed.Rwl (number_given id) (number_given limit)
+lock_deed word.RwlGet place (id ∷ []) = deed.RwlGet (number_given id)
 lock_deed word.RwlDelete place [] = deed.RwlDelete place
 lock_deed word.RwlLock place (writer ∷ timeout ∷ []) = deed.RwlLock place (mode_in writer) (timeout_in timeout)
 lock_deed word.RwlUnlock place (writer ∷ []) = deed.RwlUnlock place (mode_in writer)
@@ -168,8 +168,8 @@ lock_deed w place values = segment_deed w place values
 -- the deeds on queues, and what follows
 unfoldable pub queue_deed : Word → ℕ → List OptionValue → Deed
 queue_deed word.Queue place (id ∷ job ∷ priority ∷ limit ∷ ordered ∷ retain ∷ []) =
-    deed.Queue (number_in id) (number_in job) (number_in priority) (number_in limit) (flag_in ordered) (flag_in retain)
-queue_deed word.QueueGet place (id ∷ []) = deed.QueueGet (number_in id)
+    deed.Queue (number_given id) (number_given job) (number_given priority) (number_given limit) (flag_in ordered) (flag_in retain)
+queue_deed word.QueueGet place (id ∷ []) = deed.QueueGet (number_given id)
 queue_deed word.QueueEnable place [] = deed.QueueEnable place
 queue_deed word.QueueDisable place [] = deed.QueueDisable place
 queue_deed word.QueueDelete place [] = deed.QueueDelete place
@@ -178,12 +178,12 @@ queue_deed w place values = lock_deed w place values
 -- all deeds: those on actions, tasks and groups, and the others
 unfoldable pub deed_with : Word → ℕ → List OptionValue → Deed
 deed_with word.Begin place [] = deed.Begin
-deed_with word.Action place (job ∷ kind ∷ cores ∷ []) = deed.Action (number_in job) (kind_in kind) (cores_in cores)
+deed_with word.Action place (job ∷ kind ∷ cores ∷ []) = deed.Action (number_given job) (kind_in kind) (cores_in cores)
 deed_with word.ActionDelete place [] = deed.ActionDelete place
 deed_with word.ActionEnable place [] = deed.ActionEnable place
 deed_with word.ActionDisable place [] = deed.ActionDisable place
 deed_with word.Start place (job ∷ args ∷ priority ∷ cores ∷ detached ∷ group ∷ []) =
-    deed.Start (number_in job) (args_in args) (number_in priority) (cores_in cores) (flag_in detached) (place_in group)
+    deed.Start (number_given job) (args_in args) (number_given priority) (cores_in cores) (flag_in detached) (place_in group)
 deed_with word.Enqueue place (queue ∷ args ∷ cores ∷ detached ∷ group ∷ []) =
     deed.Enqueue (place_there queue) (args_in args) (cores_in cores) (flag_in detached) (place_in group)
 deed_with word.Wait place (timeout ∷ []) = deed.Wait place (timeout_in timeout)

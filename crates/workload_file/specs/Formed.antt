@@ -35,22 +35,22 @@ IsTimeout (timeout.Looks looks) = looks ≤ 1000000
 
 -- the value is in the range of its option, or what the absent option gives;
 -- a name stands for a statement before this one that bound such a thing
-abbrev pub Fits : List Statement → OptionShape → OptionValue → Type 0
-Fits before (shape.Number low high) (given.Number n) = (low ≤ n) × (n ≤ high)
-Fits before shape.Whole (given.Whole z) = FitsSigned w64 z
-Fits before shape.Args (given.Args zs) = (length zs ≤ 16) × AllByRecursion (FitsSigned w64) zs
-Fits before shape.Cores (given.Cores mask) = (0 < mask.0) × (mask.0 < 2 ^ 64)
-Fits before shape.Kind (given.Kind kind) = Unit {0}
-Fits before shape.Flag (given.Flag b) = Unit {0}
-Fits before shape.Mode (given.Mode b) = Unit {0}
-Fits before shape.Timeout (given.Timeout t) = IsTimeout t
-Fits before (shape.Named sort) (given.Place place) = IfSome place (IsBoundAt sort before)
-Fits before _ _ = ⊥
+abbrev pub FitsShape : List Statement → OptionShape → OptionValue → Type 0
+FitsShape before (shape.Number low high) (given.Number n) = (low ≤ n) × (n ≤ high)
+FitsShape before shape.Whole (given.Whole z) = FitsSigned w64 z
+FitsShape before shape.Args (given.Args zs) = (length zs ≤ 16) × AllByRecursion (FitsSigned w64) zs
+FitsShape before shape.Cores (given.Cores mask) = (0 < mask.0) × (mask.0 < 2 ^ 64)
+FitsShape before shape.Kind (given.Kind kind) = Unit {0}
+FitsShape before shape.Flag (given.Flag b) = Unit {0}
+FitsShape before shape.Mode (given.Mode b) = Unit {0}
+FitsShape before shape.Timeout (given.Timeout t) = IsTimeout t
+FitsShape before (shape.Named sort) (given.Place place) = IfSome place (IsBoundAt sort before)
+FitsShape before _ _ = ⊥
 
 -- each value fits its option
 abbrev pub AllFit : List Statement → List Field → List OptionValue → Type 0
 AllFit before [] [] = Unit {0}
-AllFit before (field ∷ fields) (value ∷ values) = Fits before field.shape value × AllFit before fields values
+AllFit before (field ∷ fields) (value ∷ values) = FitsShape before field.shape value × AllFit before fields values
 AllFit before [] (value ∷ values) = ⊥
 AllFit before (field ∷ fields) [] = ⊥
 

@@ -24,30 +24,30 @@ abbrev pub place_at : NameIndex → ℕ → Option ℕ
 place_at index key = if nat_lt key (2 ^ 64) then get nat_eq index.short key else get nat_eq index.long key
 
 -- the place at which the index has a name; it has no other text
-abbrev pub found : NameIndex → List ℕ → Option ℕ
-found index name = if is_name name then place_at index (key_of name) else None
+abbrev pub found_name : NameIndex → List ℕ → Option ℕ
+found_name index name = if is_name name then place_at index (key_of name) else None
 
 -- few enough statements, and the index has each name of this part at the place that bound it
 pub record IsReader (r : Reader) : Type 0 where
   pub statements : length r.said.current.statements ≤ r.said.count
   pub count : r.said.count ≤ 20000
-  pub names : (name : List ℕ) → found r.names name ≡ bound_at name r.said.current.statements
+  pub names : (name : List ℕ) → found_name r.names name ≡ bound_at name r.said.current.statements
 
 -- the index with one more name, where there is one: the first place of a name stays
 abbrev pub with_name : Option (List ℕ) → ℕ → (List ℕ → Option ℕ) → List ℕ → Option ℕ
 with_name name place names other = first_of_two (names other) (if is_called other name then Some place else None)
 
 -- the name that a change binds
-abbrev pub name_of : LineEffect → Option (List ℕ)
-name_of (change.Node s) = None
-name_of (change.Caller n) = None
-name_of (change.Statement s) = s.name
+abbrev pub name_in_effect : LineEffect → Option (List ℕ)
+name_in_effect (change.Node s) = None
+name_in_effect (change.Caller n) = None
+name_in_effect (change.Statement s) = s.name
 
 -- the same, but that the index has this name already, at the place of the next statement
 pub record IsNamed (r : Reader) (name : Option (List ℕ)) : Type 0 where
   pub statements : length r.said.current.statements ≤ r.said.count
   pub count : r.said.count ≤ 20000
-  pub names : (other : List ℕ) → found r.names other ≡ with_name name (length r.said.current.statements) (λ n. bound_at n r.said.current.statements) other
+  pub names : (other : List ℕ) → found_name r.names other ≡ with_name name (length r.said.current.statements) (λ n. bound_at n r.said.current.statements) other
 
 -- the answer, seen without the index
 abbrev pub said_of : {E : Type 0} → Result Reader E → Result Reading E

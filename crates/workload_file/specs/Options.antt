@@ -33,8 +33,8 @@ has_twice [] = false
 has_twice (word ∷ words) = list_any (λ w. bytes_eq (key_of w) (key_of word)) words || has_twice words
 
 -- a word gives this option
-abbrev pub gives : Key → List (List ℕ) → Bool
-gives key words = list_any (λ w. bytes_eq (key_of w) (key_text key)) words
+abbrev pub gives_option : Key → List (List ℕ) → Bool
+gives_option key words = list_any (λ w. bytes_eq (key_of w) (key_text key)) words
 
 -- the text of an option, where it is given
 unfoldable pub text_of : Key → List (List ℕ) → Option (List ℕ)

@@ -65,8 +65,8 @@ lines_add r line (text ∷ texts) = do
   lines_add s (line + 1) texts
 
 -- before the first line
-unfoldable pub start : Reading
-start = record { node_line = 0; settings = usual_settings; before = []; current = record { line = 0; name = codes "main"; statements = [] }; count = 0 }
+unfoldable pub empty_reading : Reading
+empty_reading = record { node_line = 0; settings = usual_settings; before = []; current = record { line = 0; name = codes "main"; statements = [] }; count = 0 }
 
 -- the workload, when all lines are read
 abbrev pub finished : Reading → Workload
@@ -75,7 +75,7 @@ finished r = record { node_line = r.node_line; settings = r.settings; parts = r.
 -- the workload that a text is, or the first faulty line with its first cause
 unfoldable pub workload_of : List ℕ → Result Workload Fault
 workload_of bytes = do
-  r ← lines_add start 1 (between 10 bytes)
+  r ← lines_add empty_reading 1 (between 10 bytes)
   Ok (finished r)
 
 -- the cause for which reading refused a line
@@ -91,7 +91,7 @@ pub record IsFirstFault (bytes : List ℕ) (fault : Fault) : Type 0 where
   pub said : Reading
   pub lines : between 10 bytes ≡ before ++ text ∷ after
   pub number : fault.line ≡ length before + 1
-  pub read : lines_add start 1 before ≡ Ok said
+  pub read : lines_add empty_reading 1 before ≡ Ok said
   pub cause : first_met said text ≡ Some fault.cause
 
 -- what a function returned is what reading gives, unless memory ran out

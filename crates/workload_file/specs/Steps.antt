@@ -10,7 +10,7 @@ use Rattle.workload_file.specs.declared.faults.Cause.TheVariants as cause
 use Rattle.workload_file.specs.declared.faults.Fault.{Fault}
 use Rattle.workload_file.specs.Table.{key_text}
 use Rattle.workload_file.specs.Options.{key_of, text_of}
-use Rattle.workload_file.specs.Changes.{value_at}
+use Rattle.workload_file.specs.Changes.{option_value_at}
 use Rattle.workload_file.specs.Reading.{◌>>=◌, unless, at_line, with_change}
 
 -- the text of each of these options, where it is given
@@ -25,7 +25,7 @@ IsOptionAt (field ∷ fields) word (suc place) = IsOptionAt fields word place
 
 -- what options of these texts give
 abbrev pub values_of : List Statement → List Field → List (Option (List ℕ)) → List OptionValue
-values_of before (field ∷ fields) (text ∷ texts) = value_at before field text ∷ values_of before fields texts
+values_of before (field ∷ fields) (text ∷ texts) = option_value_at before field text ∷ values_of before fields texts
 values_of before _ _ = []
 
 -- the causes that are looked for when the options of a statement are read

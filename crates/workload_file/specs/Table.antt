@@ -15,7 +15,7 @@ use Rattle.workload_file.specs.declared.table.Field.{Field}
 use Rattle.workload_file.specs.declared.table.Absent.TheVariants as absent
 
 -- a statement: its word, what its second word is, and its options in order
-pub record Row : Type 0 where
+pub record StatementRow : Type 0 where
   pub text : List ℕ
   pub naming : Naming
   pub fields : List Field
@@ -29,97 +29,103 @@ abbrev pub may : Key → OptionShape → Field
 may k s = record { key = k; shape = s; absent = absent.Usual }
 
 -- a number from low to high, which is n where the option is absent
-abbrev pub number : Key → ℕ → ℕ → ℕ → Field
-number k low high n = record { key = k; shape = shape.Number low high; absent = absent.Number n }
+abbrev pub number_field : Key → ℕ → ℕ → ℕ → Field
+number_field k low high n = record { key = k; shape = shape.Number low high; absent = absent.Number n }
 
 -- each statement
-unfoldable pub row : Word → Row
-row word.Node = record {
+unfoldable pub statement_row : Word → StatementRow
+statement_row word.Node = record {
   text = codes "node";
   naming = rule.Bare;
   fields =
-      number key.Workers 1 16 1 ∷ number key.MaxTasks 1 65536 1024 ∷ number key.MaxActions 1 1024 64 ∷ number key.MaxGroups 1 1024 128
-      ∷ number key.MaxQueues 1 256 16 ∷ number key.MaxObjects 1 256 16 ∷ number key.Priorities 1 8 4 ∷ number key.Generations 1 4294967295 4294967295 ∷ [];
+      number_field key.Workers 1 16 1 ∷ number_field key.MaxTasks 1 65536 1024 ∷ number_field key.MaxActions 1 1024 64 ∷ number_field key.MaxGroups 1 1024 128
+      ∷ number_field key.MaxQueues 1 256 16 ∷ number_field key.MaxObjects 1 256 16 ∷ number_field key.Priorities 1 8 4
+      ∷ number_field key.Generations 1 4294967295 4294967295 ∷ [];
 }
-row word.Caller = record { text = codes "caller"; naming = rule.Caller; fields = [] }
-row word.Begin = record { text = codes "begin"; naming = rule.Bare; fields = [] }
-row word.Action = record {
+statement_row word.Caller = record { text = codes "caller"; naming = rule.Caller; fields = [] }
+statement_row word.Begin = record { text = codes "begin"; naming = rule.Bare; fields = [] }
+statement_row word.Action = record {
   text = codes "action";
   naming = rule.Binds sort.Action;
   fields = needs key.Job (shape.Number 1 65535) ∷ needs key.Kind shape.Kind ∷ may key.Cores shape.Cores ∷ [];
 }
-row word.ActionDelete = record { text = codes "action_delete"; naming = rule.Uses sort.Action; fields = [] }
-row word.ActionEnable = record { text = codes "action_enable"; naming = rule.Uses sort.Action; fields = [] }
-row word.ActionDisable = record { text = codes "action_disable"; naming = rule.Uses sort.Action; fields = [] }
-row word.Start = record {
+statement_row word.ActionDelete = record { text = codes "action_delete"; naming = rule.Uses sort.Action; fields = [] }
+statement_row word.ActionEnable = record { text = codes "action_enable"; naming = rule.Uses sort.Action; fields = [] }
+statement_row word.ActionDisable = record { text = codes "action_disable"; naming = rule.Uses sort.Action; fields = [] }
+statement_row word.Start = record {
   text = codes "start";
   naming = rule.Binds sort.Task;
   fields =
-      needs key.Job (shape.Number 1 65535) ∷ may key.Args shape.Args ∷ number key.Priority 0 7 0 ∷ may key.Cores shape.Cores ∷ may key.Detached shape.Flag
+      needs key.Job (shape.Number 1 65535) ∷ may key.Args shape.Args ∷ number_field key.Priority 0 7 0 ∷ may key.Cores shape.Cores ∷ may key.Detached shape.Flag
       ∷ may key.Group (shape.Named sort.Group) ∷ [];
 }
-row word.Enqueue = record {
+statement_row word.Enqueue = record {
   text = codes "enqueue";
   naming = rule.Binds sort.Task;
   fields =
       needs key.Queue (shape.Named sort.Queue) ∷ may key.Args shape.Args ∷ may key.Cores shape.Cores ∷ may key.Detached shape.Flag
       ∷ may key.Group (shape.Named sort.Group) ∷ [];
 }
-row word.Wait = record { text = codes "wait"; naming = rule.Uses sort.Task; fields = needs key.Timeout shape.Timeout ∷ [] }
-row word.Cancel = record { text = codes "cancel"; naming = rule.Uses sort.Task; fields = [] }
-row word.Group = record { text = codes "group"; naming = rule.Binds sort.Group; fields = [] }
-row word.WaitAll = record { text = codes "wait_all"; naming = rule.Uses sort.Group; fields = needs key.Timeout shape.Timeout ∷ [] }
-row word.WaitAny = record { text = codes "wait_any"; naming = rule.Uses sort.Group; fields = needs key.Timeout shape.Timeout ∷ [] }
-row word.GroupDelete = record { text = codes "group_delete"; naming = rule.Uses sort.Group; fields = [] }
-row word.Queue = record {
+statement_row word.Wait = record { text = codes "wait"; naming = rule.Uses sort.Task; fields = needs key.Timeout shape.Timeout ∷ [] }
+statement_row word.Cancel = record { text = codes "cancel"; naming = rule.Uses sort.Task; fields = [] }
+statement_row word.Group = record { text = codes "group"; naming = rule.Binds sort.Group; fields = [] }
+statement_row word.WaitAll = record { text = codes "wait_all"; naming = rule.Uses sort.Group; fields = needs key.Timeout shape.Timeout ∷ [] }
+statement_row word.WaitAny = record { text = codes "wait_any"; naming = rule.Uses sort.Group; fields = needs key.Timeout shape.Timeout ∷ [] }
+statement_row word.GroupDelete = record { text = codes "group_delete"; naming = rule.Uses sort.Group; fields = [] }
+statement_row word.Queue = record {
   text = codes "queue";
   naming = rule.Binds sort.Queue;
   fields =
-      needs key.Id (shape.Number 0 4294967295) ∷ needs key.Job (shape.Number 1 65535) ∷ number key.Priority 0 7 0 ∷ number key.Limit 1 65536 65536
+      needs key.Id (shape.Number 0 4294967295) ∷ needs key.Job (shape.Number 1 65535) ∷ number_field key.Priority 0 7 0 ∷ number_field key.Limit 1 65536 65536
       ∷ may key.Ordered shape.Flag ∷ may key.Retain shape.Flag ∷ [];
 }
-row word.QueueGet = record { text = codes "queue_get"; naming = rule.Binds sort.Queue; fields = needs key.Id (shape.Number 0 4294967295) ∷ [] }
-row word.QueueEnable = record { text = codes "queue_enable"; naming = rule.Uses sort.Queue; fields = [] }
-row word.QueueDisable = record { text = codes "queue_disable"; naming = rule.Uses sort.Queue; fields = [] }
-row word.QueueDelete = record { text = codes "queue_delete"; naming = rule.Uses sort.Queue; fields = [] }
-row word.Mutex = record {
+statement_row word.QueueGet = record { text = codes "queue_get"; naming = rule.Binds sort.Queue; fields = needs key.Id (shape.Number 0 4294967295) ∷ [] }
+statement_row word.QueueEnable = record { text = codes "queue_enable"; naming = rule.Uses sort.Queue; fields = [] }
+statement_row word.QueueDisable = record { text = codes "queue_disable"; naming = rule.Uses sort.Queue; fields = [] }
+statement_row word.QueueDelete = record { text = codes "queue_delete"; naming = rule.Uses sort.Queue; fields = [] }
+statement_row word.Mutex = record {
   text = codes "mutex";
   naming = rule.Binds sort.Mutex;
   fields = needs key.Id (shape.Number 0 4294967295) ∷ may key.Recursive shape.Flag ∷ [];
 }
-row word.MutexGet = record { text = codes "mutex_get"; naming = rule.Binds sort.Mutex; fields = needs key.Id (shape.Number 0 4294967295) ∷ [] }
-row word.MutexDelete = record { text = codes "mutex_delete"; naming = rule.Uses sort.Mutex; fields = [] }
-row word.Lock = record { text = codes "lock"; naming = rule.Uses sort.Mutex; fields = needs key.Timeout shape.Timeout ∷ [] }
-row word.Unlock = record { text = codes "unlock"; naming = rule.Uses sort.Mutex; fields = needs key.Key (shape.Number 0 4294967295) ∷ [] }
-row word.Sem = record {
+statement_row word.MutexGet = record { text = codes "mutex_get"; naming = rule.Binds sort.Mutex; fields = needs key.Id (shape.Number 0 4294967295) ∷ [] }
+statement_row word.MutexDelete = record { text = codes "mutex_delete"; naming = rule.Uses sort.Mutex; fields = [] }
+statement_row word.Lock = record { text = codes "lock"; naming = rule.Uses sort.Mutex; fields = needs key.Timeout shape.Timeout ∷ [] }
+statement_row word.Unlock = record { text = codes "unlock"; naming = rule.Uses sort.Mutex; fields = needs key.Key (shape.Number 0 4294967295) ∷ [] }
+statement_row word.Sem = record {
   text = codes "sem";
   naming = rule.Binds sort.Sem;
   fields = needs key.Id (shape.Number 0 4294967295) ∷ needs key.Limit (shape.Number 1 65535) ∷ [];
 }
-row word.SemGet = record { text = codes "sem_get"; naming = rule.Binds sort.Sem; fields = needs key.Id (shape.Number 0 4294967295) ∷ [] }
-row word.SemDelete = record { text = codes "sem_delete"; naming = rule.Uses sort.Sem; fields = [] }
-row word.SemLock = record { text = codes "sem_lock"; naming = rule.Uses sort.Sem; fields = needs key.Timeout shape.Timeout ∷ [] }
-row word.SemUnlock = record { text = codes "sem_unlock"; naming = rule.Uses sort.Sem; fields = [] }
-row word.Rwl = record {
+statement_row word.SemGet = record { text = codes "sem_get"; naming = rule.Binds sort.Sem; fields = needs key.Id (shape.Number 0 4294967295) ∷ [] }
+statement_row word.SemDelete = record { text = codes "sem_delete"; naming = rule.Uses sort.Sem; fields = [] }
+statement_row word.SemLock = record { text = codes "sem_lock"; naming = rule.Uses sort.Sem; fields = needs key.Timeout shape.Timeout ∷ [] }
+statement_row word.SemUnlock = record { text = codes "sem_unlock"; naming = rule.Uses sort.Sem; fields = [] }
+statement_row word.Rwl = record {
   text = codes "rwl";
   naming = rule.Binds sort.Rwl;
   fields = needs key.Id (shape.Number 0 4294967295) ∷ needs key.Limit (shape.Number 1 32) ∷ [];
 }
-row word.RwlGet = record { text = codes "rwl_get"; naming = rule.Binds sort.Rwl; fields = needs key.Id (shape.Number 0 4294967295) ∷ [] }
-row word.RwlDelete = record { text = codes "rwl_delete"; naming = rule.Uses sort.Rwl; fields = [] }
-row word.RwlLock = record { text = codes "rwl_lock"; naming = rule.Uses sort.Rwl; fields = needs key.Mode shape.Mode ∷ needs key.Timeout shape.Timeout ∷ [] }
-row word.RwlUnlock = record { text = codes "rwl_unlock"; naming = rule.Uses sort.Rwl; fields = needs key.Mode shape.Mode ∷ [] }
-row word.Shmem = record {
+statement_row word.RwlGet = record { text = codes "rwl_get"; naming = rule.Binds sort.Rwl; fields = needs key.Id (shape.Number 0 4294967295) ∷ [] }
+statement_row word.RwlDelete = record { text = codes "rwl_delete"; naming = rule.Uses sort.Rwl; fields = [] }
+statement_row word.RwlLock = record {
+  text = codes "rwl_lock";
+  naming = rule.Uses sort.Rwl;
+  fields =
+      needs key.Mode shape.Mode ∷ needs key.Timeout shape.Timeout ∷ [];
+}
+statement_row word.RwlUnlock = record { text = codes "rwl_unlock"; naming = rule.Uses sort.Rwl; fields = needs key.Mode shape.Mode ∷ [] }
+statement_row word.Shmem = record {
   text = codes "shmem";
   naming = rule.Binds sort.Shmem;
   fields = needs key.Id (shape.Number 0 4294967295) ∷ needs key.Cells (shape.Number 1 4096) ∷ [];
 }
-row word.ShmemGet = record { text = codes "shmem_get"; naming = rule.Binds sort.Shmem; fields = needs key.Id (shape.Number 0 4294967295) ∷ [] }
-row word.ShmemDelete = record { text = codes "shmem_delete"; naming = rule.Uses sort.Shmem; fields = [] }
-row word.Attach = record { text = codes "attach"; naming = rule.Uses sort.Shmem; fields = [] }
-row word.Detach = record { text = codes "detach"; naming = rule.Uses sort.Shmem; fields = [] }
-row word.Read = record { text = codes "read"; naming = rule.Uses sort.Shmem; fields = needs key.Cell (shape.Number 0 4095) ∷ [] }
-row word.Write = record {
+statement_row word.ShmemGet = record { text = codes "shmem_get"; naming = rule.Binds sort.Shmem; fields = needs key.Id (shape.Number 0 4294967295) ∷ [] }
+statement_row word.ShmemDelete = record { text = codes "shmem_delete"; naming = rule.Uses sort.Shmem; fields = [] }
+statement_row word.Attach = record { text = codes "attach"; naming = rule.Uses sort.Shmem; fields = [] }
+statement_row word.Detach = record { text = codes "detach"; naming = rule.Uses sort.Shmem; fields = [] }
+statement_row word.Read = record { text = codes "read"; naming = rule.Uses sort.Shmem; fields = needs key.Cell (shape.Number 0 4095) ∷ [] }
+statement_row word.Write = record {
   text = codes "write";
   naming = rule.Uses sort.Shmem;
   fields = needs key.Cell (shape.Number 0 4095) ∷ needs key.Value shape.Whole ∷ [];
@@ -127,15 +133,15 @@ row word.Write = record {
 
 -- the first word of the statement
 abbrev pub word_text : Word → List ℕ
-word_text w = (row w).text
+word_text w = (statement_row w).text
 
 -- what its second word is
 abbrev pub naming : Word → Naming
-naming w = (row w).naming
+naming w = (statement_row w).naming
 
 -- its options, in order
 abbrev pub fields : Word → List Field
-fields w = (row w).fields
+fields w = (statement_row w).fields
 
 -- each statement once
 abbrev pub words : List Word

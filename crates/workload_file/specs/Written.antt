@@ -110,31 +110,31 @@ abbrev pub caller_text : List ℕ → List ℕ
 caller_text name = line_text (word_text word.Caller ∷ name ∷ [])
 
 -- a text with the number of its line
-abbrev pub Line : Type 0
-Line = ℕ × List ℕ
+abbrev pub TextLine : Type 0
+TextLine = ℕ × List ℕ
 
 -- the line of these statements, behind those before them
-unfoldable pub statement_lines_behind : List Statement → List Statement → List Line
+unfoldable pub statement_lines_behind : List Statement → List Statement → List TextLine
 statement_lines_behind before [] = []
 statement_lines_behind before (s ∷ rest) = (s.line, statement_text before s) ∷ statement_lines_behind (before ++ s ∷ []) rest
 
 -- a line, where its number isn't 0
-abbrev pub if_any : ℕ → List ℕ → List Line
+abbrev pub if_any : ℕ → List ℕ → List TextLine
 if_any line text = if line == 0 then [] else (line, text) ∷ []
 
-abbrev pub lines_of_part : Part → List Line
+abbrev pub lines_of_part : Part → List TextLine
 lines_of_part p = if_any p.line (caller_text p.name) ++ statement_lines_behind [] p.statements
 
-abbrev pub lines_of : Workload → List Line
-lines_of load = if_any load.node_line (node_text load.settings) ++ flat_map lines_of_part load.parts
+abbrev pub workload_lines : Workload → List TextLine
+workload_lines load = if_any load.node_line (node_text load.settings) ++ flat_map lines_of_part load.parts
 
 -- ---- the text
 
 -- from a line on: line feeds up to the next line that has a text, and that text
-unfoldable pub laid_out : ℕ → List Line → List ℕ
+unfoldable pub laid_out : ℕ → List TextLine → List ℕ
 laid_out at [] = []
 laid_out at (line ∷ lines) = replicate (line.0 - at) 10 ++ (line.1 ++ laid_out line.0 lines)
 
 -- the canonical text: each statement on its own line number, the other lines empty, no line feed behind the last
 abbrev pub canonical : Workload → List ℕ
-canonical load = laid_out 1 (lines_of load)
+canonical load = laid_out 1 (workload_lines load)

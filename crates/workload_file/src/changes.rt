@@ -1,7 +1,7 @@
 //! The workload so far, with what a line adds.
 ghost use Rattle.std.specs.Prelude.{◌≡◌, ◌<◌, ◌++◌, ◌∷◌, [], Some, None, OnOk, length};
 ghost use Rattle.workload_file.specs.Reading.{with_change};
-ghost use Rattle.workload_file.specs.Indexed.{IsReader, IsNamed, name_of};
+ghost use Rattle.workload_file.specs.Indexed.{IsReader, IsNamed, name_in_effect};
 ghost use Rattle.workload_file.specs.declared.reading.LineEffect.TheVariants as change;
 
 use crate::index::NameIndex;
@@ -61,7 +61,7 @@ pub fn with_change(
     line: u64,
     change: LineEffect,
 ) -> Result<(), AllocError>
-    requires named { IsNamed r.old (name_of change) }
+    requires named { IsNamed r.old (name_in_effect change) }
     requires few { r.old.said.count < 20000 }
     ensures value { OnOk result (r.new.said ≡ with_change r.old.said line (Some change)) }
     ensures reader { OnOk result (IsReader r.new) }

@@ -1,16 +1,16 @@
 //! What a statement without a fault does, of the values of its options.
 ghost use Rattle.std.specs.Prelude.{◌≡◌};
-ghost use Rattle.workload_file.specs.Deeds.{number_in, whole_in, args_in, cores_in, kind_in, flag_in, mode_in, timeout_in, place_in, place_there, deed_with, queue_deed, lock_deed, segment_deed};
-ghost use Rattle.workload_file.specs.Changes.{usual_settings, with_setting, settings_by};
+ghost use Rattle.workload_file.specs.Deeds.{number_given, whole_in, args_in, cores_in, kind_in, flag_in, mode_in, timeout_in, place_in, place_there, deed_with, queue_deed, lock_deed, segment_deed};
+ghost use Rattle.workload_file.specs.Changes.{usual_settings, with_node_setting, settings_by};
 
 use crate::table::{Word, statements};
 use crate::values::OptionValue;
 use crate::workload::Deed;
 use mtapi_values::{Args, Kind, Mask, NodeAttr, Timeout};
 
-#[tactic(auto, unfolding(crate::specs::Deeds::number_in))]
+#[tactic(auto, unfolding(crate::specs::Deeds::number_given))]
 fn number_in(value: &OptionValue) -> u32
-    ensures { result ≡ number_in value.now }
+    ensures { result ≡ number_given value.now }
 {
     match value {
         OptionValue::Number(n) => *n,
@@ -171,9 +171,9 @@ pub fn deed_with(word: Word, place: u32, values: &[OptionValue]) -> Deed
     statements!(family (tasks (word place values queue_deed(word, place, values))))
 }
 
-#[tactic(auto, unfolding(crate::specs::Changes::with_setting))]
+#[tactic(auto, unfolding(crate::specs::Changes::with_node_setting))]
 fn with_setting(settings: NodeAttr, number: u32, value: u32) -> NodeAttr
-    ensures { result ≡ with_setting number value settings }
+    ensures { result ≡ with_node_setting number value settings }
 {
     let mut settings = settings;
     let _ = settings.set(number, u64::from(value));
@@ -183,7 +183,7 @@ fn with_setting(settings: NodeAttr, number: u32, value: u32) -> NodeAttr
 /// The settings with these attributes set, by their numbers from 1 on.
 #[rattlefmt::skip]
 fn settings_of(a: u32, b: u32, c: u32, d: u32, e: u32, f: u32, g: u32, h: u32) -> NodeAttr
-    ensures { result ≡ with_setting 8 h (with_setting 7 g (with_setting 6 f (with_setting 5 e (with_setting 4 d (with_setting 3 c (with_setting 2 b (with_setting 1 a usual_settings))))))) }
+    ensures { result ≡ with_node_setting 8 h (with_node_setting 7 g (with_node_setting 6 f (with_node_setting 5 e (with_node_setting 4 d (with_node_setting 3 c (with_node_setting 2 b (with_node_setting 1 a usual_settings))))))) }
 {
     let settings = with_setting(NodeAttr::new(), 1, a);
     let settings = with_setting(settings, 2, b);

@@ -6,7 +6,7 @@ ghost use Rattle.workload_file.specs.declared.table.OptionShape.TheVariants as s
 ghost use Rattle.workload_file.specs.declared.values.OptionValue.TheVariants as given;
 ghost use Rattle.workload_file.specs.Values.{is_name};
 ghost use Rattle.workload_file.specs.Names.{place_of};
-ghost use Rattle.workload_file.specs.Changes.{or_bad, or_unbound, value_given, value_absent, value_at};
+ghost use Rattle.workload_file.specs.Changes.{or_bad, or_unbound, value_given, value_absent, option_value_at};
 ghost use Rattle.workload_file.specs.Steps.{values_of};
 ghost use Rattle.workload_file.specs.Indexed.{IsReader};
 
@@ -96,7 +96,7 @@ fn push_value(
     text: Option<&[u8]>,
 ) -> Result<(), AllocError>
     requires { IsReader r.now }
-    ensures { OnOk result (values.new.items ≡ values.old.items ++ value_at r.now.said.current.statements field (option_copied text.entry) ∷ []) }
+    ensures { OnOk result (values.new.items ≡ values.old.items ++ option_value_at r.now.said.current.statements field (option_copied text.entry) ∷ []) }
 {
     match text {
         Some(text) => match field.shape {

@@ -1,7 +1,7 @@
 //! What a line adds, or the first cause that it meets.
 ghost use Rattle.std.specs.Prelude.{◌≡◌, ◌<◌, ◌∷◌, ◌&&◌, not, false, List, ℕ, length, Some, None, IfOk, OnOk};
 ghost use Rattle.std.specs.List.{list_any, list_all, find};
-ghost use Rattle.workload_file.specs.Texts.{texts};
+ghost use Rattle.workload_file.specs.Texts.{texts_of_words};
 ghost use Rattle.workload_file.specs.Values.{is_name};
 ghost use Rattle.workload_file.specs.Table.{naming, fields};
 ghost use Rattle.workload_file.specs.Names.{has_second, name_in, options_in, use_in, is_unbound};
@@ -9,7 +9,7 @@ ghost use Rattle.workload_file.specs.Changes.{is_bad, is_missing, names_nothing,
 ghost use Rattle.workload_file.specs.Faulty.{is_printable, is_comment, is_faulty, statement_causes, word_causes, words_meet};
 ghost use Rattle.workload_file.specs.Reading.{words_say, line_adds, Gives};
 ghost use Rattle.workload_file.specs.Steps.{late_causes, unless_met};
-ghost use Rattle.workload_file.specs.Indexed.{IsReader, found, said_then, with_name};
+ghost use Rattle.workload_file.specs.Indexed.{IsReader, found_name, said_then, with_name};
 
 use crate::changes::with_change;
 use crate::cut::words_of;
@@ -61,13 +61,13 @@ macro_rules! met {
 fn late_met(r: &mut Reader, word: Word, name: &[u8], options: &[&[u8]], place: Option<u32>, values: &[OptionValue]) -> Result<Option<Cause>, AllocError>
     requires reader { IsReader r.old }
     requires place { place ≡ use_in r.old.said.current.statements (naming word) name.now }
-    requires values { values.now ≡ values_in r.old.said.current.statements (texts options.now) (fields word) }
+    requires values { values.now ≡ values_in r.old.said.current.statements (texts_of_words options.now) (fields word) }
     requires named { (has_second (naming word) && not (is_name name.now)) ≡ false }
     ensures value { IfOk result (λ met.
-        met ≡ find (is_faulty r.old.said word name.now (texts options.now)) late_causes) }
+        met ≡ find (is_faulty r.old.said word name.now (texts_of_words options.now)) late_causes) }
     ensures said { OnOk result (r.new.said ≡ r.old.said) }
     ensures bound { IfOk result (λ met. met ≡ None → (other : List ℕ)
-        → found r.new.names other ≡ with_name (bound_name (naming word) name.now) (length r.old.said.current.statements) (found r.old.names) other) }
+        → found_name r.new.names other ≡ with_name (bound_name (naming word) name.now) (length r.old.said.current.statements) (found_name r.old.names) other) }
 {
     met!(any_bad(values) => BadValue, any_missing(values) => OptionMissing);
     let free = take_name(r, word.naming(), name)?;
@@ -82,14 +82,14 @@ fn first_met<'a>(r: &mut Reader, given: &mut Vec<Option<&'a [u8]>>, values: &mut
     requires reader { IsReader r.old }
     requires place { place ≡ use_in r.old.said.current.statements (naming word) name.now }
     ensures value { IfOk result (λ met.
-        met ≡ find (is_faulty r.old.said word name.now (texts options.now)) statement_causes) }
+        met ≡ find (is_faulty r.old.said word name.now (texts_of_words options.now)) statement_causes) }
     ensures few { IfOk result (λ met. met ≡ None → r.old.said.count < 20000) }
     ensures named { IfOk result (λ met. met ≡ None → (has_second (naming word) && not (is_name name.now)) ≡ false) }
     ensures values { IfOk result (λ met. met ≡ None
-        → values.new.items ≡ values_in r.old.said.current.statements (texts options.now) (fields word)) }
+        → values.new.items ≡ values_in r.old.said.current.statements (texts_of_words options.now) (fields word)) }
     ensures said { OnOk result (r.new.said ≡ r.old.said) }
     ensures bound { IfOk result (λ met. met ≡ None → (other : List ℕ)
-        → found r.new.names other ≡ with_name (bound_name (naming word) name.now) (length r.old.said.current.statements) (found r.old.names) other) }
+        → found_name r.new.names other ≡ with_name (bound_name (naming word) name.now) (length r.old.said.current.statements) (found_name r.old.names) other) }
 {
     met!(20_000 <= r.said.count => TooManyStatements, is_ninth_caller(r, word) => TooManyCallers, is_misplaced(r, word) => Misplaced);
     met!(has_second(word.naming()) && !is_name(name) => BadName);
@@ -110,7 +110,7 @@ fn bound_name(naming: Naming, name: &[u8]) -> Option<Name>
 }
 
 /// What a statement without a fault adds.
-#[tactic(auto, unfolding(crate::specs::Changes::change_with, crate::specs::Table::row))]
+#[tactic(auto, unfolding(crate::specs::Changes::change_with, crate::specs::Table::statement_row))]
 fn change_with(
     line: u64,
     word: Word,
@@ -147,7 +147,7 @@ fn add_statement<'a>(
     rest: &[&'a [u8]],
 ) -> Result<(), LineError>
     requires { IsReader r.old }
-    ensures value { let name = name_in (naming word) (texts rest.now) in let options = options_in (naming word) (texts rest.now) in Gives (said_then result r.new.said) (unless_met r.old.said line (find (is_faulty r.old.said word name options) statement_causes) (Some (change_of r.old.said line word name options))) }
+    ensures value { let name = name_in (naming word) (texts_of_words rest.now) in let options = options_in (naming word) (texts_of_words rest.now) in Gives (said_then result r.new.said) (unless_met r.old.said line (find (is_faulty r.old.said word name options) statement_causes) (Some (change_of r.old.said line word name options))) }
     ensures reader { OnOk result (IsReader r.new) }
 {
     let name = name_in(word.naming(), rest);
@@ -173,7 +173,7 @@ fn add_words<'a>(
     words: &[&'a [u8]],
 ) -> Result<(), LineError>
     requires { IsReader r.old }
-    ensures value { Gives (said_then result r.new.said) (unless_met r.old.said line (find (words_meet r.old.said (texts words.now)) word_causes) (words_say r.old.said line (texts words.now))) }
+    ensures value { Gives (said_then result r.new.said) (unless_met r.old.said line (find (words_meet r.old.said (texts_of_words words.now)) word_causes) (words_say r.old.said line (texts_of_words words.now))) }
     ensures reader { OnOk result (IsReader r.new) }
 {
     match words {

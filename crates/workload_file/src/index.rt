@@ -1,7 +1,7 @@
 //! The places at which names are bound.
 ghost use Rattle.std.specs.Prelude.{◌≡◌, ◌≤◌, ℕ, List, None, Some, OnOk, IfOk, IsTrue, is_none, true, length, nat_eq, if◌then◌else◌};
 ghost use Rattle.workload_file.specs.Values.{is_name};
-ghost use Rattle.workload_file.specs.Indexed.{found, key_of, place_at, with_name};
+ghost use Rattle.workload_file.specs.Indexed.{found_name, key_of, place_at, with_name};
 
 use crate::name::is_name;
 use std::alloc::{AllocError, Global};
@@ -35,7 +35,7 @@ fn key_of(name: &[u8]) -> u128
 impl NameIndex {
     /// No names.
     pub fn new(alloc: Global) -> Self
-        ensures { (name : List ℕ) → found result name ≡ None }
+        ensures { (name : List ℕ) → found_name result name ≡ None }
     {
         NameIndex {
             short: HashMap::new(alloc),
@@ -69,7 +69,7 @@ impl NameIndex {
 
     /// The place of a name.
     pub fn find(&self, name: &[u8]) -> Option<u32>
-        ensures { result ≡ found self.now name.now }
+        ensures { result ≡ found_name self.now name.now }
     {
         if is_name(name) {
             self.place_at(key_of(name))
@@ -81,9 +81,9 @@ impl NameIndex {
     /// Puts a name at a place, and answers whether it had none.
     pub fn add(&mut self, name: &[u8], place: u32) -> Result<bool, AllocError>
         requires name { IsTrue (is_name name.now) }
-        ensures fresh { IfOk result (λ fresh. fresh ≡ is_none (found self.old name.now)) }
+        ensures fresh { IfOk result (λ fresh. fresh ≡ is_none (found_name self.old name.now)) }
         ensures names { IfOk result (λ fresh. fresh ≡ true → (other : List ℕ)
-            → found self.new other ≡ with_name (Some name.now) place (found self.old) other) }
+            → found_name self.new other ≡ with_name (Some name.now) place (found_name self.old) other) }
     {
         let key = key_of(name);
         let before = self.put(key, place)?;

@@ -1,7 +1,7 @@
 //! A workload from a source.
 ghost use Rattle.std.specs.Prelude.{◌≡◌, ◌<◌, ◌≤◌, ◌^◌, ◌+◌, length, IfOk, OnOk, IfSome, IsErrOf, Ok};
 ghost use Rattle.number_text.specs.Lists.{between};
-ghost use Rattle.workload_file.specs.Reading.{line_adds, lines_add, start, workload_of, finished, Gives};
+ghost use Rattle.workload_file.specs.Reading.{line_adds, lines_add, empty_reading, workload_of, finished, Gives};
 ghost use Rattle.workload_file.specs.Indexed.{IsReader, said_of, said_then};
 ghost use Rattle.workload_file.specs.Loading.{Loads, ReadsClean, HoldsBut};
 ghost use Rattle.workload_file.specs.Formed.{WellFormed};
@@ -18,9 +18,9 @@ use mtapi_values::NodeAttr;
 use number_text::cut_at;
 use std::alloc::Global;
 
-#[tactic(auto, unfolding(crate::specs::Reading::start, crate::specs::Values::is_name))]
+#[tactic(auto, unfolding(crate::specs::Reading::empty_reading, crate::specs::Values::is_name))]
 fn first_reading(alloc: Global) -> Reading
-    ensures { result ≡ start }
+    ensures { result ≡ empty_reading }
 {
     let name = Name::new(b"main").unwrap();
     Reading {
@@ -36,9 +36,9 @@ fn first_reading(alloc: Global) -> Reading
     }
 }
 
-#[tactic(auto, unfolding(crate::specs::Reading::start))]
+#[tactic(auto, unfolding(crate::specs::Reading::empty_reading))]
 fn first_reader(alloc: Global) -> Reader
-    ensures value { result.said ≡ start }
+    ensures value { result.said ≡ empty_reading }
     ensures reader { IsReader result }
 {
     Reader {

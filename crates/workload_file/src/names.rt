@@ -2,12 +2,12 @@
 ghost use Rattle.std.specs.Prelude.{◌≡◌, ◌<◌, ◌≤◌, ◌&&◌, not, true, false, Bool, ℕ, List, Some, None, IfSome, IfOk, OnOk, length, slice_get};
 ghost use Rattle.std.specs.List.{list_any};
 ghost use Rattle.std.specs.Str.{bytes_eq};
-ghost use Rattle.workload_file.specs.Texts.{texts};
+ghost use Rattle.workload_file.specs.Texts.{texts_of_words};
 ghost use Rattle.workload_file.specs.Deeds.{binds, is_begin};
 ghost use Rattle.workload_file.specs.Names.{is_binding, place_of, use_in, has_second, name_in, options_in, is_taken, is_misplaced, is_ninth_caller};
 ghost use Rattle.workload_file.specs.Values.{is_name};
 ghost use Rattle.workload_file.specs.Changes.{bound_name};
-ghost use Rattle.workload_file.specs.Indexed.{IsReader, found, with_name};
+ghost use Rattle.workload_file.specs.Indexed.{IsReader, found_name, with_name};
 
 use crate::reading::Reader;
 use crate::table::{Naming, Sort, Word};
@@ -62,7 +62,7 @@ pub fn has_second(naming: Naming) -> bool
 
 /// The name, of the words behind the first: the next word, where there has to be one.
 pub fn name_in<'a>(naming: Naming, rest: &[&'a [u8]]) -> &'a [u8]
-    ensures { result.now ≡ name_in naming (texts rest.now) }
+    ensures { result.now ≡ name_in naming (texts_of_words rest.now) }
 {
     match rest {
         [name, ..] if has_second(naming) => name,
@@ -72,7 +72,7 @@ pub fn name_in<'a>(naming: Naming, rest: &[&'a [u8]]) -> &'a [u8]
 
 /// The options: the words behind the name.
 pub fn options_in<'a, 'b>(naming: Naming, rest: &'b [&'a [u8]]) -> &'b [&'a [u8]]
-    ensures { texts result.now ≡ options_in naming (texts rest.now) }
+    ensures { texts_of_words result.now ≡ options_in naming (texts_of_words rest.now) }
 {
     match rest {
         [_, options @ ..] if has_second(naming) => options,
@@ -101,7 +101,7 @@ pub fn take_name(r: &mut Reader, naming: Naming, name: &[u8]) -> Result<bool, Al
     ensures free { IfOk result (λ free. free ≡ not (is_taken r.old.said naming name.now)) }
     ensures said { OnOk result (r.new.said ≡ r.old.said) }
     ensures bound { IfOk result (λ free. free ≡ true → (other : List ℕ)
-        → found r.new.names other ≡ with_name (bound_name naming name.now) (length r.old.said.current.statements) (found r.old.names) other) }
+        → found_name r.new.names other ≡ with_name (bound_name naming name.now) (length r.old.said.current.statements) (found_name r.old.names) other) }
 {
     match naming {
         Naming::Binds(_) => {

@@ -1,23 +1,23 @@
 //! The values of options that are no list.
 ghost use Rattle.std.specs.Prelude.{◌≡◌, ◌≤◌, IfSome, option_map};
-ghost use Rattle.workload_file.specs.Values.{number, number_within, cores_of, timeout_of, flag_of, mode_of};
+ghost use Rattle.workload_file.specs.Values.{number_in_32, number_from_to, cores_of, timeout_of, flag_of, mode_of};
 
 use mtapi_values::{Mask, Timeout};
 use number_text::number_within as wide_within;
 
 /// The number of u32 that a text is, in the one spelling.
-#[tactic(auto, unfolding(crate::specs::Values::number))]
+#[tactic(auto, unfolding(crate::specs::Values::number_in_32))]
 pub fn number(text: &[u8]) -> Option<u32>
-    ensures { result ≡ number text.now }
+    ensures { result ≡ number_in_32 text.now }
 {
     let n = wide_within(0, 4_294_967_295, text)?;
     Some(n as u32)
 }
 
 /// The number from `low` to `high` that a text is, in the one spelling.
-#[tactic(auto, unfolding(crate::specs::Values::number_within))]
+#[tactic(auto, unfolding(crate::specs::Values::number_from_to))]
 pub fn number_within(low: u32, high: u32, text: &[u8]) -> Option<u32>
-    ensures value { result ≡ number_within low high text.now }
+    ensures value { result ≡ number_from_to low high text.now }
     ensures within { IfSome result (λ n. (low ≤ n) × (n ≤ high)) }
 {
     match number(text) {

@@ -2,7 +2,7 @@
 ghost use Rattle.std.specs.Prelude.{◌≡◌, [], true, Some, None, IfOk, IfSome, map, is_some, if◌then◌else◌};
 ghost use Rattle.std.specs.Option.{option_copied};
 ghost use Rattle.std.specs.List.{list_all};
-ghost use Rattle.workload_file.specs.Texts.{texts};
+ghost use Rattle.workload_file.specs.Texts.{texts_of_words};
 ghost use Rattle.workload_file.specs.Table.{fields, key_text};
 ghost use Rattle.workload_file.specs.Options.{value_of, is_known, opens, has_twice};
 ghost use Rattle.workload_file.specs.Steps.{texts_in, IsOptionAt};
@@ -56,9 +56,9 @@ pub struct Placed {
 #[rattlefmt::skip]
 fn place_each<'a>(given: &mut Vec<Option<&'a [u8]>>, word: Word, words: &[&'a [u8]]) -> Placed
     requires { map option_copied given.old.items ≡ texts_in (fields word) [] }
-    ensures known { result.known ≡ list_all (is_known (fields word)) (texts words.now) }
-    ensures twice { result.known ≡ true → result.twice ≡ has_twice (texts words.now) }
-    ensures given { result.known ≡ true → map option_copied given.new.items ≡ texts_in (fields word) (texts words.now) }
+    ensures known { result.known ≡ list_all (is_known (fields word)) (texts_of_words words.now) }
+    ensures twice { result.known ≡ true → result.twice ≡ has_twice (texts_of_words words.now) }
+    ensures given { result.known ≡ true → map option_copied given.new.items ≡ texts_in (fields word) (texts_of_words words.now) }
 {
     let fields = word.fields();
     let mut twice = false;
@@ -78,10 +78,10 @@ pub fn place_texts<'a>(
     word: Word,
     words: &[&'a [u8]],
 ) -> Result<Placed, AllocError>
-    ensures known { IfOk result (λ placed. placed.known ≡ list_all (is_known (fields word)) (texts words.now)) }
-    ensures twice { IfOk result (λ placed. placed.known ≡ true → placed.twice ≡ has_twice (texts words.now)) }
+    ensures known { IfOk result (λ placed. placed.known ≡ list_all (is_known (fields word)) (texts_of_words words.now)) }
+    ensures twice { IfOk result (λ placed. placed.known ≡ true → placed.twice ≡ has_twice (texts_of_words words.now)) }
     ensures given { IfOk result (λ placed. placed.known ≡ true
-        → map option_copied given.new.items ≡ texts_in (fields word) (texts words.now)) }
+        → map option_copied given.new.items ≡ texts_in (fields word) (texts_of_words words.now)) }
 {
     given.clear();
     given.resize(word.fields().len(), None)?;

@@ -1,7 +1,7 @@
 //! The canonical text of a workload: its lines.
 ghost use Rattle.std.specs.Prelude.{◌≡◌, ◌++◌, ◌∷◌, [], List, ℕ, ◌-◌, replicate, OnOk, IfOk, Option, Ok, ◌≤◌, length};
 ghost use Rattle.std.specs.List.{flat_map};
-ghost use Rattle.workload_file.specs.Written.{statement_text, node_text, caller_text, statement_lines_behind, lines_of_part, lines_of, if_any, laid_out, canonical, bound_words, used_words};
+ghost use Rattle.workload_file.specs.Written.{statement_text, node_text, caller_text, statement_lines_behind, lines_of_part, workload_lines, if_any, laid_out, canonical, bound_words, used_words};
 ghost use Rattle.workload_file.specs.Led.{last_line};
 ghost use Rattle.number_text.specs.Lists.{led};
 ghost use Rattle.workload_file.specs.Reading.{workload_of};

@@ -156,7 +156,7 @@ const WORDS: [Word; 42] = statements!(words());
 
 impl Word {
     /// The word itself.
-    #[tactic(auto, unfolding(crate::specs::Table::row))]
+    #[tactic(auto, unfolding(crate::specs::Table::statement_row))]
     pub fn text(self) -> &'static [u8]
         ensures { result.now ≡ word_text self }
     {
@@ -165,7 +165,7 @@ impl Word {
     }
 
     /// What its second word is.
-    #[tactic(auto, unfolding(crate::specs::Table::row))]
+    #[tactic(auto, unfolding(crate::specs::Table::statement_row))]
     pub fn naming(self) -> Naming
         ensures { result ≡ naming self }
     {
@@ -174,7 +174,7 @@ impl Word {
     }
 
     /// Its options, in order.
-    #[tactic(auto, unfolding(crate::specs::Table::row))]
+    #[tactic(auto, unfolding(crate::specs::Table::statement_row))]
     pub fn fields(self) -> &'static [Field]
         ensures { result.now ≡ fields self }
     {

@@ -10,19 +10,19 @@ use Rattle.workload_mistakes.specs.declared.mistakes.Mend.TheVariants as mend
 use Rattle.workload_mistakes.specs.declared.mistakes.Mistake.{Mistake}
 
 -- the line that binds a name to what was meant
-abbrev pub binding : Meant → List ℕ → List ℕ
-binding meant.Nothing name = []
-binding meant.Node name = codes "node"
-binding meant.Begin name = codes "begin"
-binding meant.Caller name = codes "caller " ++ name
-binding meant.Action name = codes "action " ++ (name ++ codes " job=1 kind=add")
-binding meant.Task name = codes "start " ++ (name ++ codes " job=1")
-binding meant.Group name = codes "group " ++ name
-binding meant.Queue name = codes "queue_get " ++ (name ++ codes " id=0")
-binding meant.Mutex name = codes "mutex_get " ++ (name ++ codes " id=0")
-binding meant.Sem name = codes "sem_get " ++ (name ++ codes " id=0")
-binding meant.Rwl name = codes "rwl_get " ++ (name ++ codes " id=0")
-binding meant.Shmem name = codes "shmem_get " ++ (name ++ codes " id=0")
+abbrev pub binding_line : Meant → List ℕ → List ℕ
+binding_line meant.Nothing name = []
+binding_line meant.Node name = codes "node"
+binding_line meant.Begin name = codes "begin"
+binding_line meant.Caller name = codes "caller " ++ name
+binding_line meant.Action name = codes "action " ++ (name ++ codes " job=1 kind=add")
+binding_line meant.Task name = codes "start " ++ (name ++ codes " job=1")
+binding_line meant.Group name = codes "group " ++ name
+binding_line meant.Queue name = codes "queue_get " ++ (name ++ codes " id=0")
+binding_line meant.Mutex name = codes "mutex_get " ++ (name ++ codes " id=0")
+binding_line meant.Sem name = codes "sem_get " ++ (name ++ codes " id=0")
+binding_line meant.Rwl name = codes "rwl_get " ++ (name ++ codes " id=0")
+binding_line meant.Shmem name = codes "shmem_get " ++ (name ++ codes " id=0")
 
 -- what may stand in for a word: options that the reader takes, and letters that are a name
 unfoldable pub usual_text : List ℕ
@@ -42,7 +42,7 @@ over at put line = take at line ++ (put ++ drop (length put) (drop at line))
 
 -- what is read in place of a faulty line
 abbrev pub read_for : Mend → List ℕ → List ℕ
-read_for (mend.Line meant name) line = binding meant (part_in name line)
+read_for (mend.Line meant name) line = binding_line meant (part_in name line)
 read_for (mend.Word word at usual) line = over at (part_in usual usual_text) (blanked word line)
 
 -- the lines from this number on, with another one at a number
@@ -55,6 +55,6 @@ abbrev pub mended : Mistake → List ℕ → List ℕ
 mended m text = join_with_byte 10 (with_line 1 m.line (read_for m.mend) (between 10 text))
 
 -- the text with each of these lines mended, the first first
-abbrev pub after : List Mistake → List ℕ → List ℕ
-after [] text = text
-after (m ∷ ms) text = after ms (mended m text)
+abbrev pub mended_text : List Mistake → List ℕ → List ℕ
+mended_text [] text = text
+mended_text (m ∷ ms) text = mended_text ms (mended m text)

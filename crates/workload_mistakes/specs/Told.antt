@@ -8,24 +8,24 @@ use Rattle.workload_file.specs.Reading.{workload_of}
 use Rattle.workload_mistakes.specs.declared.mistakes.Mistake.{Mistake}
 use Rattle.workload_mistakes.specs.declared.reading.Verdict.{Verdict}
 use Rattle.workload_mistakes.specs.declared.reading.Verdict.TheVariants as verdict
-use Rattle.workload_mistakes.specs.Mending.{mended, after}
+use Rattle.workload_mistakes.specs.Mending.{mended, mended_text}
 
 -- the bytes are a workload
-abbrev pub IsWorkload : List ℕ → Type 0
-IsWorkload bytes = (load : Workload) × (workload_of bytes ≡ Ok load)
+abbrev pub IsTextWorkload : List ℕ → Type 0
+IsTextWorkload bytes = (load : Workload) × (workload_of bytes ≡ Ok load)
 
 -- the fault that a mistake is
-abbrev pub fault_of : Mistake → Fault
-fault_of m = record { line = m.line; cause = m.cause }
+abbrev pub fault_of_mistake : Mistake → Fault
+fault_of_mistake m = record { line = m.line; cause = m.cause }
 
 -- each line is the first faulty one, for its first cause, when those told before it are mended
 abbrev pub AreFaulty : List Mistake → List ℕ → Type 0
 AreFaulty [] text = Unit {0}
-AreFaulty (m ∷ ms) text = (workload_of text ≡ Err (fault_of m)) × AreFaulty ms (mended m text)
+AreFaulty (m ∷ ms) text = (workload_of text ≡ Err (fault_of_mistake m)) × AreFaulty ms (mended m text)
 
 -- what a verdict says of a text; want of memory says nothing
 abbrev pub Judges : List ℕ → Verdict → Type 0
-Judges text verdict.Workload = IsWorkload text
+Judges text verdict.Workload = IsTextWorkload text
 Judges text (verdict.Faulty line cause) = workload_of text ≡ Err (record { line = line; cause = cause })
 Judges text verdict.TooLong = 1048576 < length text
 Judges text verdict.Memory = Unit {0}
@@ -43,4 +43,4 @@ has_end (m ∷ ms) = ends m.cause || has_end ms
 
 -- why there may be more: 50 lines are told, nothing is looked at behind one of them, or the mended text is too long to be read
 abbrev pub IsCut : List Mistake → List ℕ → Type 0
-IsCut ms bytes = (50 ≤ length ms) ⊎ ((has_end ms ≡ true) ⊎ (1048576 < length (after ms bytes)))
+IsCut ms bytes = (50 ≤ length ms) ⊎ ((has_end ms ≡ true) ⊎ (1048576 < length (mended_text ms bytes)))

@@ -1,6 +1,6 @@
 //! The text in which a faulty line is mended.
 ghost use Rattle.std.specs.Prelude.{◌≡◌, ◌++◌, ◌==◌, ◌∷◌, [], if◌then◌else◌, length, take, drop, replicate, IfOk, OnOk};
-ghost use Rattle.workload_mistakes.specs.Mending.{binding, blanked, over, part_in, usual_text, read_for, mended};
+ghost use Rattle.workload_mistakes.specs.Mending.{binding_line, blanked, over, part_in, usual_text, read_for, mended};
 
 use crate::mistakes::{Meant, Mend, Mistake, Part};
 use number_text::cut_at;
@@ -8,7 +8,7 @@ use std::alloc::{AllocError, Global};
 
 /// Appends the line that binds a name to what was meant.
 fn push_binding(out: &mut Vec<u8>, meant: Meant, name: &[u8]) -> Result<(), AllocError>
-    ensures { OnOk result (out.new.items ≡ out.old.items ++ binding meant name.now) }
+    ensures { OnOk result (out.new.items ≡ out.old.items ++ binding_line meant name.now) }
 {
     match meant {
         Meant::Nothing => Ok(()),

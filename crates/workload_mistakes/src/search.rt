@@ -1,7 +1,7 @@
 //! The faulty lines of a text.
 ghost use Rattle.std.specs.Prelude.{◌≡◌, ◌≤◌, ◌↔◌, [], true, false, length, IfOk, OnOk};
-ghost use Rattle.workload_mistakes.specs.Mending.{after};
-ghost use Rattle.workload_mistakes.specs.Told.{AreFaulty, IsCut, IsWorkload, ends};
+ghost use Rattle.workload_mistakes.specs.Mending.{mended_text};
+ghost use Rattle.workload_mistakes.specs.Told.{AreFaulty, IsCut, IsTextWorkload, ends};
 
 use crate::guesses::{NOTHING, mend_of};
 use crate::hints::hint_of;
@@ -65,11 +65,11 @@ pub fn mistakes_of(alloc: Global, bytes: &[u8]) -> Result<Mistakes, AllocError>
     requires { length bytes.now ≤ 1048576 }
     ensures few { IfOk result (λ m. length m.told.items ≤ 50) }
     // There is none exactly where the text is a workload.
-    ensures none { IfOk result (λ m. (m.told.items ≡ []) ↔ IsWorkload bytes.now) }
+    ensures none { IfOk result (λ m. (m.told.items ≡ []) ↔ IsTextWorkload bytes.now) }
     // The first is the reader's, and each other one is the reader's too when those before it are mended.
     ensures each { IfOk result (λ m. AreFaulty m.told.items bytes.now) }
     // If the text was looked at to its end, mending them makes it a workload.
-    ensures all { IfOk result (λ m. m.more ≡ false → IsWorkload (after m.told.items bytes.now)) }
+    ensures all { IfOk result (λ m. m.more ≡ false → IsTextWorkload (mended_text m.told.items bytes.now)) }
     // It wasn't for one of three causes.
     ensures cut { IfOk result (λ m. m.more ≡ true → IsCut m.told.items bytes.now) }
 {

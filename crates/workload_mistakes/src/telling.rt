@@ -1,13 +1,13 @@
 //! How the end of an explanation is told.
 ghost use Rattle.std.specs.Prelude.{◌≡◌};
-ghost use Rattle.workload_mistakes.specs.Ends.{IsTold, message, status_of};
+ghost use Rattle.workload_mistakes.specs.Ends.{IsExplainTold, explain_message, explain_status};
 
 use crate::explaining::ExplainEnd;
 use byte_io::{Sink, say};
 
 /// The status of an end.
 fn status_of(end: ExplainEnd) -> u8
-    ensures { result ≡ status_of end }
+    ensures { result ≡ explain_status end }
 {
     match end {
         ExplainEnd::Clean => 0,
@@ -20,9 +20,9 @@ fn status_of(end: ExplainEnd) -> u8
 }
 
 /// What is said of an end.
-#[tactic(auto, unfolding(crate::specs::Ends::message))]
+#[tactic(auto, unfolding(crate::specs::Ends::explain_message))]
 fn message(end: ExplainEnd) -> &'static [u8]
-    ensures { result.now ≡ message end }
+    ensures { result.now ≡ explain_message end }
 {
     match end {
         ExplainEnd::Clean | ExplainEnd::Faulty => b"",
@@ -36,7 +36,7 @@ fn message(end: ExplainEnd) -> &'static [u8]
 
 /// Says on `err` how an explanation ended, and answers the status. A fault of `err` changes nothing else.
 pub fn tell<E: Sink>(end: ExplainEnd, err: &mut E) -> u8
-    ensures told { IsTold end (E.faults err.old) (E.faults err.new) (E.held err.old) (E.held err.new) result }
+    ensures told { IsExplainTold end (E.faults err.old) (E.faults err.new) (E.held err.old) (E.held err.new) result }
 {
     say(err, message(end));
     status_of(end)

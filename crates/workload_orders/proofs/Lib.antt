@@ -1,2 +1,3 @@
 pub mod Pushed
 mod Settled
+pub mod Stuck

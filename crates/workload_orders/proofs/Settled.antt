@@ -12,7 +12,7 @@ use Rattle.settled_runs.specs.Settled.{is_settled}
 use Rattle.settled_runs.proofs.RunReport.{settled_reports_are_plain}
 use Rattle.begun_runs.specs.Complete.{HasAllReports}
 use Rattle.workload_orders.specs.declared.listed.Report.{Report}
-use Rattle.workload_orders.specs.Shown.{Shows, AllShow, texts}
+use Rattle.workload_orders.specs.Shown.{Shows, AllShow, report_texts}
 
 -- the run that shows a report, as one of a settled workload
 shown_run : (load : Workload) (r : Report) → is_settled load ≡ true → WellFormed load → Shows load r
@@ -26,7 +26,7 @@ shown_run load r settled formed s = record {
 }
 
 pub one_is_all : (load : Workload) (rs : List Report) → is_settled load ≡ true → WellFormed load → 1 ≤ length rs → AllShow load rs
-    → HasAllReports load (texts rs)
+    → HasAllReports load (report_texts rs)
 one_is_all load [] settled formed some shown layout es ns even legal run = absurd (omega (arith, some))
 one_is_all load (r ∷ rs) settled formed some shown layout es ns even legal run = (
   0,
@@ -37,6 +37,6 @@ one_is_all load (r ∷ rs) settled formed some shown layout es ns even legal run
 
 -- so it is where the test of that, if it had memory enough, says so
 pub all_if : (load : Workload) (rs : List Report) (told : Result Bool AllocError) → IfOk told (λ b. b ≡ is_settled load) → WellFormed load → 1 ≤ length rs
-    → AllShow load rs → IfOk told (λ b. b ≡ true → HasAllReports load (texts rs))
+    → AllShow load rs → IfOk told (λ b. b ≡ true → HasAllReports load (report_texts rs))
 all_if load rs (Ok b) is formed some shown = λ yes. one_is_all load rs (sym is ∙ yes) formed some shown
 all_if load rs (Err e) is formed some shown = tt

@@ -3,14 +3,14 @@ ghost use Rattle.std.specs.Prelude.{◌≡◌, true, IfOk, OnOk, ◌<◌, length
 ghost use Rattle.graph_search.specs.Visits.{Reached};
 ghost use Rattle.workload_file.specs.Formed.{WellFormed};
 ghost use Rattle.begun_runs.specs.Complete.{HasAllReports};
-ghost use Rattle.workload_orders.specs.Shown.{AllShow, AllHaveHistories, IsShown, texts};
+ghost use Rattle.workload_orders.specs.Shown.{AllShow, AllHaveHistories, AllAreStuck, IsShown, report_texts};
 
 use crate::counted::count_of;
 use crate::edges::{Edge, Edges};
 use crate::judged::journal_of;
 use crate::listed::{Lines, Orders};
 use crate::needed::Needed;
-use crate::told::{Known, add_deadlock, add_report};
+use crate::told::{Known, add_report, add_stop};
 use crate::ways::{Way, push_way, ways_of};
 use crate::whole::are_all;
 use graph_search::{Found, explore, path_to};
@@ -243,9 +243,8 @@ fn list_stop(
     let (_, state) = machine.follow(alloc, &labels)?;
     let waits = machine.waits(alloc, &state)?;
     let entries = machine.entries(alloc, &labels)?;
-    let deadlocks = &mut listing.orders.deadlocks;
     let words = &mut listing.known.words;
-    if !add_deadlock(alloc, load, entries, waits, deadlocks, words)? {
+    if !add_stop(alloc, load, entries, waits, &mut listing.orders, words)? {
         listing.orders.refused = listing.orders.refused.saturating_add(1);
     }
     Ok(())
@@ -298,6 +297,7 @@ fn nothing_listed(
             all: false,
             reports: Vec::new(alloc),
             deadlocks: Vec::new(alloc),
+            stops: Vec::new(alloc),
             refused: 0,
         },
         known: Known {
@@ -318,7 +318,9 @@ pub fn find_lines(alloc: Global, load: &Workload, most: usize) -> Result<Lines, 
     requires formed { WellFormed load.now }
     ensures shown { IfOk result (λ o. AllShow load.now o.runs.reports.items) }
     ensures histories { IfOk result (λ o. AllHaveHistories load.now o.runs.deadlocks.items) }
-    ensures all { IfOk result (λ o. o.runs.all ≡ true → HasAllReports load.now (texts o.runs.reports.items)) }
+    ensures stuck { IfOk result (λ o. AllAreStuck load.now o.runs.deadlocks.items) }
+    ensures stops { IfOk result (λ o. AllHaveHistories load.now o.runs.stops.items) }
+    ensures all { IfOk result (λ o. o.runs.all ≡ true → HasAllReports load.now (report_texts o.runs.reports.items)) }
 {
     let machine = Machine::new(alloc, load)?;
     let uses = machine.last_uses(alloc)?;

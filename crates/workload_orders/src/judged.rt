@@ -1,13 +1,14 @@
 //! What is judged before it is told.
-ghost use Rattle.std.specs.Prelude.{◌≡◌, true, IfOk, IfSome};
+ghost use Rattle.std.specs.Prelude.{◌≡◌, true, IfOk, OnOk, IfSome, ◌++◌};
 ghost use Rattle.workload_file.specs.Formed.{WellFormed};
-ghost use Rattle.begun_runs.specs.Begun.{Begun};
-ghost use Rattle.workload_orders.specs.Names.{IsLegal, IsRun};
+ghost use Rattle.begun_runs.specs.Begun.{Begun, Stuck};
+ghost use Rattle.workload_orders.specs.Names.{IsLegal, IsJournalRun};
 ghost use Rattle.workload_orders.specs.Shown.{Shows, HasHistory};
 
 use crate::listed::{Deadlock, Report};
-use begun_runs::is_begun;
+use begun_runs::{Probes, add_waits, halts, is_begun, probes_of};
 use journal_check::{Verdict, check_run};
+use mtapi_machine::Entry;
 use mtapi_values::Layout;
 use node_journals::{Journal, ShortList};
 use run_report::report_of;
@@ -52,7 +53,7 @@ pub(crate) fn judged_report(
 /// Whether this journal is a legal history, and no run of the workload.
 fn is_unended(alloc: Global, load: &Workload, journal: &Journal) -> Result<bool, AllocError>
     requires formed { WellFormed load.now }
-    ensures { IfOk result (λ b. b ≡ true → IsLegal journal.now × (IsRun load.now journal.now → ⊥)) }
+    ensures { IfOk result (λ b. b ≡ true → IsLegal journal.now × (IsJournalRun load.now journal.now → ⊥)) }
 {
     match check_run(alloc, load, journal)? {
         Verdict::NotRun => Ok(true),
@@ -69,16 +70,18 @@ fn has_begun(alloc: Global, load: &Workload, journal: &Journal) -> Result<bool, 
     is_begun(alloc, load, &journal.entries)
 }
 
-/// The deadlock behind these entries; none if they are no legal history, a whole run of the workload, or not the front of one.
-pub(crate) fn judged_deadlock(
+/// The stop behind these entries, and the first looks of those that wait for a task; none if they are no legal history, a whole run of the
+/// workload, or not the front of one.
+pub(crate) fn judged_stop(
     alloc: Global,
     load: &Workload,
-    entries: ShortList,
+    mut entries: ShortList,
     waits: Vec<u8>,
 ) -> Result<Option<Deadlock>, AllocError>
     requires formed { WellFormed load.now }
     ensures { IfOk result (λ r. IfSome r (HasHistory load.now)) }
 {
+    add_waits(alloc, load, &mut entries)?;
     let journal = journal_of(load, entries);
     if journal.callers as usize != load.parts.as_slice().len() {
         return Ok(None);
@@ -87,4 +90,60 @@ pub(crate) fn judged_deadlock(
         return Ok(None);
     }
     Ok(Some(Deadlock { waits, journal }))
+}
+
+/// Puts entries behind others.
+#[tactic(auto, using(crate::proofs::Stuck::append_none, crate::proofs::Stuck::append_more, crate::proofs::Stuck::append_all))]
+fn push_all(list: &mut ShortList, entries: &[Entry]) -> Result<(), AllocError>
+    ensures { OnOk result (list.new.entries ≡ list.old.entries ++ entries.now) }
+{
+    for entry in entries {
+        list.push_call(entry.who, &entry.op, &entry.reply, 0)?;
+    }
+    Ok(())
+}
+
+/// A history with looks and refusals behind it.
+#[tactic(auto, using(crate::proofs::Stuck::three_parts))]
+fn with_probes(alloc: Global, entries: &[Entry], probes: &Probes) -> Result<ShortList, AllocError>
+    ensures { IfOk result (λ l. l.entries ≡ entries.now ++ (probes.now.refused.items ++ probes.now.looks.items)) }
+{
+    let mut list = ShortList::new(alloc);
+    push_all(&mut list, entries)?;
+    push_all(&mut list, &probes.refused)?;
+    push_all(&mut list, &probes.looks)?;
+    Ok(list)
+}
+
+/// Whether a journal is a legal history.
+fn is_legal(alloc: Global, load: &Workload, journal: &Journal) -> Result<bool, AllocError>
+    requires formed { WellFormed load.now }
+    ensures { IfOk result (λ b. b ≡ true → IsLegal journal.now) }
+{
+    match check_run(alloc, load, journal)? {
+        Verdict::Illegal { .. } => Ok(false),
+        _ => Ok(true),
+    }
+}
+
+/// Whether no seat goes on behind the journal of a stop, so that it is a deadlock: true only where that is so.
+pub(crate) fn is_stuck(alloc: Global, load: &Workload, stop: &Deadlock) -> Result<bool, AllocError>
+    requires formed { WellFormed load.now }
+    requires history { HasHistory load.now stop.now }
+    ensures { IfOk result (λ b. b ≡ true
+        → Stuck load.now stop.now.journal.layout stop.now.journal.entries.entries stop.now.journal.entries.skipped) }
+{
+    let _ = load.settings.workers();
+    let full = stop.journal.entries.in_full(alloc)?;
+    let probes = probes_of(alloc, load, full.as_slice())?;
+    if !halts(alloc, load, full.as_slice(), &probes)? {
+        return Ok(false);
+    }
+    let longer = Journal {
+        layout: stop.journal.layout,
+        settings: stop.journal.settings,
+        callers: stop.journal.callers,
+        entries: with_probes(alloc, full.as_slice(), &probes)?,
+    };
+    is_legal(alloc, load, &longer)
 }

@@ -9,7 +9,7 @@ pub struct Report {
     pub journal: Journal,
 }
 
-/// A moment at which nothing goes on any more, though the run isn't over: a line for each that waits, and the history that leads there.
+/// A moment from which no step leads on, though the run isn't over: a line for each that waits, and the history that leads there.
 #[derive(Drop)]
 pub struct Deadlock {
     pub waits: Vec<u8>,
@@ -29,6 +29,8 @@ pub struct Orders {
     pub reports: Vec<Report>,
     /// Each deadlock once, by its words.
     pub deadlocks: Vec<Deadlock>,
+    /// Moments from which the search knows no step, though it isn't shown that nothing goes on: none, unless the search is at fault.
+    pub stops: Vec<Deadlock>,
     /// How many journals were judged to be no runs, or no legal histories: 0, unless the search is at fault.
     pub refused: u64,
 }

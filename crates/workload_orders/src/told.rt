@@ -3,11 +3,11 @@ ghost use Rattle.std.specs.Prelude.{◌≡◌, true, IfOk, OnOk, ◌<◌, length
 ghost use Rattle.graph_search.specs.Visits.{Reached};
 ghost use Rattle.workload_file.specs.Formed.{WellFormed};
 ghost use Rattle.begun_runs.specs.Complete.{HasAllReports};
-ghost use Rattle.workload_orders.specs.Shown.{AllShow, AllHaveHistories, IsShown, texts};
+ghost use Rattle.workload_orders.specs.Shown.{AllShow, AllHaveHistories, AllAreStuck, IsShown, report_texts};
 
 use crate::graph::Steps;
-use crate::judged::{journal_of, judged_deadlock, judged_report};
-use crate::listed::{Deadlock, Orders, Report};
+use crate::judged::{is_stuck, journal_of, judged_report, judged_stop};
+use crate::listed::{Orders, Report};
 use crate::whole::are_all;
 use graph_search::{Found, explore, path_to};
 use node_journals::{Journal, ShortList};
@@ -58,25 +58,29 @@ pub(crate) fn add_report(
     }
 }
 
-// Lists the deadlock behind these entries, unless its words are listed already. False if they are judged to be no legal history, or not the
-// front of a run.
-#[tactic(auto, using(crate::proofs::Pushed::histories_push))]
-pub(crate) fn add_deadlock(
+// Lists the deadlock behind these entries, unless its words are listed already; where it isn't shown to be one, as a stop. False if they
+// are judged to be no legal history, or not the front of a run.
+#[tactic(auto, using(crate::proofs::Pushed::histories_push, crate::proofs::Pushed::stuck_push))]
+pub(crate) fn add_stop(
     alloc: Global,
     load: &Workload,
     entries: ShortList,
     waits: Vec<u8>,
-    deadlocks: &mut Vec<Deadlock>,
+    orders: &mut Orders,
     words: &mut HashSet<Vec<u8>>,
 ) -> Result<bool, AllocError>
     requires formed { WellFormed load.now }
-    requires shown { AllHaveHistories load.now deadlocks.old.items }
-    ensures { OnOk result (AllHaveHistories load.now deadlocks.new.items) }
+    requires shown { IsShown load.now orders.old }
+    ensures { OnOk result (IsShown load.now orders.new) }
 {
-    match judged_deadlock(alloc, load, entries, waits)? {
-        Some(deadlock) => {
-            if note(alloc, words, &deadlock.waits)? {
-                deadlocks.push(deadlock)?;
+    match judged_stop(alloc, load, entries, waits)? {
+        Some(stop) => {
+            if note(alloc, words, &stop.waits)? {
+                if is_stuck(alloc, load, &stop)? {
+                    orders.deadlocks.push(stop)?;
+                } else {
+                    orders.stops.push(stop)?;
+                }
             }
             Ok(true)
         }
@@ -117,14 +121,7 @@ fn tell_state(
         add_report(alloc, load, journal, &mut orders.reports, &mut known.texts)
     } else {
         let waits = steps.machine.waits(alloc, state)?;
-        add_deadlock(
-            alloc,
-            load,
-            entries,
-            waits,
-            &mut orders.deadlocks,
-            &mut known.words,
-        )
+        add_stop(alloc, load, entries, waits, orders, &mut known.words)
     }
 }
 
@@ -184,7 +181,9 @@ pub fn orders(alloc: Global, load: &Workload, most: usize) -> Result<Orders, All
     requires formed { WellFormed load.now }
     ensures shown { IfOk result (λ o. AllShow load.now o.reports.items) }
     ensures histories { IfOk result (λ o. AllHaveHistories load.now o.deadlocks.items) }
-    ensures all { IfOk result (λ o. o.all ≡ true → HasAllReports load.now (texts o.reports.items)) }
+    ensures stuck { IfOk result (λ o. AllAreStuck load.now o.deadlocks.items) }
+    ensures stops { IfOk result (λ o. AllHaveHistories load.now o.stops.items) }
+    ensures all { IfOk result (λ o. o.all ≡ true → HasAllReports load.now (report_texts o.reports.items)) }
 {
     let steps = Steps {
         machine: Machine::new(alloc, load)?,
@@ -196,6 +195,7 @@ pub fn orders(alloc: Global, load: &Workload, most: usize) -> Result<Orders, All
         all: false,
         reports: Vec::new(alloc),
         deadlocks: Vec::new(alloc),
+        stops: Vec::new(alloc),
         refused: 0,
     };
     tell_all(alloc, load, &steps, &found, &mut orders)?;

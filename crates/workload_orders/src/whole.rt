@@ -3,7 +3,7 @@
 ghost use Rattle.std.specs.Prelude.{◌≡◌, true, IfOk};
 ghost use Rattle.workload_file.specs.Formed.{WellFormed};
 ghost use Rattle.begun_runs.specs.Complete.{HasAllReports};
-ghost use Rattle.workload_orders.specs.Shown.{AllShow, texts};
+ghost use Rattle.workload_orders.specs.Shown.{AllShow, report_texts};
 
 use crate::listed::Report;
 use settled_workloads::is_settled;
@@ -19,7 +19,7 @@ pub(crate) fn are_all(
 ) -> Result<bool, AllocError>
     requires formed { WellFormed load.now }
     requires shown { AllShow load.now reports.now.items }
-    ensures { IfOk result (λ all. all ≡ true → HasAllReports load.now (texts reports.now.items)) }
+    ensures { IfOk result (λ all. all ≡ true → HasAllReports load.now (report_texts reports.now.items)) }
 {
     if reports.is_empty() {
         return Ok(false);

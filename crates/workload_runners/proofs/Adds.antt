@@ -1,14 +1,14 @@
 -- One part's entries behind another's.
-use Rattle.workload_runners.proofs.Names.{[], ◌++◌, ◌∙◌, ◌∷◌, ◌≡◌, AddsOwn, AllZip, HasSeenMore, List, NodeEntry, SameSeat, Seat, ap, append-nil, append_assoc, refl, subst, sym, ℕ}
+use Rattle.workload_runners.proofs.Names.{[], ◌++◌, ◌∙◌, ◌∷◌, ◌≡◌, AddsOwn, AllZip, HasSeenMore, List, NodeEntry, SameNodeSeat, Seat, ap, append-nil, append_assoc, refl, subst, sym, ℕ}
 
-pub same_seat : (a : Seat) → SameSeat a a
+pub same_seat : (a : Seat) → SameNodeSeat a a
 same_seat a = record { cell = refl; number = refl; terms = refl }
 
-pub same_then : (a b c : Seat) → SameSeat a b → SameSeat b c → SameSeat a c
+pub same_then : (a b c : Seat) → SameNodeSeat a b → SameNodeSeat b c → SameNodeSeat a c
 same_then a b c s t = record { cell = t.cell ∙ s.cell; number = t.number ∙ s.number; terms = t.terms ∙ s.terms }
 
 -- entries that depend on the seat's number, behind others
-pub mine_then : (a b c : Seat) (f g : ℕ → List NodeEntry) → SameSeat a b → b.mine ≡ a.mine ++ f a.number → c.mine ≡ b.mine ++ g b.number
+pub mine_then : (a b c : Seat) (f g : ℕ → List NodeEntry) → SameNodeSeat a b → b.mine ≡ a.mine ++ f a.number → c.mine ≡ b.mine ++ g b.number
     → c.mine ≡ a.mine ++ (f a.number ++ g a.number)
 mine_then a b c f g s p q =
     q ∙ (ap (λ (n : ℕ). b.mine ++ g n) s.number ∙ (ap (λ (m : List NodeEntry). m ++ g a.number) p ∙ append_assoc a.mine (f a.number) (g a.number)))

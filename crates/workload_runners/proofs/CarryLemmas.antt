@@ -1,9 +1,9 @@
 -- How a caller executes its statements, and its whole part.
 use Rattle.std.proofs.lemmas.Bool.Decides.{nat_tests}
-use Rattle.workload_runners.proofs.Names.{[], ◌++◌, ◌∷◌, ◌≡◌, ◌≤◌, AddsOwn, Bool, CallerAs, Carried, CarriedAs, EntersAs, Entrance, Initialize, List, Looked, Looking, MadeAs, MainAs, NodeEntry, None, Once, Op, OpensAs, Release, Reply, Seat, StatedAs, Statement, Timeout, Turned, Wanted, ap, append-nil, append_assoc, arith, call_of, entry, false, handle_of, has_begin, if◌then◌else◌, is_ok, length, looks_of, op_of, refl, subst, suc, sym, take, true, waits, zero, ℕ}
+use Rattle.workload_runners.proofs.Names.{[], ◌++◌, ◌∷◌, ◌≡◌, ◌≤◌, AddsOwn, Bool, CallerAs, Carried, CarriedAs, EntersAs, Entrance, Initialize, List, NodeLooked, Looking, MadeAs, MainAs, NodeEntry, None, Once, Op, OpensAs, Release, Reply, Seat, StatedAs, Statement, Timeout, NodeTurned, Wanted, ap, append-nil, append_assoc, arith, call_of, entry, false, handle_of, has_begin, if◌then◌else◌, is_ok, length, looks_of, op_of_look, refl, subst, suc, sym, take, true, waits, zero, ℕ}
 use Rattle.workload_runners.proofs.Adds.{adds_none, adds_then, adds_as}
 
-pub stated_once : (old new : Seat) (o : Op) (r : Reply) (h : ℕ) → h ≡ handle_of r → Turned old o r new → AddsOwn (StatedAs (Once o) h) old new
+pub stated_once : (old new : Seat) (o : Op) (r : Reply) (h : ℕ) → h ≡ handle_of r → NodeTurned old o r new → AddsOwn (StatedAs (Once o) h) old new
 stated_once old new o r h e t = record { same = t.same; own = _; mine = t.mine; is = record { reply = r; made = refl; is = e } }
 
 -- the statements so far: what is left may follow
@@ -52,10 +52,10 @@ all_taken (x ∷ ss) (suc i) l = ap (λ k. x ∷ k) (all_taken ss i (omega (arit
 
 -- A further caller's part
 
-pub enters : (a b : Seat) (r : Reply) → Looked Entrance None a b r → AddsOwn (EntersAs r) a b
+pub enters : (a b : Seat) (r : Reply) → NodeLooked Entrance None a b r → AddsOwn (EntersAs r) a b
 enters a b r l = record { same = l.same; own = _; mine = l.mine; is = record { pending = l.pending; is = refl; decides = l.decides l.bound } }
 
-pub refused_adds : (ss : List Statement) (a b : Seat) (r : Reply) → is_ok r ≡ false → Looked Entrance None a b r → AddsOwn (CallerAs ss) a b
+pub refused_adds : (ss : List Statement) (a b : Seat) (r : Reply) → is_ok r ≡ false → NodeLooked Entrance None a b r → AddsOwn (CallerAs ss) a b
 unfolding Carried
 refused_adds ss a b r e l = adds_as (CallerAs ss) (EntersAs r) a b (enters a b r l)
     (λ es p. record {

@@ -12,7 +12,7 @@ use Rattle.mtapi_machine.specs.declared.ops.Op.TheVariants.{Close}
 use Rattle.mtapi_machine.specs.declared.replies.Reply.{Reply}
 use Rattle.mtapi_machine.specs.declared.terms.Terms.{Terms}
 use Rattle.mtapi_machine.specs.Legal.{NodeEntry}
-use Rattle.workload_runners.specs.Turns.{Seat, SameSeat, AddsOwn, Turned}
+use Rattle.workload_runners.specs.Turns.{Seat, SameNodeSeat, AddsOwn, NodeTurned}
 use Rattle.workload_runners.specs.Rounds.{AtRest}
 use Rattle.workload_runners.specs.Crews.{Cell, GaveUp}
 use Rattle.workload_runners.specs.Runs.{MadeNone}
@@ -154,7 +154,8 @@ pub worker_out : {C D U A : Type 0} (z : Cell) (h : UnstartedThreads C D U A) (w
 worker_out z h workers s m e l =
     let n = vec_len workers in
     let all : h.workers.items ≡ fresh_seats z.terms z.id 0 n ++ fresh_seat z.terms z.id n ∷ [] =
-    m.workers ∙ ((let long : vec_len h.workers ≡ suc n = omega arith in ap (λ (k : ℕ). fresh_seats z.terms z.id 0 k) long) ∙ fresh_more z 0 n n (omega arith)) in
+    m.workers ∙ ((let long : vec_len h.workers ≡ suc n = omega arith in ap (λ (k : ℕ). fresh_seats z.terms z.id 0 k) long)
+    ∙ fresh_more z 0 n n (omega arith)) in
     let both = same_from_push workers.items (fresh_seats z.terms z.id 0 n) s (fresh_seat z.terms z.id n) (sym e ∙ all) in
     let few = m.few in
     record {
@@ -170,7 +171,8 @@ worker_out z h workers s m e l =
       rest = subst AtRest (sym both.1) (new_at_rest (fresh_seat z.terms z.id n) (omega arith) refl);
     }
 
-pub worker_back : {C D T U A : Type 0} (W : ℕ → List NodeEntry → Type 0) (P : C → Terms → ℕ → T → List NodeEntry → Type 0) (Q : D → Terms → ℕ → U → List NodeEntry → Type 0) (z : Cell)
+pub worker_back : {C D T U A : Type 0} (W : ℕ → List NodeEntry → Type 0) (P : C → Terms → ℕ → T → List NodeEntry → Type 0) (Q : D → Terms → ℕ → U
+    → List NodeEntry → Type 0) (z : Cell)
     (h : UnstartedThreads C D U A) (workers : Vec Seat Global) (s : Seat) (c c' : Crew T U A) (o : Served A)
     → vec_len workers + 1 ≡ vec_len h.workers → WorkerOut z (record h { workers = workers }) s → HasServed W s o → IsJoined c o c'
     → HaveCome W P Q z (record h { workers = workers }) c → HaveCome W P Q z h c'
@@ -193,12 +195,13 @@ worker_back {C} {D} {T} {U} {A} W P Q z h workers s c c' o len out did j b =
           met = k.main.met;
           more = k.main.more;
           knows = k.main.knows;
-          same = subst (λ (x : Seat). SameSeat k.main.met x) (sym j.main) k.main.same;
-          closed = λ e. subst (λ (x : Seat). (r : Reply) × Turned k.main.met Close r x) (sym j.main) (k.main.closed (j.crew e));
+          same = subst (λ (x : Seat). SameNodeSeat k.main.met x) (sym j.main) k.main.same;
+          closed = λ e. subst (λ (x : Seat). (r : Reply) × NodeTurned k.main.met Close r x) (sym j.main) (k.main.closed (j.crew e));
         };
-        callers = subst (λ (v : Vec U Global). EachHeld Q z (z.terms.node.settings.workers + 1) h.callers.others.items k.called v.items) (sym j.others) k.callers;
-        workers = subst (λ (xs : List Seat). AllZip SameSeat xs (k.worked ++ o.seat ∷ [])) (sym list)
-            (AllZip-push SameSeat (fresh_seats z.terms z.id 0 n) k.worked s o.seat k.workers did.same);
+        callers = subst (λ (v : Vec U Global). EachHeld Q z (z.terms.node.settings.workers + 1) h.callers.others.items k.called v.items)
+            (sym j.others) k.callers;
+        workers = subst (λ (xs : List Seat). AllZip SameNodeSeat xs (k.worked ++ o.seat ∷ [])) (sym list)
+            (AllZip-push SameNodeSeat (fresh_seats z.terms z.id 0 n) k.worked s o.seat k.workers did.same);
         served = λ e. subst (λ (xs : List Seat). AllZip (AddsOwn W) xs (k.worked ++ o.seat ∷ [])) (sym list)
             (AllZip-push (AddsOwn W) (fresh_seats z.terms z.id 0 n) k.worked s o.seat (k.served (j.crew e)) (did.did (j.back e)));
       };
@@ -222,8 +225,10 @@ held_met Q z who (d ∷ ds) bs (c ∷ cs) us a m =
     } in
     (c, cs, a.2, a.3, refl, a.5, held, held_met Q z (suc who) ds a.1 cs a.3 a.7 n.1)
 
-pub all_closed : {C D T U A : Type 0} (W : ℕ → List NodeEntry → Type 0) (P : C → Terms → ℕ → T → List NodeEntry → Type 0) (Q : D → Terms → ℕ → U → List NodeEntry → Type 0) (z : Cell)
-    (h : UnstartedThreads C D U A) (k : ReturnedCallers T U) (c : Crew T U A) → vec_len h.workers ≡ 0 → AreReady z h → HaveHeld P Q z h.callers k → IsClosedBy k h.sets c
+pub all_closed : {C D T U A : Type 0} (W : ℕ → List NodeEntry → Type 0) (P : C → Terms → ℕ → T → List NodeEntry → Type 0) (Q : D → Terms → ℕ → U
+    → List NodeEntry → Type 0) (z : Cell)
+    (h : UnstartedThreads C D U A) (k : ReturnedCallers T U) (c : Crew T U A) → vec_len h.workers ≡ 0 → AreReady z h → HaveHeld P Q z h.callers k
+    → IsClosedBy k h.sets c
     → HaveCome W P Q z h c
 all_closed {C} {D} {T} {U} {A} W P Q z h k c none ready b e =
     let w = z.terms.node.settings.workers in
@@ -245,7 +250,7 @@ all_closed {C} {D} {T} {U} {A} W P Q z h k c none ready b e =
         callers =
             subst (λ (v : Vec U Global). EachHeld Q z (w + 1) h.callers.others.items c.seats.items v.items) (sym e.others)
             (held_met Q z (w + 1) h.callers.others.items k.seats.items c.seats.items k.others.items b.others (met_zip e.meets));
-        workers = subst (λ (n : ℕ). AllZip SameSeat (fresh_seats z.terms z.id 0 n) []) (sym none) tt;
+        workers = subst (λ (n : ℕ). AllZip SameNodeSeat (fresh_seats z.terms z.id 0 n) []) (sym none) tt;
         served = λ q. subst (λ (n : ℕ). AllZip (AddsOwn W) (fresh_seats z.terms z.id 0 n) []) (sym none) tt;
       };
       sets = (let l = ap vec_len e.sets_are in let m = ready.none in omega arith);
@@ -265,13 +270,14 @@ all_both : {X : Type 0} (F : X → Type 0) (xs ys : List X) → All F xs → All
 all_both F [] ys a b = b
 all_both F (x ∷ xs) ys a b = All-cons F x (xs ++ ys) (a 0 x (omega arith)) (all_both F xs ys (λ k d h. a (suc k) d (omega arith)) b)
 
-zip_cells : (z : Cell) (who n : ℕ) (ys : List Seat) → AllZip SameSeat (fresh_seats z.terms z.id who n) ys → All (λ (s : Seat). s.cell ≡ z.id) ys
+zip_cells : (z : Cell) (who n : ℕ) (ys : List Seat) → AllZip SameNodeSeat (fresh_seats z.terms z.id who n) ys → All (λ (s : Seat). s.cell ≡ z.id) ys
 zip_cells z who zero [] a = All-nil (λ (s : Seat). s.cell ≡ z.id)
 zip_cells z who zero (y ∷ ys) a = absurd a
 zip_cells z who (suc n) [] a = absurd a
 zip_cells z who (suc n) (y ∷ ys) a = All-cons (λ (s : Seat). s.cell ≡ z.id) y ys a.0.cell (zip_cells z (suc who) n ys a.1)
 
-pub whole_cells : {C D T U A : Type 0} (W : ℕ → List NodeEntry → Type 0) (P : C → Terms → ℕ → T → List NodeEntry → Type 0) (Q : D → Terms → ℕ → U → List NodeEntry → Type 0) (z : Cell)
+pub whole_cells : {C D T U A : Type 0} (W : ℕ → List NodeEntry → Type 0) (P : C → Terms → ℕ → T → List NodeEntry → Type 0) (Q : D → Terms → ℕ → U
+    → List NodeEntry → Type 0) (z : Cell)
     (client : C) (others : List D) (n : ℕ) (c : Crew T U A) → CameFrom W P Q z client others n c → All (λ (s : Seat). s.cell ≡ z.id) c.seats.items
 whole_cells W P Q z client others n c x = subst (All (λ (s : Seat). s.cell ≡ z.id)) (sym x.whole)
     (all_both (λ (s : Seat). s.cell ≡ z.id) x.called x.worked (each_of_cell Q z (z.terms.node.settings.workers + 1) others x.called c.others.items x.callers)

@@ -1,6 +1,6 @@
 -- From entries to turns: what the entries of a seat tell of its part, its turns in a legal history tell too.
 use Rattle.std.proofs.lemmas.Bool.Decides.{nat_tests}
-use Rattle.workload_runners.proofs.Names.{[], ◌&&◌, ◌++◌, ◌+◌, ◌<◌, ◌==◌, ◌∙◌, ◌∷◌, ◌≡◌, Bool, Call, CallerTurns, EnteredBy, EntersAs, Entrance, IsNext, IsTimed, KeepsTimeout, Legal-front, Legal-rest, LegalFrom, List, LookedAs, Looking, MadeAs, MadeBy, MainTurns, MatchOption, NodeEntry, Once, OnceListed, Op, Option, Others, Reply, Shaped, State, Tells, Timeout, Told, Turn, Waits, Wanted, WorkerTurns, after-one, after_from, all_in, all_worked, ap, append_assoc, arith, call_of, caller_told, cond, entries_of, entry, false, first_alone, head_entries, head_turns, in_entries, in_turns, is_dropped, is_pending, is_work, length, looks_of, main_told, next, none_of, not, once_settles, once_stays, op_of, pended, pends_alike, refl, replicate, shaped, stayed, subst, suc, sym, tail_turns, told_as, told_then, true, turn_of, turns_append, turns_of, waiter_stays, waits, work_append, zero, ℕ}
+use Rattle.workload_runners.proofs.Names.{[], ◌&&◌, ◌++◌, ◌+◌, ◌<◌, ◌==◌, ◌∙◌, ◌∷◌, ◌≡◌, Bool, Call, CallerTurns, EnteredBy, EntersAs, Entrance, IsNext, IsTimed, KeepsTimeout, Legal-front, Legal-rest, LegalFrom, List, LookedAs, Looking, MadeAs, MadeBy, MainTurns, MatchOption, NodeEntry, Once, OnceListed, Op, Option, Others, Reply, Shaped, State, Tells, Timeout, Told, Turn, WaitsFor, Wanted, WorkerTurns, after-one, after_from, all_in, all_worked, ap, append_assoc, arith, call_of, caller_told, cond, entries_of, entry, false, first_alone, head_entries, head_turns, in_entries, in_turns, is_dropped, is_pending, is_work, length, looks_of, main_told, next, none_of, not, once_settles, once_stays, op_of_look, pended, pends_alike, refl, replicate, shaped, stayed, subst, suc, sym, tail_turns, told_as, told_then, true, turn_of, turns_append, turns_of, waiter_stays, waits, work_append, zero, ℕ}
 use Rattle.mtapi_machine.specs.declared.ops.Op.TheVariants as op
 use Rattle.mtapi_machine.specs.declared.replies.Reply.TheVariants as reply
 use Rattle.workload_runs.specs.declared.calls.Wanted.TheVariants.{Task}
@@ -78,18 +78,19 @@ legal_goes s A B i = (once_stays s A i.0, Legal-rest s A B i.1)
 
 -- between its looks the seat stands as waiter, where it looks for the end of a task
 abbrev Stands : Wanted → ℕ → State → Type 0
-Stands (Task t) w s = Waits s w t.0
+Stands (Task t) w s = WaitsFor s w t.0
 Stands _ w s = Unit {0}
 
 stands_stay : (x : Wanted) (w : ℕ) (s : State) (A B : List NodeEntry) → IsLegal s (A ++ B) → Others w A → Stands x w s → Stands x w (after_from s A)
 stands_stay (Task t) w s A B i o v = waiter_stays s A w t.0 i.0 (Legal-front s A B i.1) o v
 stands_stay _ w s A B i o v = tt
 
-pend_stands : (x : Wanted) (w : ℕ) (s : State) → IsNext s (entry w (op_of x false) reply.Pending) → Stands x w (next s (entry w (op_of x false) reply.Pending))
+pend_stands : (x : Wanted) (w : ℕ) (s : State) → IsNext s (entry w (op_of_look x false) reply.Pending)
+    → Stands x w (next s (entry w (op_of_look x false) reply.Pending))
 pend_stands (Task t) w s n = pend_waits s w t n
 pend_stands _ w s n = tt
 
-stands_drop : (x : Wanted) (w : ℕ) (s : State) → Stands x w s → is_dropped s (entry w (op_of x false) reply.Pending) ≡ true
+stands_drop : (x : Wanted) (w : ℕ) (s : State) → Stands x w s → is_dropped s (entry w (op_of_look x false) reply.Pending) ≡ true
 stands_drop x w s e1 = grind (arith, nat_tests)
 
 stands_at_once : (x : Wanted) (w : ℕ) (s : State) → waits x ≡ false → Stands x w s
@@ -99,7 +100,7 @@ stands_at_once x w s e1 = grind (arith, nat_tests)
 record Marked (x : Wanted) (n : ℕ) (last : Bool) (r : Reply) (w : ℕ) (s : State) (ts : List Turn) : Type 0 where
   marks : List Bool
   count : length marks ≡ n
-  is : ts ≡ pended (op_of x false) marks ++ stayed (op_of x last) r ∷ []
+  is : ts ≡ pended (op_of_look x false) marks ++ stayed (op_of_look x last) r ∷ []
   one_kept : first_alone marks ≡ true
   none_kept : Stands x w s → none_of marks ≡ true
   decides : is_pending r ≡ false
@@ -107,7 +108,7 @@ record Marked (x : Wanted) (n : ℕ) (last : Bool) (r : Reply) (w : ℕ) (s : St
 -- one look that found nothing
 record Pended (x : Wanted) (w : ℕ) (s : State) (ts : List Turn) : Type 0 where
   mark : Bool
-  is : ts ≡ record { op = op_of x false; reply = reply.Pending; stays = mark } ∷ []
+  is : ts ≡ record { op = op_of_look x false; reply = reply.Pending; stays = mark } ∷ []
   dropped : Stands x w s → mark ≡ false
 
 both_none : (a b : Bool) → a ≡ false → b ≡ true → (not a && b) ≡ true
@@ -121,25 +122,25 @@ module _ (w : ℕ) where
   next_at s H A e B i is = (first_next s A e B (subst (λ (L : List NodeEntry). LegalFrom s L) is i.1)).0
 
   looks_told : (x : Wanted) (last : Bool) (r : Reply)
-      → ((u : State) → IsNext u (entry w (op_of x last) r) → (is_dropped u (entry w (op_of x last) r) ≡ false) × (is_pending r ≡ false))
+      → ((u : State) → IsNext u (entry w (op_of_look x last) r) → (is_dropped u (entry w (op_of_look x last) r) ≡ false) × (is_pending r ≡ false))
       → (n : ℕ) (k : Place) (rest : List NodeEntry)
-      → Left IsLegal w k (replicate n (entry w (op_of x false) reply.Pending) ++ entry w (op_of x last) r ∷ rest)
+      → Left IsLegal w k (replicate n (entry w (op_of_look x false) reply.Pending) ++ entry w (op_of_look x last) r ∷ rest)
       → CallerTold k rest (Marked x n last r w k.state)
   unfolding none_of one_told
   looks_told x last r ends zero k rest l =
-      let e : NodeEntry = entry w (op_of x last) r in
+      let e : NodeEntry = entry w (op_of_look x last) r in
       one_told w IsLegal legal_goes e k rest (Marked x 0 last r w k.state) l (λ A B is o. let d =
       ends (after_from k.state A) (next_at k.state k.rest A e B l.0 is) in record {
         marks = [];
         count = refl;
-        is = ap (λ (b : Bool). record { op = op_of x last; reply = r; stays = not b } ∷ []) d.0;
+        is = ap (λ (b : Bool). record { op = op_of_look x last; reply = r; stays = not b } ∷ []) d.0;
         one_kept = refl;
         none_kept = λ v. refl;
         decides = d.1;
       })
   looks_told x last r ends (suc n) k rest l =
-      let e : NodeEntry = entry w (op_of x false) reply.Pending in
-      let es : List NodeEntry = replicate n e ++ entry w (op_of x last) r ∷ rest in
+      let e : NodeEntry = entry w (op_of_look x false) reply.Pending in
+      let es : List NodeEntry = replicate n e ++ entry w (op_of_look x last) r ∷ rest in
       let a = one_told w IsLegal legal_goes e k es (Pended x w k.state) l (λ A B is o. record {
         mark = not (is_dropped (after_from k.state A) e);
         is = refl;
@@ -163,17 +164,17 @@ module _ (w : ℕ) where
       → KeepsTimeout limit last (m + 1)
   within limit n m last e1 e2 = grind (arith, nat_tests)
 
-  decided : (x : Wanted) (s : State) (last : Bool) (r : Reply) → IsTimed x → (last ≡ false → is_pending r ≡ false) → IsNext s (entry w (op_of x last) r)
+  decided : (x : Wanted) (s : State) (last : Bool) (r : Reply) → IsTimed x → (last ≡ false → is_pending r ≡ false) → IsNext s (entry w (op_of_look x last) r)
       → is_pending r ≡ false
   decided x s last r e1 e2 e3 = grind (arith, nat_tests)
 
   wanted_told : (x : Wanted) (timeout : Timeout) (es : List NodeEntry) (r : Reply) (k : Place) (rest : List NodeEntry) → IsTimed x
-      → LookedAs w (op_of x) (looks_of timeout) es r → Left IsLegal w k (es ++ rest)
-      → CallerTold k rest (λ ts. MadeBy (Looking (waits x) (op_of x) timeout) ts r)
+      → LookedAs w (op_of_look x) (looks_of timeout) es r → Left IsLegal w k (es ++ rest)
+      → CallerTold k rest (λ ts. MadeBy (Looking (waits x) (op_of_look x) timeout) ts r)
   wanted_told x timeout es r k rest i a l =
-      let e : NodeEntry = entry w (op_of x a.last) r in
-      let E : List NodeEntry = replicate a.pending (entry w (op_of x false) reply.Pending) in
-      told_as (Left IsLegal w) (whole w) k rest (Marked x a.pending a.last r w k.state) (λ ts. MadeBy (Looking (waits x) (op_of x) timeout) ts r)
+      let e : NodeEntry = entry w (op_of_look x a.last) r in
+      let E : List NodeEntry = replicate a.pending (entry w (op_of_look x false) reply.Pending) in
+      told_as (Left IsLegal w) (whole w) k rest (Marked x a.pending a.last r w k.state) (λ ts. MadeBy (Looking (waits x) (op_of_look x) timeout) ts r)
       (λ ts m. record {
         marks = m.marks;
         last = a.last;
@@ -185,7 +186,7 @@ module _ (w : ℕ) where
         late = a.late;
       })
       (looks_told x a.last r
-      (λ u n. let d = decided x u a.last r i a.decides n in ((wanted_says x u w a.last r n.allowed).stays d (pends_alike u w (op_of x a.last)), d))
+      (λ u n. let d = decided x u a.last r i a.decides n in ((wanted_says x u w a.last r n.allowed).stays d (pends_alike u w (op_of_look x a.last)), d))
       a.pending k rest (l.0, l.1 ∙ (ap (λ (L : List NodeEntry). L ++ rest) a.is ∙ append_assoc E (e ∷ []) rest)))
 
   made_told : (c : Call) → Shaped c → (es : List NodeEntry) (r : Reply) (k : Place) (rest : List NodeEntry) → MadeAs w c es r → Left IsLegal w k (es ++ rest)

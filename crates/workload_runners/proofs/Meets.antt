@@ -1,5 +1,5 @@
 -- What a meeting leaves: each seat has the entries that it had.
-use Rattle.workload_runners.proofs.Names.{[], ◌++◌, ◌+◌, ◌<◌, ◌∙◌, ◌∷◌, ◌≡◌, ◌≤◌, All, AllZip, AreMet, Cell, HasSeenMore, Knows, List, NodeEntry, Seat, StartsWith, all_of, ap, append-nil, append_assoc, arith, dite, entries_of, get_or, length, length-set, refl, set, subst, suc, sym, zero, ℕ, ℕ_discrete}
+use Rattle.workload_runners.proofs.Names.{[], ◌++◌, ◌+◌, ◌<◌, ◌∙◌, ◌∷◌, ◌≡◌, ◌≤◌, All, AllZip, AreMet, Cell, HasSeenMore, MainKnows, List, NodeEntry, Seat, StartsWith, AllItems, ap, append-nil, append_assoc, arith, dite, entries_of, get_or, length, length-set, refl, set, subst, suc, sym, zero, ℕ, ℕ_discrete}
 
 pub seen_nothing_more : (a : Seat) → HasSeenMore a a
 seen_nothing_more a = record { cell = refl; number = refl; terms = refl; seen = ([], sym (append-nil a.seen)); mine = refl; shown = refl }
@@ -17,7 +17,7 @@ seen_then a b c x y = record {
   shown = y.shown ∙ x.shown;
 }
 
-pub knows_more : (m n s : Seat) → HasSeenMore m n → Knows m s → Knows n s
+pub knows_more : (m n s : Seat) → HasSeenMore m n → MainKnows m s → MainKnows n s
 knows_more m n s h k = record { prefix = k.prefix; begins = starts_then k.prefix m.seen n.seen k.begins h.seen; own = k.own }
 
 module _ {X Y : Type 0} where
@@ -34,7 +34,7 @@ module _ {X Y : Type 0} where
   zip_front R (x ∷ xs) zs [] a = absurd a
   zip_front R (x ∷ xs) zs (w ∷ ws) a = let r = zip_front R xs zs ws a.1 in (w ∷ r.0, r.1, ap (λ (l : List Y). w ∷ l) r.2, (a.0, r.3), r.4)
 
-pub each_of : {X : Type 0} (F : X → Type 0) (xs : List X) → All F xs → all_of F xs
+pub each_of : {X : Type 0} (F : X → Type 0) (xs : List X) → All F xs → AllItems F xs
 each_of F [] a = tt
 each_of F (x ∷ xs) a = (a 0 x (omega arith), each_of F xs (λ k d h. a (suc k) d (omega arith)))
 
@@ -42,7 +42,7 @@ pub met_zip : {old new : Seat} {before after : List Seat} → AreMet old new bef
 met_zip {old} {new} {before} {after} m = zip_of HasSeenMore before after m.len m.others
 
 -- what main knows of seats, it knows of them after they have met others
-pub known_more : (m : Seat) (ys zs : List Seat) → all_of (Knows m) ys → AllZip HasSeenMore ys zs → all_of (Knows m) zs
+pub known_more : (m : Seat) (ys zs : List Seat) → AllItems (MainKnows m) ys → AllZip HasSeenMore ys zs → AllItems (MainKnows m) zs
 known_more m [] [] a b = tt
 known_more m [] (z ∷ zs) a b = absurd b
 known_more m (y ∷ ys) [] a b = absurd b
@@ -70,7 +70,7 @@ pub record MetSoFar (old new : Seat) (before after : List Seat) (n : ℕ) : Type
   pub main : HasSeenMore old new
   pub len : length after ≡ length before
   pub others : (k : ℕ) (d e : Seat) → k < length before → HasSeenMore (get_or before k d) (get_or after k e)
-  pub knows : (k : ℕ) (d : Seat) → k < n → k < length after → Knows new (get_or after k d)
+  pub knows : (k : ℕ) (d : Seat) → k < n → k < length after → MainKnows new (get_or after k d)
 
 same_at : (xs : List Seat) (k : ℕ) (d e : Seat) → k < length xs → get_or xs k d ≡ get_or xs k e
 same_at [] k d e l = absurd (omega arith)
@@ -95,9 +95,9 @@ met_more a m m' s s' xs ys zs n x l at more other one own is =
       others = λ k d e h. subst (λ (v : List Seat). HasSeenMore (get_or xs k d) (get_or v k e)) (sym is)
           (dite (ℕ_discrete k n) (λ q. at_place k d e h q)
           (λ q. subst (λ (w : Seat). HasSeenMore (get_or xs k d) w) (sym (set_other ys n k s' e q)) (x.others k d e h)));
-      knows = λ k d h j. subst (λ (v : List Seat). Knows m' (get_or v k d)) (sym is)
+      knows = λ k d h j. subst (λ (v : List Seat). MainKnows m' (get_or v k d)) (sym is)
           (dite (ℕ_discrete k n) (λ q. known_place k d q)
-          (λ q. subst (λ (w : Seat). Knows m' w) (sym (set_other ys n k s' d q))
+          (λ q. subst (λ (w : Seat). MainKnows m' w) (sym (set_other ys n k s' d q))
           (knows_more m m' (get_or ys k d) more (x.knows k d (omega arith) (omega arith)))));
     }
   where
@@ -108,10 +108,10 @@ met_more a m m' s s' xs ys zs n x l at more other one own is =
         subst (λ (w : Seat). HasSeenMore (get_or xs k d) w) (sym there)
         (seen_then (get_or xs k d) s s' (subst (λ (w : Seat). HasSeenMore (get_or xs k d) w) here (x.others k d s h)) other)
 
-    known_place : (k : ℕ) (d : Seat) → k ≡ n → Knows m' (get_or (set ys n s') k d)
+    known_place : (k : ℕ) (d : Seat) → k ≡ n → MainKnows m' (get_or (set ys n s') k d)
     known_place k d q =
         let there : get_or (set ys n s') k d ≡ s' = ap (λ (j : ℕ). get_or (set ys n s') j d) q ∙ set_same ys n s' d l in
-        subst (λ (w : Seat). Knows m' w) (sym there) (record { prefix = s'.seen; begins = ([], one ∙ sym (append-nil s'.seen)); own = own })
+        subst (λ (w : Seat). MainKnows m' w) (sym there) (record { prefix = s'.seen; begins = ([], one ∙ sym (append-nil s'.seen)); own = own })
 
 pub met_all : (a m : Seat) (xs ys : List Seat) (n : ℕ) → length ys ≤ n → MetSoFar a m xs ys n → AreMet a m xs ys
 met_all a m xs ys n l x = record { main = x.main; len = x.len; others = x.others; knows = λ k d h. x.knows k d (omega arith) h }

@@ -1,5 +1,5 @@
 -- Where a seat's own entries stand in a history that goes on behind what the seat has seen.
-use Rattle.workload_runners.proofs.Names.{[], ◌++◌, ◌<◌, ◌==◌, ◌∙◌, ◌∷◌, ◌≡◌, ◌≤◌, BySeats, Close, Final, HasSeenMore, List, NodeEntry, Op, Reply, Seat, StartsWith, Turned, ap, append-nil, append_assoc, arith, cond, entries-append, entries_of, entry, false, nat_tests, refl, self_is, subst, sym, ℕ}
+use Rattle.workload_runners.proofs.Names.{[], ◌++◌, ◌<◌, ◌==◌, ◌∙◌, ◌∷◌, ◌≡◌, ◌≤◌, BySeats, Close, Final, HasSeenMore, List, NodeEntry, Op, Reply, Seat, StartsWith, NodeTurned, ap, append-nil, append_assoc, arith, cond, entries-append, entries_of, entry, false, nat_tests, refl, self_is, subst, sym, ℕ}
 use Rattle.workload_runners.proofs.TurnMarks.{Cut, first_own}
 
 pub own_one : (w : ℕ) (e : NodeEntry) → e.who ≡ w → entries_of w (e ∷ []) ≡ e ∷ []
@@ -93,7 +93,7 @@ nobody n (e ∷ es) b f =
 
 -- How main ended: what it knew before it closed, and what stands behind
 
-pub own_after : (old new : Seat) (o : Op) (r : Reply) → Turned old o r new → entries_of old.number new.seen ≡ new.mine
+pub own_after : (old new : Seat) (o : Op) (r : Reply) → NodeTurned old o r new → entries_of old.number new.seen ≡ new.mine
 own_after old new o r t =
     let n = old.number in let e = entry n o r in
     ap (λ (l : List NodeEntry). entries_of n l) t.seen
@@ -122,9 +122,9 @@ regroup_back p y r f = simp append_assoc
 -- main met others and closed; it met others again, and made its final call
 pub record Ending (w : ℕ) (m1 m2 m3 m4 : Seat) (a b : Reply) : Type 0 where
   pub number : m1.number ≡ w
-  pub closed : Turned m1 Close a m2
+  pub closed : NodeTurned m1 Close a m2
   pub more : HasSeenMore m2 m3
-  pub final : Turned m3 Final b m4
+  pub final : NodeTurned m3 Final b m4
 
 module _ (w : ℕ) (m1 m2 m3 m4 : Seat) (a b : Reply) (x : Ending w m1 m2 m3 m4 a b) (H : List NodeEntry) (begins : StartsWith H m4.seen)
     (all : entries_of m4.number H ≡ m4.mine) where

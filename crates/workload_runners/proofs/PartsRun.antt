@@ -96,7 +96,8 @@ module _ (load : Workload) (ps : List Part) {A : Type 0} (main : MainPart) (othe
       let d = each_at (terms_for load) x.history x.ends.before (entry w Close x.close ∷ (x.ends.behind ++ entry w Final r.last ∷ x.ends.rest)) (w + 1) others
       r.others.items x.called nones (k - (w + 1)) (omega arith) in
       let here : w + 1 + (k - (w + 1)) ≡ k = omega arith in
-      subst (λ (i : ℕ). KnownSeat (CallerIn (p ∷ ps) w) i x.history x.ends.before (entry w Close x.close ∷ (x.ends.behind ++ entry w Final r.last ∷ x.ends.rest)))
+      subst (λ (i : ℕ). KnownSeat (CallerIn (p ∷ ps) w) i x.history x.ends.before (entry w Close x.close
+      ∷ (x.ends.behind ++ entry w Final r.last ∷ x.ends.rest)))
       here (record {
         did = (
           d.part,

@@ -1,7 +1,7 @@
 -- The turns of a worker that executes a tally, from what its seat has seen to what it has seen then.
 use Rattle.std.proofs.lemmas.Bool.Decides.{nat_tests}
 use Rattle.std.proofs.Common.{arith}
-use Rattle.workload_runners.proofs.Names.{[], ◌++◌, ◌∙◌, ◌∷◌, ◌≡◌, Added, AddsToCell, AtWork, Bool, EndsTally, IsTallyAnswer, List, LocksOnce, MayEndTally, MayRead, MayWrite, NodeEntry, None, Option, Reads, ReadsCell, Reply, SameSeat, Seat, Some, TakesBoth, TaskHandle, Turned, Works, Writes, WritesCell, answer_in, ap, append-nil, entry, false, fits, fitting, next, no_tally, refl, replicate, retries, subst, suc, sum_with, sym, tally_failed, tally_has, tally_read, tally_written, tallying, true, zero, ℕ, ℤ}
+use Rattle.workload_runners.proofs.Names.{[], ◌++◌, ◌∙◌, ◌∷◌, ◌≡◌, Added, AddsToCell, AtWork, Bool, EndsTally, IsTallyAnswer, List, LocksOnce, MayEndTally, MayRead, MayWrite, NodeEntry, None, Option, Reads, ReadsCell, Reply, SameNodeSeat, Seat, Some, TakesBoth, TaskHandle, NodeTurned, WorkerWorks, Writes, WritesCell, answer_in, ap, append-nil, entry, false, fits, fitting, next, no_tally, refl, replicate, retries, subst, suc, sum_with, sym, tally_failed, tally_has, tally_read, tally_written, tallying, true, zero, ℕ, ℤ}
 use Rattle.mtapi_machine.specs.declared.ops.Op.TheVariants as op
 use Rattle.mtapi_machine.specs.declared.replies.Reply.TheVariants as reply
 use Rattle.workload_runners.proofs.OwnEntries.{state_at, turned_next}
@@ -11,13 +11,13 @@ use Rattle.workload_runners.proofs.SeatSteps.{worker_at, holds_at, rest_then, wo
 
 -- Asking for both
 
-pub locks_once : (old new : Seat) (r : Reply) (t : TaskHandle) (args : List ℤ) → AtWork old t.0 (tallying args no_tally) → Turned old (op.TallyLock t) r new
+pub locks_once : (old new : Seat) (r : Reply) (t : TaskHandle) (args : List ℤ) → AtWork old t.0 (tallying args no_tally) → NodeTurned old (op.TallyLock t) r new
     → IsTallyAnswer r × LocksOnce old t args (answer_in r) new
 locks_once old new r t args a u = by_reply r u
     (locked_as _ old.number t.0 (tallying args no_tally) (holds_at old new (op.TallyLock t) r u t.0 (tallying args no_tally) a) r
     (worker_at old new (op.TallyLock t) r u a.worker) refl refl (turned_next old new (op.TallyLock t) r u))
   where
-    by_reply : (r : Reply) (u : Turned old (op.TallyLock t) r new)
+    by_reply : (r : Reply) (u : NodeTurned old (op.TallyLock t) r new)
         → LockedAs r old.number t.0 (tallying args no_tally) (next (state_at old new (op.TallyLock t) r u) (entry old.number (op.TallyLock t) r))
         → IsTallyAnswer r × LocksOnce old t args (answer_in r) new
     by_reply reply.Pending u p = (tt, works_then old new (op.TallyLock t) reply.Pending u t.0 (tallying args no_tally) a.worker p)
@@ -39,7 +39,7 @@ locks_once old new r t args a u = by_reply r u
 -- the questions so far, each to be asked again
 pub record Retried (old : Seat) (t : TaskHandle) (args : List ℤ) (new : Seat) : Type 0 where
   pub pending : ℕ
-  pub same : SameSeat old new
+  pub same : SameNodeSeat old new
   pub mine : new.mine ≡ old.mine ++ retries old.number t pending
   pub work : AtWork new t.0 (tallying args no_tally)
 
@@ -51,7 +51,7 @@ one_more zero e = refl
 one_more (suc n) e = ap (λ (l : List NodeEntry). e ∷ l) (one_more n e)
 
 -- another turn behind the questions so far
-behind : (a b c : Seat) (t : TaskHandle) (n : ℕ) (o : _) (r : Reply) → SameSeat a b → b.mine ≡ a.mine ++ retries a.number t n
+behind : (a b c : Seat) (t : TaskHandle) (n : ℕ) (o : _) (r : Reply) → SameNodeSeat a b → b.mine ≡ a.mine ++ retries a.number t n
     → c.mine ≡ b.mine ++ entry b.number o r ∷ [] → c.mine ≡ a.mine ++ (retries a.number t n ++ entry a.number o r ∷ [])
 behind a b c t n o r s p q = mine_then a b c (λ w. retries w t n) (λ w. entry w o r ∷ []) s p q
 
@@ -97,7 +97,7 @@ takes_both a b c t args (Some true) got e p q =
 
 -- Reading and writing
 
-pub reads_cell : (old new : Seat) (r : Reply) (t : TaskHandle) (args : List ℤ) → MayRead old t args → Turned old (op.TallyRead t) r new
+pub reads_cell : (old new : Seat) (r : Reply) (t : TaskHandle) (args : List ℤ) → MayRead old t args → NodeTurned old (op.TallyRead t) r new
     → (z : ℤ) × (r ≡ reply.Number z) × ReadsCell old t args z new
 reads_cell old new r t args a u =
     let x = tallying args (tally_has a.0 a.1 no_tally) in
@@ -108,7 +108,7 @@ reads_cell old new r t args a u =
       (
         a.0,
         a.1,
-        subst (λ (q : Reply). Works old (op.TallyRead t) q t.0
+        subst (λ (q : Reply). WorkerWorks old (op.TallyRead t) q t.0
             (tallying args (tally_read p.number (tally_has a.0 a.1 no_tally))) new) p.reply
             (works_then old new (op.TallyRead t) r u t.0 (tallying args (tally_read p.number (tally_has a.0 a.1 no_tally))) a.2.worker p.holds),
       ),
@@ -117,13 +117,13 @@ reads_cell old new r t args a u =
 number_same : {y z : ℤ} → reply.Number y ≡ reply.Number z → y ≡ z
 number_same e = cc
 
-pub reads_cell_is : (old new : Seat) (r : Reply) (t : TaskHandle) (args : List ℤ) (z : ℤ) → MayRead old t args → Turned old (op.TallyRead t) r new
+pub reads_cell_is : (old new : Seat) (r : Reply) (t : TaskHandle) (args : List ℤ) (z : ℤ) → MayRead old t args → NodeTurned old (op.TallyRead t) r new
     → r ≡ reply.Number z → ReadsCell old t args z new
 reads_cell_is old new r t args z a u e = let x = reads_cell old new r t args a u in
     subst (λ (y : ℤ). ReadsCell old t args y new) (number_same (sym x.1 ∙ e)) x.2
 
 pub writes_cell : (old new : Seat) (r : Reply) (t : TaskHandle) (args : List ℤ) (z value : ℤ) → MayWrite old t args z → value ≡ sum_with args z
-    → Turned old (op.TallyWrite t value) r new → WritesCell old t args z value new
+    → NodeTurned old (op.TallyWrite t value) r new → WritesCell old t args z value new
 writes_cell old new r t args z value a e u =
     let o = op.TallyWrite t value in
     let x = tallying args (tally_read z (tally_has a.0 a.1 no_tally)) in
@@ -131,7 +131,7 @@ writes_cell old new r t args z value a e u =
     (turned_next old new o r u) in (
       a.0,
       a.1,
-      subst (λ (q : Reply). Works old o q t.0 (tallying args (tally_written (tally_read z (tally_has a.0 a.1 no_tally)))) new) p.reply
+      subst (λ (q : Reply). WorkerWorks old o q t.0 (tallying args (tally_written (tally_read z (tally_has a.0 a.1 no_tally)))) new) p.reply
           (works_then old new o r u t.0 (tallying args (tally_written (tally_read z (tally_has a.0 a.1 no_tally)))) a.2.worker p.holds),
     )
 
@@ -160,7 +160,8 @@ adds_sum a b c t args z kept value x y = record {
 
 -- Ending
 
-pub ends_tally : (old new : Seat) (r : Reply) (t : TaskHandle) (args : List ℤ) → MayEndTally old t args → Turned old (op.TallyEnd t) r new → EndsTally old t new
+pub ends_tally : (old new : Seat) (r : Reply) (t : TaskHandle) (args : List ℤ) → MayEndTally old t args → NodeTurned old (op.TallyEnd t) r new
+    → EndsTally old t new
 ends_tally old new r t args a u =
     let o = op.TallyEnd t in
     let x = tallying args a.0 in

@@ -1,6 +1,6 @@
 -- What a worker's own turns do to its tally.
 use Rattle.std.proofs.lemmas.Bool.Decides.{nat_tests}
-use Rattle.workload_runners.proofs.Names.{[], ◌&&◌, ◌+ℤ◌, ◌<◌, ◌==◌, ◌||◌, ◌∙◌, ◌∷◌, ◌≡◌, Adds, Allows, Asked, Bool, Completed, Decides-int_eq, Failed, Free, Goes, Holds, IsNext, Kind, List, Listed, Move, Mtapi, MtapiStatus, None, Number, Ok, Option, Pending, Reply, Row, Segments, Some, State, TallyNotes, Task, TaskEnd, Work, added, after_moves, alters, ap, arith, at-update, cell_in, cell_of, cond, count_changed, count_listed, ends_free, ends_task, entry, false, fits, gives, gives_back, gives_up, int_eq, is_some, length, live, live_object, locks, moves_of, nat_lt, never, next, not, notes, number_in, pass, refl, runs_as, runs_on, runs_on_its, says, subst, sym, takes_both, tally_args, tally_failed, tally_has, tally_read, tally_written, true, unless, update, with_cell, with_fields, with_notes, with_tally, workers, ℕ, ℤ}
+use Rattle.workload_runners.proofs.Names.{[], ◌&&◌, ◌+ℤ◌, ◌<◌, ◌==◌, ◌||◌, ◌∙◌, ◌∷◌, ◌≡◌, Adds, Allows, Asked, Bool, Completed, Decides-int_eq, Failed, Free, Goes, HoldsTask, IsNext, Kind, List, Listed, Move, Mtapi, MtapiStatus, None, Number, Ok, Option, Pending, Reply, Row, Segments, Some, State, TallyNotes, Task, TaskEnd, Work, added, after_moves, alters, ap, arith, at-update, cell_in, cell_of, cond, count_changed, count_listed, ends_free, ends_task, entry, false, fits, gives, gives_back, gives_up, int_eq, is_some, length, live, live_object, locks, moves_of, nat_lt, never, next, not, notes, number_in, pass, refl, runs_as, runs_on, runs_on_its, says, subst, sym, takes_both, tally_args, tally_failed, tally_has, tally_read, tally_written, true, unless, update, with_cell, with_fields, with_notes, with_tally, workers, ℕ, ℤ}
 use Rattle.mtapi_values.specs.declared.kinds.Kind.TheVariants as kind
 use Rattle.mtapi_values.specs.declared.statuses.MtapiStatus.TheVariants as m
 use Rattle.mtapi_machine.specs.declared.replies.Reply.TheVariants as reply
@@ -11,8 +11,8 @@ abbrev pub with_done : (TallyNotes → TallyNotes) → Work → Work
 with_done f x = record x { tally = f x.tally }
 
 -- a note of what the worker's tally has done
-noted_holds : (s u : State) (w h : ℕ) (x : Work) (f : TallyNotes → TallyNotes) → Holds s w h x → u.tasks ≡ update h (with_notes (with_tally f)) s.tasks
-    → Holds u w h (with_done f x)
+noted_holds : (s u : State) (w h : ℕ) (x : Work) (f : TallyNotes → TallyNotes) → HoldsTask s w h x → u.tasks ≡ update h (with_notes (with_tally f)) s.tasks
+    → HoldsTask u w h (with_done f x)
 noted_holds s u w h x f v e =
     let on = runs_on_its w x v.task v.runs in
     let n = count_changed (runs_on w) h (with_fields (with_notes (with_tally f))) true s.tasks v.task v.found (λ r l i j. l j && (ap (runs_on w) i ∙ on) j) in
@@ -27,7 +27,7 @@ noted_holds s u w h x f v e =
     }
 
 -- the row's ways to the tally that the worker has
-tally_goes : (s : State) (w h : ℕ) (x : Work) (v : Holds s w h x) (r : Reply) (f : Task → Row) → w < workers s → x.kind ≡ kind.Tally
+tally_goes : (s : State) (w h : ℕ) (x : Work) (v : HoldsTask s w h x) (r : Reply) (f : Task → Row) → w < workers s → x.kind ≡ kind.Tally
     → Allows (unless (not (nat_lt w (workers s))) (Mtapi m.ErrParameter)
     (live (live_object s.tasks h) (says (Mtapi m.ErrTaskInvalid)) (λ y. unless (not (runs_as w kind.Tally y)) (Mtapi m.ErrTaskInvalid) (f y)))) r
     → Goes s (unless (not (nat_lt w (workers s))) (Mtapi m.ErrParameter)
@@ -56,12 +56,12 @@ gives_cond Q b v w e1 e2 = grind (arith, nat_tests)
 
 -- what a question for both may be answered, and what it leaves
 abbrev pub LockedAs : Reply → ℕ → ℕ → Work → State → Type 0
-LockedAs Pending w h x u = Holds u w h x
-LockedAs (Asked false) w h x u = (c : MtapiStatus) × Holds u w h (with_done (tally_failed c) x)
-LockedAs (Asked true) w h x u = (a : ℕ) × (b : ℕ) × Holds u w h (with_done (tally_has a b) x)
+LockedAs Pending w h x u = HoldsTask u w h x
+LockedAs (Asked false) w h x u = (c : MtapiStatus) × HoldsTask u w h (with_done (tally_failed c) x)
+LockedAs (Asked true) w h x u = (a : ℕ) × (b : ℕ) × HoldsTask u w h (with_done (tally_has a b) x)
 LockedAs _ w h x u = ⊥
 
-module _ (s : State) (w h : ℕ) (x : Work) (v : Holds s w h x) where
+module _ (s : State) (w h : ℕ) (x : Work) (v : HoldsTask s w h x) where
   abbrev Locks : Reply → List Move → Type 0
   Locks r ms = LockedAs r w h x (after_moves ms s)
 
@@ -81,7 +81,7 @@ module _ (s : State) (w h : ℕ) (x : Work) (v : Holds s w h x) where
   locked args (Some y) = both_taken y.cell _ _
 
 -- a tally that has done nothing asks for both
-pub locked_as : (s : State) (w h : ℕ) (x : Work) (v : Holds s w h x) (r : Reply) → w < workers s → x.kind ≡ kind.Tally → (x.tally.stage == 0) ≡ true
+pub locked_as : (s : State) (w h : ℕ) (x : Work) (v : HoldsTask s w h x) (r : Reply) → w < workers s → x.kind ≡ kind.Tally → (x.tally.stage == 0) ≡ true
     → IsNext s (entry w (op.TallyLock (record { 0 = h })) r)
     → LockedAs r w h x (next s (entry w (op.TallyLock (record { 0 = h })) r))
 locked_as s w h x v r l k e i =
@@ -97,9 +97,9 @@ locked_as s w h x v r l k e i =
 pub record ReadAs (r : Reply) (w h : ℕ) (x : Work) (u : State) : Type 0 where
   pub number : ℤ
   pub reply : r ≡ Number number
-  pub holds : Holds u w h (with_done (tally_read number) x)
+  pub holds : HoldsTask u w h (with_done (tally_read number) x)
 
-pub read_as : (s : State) (w h : ℕ) (x : Work) (v : Holds s w h x) (r : Reply) → w < workers s → x.kind ≡ kind.Tally → (x.tally.stage == 1) ≡ true
+pub read_as : (s : State) (w h : ℕ) (x : Work) (v : HoldsTask s w h x) (r : Reply) → w < workers s → x.kind ≡ kind.Tally → (x.tally.stage == 1) ≡ true
     → IsNext s (entry w (op.TallyRead (record { 0 = h })) r)
     → ReadAs r w h x (next s (entry w (op.TallyRead (record { 0 = h })) r))
 read_as s w h x v r l k e i =
@@ -117,9 +117,9 @@ read_as s w h x v r l k e i =
 
 pub record WrittenAs (r : Reply) (w h : ℕ) (x : Work) (u : State) : Type 0 where
   pub reply : r ≡ Ok
-  pub holds : Holds u w h (with_done tally_written x)
+  pub holds : HoldsTask u w h (with_done tally_written x)
 
-pub written_as : (s : State) (w h : ℕ) (x : Work) (v : Holds s w h x) (value : ℤ) (r : Reply) → w < workers s → x.kind ≡ kind.Tally
+pub written_as : (s : State) (w h : ℕ) (x : Work) (v : HoldsTask s w h x) (value : ℤ) (r : Reply) → w < workers s → x.kind ≡ kind.Tally
     → (x.tally.stage == 2) ≡ true → value ≡ x.tally.kept +ℤ number_in (tally_args x.args)
     → IsNext s (entry w (op.TallyWrite (record { 0 = h }) value) r) → WrittenAs r w h x (next s (entry w (op.TallyWrite (record { 0 = h }) value) r))
 written_as s w h x v value r l k e d i =
@@ -144,7 +144,7 @@ pub record TalliedAs (r : Reply) (w : ℕ) (u : State) : Type 0 where
   pub free : Free u w
 
 -- a row that ends the task, beside changes of a mutex and of a segment
-ended : (s : State) (w h : ℕ) (x : Work) (v : Holds s w h x) (b : Bool) (t : Task) (e : TaskEnd)
+ended : (s : State) (w h : ℕ) (x : Work) (v : HoldsTask s w h x) (b : Bool) (t : Task) (e : TaskEnd)
     → Gives (λ r ms. TalliedAs r w (after_moves ms s))
     (cond b (gives (reply.Ended t.notes.tally.verdict) (ends_task h t.notes.tally.verdict ∷ [])) (gives_back s w h t e))
 ended s w h x v true t e = record { end = _; reply = refl; free = ends_free s w h x v t.notes.tally.verdict s.ends }
@@ -153,7 +153,7 @@ ended s w h x v false t e =
     gives_live (λ r ms. TalliedAs r w (after_moves ms s)) (live_object s.mutexes t.notes.tally.mutex) never _ tt
     (λ z. record { end = e; reply = refl; free = ends_free s w h x v e s.ends }))
 
-pub tallied_as : (s : State) (w h : ℕ) (x : Work) (v : Holds s w h x) (r : Reply) → w < workers s → x.kind ≡ kind.Tally
+pub tallied_as : (s : State) (w h : ℕ) (x : Work) (v : HoldsTask s w h x) (r : Reply) → w < workers s → x.kind ≡ kind.Tally
     → (nat_lt x.tally.stage 2 || ((x.tally.stage == 2) && fits (x.tally.kept +ℤ number_in (tally_args x.args)))) ≡ false
     → IsNext s (entry w (op.TallyEnd (record { 0 = h })) r) → TalliedAs r w (next s (entry w (op.TallyEnd (record { 0 = h })) r))
 tallied_as s w h x v r l k d i =

@@ -1,5 +1,5 @@
 -- A seat's entries in a legal history, as turns: which of them a journal keeps.
-use Rattle.workload_runners.proofs.Names.{[], ◌++◌, ◌==◌, ◌||◌, ◌∙◌, ◌∷◌, ◌≡◌, Allows, Bool, IsNext, Legal-rest, LegalFrom, List, Mtapi, NodeEntry, None, Option, Others, Pending, Reply, Row, Some, State, Task, TaskHandle, TaskState, Turn, Waits, after_from, after_row, ap, arith, at-update, changed, cond, entries_of, entry, false, is_other, is_some, is_up, live, live_object, looks_at, nat_tests, next, not, refl, says, self_is, skip, subst, sym, tasks, true, turn_of, turns_append, turns_of, unless, with_notes, with_waiter, ℕ}
+use Rattle.workload_runners.proofs.Names.{[], ◌++◌, ◌==◌, ◌||◌, ◌∙◌, ◌∷◌, ◌≡◌, Allows, Bool, IsNext, Legal-rest, LegalFrom, List, Mtapi, NodeEntry, None, Option, Others, Pending, Reply, Row, Some, State, Task, TaskHandle, TaskState, Turn, WaitsFor, after_from, after_row, ap, arith, at-update, object_changed, cond, entries_of, entry, false, is_other, is_some, is_up, live, live_object, looks_at, nat_tests, next, not, refl, says, self_is, skip, subst, sym, tasks, true, turn_of, turns_append, turns_of, unless, with_notes, with_waiter, ℕ}
 use Rattle.mtapi_values.specs.declared.statuses.MtapiStatus.TheVariants as m
 use Rattle.mtapi_machine.specs.declared.ops.Op.TheVariants as op
 use Rattle.mtapi_machine.specs.declared.replies.Reply.TheVariants as reply
@@ -71,7 +71,7 @@ not_mtapi : (c : _) → Pending ≡ Mtapi c → ⊥
 not_mtapi c e = cc
 
 set_waiter : (s : State) (w h : ℕ) (x : Task) (y : TaskState) → Allows (looks_at w h false y) Pending
-    → after_row s (looks_at w h false y) ≡ changed tasks h (with_notes (with_waiter (Some w))) s
+    → after_row s (looks_at w h false y) ≡ object_changed tasks h (with_notes (with_waiter (Some w))) s
 set_waiter s w h x y e1 = grind (arith, nat_tests)
 
 first_false : (a b : Bool) → (a || b) ≡ false → a ≡ false
@@ -90,7 +90,7 @@ look_at_live : (s : State) (w h : ℕ) (o : Option Task) → live_object s.tasks
     → Allows (live o (says (Mtapi m.ErrTaskInvalid))
     (λ x. unless (x.notes.detached || is_some x.notes.group) (Mtapi m.ErrParameter)
     (unless (is_other w x.notes.waiter) (Mtapi m.ErrWaitPending) (looks_at w h false x.state)))) Pending
-    → Waits (after_row s (live o (says (Mtapi m.ErrTaskInvalid))
+    → WaitsFor (after_row s (live o (says (Mtapi m.ErrTaskInvalid))
     (λ x. unless (x.notes.detached || is_some x.notes.group) (Mtapi m.ErrParameter)
     (unless (is_other w x.notes.waiter) (Mtapi m.ErrWaitPending) (looks_at w h false x.state))))) w h
 look_at_live s w h None e a = absurd (not_mtapi m.ErrTaskInvalid a)
@@ -99,7 +99,7 @@ look_at_live s w h (Some x) e a =
     let d = passed (x.notes.detached || is_some x.notes.group) (Mtapi m.ErrParameter) Pending v (not_mtapi m.ErrParameter) a in
     let g1 = skip (x.notes.detached || is_some x.notes.group) (Mtapi m.ErrParameter) Pending v s (not_mtapi m.ErrParameter) a in
     let g2 = skip (is_other w x.notes.waiter) (Mtapi m.ErrWaitPending) Pending (looks_at w h false x.state) s (not_mtapi m.ErrWaitPending) g1.allowed in
-    subst (λ (t : State). Waits t w h) (sym (g1.leads ∙ (g2.leads ∙ set_waiter s w h x x.state g2.allowed))) (
+    subst (λ (t : State). WaitsFor t w h) (sym (g1.leads ∙ (g2.leads ∙ set_waiter s w h x x.state g2.allowed))) (
       with_notes (with_waiter (Some w)) x,
       at-update h (with_notes (with_waiter (Some w))) x s.tasks e,
       record {
@@ -110,13 +110,13 @@ look_at_live s w h (Some x) e a =
     )
 
 pub pend_waits : (s : State) (w : ℕ) (t : TaskHandle) → IsNext s (entry w (op.TaskLook t false) Pending)
-    → Waits (next s (entry w (op.TaskLook t false) Pending)) w t.0
+    → WaitsFor (next s (entry w (op.TaskLook t false) Pending)) w t.0
 pend_waits s w t n =
     let v : Row = live (live_object s.tasks t.0) (says (Mtapi m.ErrTaskInvalid))
     (λ x. unless (x.notes.detached || is_some x.notes.group) (Mtapi m.ErrParameter)
     (unless (is_other w x.notes.waiter) (Mtapi m.ErrWaitPending) (looks_at w t.0 false x.state))) in
     let g = skip (not (is_up s.phase)) (Mtapi m.ErrNodeNotinit) Pending v s (not_mtapi m.ErrNodeNotinit) n.allowed in
-    subst (λ (u : State). Waits u w t.0) (sym g.leads) (look_at_live s w t.0 (live_object s.tasks t.0) refl g.allowed)
+    subst (λ (u : State). WaitsFor u w t.0) (sym g.leads) (look_at_live s w t.0 (live_object s.tasks t.0) refl g.allowed)
 
 cut_legal : (s : State) (e : NodeEntry) (B : List NodeEntry) → LegalFrom s (e ∷ B) → IsNext s e × LegalFrom (next s e) B
 unfolding LegalFrom

@@ -1,10 +1,10 @@
 -- What the rows of looks say: when a look decides, when it tells that the time is over, and that what it decides has an answer.
 use Rattle.std.proofs.lemmas.Bool.Decides.{nat_tests}
-use Rattle.workload_runners.proofs.Names.{[], ◌+◌, ◌^◌, ◌∷◌, ◌≡◌, ◌≤◌, Allows, Bool, Ended, Ending, Every, InTime, IsTimed, List, Listed, MrapiStatus, MtapiStatus, None, Option, Reply, Running, Scheduled, Some, State, Task, TaskEnd, TaskState, Wanted, ap, arith, cond, done, drops, end_of, endings, every_at, false, fault_of, first_fault, found, in_time, insert, insert_ended, is_late_end, is_member, is_pending, is_some, is_timeout, key, live, live_of, lt-ltb, mrapi, mtapi, nat_lt, not, op_of, option_or, pos, refl, row, subst, true, verdict, ℕ}
+use Rattle.workload_runners.proofs.Names.{[], ◌+◌, ◌^◌, ◌∷◌, ◌≡◌, ◌≤◌, Allows, Bool, Ended, Ending, Every, InTime, IsTimed, List, Listed, MrapiStatus, MtapiStatus, None, Option, Reply, Running, Scheduled, Some, State, Task, TaskEnd, TaskState, Wanted, ap, arith, cond, done, drops, end_of, endings, every_at, false, fault_of, first_fault, is_answer_found, in_time, insert, insert_ended, is_late_end, is_member, is_pending, is_some, is_timeout, key, live, live_of, lt-ltb, mrapi_standard, mtapi_standard, nat_lt, not, op_of_look, option_or, pos, refl, row, subst, true, verdict, ℕ}
 use Rattle.mtapi_values.specs.declared.statuses.MtapiStatus.TheVariants as m
 use Rattle.mtapi_machine.specs.declared.replies.Reply.TheVariants as reply
 use Rattle.workload_runs.specs.declared.calls.Wanted.TheVariants as want
-use Rattle.workload_runners.specs.Replies.{says, ended, given}
+use Rattle.workload_runners.specs.Replies.{says_something, end_in_reply, given}
 use Rattle.workload_runners.proofs.Depths.{Shallow}
 use Rattle.mtapi_machine.specs.Answers.{Answers, is_refusal, is_caller_refusal}
 use Rattle.mtapi_machine.specs.Answers as is
@@ -20,7 +20,7 @@ pub record AnswersLook (w : Wanted) (s : State) (last : Bool) (r : Reply) : Type
   -- a look that isn't the last tells no end of the time
   pub early : Every InTime s.tasks → last ≡ false → is_timeout r ≡ false
   -- what isn't Pending has an answer
-  pub found : Every InTime s.tasks → Every Shallow s.mutexes → is_pending r ≡ false → found w r ≡ true
+  pub found : Every InTime s.tasks → Every Shallow s.mutexes → is_pending r ≡ false → is_answer_found w r ≡ true
 
 -- a refusal is neither the end of the time nor the status for turns that are used up
 not_timeout : (c : MtapiStatus) → is_refusal c ≡ true → is_timeout (reply.Mtapi c) ≡ false
@@ -29,22 +29,23 @@ not_timeout c e1 = grind (arith, nat_tests)
 not_caller_timeout : (c : MrapiStatus) → is_caller_refusal c ≡ true → is_timeout (reply.Mrapi c) ≡ false
 not_caller_timeout c e1 = grind (arith, nat_tests)
 
-pub not_spent : {A : Type 0} (read : Reply → Option A) (c : MtapiStatus) → is_refusal c ≡ true → says mtapi read (reply.Mtapi c) ≡ true
+pub not_spent : {A : Type 0} (read : Reply → Option A) (c : MtapiStatus) → is_refusal c ≡ true → says_something mtapi_standard read (reply.Mtapi c) ≡ true
 not_spent read c e1 = grind (arith, nat_tests)
 
-pub not_spent_caller : {A : Type 0} (read : Reply → Option A) (c : MrapiStatus) → is_caller_refusal c ≡ true → says mrapi read (reply.Mrapi c) ≡ true
+pub not_spent_caller : {A : Type 0} (read : Reply → Option A) (c : MrapiStatus) → is_caller_refusal c ≡ true
+    → says_something mrapi_standard read (reply.Mrapi c) ≡ true
 not_spent_caller read c e1 = grind (arith, nat_tests)
 
 module _ {w : Wanted} {s : State} where
   -- statuses other than that for the end of the time, and that an op was done
 
-  code : {last : Bool} (c : MtapiStatus) → is_timeout (reply.Mtapi c) ≡ false → found w (reply.Mtapi c) ≡ true → AnswersLook w s last (reply.Mtapi c)
+  code : {last : Bool} (c : MtapiStatus) → is_timeout (reply.Mtapi c) ≡ false → is_answer_found w (reply.Mtapi c) ≡ true → AnswersLook w s last (reply.Mtapi c)
   code c t f = record { pending = λ i e. refl; stays = λ e b. refl; early = λ v e. t; found = λ v d e. f }
 
-  mcode : {last : Bool} (c : MrapiStatus) → is_timeout (reply.Mrapi c) ≡ false → found w (reply.Mrapi c) ≡ true → AnswersLook w s last (reply.Mrapi c)
+  mcode : {last : Bool} (c : MrapiStatus) → is_timeout (reply.Mrapi c) ≡ false → is_answer_found w (reply.Mrapi c) ≡ true → AnswersLook w s last (reply.Mrapi c)
   mcode c t f = record { pending = λ i e. refl; stays = λ e b. refl; early = λ v e. t; found = λ v d e. f }
 
-  ok : {last : Bool} → found w reply.Ok ≡ true → AnswersLook w s last reply.Ok
+  ok : {last : Bool} → is_answer_found w reply.Ok ≡ true → AnswersLook w s last reply.Ok
   ok f = record { pending = λ i e. refl; stays = λ e b. refl; early = λ v e. refl; found = λ v d e. f }
 
   -- too early, and at the last look too late
@@ -52,7 +53,7 @@ module _ {w : Wanted} {s : State} where
   waits : AnswersLook w s false reply.Pending
   waits = record { pending = λ i e. absurd (cc); stays = λ e b. absurd (cc); early = λ v e. refl; found = λ v d e. absurd (cc) }
 
-  late : (r : Reply) → is_pending r ≡ false → ((alike : Bool) → drops alike r ≡ false) → found w r ≡ true → AnswersLook w s true r
+  late : (r : Reply) → is_pending r ≡ false → ((alike : Bool) → drops alike r ≡ false) → is_answer_found w r ≡ true → AnswersLook w s true r
   late r p d f = record { pending = λ i e. p; stays = λ e b. d b; early = λ v e. absurd (cc); found = λ v i e. f }
 
 -- no end of these is late
@@ -91,7 +92,7 @@ endings_early g (r ∷ rs) a = by r.live (endings_early g rs a.1)
 
 -- what all members of a group say: neither the end of the time nor the status for turns that are used up
 abbrev IsPlain : Option MtapiStatus → Type 0
-IsPlain o = (is_timeout (verdict o) ≡ false) × (says mtapi done (verdict o) ≡ true)
+IsPlain o = (is_timeout (verdict o) ≡ false) × (says_something mtapi_standard done (verdict o) ≡ true)
 
 first_plain : (y : TaskEnd) (o : Option MtapiStatus) → is_late_end y ≡ false → IsPlain o → IsPlain (option_or (fault_of y) o)
 first_plain y o e1 e2 = grind (arith, nat_tests)
@@ -100,11 +101,11 @@ faults_plain : (es : List Ending) → AllEarly es → IsPlain (first_fault es)
 faults_plain [] a = (refl, refl)
 faults_plain (x ∷ es) a = first_plain x.end (first_fault es) a.0 (faults_plain es a.1)
 
-key_found : (n : ℕ) → n ≤ 64 → says mrapi key (reply.Number (pos (n + 1))) ≡ true
+key_found : (n : ℕ) → n ≤ 64 → says_something mrapi_standard key (reply.Number (pos (n + 1))) ≡ true
 key_found n l = ap (λ (b : Bool). is_some (cond b (Some (n + 1)) None)) (lt-ltb (n + 1) (2 ^ 32) (omega arith))
 
-says_by : (w : Wanted) (s : State) (who : ℕ) (last : Bool) (r : Reply) (ms : List Move) → Answers s who (op_of w last) r ms → AnswersLook w s last r
-says_by (want.Task t) s who _ _ _ (is.refuses o c e) = code c (not_timeout c e) (not_spent ended c e)
+says_by : (w : Wanted) (s : State) (who : ℕ) (last : Bool) (r : Reply) (ms : List Move) → Answers s who (op_of_look w last) r ms → AnswersLook w s last r
+says_by (want.Task t) s who _ _ _ (is.refuses o c e) = code c (not_timeout c e) (not_spent end_in_reply c e)
 says_by (want.Task t) s who _ _ _ (is.looks_early _ x f u d) = waits
 says_by (want.Task t) s who _ _ _ (is.looks_last _ x f u d) = late _ refl (λ b. refl) refl
 says_by (want.Task t) s who _ _ _ (is.looks_over _ last x e n f u d) =
@@ -151,5 +152,5 @@ says_by (want.Rwl h writer) s who _ _ _ (is.rwl_late _ _) = late _ refl (λ b. r
 says_by (want.Rwl h writer) s who _ _ _ (is.takes_rwl _ _ last x k b) = ok refl
 says_by (want.Rwl h writer) s who _ _ _ (is.refuses o c e) = absurd (cc)
 
-pub wanted_says : (w : Wanted) (s : State) (who : ℕ) (last : Bool) (r : Reply) → Allows (row s who (op_of w last) r) r → AnswersLook w s last r
-wanted_says w s who last r a = says_by w s who last r _ (answered s who (op_of w last) r a)
+pub wanted_says : (w : Wanted) (s : State) (who : ℕ) (last : Bool) (r : Reply) → Allows (row s who (op_of_look w last) r) r → AnswersLook w s last r
+wanted_says w s who last r a = says_by w s who last r _ (answered s who (op_of_look w last) r a)

@@ -5,7 +5,7 @@ use Rattle.std.proofs.lemmas.Result.{IfOk-at_ok}
 use Rattle.std.specs.Prelude.{IfOk}
 use Rattle.std.specs.List.{AllZip}
 use Rattle.history.specs.Histories.{entry, entries_of}
-use Rattle.turn_cell.specs.Lists.{all_of}
+use Rattle.turn_cell.specs.Lists.{AllItems}
 use Rattle.turn_cell.specs.Seats.{HasSeenMore, IsComplete, IsSeatOf, fresh_seat, fresh_seats}
 use Rattle.turn_cell.proofs.Complete.{Has, all_has, fresh_in, has_back, has_front, numbered_has, zip_has}
 use Rattle.turn_cell.proofs.Ends.{all_after}
@@ -16,8 +16,8 @@ use Rattle.mtapi_machine.specs.Legal.{NodeEntry, Legal}
 use Rattle.node_journals.specs.declared.entries.Journal.{Journal}
 use Rattle.node_core.specs.Keeping.{KeptAs}
 use Rattle.node_core.specs.Logs.{journal_seats}
-use Rattle.workload_runners.specs.Turns.{Seat, SameSeat, AddsOwn, Turned}
-use Rattle.workload_runners.specs.Crews.{Cell, Knows}
+use Rattle.workload_runners.specs.Turns.{Seat, SameNodeSeat, AddsOwn, NodeTurned}
+use Rattle.workload_runners.specs.Crews.{Cell, MainKnows}
 use Rattle.workload_runners.proofs.Adds.{all_own, all_more}
 use Rattle.workload_runners.proofs.Meets.{zip_front, each_of, met_zip, known_more}
 use Rattle.workload_runners.proofs.OwnParts.{MainCuts, known_front, has_longer, Ending, main_cuts, in_order, before_final, whole_from}
@@ -29,20 +29,20 @@ use Rattle.workload_runners.specs.Ran.{StandsIn, EachCalled, RanAs}
 use Rattle.workload_runners.proofs.CrewSeats.{held_met}
 
 module _ {A : Type 0} where
-  each_front : (F : A → Type 0) (xs ys : List A) → all_of F (xs ++ ys) → all_of F xs
+  each_front : (F : A → Type 0) (xs ys : List A) → AllItems F (xs ++ ys) → AllItems F xs
   each_front F [] ys a = tt
   each_front F (x ∷ xs) ys a = (a.0, each_front F xs ys a.1)
 
 -- each of the further callers' seats came back
 held_same : {D U : Type 0} (Q : D → Terms → ℕ → U → List NodeEntry → Type 0) (z : Cell) (who : ℕ) (ds : List D) (bs : List Seat) (us : List U)
-    → EachHeld Q z who ds bs us → AllZip SameSeat (fresh_seats z.terms z.id who (length ds)) bs
-held_same Q z who [] bs us a = subst (λ (l : List Seat). AllZip SameSeat [] l) (sym a.0) tt
+    → EachHeld Q z who ds bs us → AllZip SameNodeSeat (fresh_seats z.terms z.id who (length ds)) bs
+held_same Q z who [] bs us a = subst (λ (l : List Seat). AllZip SameNodeSeat [] l) (sym a.0) tt
 held_same Q z who (d ∷ ds) bs us a =
-    subst (λ (l : List Seat). AllZip SameSeat (fresh_seats z.terms z.id who (suc (length ds))) l) (sym a.4)
+    subst (λ (l : List Seat). AllZip SameNodeSeat (fresh_seats z.terms z.id who (suc (length ds))) l) (sym a.4)
     (a.6.same, held_same Q z (suc who) ds a.1 a.3 a.7)
 
 -- a seat whose entries m knew, in a history that goes on behind what m had seen
-stands : (k : ℕ) (m s : Seat) (H M T : List NodeEntry) → s.number ≡ k → entries_of k H ≡ s.mine → Knows m s → H ≡ m.seen ++ (M ++ T)
+stands : (k : ℕ) (m s : Seat) (H M T : List NodeEntry) → s.number ≡ k → entries_of k H ≡ s.mine → MainKnows m s → H ≡ m.seen ++ (M ++ T)
     → StandsIn k (m.seen ++ M) T (entries_of k H)
 stands k m s H M T number own knows is =
     let prefix : entries_of k knows.prefix ≡ entries_of k H = (ap (λ (n : ℕ). entries_of n knows.prefix) (sym number) ∙ knows.own) ∙ sym own in
@@ -51,19 +51,20 @@ stands k m s H M T number own knows is =
 
 each_called : {D U : Type 0} (Q : D → Terms → ℕ → U → List NodeEntry → Type 0) (z : Cell) (m : Seat) (H M T : List NodeEntry) (who : ℕ) (ds : List D)
     (bs : List Seat) (us : List U)
-    → H ≡ m.seen ++ (M ++ T) → all_of (IsSeatOf z.terms H) bs → all_of (Knows m) bs → EachHeld Q z who ds bs us
+    → H ≡ m.seen ++ (M ++ T) → AllItems (IsSeatOf z.terms H) bs → AllItems (MainKnows m) bs → EachHeld Q z who ds bs us
     → EachCalled Q z.terms.node H (m.seen ++ M) T who ds us
 each_called {U = U} Q z m H M T who [] bs us is seats knows a = subst (λ (l : List U). EachCalled Q z.terms.node H (m.seen ++ M) T who [] l) (sym a.1) tt
 each_called {U = U} Q z m H M T who (d ∷ ds) bs us is seats knows a =
-    let s = subst (λ (l : List Seat). all_of (IsSeatOf z.terms H) l) a.4 seats in
-    let n = subst (λ (l : List Seat). all_of (Knows m) l) a.4 knows in
+    let s = subst (λ (l : List Seat). AllItems (IsSeatOf z.terms H) l) a.4 seats in
+    let n = subst (λ (l : List Seat). AllItems (MainKnows m) l) a.4 knows in
     let number : a.0.number ≡ who = a.6.same.number in
     let mine : entries_of who H ≡ a.0.mine = ap (λ (k : ℕ). entries_of k H) (sym number) ∙ s.0.mine in
     let did = subst (λ (es : List NodeEntry). Q d z.terms.node who a.2 es) (sym mine) a.6.kept in
     subst (λ (l : List U). EachCalled Q z.terms.node H (m.seen ++ M) T who (d ∷ ds) l) (sym a.5)
     ((did, stands who m a.0 H M T number mine n.0 is), each_called Q z m H M T (suc who) ds a.1 a.3 is s.1 n.1 a.7)
 
-module _ {C D T U A : Type 0} (W : ℕ → List NodeEntry → Type 0) (P : C → Terms → ℕ → T → List NodeEntry → Type 0) (Q : D → Terms → ℕ → U → List NodeEntry → Type 0) (z : Cell)
+module _ {C D T U A : Type 0} (W : ℕ → List NodeEntry → Type 0) (P : C → Terms → ℕ → T → List NodeEntry → Type 0) (Q : D → Terms → ℕ → U → List NodeEntry
+    → Type 0) (z : Cell)
     (client : C) (others : List D) (c : Crew T U A) (x : CameFrom W P Q z client others z.terms.node.settings.workers c) (e : Ended)
     (y : IsEnded Final c.main c.seats.items e) where
   abbrev w : ℕ
@@ -81,7 +82,7 @@ module _ {C D T U A : Type 0} (W : ℕ → List NodeEntry → Type 0) (P : C →
   callers_now : EachHeld Q z (w + 1) others cut.0 c.others.items
   callers_now = held_met Q z (w + 1) others x.called cut.0 c.others.items x.callers cut.3
 
-  same_more : (xs ys zs : List Seat) → AllZip SameSeat xs ys → AllZip HasSeenMore ys zs → AllZip SameSeat xs zs
+  same_more : (xs ys zs : List Seat) → AllZip SameNodeSeat xs ys → AllZip HasSeenMore ys zs → AllZip SameNodeSeat xs zs
   same_more [] [] [] a b = tt
   same_more [] [] (s ∷ zs) a b = absurd b
   same_more [] (s ∷ ys) zs a b = absurd a
@@ -90,10 +91,10 @@ module _ {C D T U A : Type 0} (W : ℕ → List NodeEntry → Type 0) (P : C →
   same_more (s ∷ xs) (t ∷ ys) (u ∷ zs) a b =
       (record { cell = b.0.cell ∙ a.0.cell; number = b.0.number ∙ a.0.number; terms = b.0.terms ∙ a.0.terms }, same_more xs ys zs a.1 b.1)
 
-  workers_same : AllZip SameSeat (fresh_seats z.terms z.id 0 w) cut.1
+  workers_same : AllZip SameNodeSeat (fresh_seats z.terms z.id 0 w) cut.1
   workers_same = same_more (fresh_seats z.terms z.id 0 w) x.worked cut.1 x.workers cut.4
 
-  pub main_same : SameSeat (fresh_seat z.terms z.id w) e.main
+  pub main_same : SameNodeSeat (fresh_seat z.terms z.id w) e.main
   main_same =
       let h = x.main.did.same in let m = x.main.more in let s = x.main.same in let n = y.meets.main in let t = y.same in
       record {
@@ -111,11 +112,11 @@ module _ {C D T U A : Type 0} (W : ℕ → List NodeEntry → Type 0) (P : C →
   -- they are all seats of the cell
   pub complete : z.terms.node.callers ≡ length others + 1 → IsComplete (journal_seats z.terms) all
   complete count k l = elim (place_of w (w + (length others + 1)) k) [
-    | is_worker h ↦ let b = zip_has SameSeat (fresh_seats z.terms z.id 0 w) cut.1 (fresh_seat z.terms z.id k) workers_same
+    | is_worker h ↦ let b = zip_has SameNodeSeat (fresh_seats z.terms z.id 0 w) cut.1 (fresh_seat z.terms z.id k) workers_same
         (fresh_in _ _ _ z.terms z.id 0 w k (omega arith) (omega arith)) in
         numbered_has k b.0 all (among b.0 (has_back cut.0 cut.1 b.0 b.1)) b.2.number
     | is_main h ↦ numbered_has k e.main all main_has (main_same.number ∙ sym h)
-    | is_caller h g ↦ let b = zip_has SameSeat (fresh_seats z.terms z.id (w + 1) (length others)) cut.0 (fresh_seat z.terms z.id k)
+    | is_caller h g ↦ let b = zip_has SameNodeSeat (fresh_seats z.terms z.id (w + 1) (length others)) cut.0 (fresh_seat z.terms z.id k)
         (held_same Q z (w + 1) others cut.0 c.others.items callers_now)
         (fresh_in _ _ _ z.terms z.id (w + 1) (length others) k (omega arith) (omega arith)) in
         numbered_has k b.0 all (among b.0 (has_front cut.0 cut.1 b.0 b.1)) b.2.number
@@ -123,12 +124,12 @@ module _ {C D T U A : Type 0} (W : ℕ → List NodeEntry → Type 0) (P : C →
   ]
 
   module _ (none : c.spent ≡ None) (last : Reply) (is : e.answer ≡ Ok last) (H : List NodeEntry) (legal : Legal z.terms.node H)
-      (seats : all_of (IsSeatOf z.terms H) all) (j : Journal) (kept : KeptAs z.terms.node j H) where
-    abbrev close : (r : Reply) × Turned x.main.met Close r c.main
+      (seats : AllItems (IsSeatOf z.terms H) all) (j : Journal) (kept : KeptAs z.terms.node j H) where
+    abbrev close : (r : Reply) × NodeTurned x.main.met Close r c.main
     close = x.main.closed none
 
-    final : Turned y.met Final last e.main
-    final = IfOk-at_ok (λ (r : Reply). Turned y.met Final r e.main) is y.answered
+    final : NodeTurned y.met Final last e.main
+    final = IfOk-at_ok (λ (r : Reply). NodeTurned y.met Final r e.main) is y.answered
 
     abbrev ending : Ending w x.main.met c.main y.met e.main close.0 last
     ending = record { number = x.main.more.number ∙ x.main.did.same.number; closed = close.1; more = y.meets.main; final = final }
@@ -139,18 +140,18 @@ module _ {C D T U A : Type 0} (W : ℕ → List NodeEntry → Type 0) (P : C →
     abbrev cuts : MainCuts w H x.main.met.mine close.0 last
     cuts = main_cuts w x.main.met c.main y.met e.main close.0 last ending H main_is.seen main_is.mine
 
-    came_back : all_of (IsSeatOf z.terms H) (cut.0 ++ cut.1)
-    came_back = subst (λ (l : List Seat). all_of (IsSeatOf z.terms H) l) cut.2 (each_front (IsSeatOf z.terms H) e.others.items (e.main ∷ []) seats)
+    came_back : AllItems (IsSeatOf z.terms H) (cut.0 ++ cut.1)
+    came_back = subst (λ (l : List Seat). AllItems (IsSeatOf z.terms H) l) cut.2 (each_front (IsSeatOf z.terms H) e.others.items (e.main ∷ []) seats)
 
     served_now : AllZip (AddsOwn W) (fresh_seats z.terms z.id 0 w) cut.1
     served_now = all_more W (fresh_seats z.terms z.id 0 w) x.worked cut.1 (x.served none) cut.4
 
-    knows_workers : all_of (Knows y.met) cut.1
-    knows_workers = all_after (Knows y.met) cut.0 cut.1
-        (subst (λ (l : List Seat). all_of (Knows y.met) l) cut.2 (each_of (Knows y.met) e.others.items y.meets.knows))
+    knows_workers : AllItems (MainKnows y.met) cut.1
+    knows_workers = all_after (MainKnows y.met) cut.0 cut.1
+        (subst (λ (l : List Seat). AllItems (MainKnows y.met) l) cut.2 (each_of (MainKnows y.met) e.others.items y.meets.knows))
 
-    knows_callers : all_of (Knows x.main.met) cut.0
-    knows_callers = known_more x.main.met x.called cut.0 (each_of (Knows x.main.met) x.called x.main.knows) cut.3
+    knows_callers : AllItems (MainKnows x.main.met) cut.0
+    knows_callers = known_more x.main.met x.called cut.0 (each_of (MainKnows x.main.met) x.called x.main.knows) cut.3
 
     one_worker : (k : ℕ) → k < w → W k (entries_of k H)
         × StandsIn k (cuts.before ++ entry w Close close.0 ∷ cuts.behind) (entry w Final last ∷ cuts.rest) (entries_of k H)
@@ -160,7 +161,7 @@ module _ {C D T U A : Type 0} (W : ℕ → List NodeEntry → Type 0) (P : C →
         let number : b.0.number ≡ k = b.2.same.number in
         let s = all_has (IsSeatOf z.terms H) all b.0 seats (among b.0 (has_back cut.0 cut.1 b.0 b.1)) in
         let own : entries_of k H ≡ b.0.mine = ap (λ (n : ℕ). entries_of n H) (sym number) ∙ s.mine in
-        let knows = all_has (Knows y.met) cut.1 b.0 knows_workers b.1 in (
+        let knows = all_has (MainKnows y.met) cut.1 b.0 knows_workers b.1 in (
           subst (λ (es : List NodeEntry). W k es) (sym own) (all_own W (fresh_seat z.terms z.id k) b.0 refl b.2),
           subst (λ (S : List NodeEntry). StandsIn k S (entry w Final last ∷ cuts.rest) (entries_of k H))
               (before_final w x.main.met c.main y.met e.main close.0 last ending H main_is.seen main_is.mine)
@@ -168,7 +169,8 @@ module _ {C D T U A : Type 0} (W : ℕ → List NodeEntry → Type 0) (P : C →
               (whole_from w x.main.met c.main y.met e.main close.0 last ending H main_is.seen main_is.mine)),
         )
 
-    pub ran_as : (sets : Vec A Global) → RanAs W P Q client others z.terms.node (record { told = c.told; others = c.others; last = last; journal = j; sets = sets })
+    pub ran_as : (sets : Vec A Global) → RanAs W P Q client others z.terms.node
+        (record { told = c.told; others = c.others; last = last; journal = j; sets = sets })
     ran_as sets = record {
       history = H;
       legal = legal;

@@ -4,7 +4,7 @@ use Rattle.std.specs.List.{AllZip}
 use Rattle.std.specs.declared.alloc.Global.{Global}
 use Rattle.workload_runners.specs.Names.{StartsWith, entries_of, Op, NodeEntry, Close, Reply, CellView, HasSeenMore, JournaledTerms, fresh_seat, fresh_seats}
 use Rattle.mtapi_machine.specs.declared.terms.Terms.{Terms}
-use Rattle.workload_runners.specs.Turns.{Seat, SameSeat, AddsOwn, Turned, Unturned}
+use Rattle.workload_runners.specs.Turns.{Seat, SameNodeSeat, AddsOwn, NodeTurned, NodeUnturned}
 use Rattle.workload_runners.specs.Rounds.{AtRest}
 use Rattle.workload_runners.specs.declared.crew.holder.Held.{Held}
 use Rattle.workload_runners.specs.declared.crew.serving.Served.{Served}
@@ -18,7 +18,7 @@ abbrev pub Cell : Type 0
 Cell = CellView JournaledTerms
 
 -- what main has seen begins with a history that has all entries of this seat
-pub record Knows (main s : Seat) : Type 0 where
+pub record MainKnows (main s : Seat) : Type 0 where
   pub prefix : List NodeEntry
   pub begins : StartsWith main.seen prefix
   pub own : entries_of s.number prefix ≡ s.mine
@@ -28,25 +28,25 @@ pub record AreMet (old new : Seat) (before after : List Seat) : Type 0 where
   pub main : HasSeenMore old new
   pub len : length after ≡ length before
   pub others : (k : ℕ) (d e : Seat) → k < length before → HasSeenMore (slice_index_or before k d) (slice_index_or after k e)
-  pub knows : All (Knows new) after
+  pub knows : All (MainKnows new) after
 
 -- where a start was refused, main closed and made no other call; or the turns were used up, and it made none
 abbrev pub GaveUp : Seat → Seat → Type 0
-GaveUp old new = ((r : Reply) × Turned old Close r new) ⊎ Unturned old new
+GaveUp old new = ((r : Reply) × NodeTurned old Close r new) ⊎ NodeUnturned old new
 
 -- nothing was given but a seat
-abbrev pub is_lost : {A B : Type 0} → Result A B → Bool
-is_lost (Ok x) = false
-is_lost (Err e) = true
+abbrev pub is_seat_alone : {A B : Type 0} → Result A B → Bool
+is_seat_alone (Ok x) = false
+is_seat_alone (Err e) = true
 
 -- this worker's seat came back; unless the turns were used up, it has added such entries
 pub record HasServed {A : Type 0} (W : ℕ → List NodeEntry → Type 0) (old : Seat) (o : Served A) : Type 0 where
-  pub same : SameSeat old o.seat
+  pub same : SameNodeSeat old o.seat
   pub did : o.spent ≡ None → AddsOwn W old o.seat
 
 -- this caller's seat came back, and its holder's promise holds of the entries that it has
 pub record HasHeld {C T : Type 0} (P : C → Terms → ℕ → T → List NodeEntry → Type 0) (client : C) (old new : Seat) (told : T) : Type 0 where
-  pub same : SameSeat old new
+  pub same : SameNodeSeat old new
   pub kept : P client old.terms.node old.number told new.mine
 
 -- the seats are a new cell's: main's, and one for each client of a further caller; and there is room for what comes back
@@ -86,8 +86,8 @@ pub record HaveHeld {C D T U : Type 0} (P : C → Terms → ℕ → T → List N
 pub record IsEnded (o : Op) (main : Seat) (before : List Seat) (e : Ended) : Type 0 where
   pub met : Seat
   pub meets : AreMet main met before e.others.items
-  pub same : SameSeat met e.main
-  pub answered : IfOk e.answer (λ r. Turned met o r e.main)
+  pub same : SameNodeSeat met e.main
+  pub answered : IfOk e.answer (λ r. NodeTurned met o r e.main)
 
 -- main met the further callers, and began the end
 pub record IsClosedBy {T U A : Type 0} (before : ReturnedCallers T U) (sets : Vec A Global) (c : Crew T U A) : Type 0 where
@@ -97,8 +97,8 @@ pub record IsClosedBy {T U A : Type 0} (before : ReturnedCallers T U) (sets : Ve
   pub room : (vec_len c.seats ≡ vec_len before.seats) × (vec_capacity c.seats ≡ vec_capacity before.seats)
   pub met : Seat
   pub meets : AreMet before.main met before.seats.items c.seats.items
-  pub same : SameSeat met c.main
-  pub closed : c.spent ≡ None → (r : Reply) × Turned met Close r c.main
+  pub same : SameNodeSeat met c.main
+  pub closed : c.spent ≡ None → (r : Reply) × NodeTurned met Close r c.main
 
 -- the callers may call, and the workers' seats are the first of a new cell
 pub record AreReady {C D U A : Type 0} (z : Cell) (h : UnstartedThreads C D U A) : Type 0 where
@@ -127,9 +127,9 @@ pub record MainClosed {C T : Type 0} (P : C → Terms → ℕ → T → List Nod
   pub did : HasHeld P client old held told
   pub met : Seat
   pub more : HasSeenMore held met
-  pub knows : All (Knows met) callers
-  pub same : SameSeat met new
-  pub closed : spent ≡ None → (r : Reply) × Turned met Close r new
+  pub knows : All (MainKnows met) callers
+  pub same : SameNodeSeat met new
+  pub closed : spent ≡ None → (r : Reply) × NodeTurned met Close r new
 
 -- all seats of main, of the further callers and of so many workers came back: main's, those of the further callers, each with what its client was
 -- told, and those of the workers
@@ -140,7 +140,7 @@ pub record CameFrom {C D T U A : Type 0} (W : ℕ → List NodeEntry → Type 0)
   pub whole : c.seats.items ≡ called ++ worked
   pub main : MainClosed P client (fresh_seat z.terms z.id z.terms.node.settings.workers) c.told called c.spent c.main
   pub callers : EachHeld Q z (z.terms.node.settings.workers + 1) others called c.others.items
-  pub workers : AllZip SameSeat (fresh_seats z.terms z.id 0 n) worked
+  pub workers : AllZip SameNodeSeat (fresh_seats z.terms z.id 0 n) worked
   pub served : c.spent ≡ None → AllZip (AddsOwn W) (fresh_seats z.terms z.id 0 n) worked
 
 -- the same, with a set for each worker

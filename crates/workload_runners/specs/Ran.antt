@@ -48,4 +48,5 @@ pub record RanAs {C D T U A : Type 0} (W : ℕ → List NodeEntry → Type 0) (P
   pub called : EachCalled Q t history ends.before (entry t.settings.workers Close close ∷ (ends.behind ++ entry t.settings.workers Final r.last ∷ ends.rest))
       (t.settings.workers + 1) others r.others.items
   pub worked : (k : ℕ) → k < t.settings.workers → W k (entries_of k history)
-      × StandsIn k (ends.before ++ entry t.settings.workers Close close ∷ ends.behind) (entry t.settings.workers Final r.last ∷ ends.rest) (entries_of k history)
+      × StandsIn k (ends.before ++ entry t.settings.workers Close close ∷ ends.behind) (entry t.settings.workers Final r.last
+      ∷ ends.rest) (entries_of k history)

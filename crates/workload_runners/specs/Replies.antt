@@ -14,9 +14,9 @@ abbrev pub done : Reply → Option (Unit {0})
 done reply.Ok = Some tt
 done _ = None
 
-abbrev pub handle : Reply → Option ℕ
-handle (reply.Handle h) = Some h
-handle _ = None
+abbrev pub handle_told : Reply → Option ℕ
+handle_told (reply.Handle h) = Some h
+handle_told _ = None
 
 -- the number of this job
 abbrev pub the_job : ℕ → Reply → Option ℕ
@@ -28,13 +28,13 @@ abbrev pub key : Reply → Option ℕ
 key (reply.Number (pos n)) = if nat_lt n (2 ^ 32) then Some n else None
 key _ = None
 
-abbrev pub number : Reply → Option ℤ
-number (reply.Number n) = Some n
-number _ = None
+abbrev pub number_in_answer : Reply → Option ℤ
+number_in_answer (reply.Number n) = Some n
+number_in_answer _ = None
 
-abbrev pub ended : Reply → Option TaskEnd
-ended (reply.Ended e) = Some e
-ended _ = None
+abbrev pub end_in_reply : Reply → Option TaskEnd
+end_in_reply (reply.Ended e) = Some e
+end_in_reply _ = None
 
 abbrev pub given : Reply → Option (TaskHandle × TaskEnd)
 given (reply.Given t e) = Some (t, e)
@@ -54,8 +54,8 @@ abbrev is_mtapi_spent : MtapiStatus → Bool
 is_mtapi_spent m.ErrSpent = true
 is_mtapi_spent _ = false
 
-abbrev pub mtapi : Standard MtapiStatus
-mtapi = record { status = mtapi_status; spent = m.ErrSpent; is_spent = is_mtapi_spent }
+abbrev pub mtapi_standard : Standard MtapiStatus
+mtapi_standard = record { status = mtapi_status; spent = m.ErrSpent; is_spent = is_mtapi_spent }
 
 abbrev mrapi_status : Reply → Option MrapiStatus
 mrapi_status (reply.Mrapi x) = Some x
@@ -65,8 +65,8 @@ abbrev is_mrapi_spent : MrapiStatus → Bool
 is_mrapi_spent c.ErrSpent = true
 is_mrapi_spent _ = false
 
-abbrev pub mrapi : Standard MrapiStatus
-mrapi = record { status = mrapi_status; spent = c.ErrSpent; is_spent = is_mrapi_spent }
+abbrev pub mrapi_standard : Standard MrapiStatus
+mrapi_standard = record { status = mrapi_status; spent = c.ErrSpent; is_spent = is_mrapi_spent }
 
 module _ {S A : Type 0} (standard : Standard S) (read : Reply → Option A) where
   abbrev says_status : Option S → Bool → Bool
@@ -74,57 +74,57 @@ module _ {S A : Type 0} (standard : Standard S) (read : Reply → Option A) wher
   says_status None b = b
 
   -- the reply has something to read, or says a status of the standard other than that for turns that are used up
-  abbrev pub says : Reply → Bool
-  says r = says_status (standard.status r) (is_some (read r))
+  abbrev pub says_something : Reply → Bool
+  says_something r = says_status (standard.status r) (is_some (read r))
 
 -- What is read from the replies to each op that a caller makes one turn for, and to each thing that it looks for; of the other ops nothing is said
 
-abbrev pub fits : Op → Reply → Bool
-fits op.Initialize r = says mtapi done r
-fits op.Release r = says mtapi done r
-fits op.Close r = says mtapi done r
-fits op.Final r = says mtapi done r
-fits (op.JobGet job) r = says mtapi (the_job job) r
-fits (op.ActionCreate job kind cores) r = says mtapi handle r
-fits (op.ActionDelete a) r = says mtapi done r
-fits (op.ActionDisable a) r = says mtapi done r
-fits (op.ActionEnable a) r = says mtapi done r
-fits (op.TaskStart job args priority cores detached group) r = says mtapi handle r
-fits (op.TaskEnqueue q args cores detached group) r = says mtapi handle r
-fits (op.TaskCancel t) r = says mtapi done r
-fits op.GroupCreate r = says mtapi handle r
-fits (op.GroupDelete g) r = says mtapi done r
-fits (op.QueueCreate id job priority limit ordered retain) r = says mtapi handle r
-fits (op.QueueGet id) r = says mtapi handle r
-fits (op.QueueEnable q) r = says mtapi done r
-fits (op.QueueDisable q) r = says mtapi done r
-fits (op.QueueDelete q) r = says mtapi done r
-fits (op.MutexCreate id recursive) r = says mrapi handle r
-fits (op.MutexGet id) r = says mrapi handle r
-fits (op.MutexDelete x) r = says mrapi done r
-fits (op.MutexUnlock x key) r = says mrapi done r
-fits (op.SemCreate id limit) r = says mrapi handle r
-fits (op.SemGet id) r = says mrapi handle r
-fits (op.SemDelete x) r = says mrapi done r
-fits (op.SemUnlock x) r = says mrapi done r
-fits (op.RwlCreate id limit) r = says mrapi handle r
-fits (op.RwlGet id) r = says mrapi handle r
-fits (op.RwlDelete x) r = says mrapi done r
-fits (op.RwlUnlock x writer) r = says mrapi done r
-fits (op.ShmemCreate id cells) r = says mrapi handle r
-fits (op.ShmemGet id) r = says mrapi handle r
-fits (op.ShmemDelete x) r = says mrapi done r
-fits (op.ShmemAttach x) r = says mrapi done r
-fits (op.ShmemDetach x) r = says mrapi done r
-fits (op.ShmemRead x cell) r = says mrapi number r
-fits (op.ShmemWrite x cell value) r = says mrapi done r
-fits _ r = true
+abbrev pub fits_op : Op → Reply → Bool
+fits_op op.Initialize r = says_something mtapi_standard done r
+fits_op op.Release r = says_something mtapi_standard done r
+fits_op op.Close r = says_something mtapi_standard done r
+fits_op op.Final r = says_something mtapi_standard done r
+fits_op (op.JobGet job) r = says_something mtapi_standard (the_job job) r
+fits_op (op.ActionCreate job kind cores) r = says_something mtapi_standard handle_told r
+fits_op (op.ActionDelete a) r = says_something mtapi_standard done r
+fits_op (op.ActionDisable a) r = says_something mtapi_standard done r
+fits_op (op.ActionEnable a) r = says_something mtapi_standard done r
+fits_op (op.TaskStart job args priority cores detached group) r = says_something mtapi_standard handle_told r
+fits_op (op.TaskEnqueue q args cores detached group) r = says_something mtapi_standard handle_told r
+fits_op (op.TaskCancel t) r = says_something mtapi_standard done r
+fits_op op.GroupCreate r = says_something mtapi_standard handle_told r
+fits_op (op.GroupDelete g) r = says_something mtapi_standard done r
+fits_op (op.QueueCreate id job priority limit ordered retain) r = says_something mtapi_standard handle_told r
+fits_op (op.QueueGet id) r = says_something mtapi_standard handle_told r
+fits_op (op.QueueEnable q) r = says_something mtapi_standard done r
+fits_op (op.QueueDisable q) r = says_something mtapi_standard done r
+fits_op (op.QueueDelete q) r = says_something mtapi_standard done r
+fits_op (op.MutexCreate id recursive) r = says_something mrapi_standard handle_told r
+fits_op (op.MutexGet id) r = says_something mrapi_standard handle_told r
+fits_op (op.MutexDelete x) r = says_something mrapi_standard done r
+fits_op (op.MutexUnlock x key) r = says_something mrapi_standard done r
+fits_op (op.SemCreate id limit) r = says_something mrapi_standard handle_told r
+fits_op (op.SemGet id) r = says_something mrapi_standard handle_told r
+fits_op (op.SemDelete x) r = says_something mrapi_standard done r
+fits_op (op.SemUnlock x) r = says_something mrapi_standard done r
+fits_op (op.RwlCreate id limit) r = says_something mrapi_standard handle_told r
+fits_op (op.RwlGet id) r = says_something mrapi_standard handle_told r
+fits_op (op.RwlDelete x) r = says_something mrapi_standard done r
+fits_op (op.RwlUnlock x writer) r = says_something mrapi_standard done r
+fits_op (op.ShmemCreate id cells) r = says_something mrapi_standard handle_told r
+fits_op (op.ShmemGet id) r = says_something mrapi_standard handle_told r
+fits_op (op.ShmemDelete x) r = says_something mrapi_standard done r
+fits_op (op.ShmemAttach x) r = says_something mrapi_standard done r
+fits_op (op.ShmemDetach x) r = says_something mrapi_standard done r
+fits_op (op.ShmemRead x cell) r = says_something mrapi_standard number_in_answer r
+fits_op (op.ShmemWrite x cell value) r = says_something mrapi_standard done r
+fits_op _ r = true
 
-abbrev pub found : Wanted → Reply → Bool
-found (want.Task t) r = says mtapi ended r
-found want.Entrance r = says mtapi done r
-found (want.AllMembers g) r = says mtapi done r
-found (want.FirstMember g) r = says mtapi given r
-found (want.Mutex x) r = says mrapi key r
-found (want.Sem x) r = says mrapi done r
-found (want.Rwl x writer) r = says mrapi done r
+abbrev pub is_answer_found : Wanted → Reply → Bool
+is_answer_found (want.Task t) r = says_something mtapi_standard end_in_reply r
+is_answer_found want.Entrance r = says_something mtapi_standard done r
+is_answer_found (want.AllMembers g) r = says_something mtapi_standard done r
+is_answer_found (want.FirstMember g) r = says_something mtapi_standard given r
+is_answer_found (want.Mutex x) r = says_something mrapi_standard key r
+is_answer_found (want.Sem x) r = says_something mrapi_standard done r
+is_answer_found (want.Rwl x writer) r = says_something mrapi_standard done r

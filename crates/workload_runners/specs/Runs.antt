@@ -1,13 +1,13 @@
 -- What a run gives back, and what it begins with.
 use Rattle.std.specs.Prelude.{◌≡◌, ℕ, ◌≤◌, ◌^◌, ◌⊎◌, Bool, true, false, [], ◌∷◌, Result, Err}
-use Rattle.workload_runners.specs.Names.{entry, Close, Reply, Rose}
+use Rattle.workload_runners.specs.Names.{entry, Close, Reply, HasRisen}
 use Rattle.workload_runners.specs.declared.run.RunError.{RunError}
 use Rattle.workload_runners.specs.declared.run.RunError.TheVariants as error
 use Rattle.workload_runners.specs.Turns.{Seat}
 
 -- where a run was refused, the count of refused threads rose; `Spent` shows a ticket word of at least 2^62
 abbrev pub Causes : ℕ → ℕ → RunError → Type 0
-Causes before after (error.Refused main) = Rose before after
+Causes before after (error.Refused main) = HasRisen before after
 Causes before after (error.Spent s) = 2 ^ 62 ≤ s
 Causes before after error.Memory = Unit {0}
 

@@ -8,20 +8,20 @@ abbrev pub Seat : Type 0
 Seat = SeatView JournaledTerms Op Reply
 
 -- the same seat of the same cell
-abbrev pub SameSeat : Seat → Seat → Type 0
-SameSeat old new = looks.SameSeat old new
+abbrev pub SameNodeSeat : Seat → Seat → Type 0
+SameNodeSeat old new = looks.SameSeat old new
 
 -- the seat made one turn: the op and its reply come behind what other seats did since its last one, and the list is legal
-abbrev pub Turned : Seat → Op → Reply → Seat → Type 0
-Turned old o r new = looks.Turned journal_legal old o r new
+abbrev pub NodeTurned : Seat → Op → Reply → Seat → Type 0
+NodeTurned old o r new = looks.Turned journal_legal old o r new
 
 -- the turns were used up, and nothing was added
-abbrev pub Unturned : Seat → Seat → Type 0
-Unturned old new = looks.Unturned old new
+abbrev pub NodeUnturned : Seat → Seat → Type 0
+NodeUnturned old new = looks.Unturned old new
 
 -- the seat added entries of its own, which for its number are as R says
 pub record AddsOwn (R : ℕ → List NodeEntry → Type 0) (old new : Seat) : Type 0 where
-  pub same : SameSeat old new
+  pub same : SameNodeSeat old new
   pub own : List NodeEntry
   pub mine : new.mine ≡ old.mine ++ own
   pub is : R old.number own

@@ -2,7 +2,7 @@
 
 ghost use Rattle.std.specs.Prelude.{◌≡◌, IfOk, OnErr};
 ghost use Rattle.mtapi_values.specs.Timeouts.{looks_of};
-ghost use Rattle.workload_runners.specs.Looks.{Looked, StillLooking};
+ghost use Rattle.workload_runners.specs.Looks.{NodeLooked, NodeStillLooking};
 
 use mtapi_values::Timeout;
 use node_core::{Journaled, Op, Reply};
@@ -20,9 +20,9 @@ struct Awaited {
 impl LookFor<Journaled> for Awaited {
     ghost use Rattle.std.specs.Prelude.{Bool};
     ghost use Rattle.mtapi_machine.specs.declared.replies.Reply.TheVariants.{Pending};
-    ghost use Rattle.workload_runs.specs.Wants.{op_of};
+    ghost use Rattle.workload_runs.specs.Wants.{op_of_look};
 
-    ghost op_of = { λ a last. op_of a.wanted last };
+    ghost op_of = { λ a last. op_of_look a.wanted last };
 
     ghost waits = { Pending };
 
@@ -52,8 +52,8 @@ pub fn look<R: Wait>(
     timeout: Timeout,
 ) -> Result<Reply, Spent>
     requires cell { seat.old.cell ≡ cell.now.id }
-    ensures answered { IfOk result (λ r. Looked wanted (looks_of timeout) seat.old seat.new r) }
-    ensures spent { OnErr result (StillLooking wanted (looks_of timeout) seat.old seat.new) }
+    ensures answered { IfOk result (λ r. NodeLooked wanted (looks_of timeout) seat.old seat.new r) }
+    ensures spent { OnErr result (NodeStillLooking wanted (looks_of timeout) seat.old seat.new) }
 {
     turn_looks::look(rt, cell, seat, &Awaited { wanted }, timeout)
 }

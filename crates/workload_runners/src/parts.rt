@@ -1,7 +1,7 @@
 //! A part of a workload, carried out by the holder of a caller's seat.
 
 ghost use Rattle.std.specs.Prelude.{◌≡◌, true, false, [], None, Some, IfOk};
-ghost use Rattle.workload_runners.specs.Turns.{SameSeat, AddsOwn};
+ghost use Rattle.workload_runners.specs.Turns.{SameNodeSeat, AddsOwn};
 ghost use Rattle.workload_runners.specs.Carries.{OpensAs, MainAs, CallerAs, is_ok};
 ghost use Rattle.workload_runners.specs.Parts.{CameBack, IsClosed};
 
@@ -44,7 +44,7 @@ fn initialize<R: Wait>(
 ) -> Result<(), Spent>
     requires cell { seat.old.cell ≡ cell.now.id }
     ensures opened { IfOk result (λ _. AddsOwn (OpensAs begins) seat.old seat.new) }
-    ensures same { SameSeat seat.old seat.new }
+    ensures same { SameNodeSeat seat.old seat.new }
 {
     match turn(rt, cell, seat, Op::Initialize) {
         Ok(_) => {

@@ -1,6 +1,6 @@
 //! The run of a workload: its parts are the clients of a node's callers.
 ghost use Rattle.std.specs.Prelude.{◌≡◌, ◌+◌, ℕ, false, Err, Option, [], None, All, map, length, IfOk, IfErr, vec_len};
-ghost use Rattle.node_core.specs.Stands.{Stands, terms_of};
+ghost use Rattle.node_core.specs.Stands.{NodeStands, terms_of_node};
 ghost use Rattle.node_journals.specs.declared.entries.Journal.{Journal};
 ghost use Rattle.run_beside.specs.Pairs.{Counts};
 ghost use Rattle.workload_runners.specs.RunJournals.{terms_for, IsRun};
@@ -137,8 +137,8 @@ pub fn run_node<S: ActionSource, B: Beside, R: StartsThreads + Wait + Sync>(
     acts: &mut S,
     beside: &mut B,
 ) -> Result<RunJournal, RunError>
-    requires new { Stands node [] }
-    requires terms { terms_of node ≡ terms_for load.now }
+    requires new { NodeStands node [] }
+    requires terms { terms_of_node node ≡ terms_for load.now }
     ensures run { IfOk result (IsRun load.now) }
     ensures causes { IfErr result (Causes (B.refusals beside.old) (B.refusals beside.new)) }
     ensures counts { Counts (is_refused result) (B.refusals beside.old) (B.refusals beside.new) }

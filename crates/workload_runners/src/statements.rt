@@ -3,9 +3,9 @@
 ghost use Rattle.std.specs.Prelude.{◌≡◌, Bool, true, IfOk, OnErr};
 ghost use Rattle.mtapi_machine.specs.Row.{handle_of};
 ghost use Rattle.workload_runs.specs.Calls.{Once, Looking, call_of};
-ghost use Rattle.workload_runners.specs.Turns.{SameSeat, AddsOwn};
+ghost use Rattle.workload_runners.specs.Turns.{SameNodeSeat, AddsOwn};
 ghost use Rattle.workload_runners.specs.Rounds.{Stranded};
-ghost use Rattle.workload_runs.specs.Wants.{op_of, waits};
+ghost use Rattle.workload_runs.specs.Wants.{op_of_look, waits};
 ghost use Rattle.workload_runners.specs.Carries.{StatedAs, CarriedAs};
 
 use crate::looks::look;
@@ -150,7 +150,7 @@ fn looking<R: Wait>(
     timeout: Timeout,
 ) -> Result<u64, Spent>
     requires cell { seat.old.cell ≡ cell.now.id }
-    ensures stated { IfOk result (λ h. AddsOwn (StatedAs (Looking (waits wanted) (op_of wanted) timeout) h) seat.old seat.new) }
+    ensures stated { IfOk result (λ h. AddsOwn (StatedAs (Looking (waits wanted) (op_of_look wanted) timeout) h) seat.old seat.new) }
     ensures spent { OnErr result (Stranded seat.old seat.new) }
 {
     match look(rt, cell, seat, wanted, timeout) {
@@ -187,7 +187,7 @@ pub(crate) fn carry_out<R: Wait>(
 ) -> Result<(), Stop>
     requires cell { seat.old.cell ≡ cell.now.id }
     ensures carried { IfOk result (λ _. AddsOwn (CarriedAs bound.old.items statements.now) seat.old seat.new) }
-    ensures same { SameSeat seat.old seat.new }
+    ensures same { SameNodeSeat seat.old seat.new }
 {
     for statement in statements {
         match state(rt, cell, seat, &statement.deed, bound) {

@@ -3,11 +3,11 @@
 ghost use Rattle.std.specs.Prelude.{◌≡◌, ◌<◌, Bool, Some, true, false, not, IfOk, OnErr};
 ghost use Rattle.mtapi_values.specs.declared.kinds.Kind.TheVariants.{Watch, Tally};
 ghost use Rattle.mtapi_values.specs.declared.ends.TaskEnd.{TaskEnd};
-ghost use Rattle.mtapi_objects.specs.Tasks.{looks_of};
+ghost use Rattle.mtapi_objects.specs.Tasks.{watch_looks};
 ghost use Rattle.mtapi_machine.specs.declared.replies.Reply.TheVariants as said;
 ghost use Rattle.workload_runners.specs.Turns.{AddsOwn};
 ghost use Rattle.workload_runners.specs.Rounds.{AtRest, AtWork, Stranded, Rounded, WorkerAs};
-ghost use Rattle.workload_runners.specs.Steps.{work_of, watching, PickEnds, Finishes, Asked, LookedOut, MayEnd, Ends, Watches, Acts, ServesTo};
+ghost use Rattle.workload_runners.specs.Steps.{work_of, watch_work, PickEnds, Finishes, Asked, LookedOut, MayEnd, WorkerEnds, Watches, Acts, ServesTo};
 
 use crate::tallies::tally;
 use action_fn::{ActionSet, Finished};
@@ -20,7 +20,7 @@ use turn_looks::{Pause, ServeEnd, turn};
 
 // How often a watch with these arguments looks.
 fn looks_of(args: &Args) -> Option<u32>
-    ensures { result ≡ looks_of args.now }
+    ensures { result ≡ watch_looks args.now }
 {
     match args.as_slice() {
         [most] if *most >= 0 && *most <= 64 => Some(*most as u32),
@@ -86,9 +86,9 @@ fn ask<R: Wait>(
     most: u32,
 ) -> Result<bool, Spent>
     requires cell { seat.old.cell ≡ cell.now.id }
-    requires looks { looks_of args.now ≡ Some most }
+    requires looks { watch_looks args.now ≡ Some most }
     requires more { looks < most }
-    requires work { AtWork seat.old task.0 (watching args.now looks false) }
+    requires work { AtWork seat.old task.0 (watch_work args.now looks false) }
     ensures asked { IfOk result (λ b. Asked seat.old task args.now looks b seat.new) }
     ensures spent { OnErr result (Stranded seat.old seat.new) }
 {
@@ -109,7 +109,7 @@ fn look_out<R: Wait>(
     most: u32,
 ) -> Result<(), Spent>
     requires cell { seat.old.cell ≡ cell.now.id }
-    requires looks { looks_of args.now ≡ Some most }
+    requires looks { watch_looks args.now ≡ Some most }
     requires work { AtWork seat.old task.0 (work_of Watch args.now) }
     ensures looked { IfOk result (λ _. LookedOut seat.old task args.now most seat.new) }
     ensures spent { OnErr result (Stranded seat.old seat.new) }
@@ -137,7 +137,7 @@ fn end_watch<R: Wait>(
 ) -> Result<(), Spent>
     requires cell { seat.old.cell ≡ cell.now.id }
     requires may { MayEnd seat.old task args.now }
-    ensures ended { IfOk result (λ _. Ends seat.old task seat.new) }
+    ensures ended { IfOk result (λ _. WorkerEnds seat.old task seat.new) }
     ensures spent { OnErr result (Stranded seat.old seat.new) }
 {
     let _ = args;

@@ -1,5 +1,5 @@
 -- From a run in a whole history to the run in its journal.
-use Rattle.workload_runs.proofs.Names.{◌≡◌, ℕ, suc, ◌+◌, ◌≤◌, Bool, true, false, cond, List, [], ◌∷◌, ◌++◌, length, Some, None, refl, sym, ◌∙◌, ap, subst, arith, append_assoc, ◌==◌, ◌&&◌, Statement, Op, Reply, Terms, State, opening, NodeEntry, next, is_dropped, is_pending, no_counts, Call, Once, Looking, call_of, Line, line, KeepsTimeout, is_timeout, Made, head_of, tail_of_main, Entered, in_lines, MainRan, CallerRan, PartsRan, is_work, WorkerRan, ClosesAtEnd, RunOf, Turn, stayed}
+use Rattle.workload_runs.proofs.Names.{◌≡◌, ℕ, suc, ◌+◌, ◌≤◌, Bool, true, false, cond, List, [], ◌∷◌, ◌++◌, length, Some, None, refl, sym, ◌∙◌, ap, subst, arith, append_assoc, ◌==◌, ◌&&◌, Statement, Op, Reply, Terms, State, opening, NodeEntry, next, is_dropped, is_pending, no_counts, Call, Once, Looking, call_of, Line, line_with, KeepsTimeout, is_timeout, MadeLines, head_lines, tail_of_main, Entered, in_lines, MainRan, CallerRan, PartsRan, is_work, WorkerRan, ClosesAtEnd, RunOf, Turn, stayed}
 use Rattle.history.specs.Histories.{entry, entries_of}
 use Rattle.mtapi_values.specs.declared.timeouts.Timeout.{Timeout}
 use Rattle.mtapi_values.specs.Timeouts.{looks_of}
@@ -32,7 +32,7 @@ left ts rest = ts ≡ rest
 
 -- the lines of one call, in front of what follows
 abbrev Leaves : Call → Reply → List Turn → List Turn → Type 0
-Leaves c r ts rest = Told left (lines_left 0) (ts ++ rest) rest (λ (ls : List Line). Made c ls r)
+Leaves c r ts rest = Told left (lines_left 0) (ts ++ rest) rest (λ (ls : List Line). MadeLines c ls r)
 
 -- the facts of a call's looks, at each list of marks
 looks_leave : (waits : Bool) (o : Bool → Op) (timeout : Timeout) (r : Reply) (last : Bool) (marks : List Bool) (rest : List Turn) → first_alone marks ≡ true
@@ -41,19 +41,19 @@ looks_leave : (waits : Bool) (o : Bool → Op) (timeout : Timeout) (r : Reply) (
     → Leaves (Looking waits o timeout) r (pended (o false) marks ++ stayed (o last) r ∷ []) rest
 unfolding none_of lines_left
 looks_leave waits o timeout r last [] rest one none decides within late = record {
-  front = line (o last) r 0 ∷ [];
+  front = line_with (o last) r 0 ∷ [];
   behind = rest;
   left_is = refl;
   is = refl;
   shows = record { first = None; beside = 0; last = last; is = refl; none_kept = λ e. refl; decides = decides; within = within; late = late };
 }
 looks_leave waits o timeout r last (true ∷ ms) rest one none decides within late = record {
-  front = line (o false) reply.Pending 0 ∷ line (o last) r (length ms) ∷ [];
+  front = line_with (o false) reply.Pending 0 ∷ line_with (o last) r (length ms) ∷ [];
   behind = rest;
   left_is = refl;
-  is = ap (λ (l : List Turn). line (o false) reply.Pending 0 ∷ lines_left 0 l) (append_assoc (pended (o false) ms) (stayed (o last) r ∷ []) rest)
-      ∙ ap (λ (l : List Line). line (o false) reply.Pending 0 ∷ l) (pended_left (o false) ms 0 (stayed (o last) r ∷ rest) one)
-      ∙ ap (λ k. line (o false) reply.Pending 0 ∷ line (o last) r k ∷ lines_left 0 rest) (omega arith);
+  is = ap (λ (l : List Turn). line_with (o false) reply.Pending 0 ∷ lines_left 0 l) (append_assoc (pended (o false) ms) (stayed (o last) r ∷ []) rest)
+      ∙ ap (λ (l : List Line). line_with (o false) reply.Pending 0 ∷ l) (pended_left (o false) ms 0 (stayed (o last) r ∷ rest) one)
+      ∙ ap (λ k. line_with (o false) reply.Pending 0 ∷ line_with (o last) r k ∷ lines_left 0 rest) (omega arith);
   shows = record {
     first = Some 0;
     beside = length ms;
@@ -66,7 +66,7 @@ looks_leave waits o timeout r last (true ∷ ms) rest one none decides within la
   };
 }
 looks_leave waits o timeout r last (false ∷ ms) rest one none decides within late = record {
-  front = line (o last) r (1 + length ms) ∷ [];
+  front = line_with (o last) r (1 + length ms) ∷ [];
   behind = rest;
   left_is = refl;
   is = ap (λ (l : List Turn). lines_left 1 l) (append_assoc (pended (o false) ms) (stayed (o last) r ∷ []) rest)
@@ -86,7 +86,7 @@ looks_leave waits o timeout r last (false ∷ ms) rest one none decides within l
 made_leaves : (c : Call) (ts rest : List Turn) (r : Reply) → MadeBy c ts r → Leaves c r ts rest
 unfolding lines_left
 made_leaves (Once o) ts rest r m = record {
-  front = line o r 0 ∷ [];
+  front = line_with o r 0 ∷ [];
   behind = rest;
   left_is = refl;
   is = ap (λ (x : List Turn). lines_left 0 (x ++ rest)) m.0;
@@ -98,7 +98,7 @@ made_leaves (Looking waits o timeout) ts rest r m =
 
 -- the lines of each piece of a run
 
-head_left : (b : Bool) (rest : List Turn) → lines_left 0 (head_turns b ++ rest) ≡ head_of b ++ lines_left 0 rest
+head_left : (b : Bool) (rest : List Turn) → lines_left 0 (head_turns b ++ rest) ≡ head_lines b ++ lines_left 0 rest
 unfolding lines_left
 head_left true rest = refl
 head_left false rest = refl
@@ -108,7 +108,7 @@ unfolding lines_left
 entered_left ts rest m =
     let n = 0 + length m.marks in
     record {
-      front = line op.Enter reply.Ok n ∷ [];
+      front = line_with op.Enter reply.Ok n ∷ [];
       behind = rest;
       is = ap (λ (l : List Turn). lines_left 0 l) (ap (λ (l : List Turn). l ++ rest) m.is
           ∙ append_assoc (pended op.Enter m.marks) (stayed op.Enter reply.Ok ∷ []) rest)
@@ -127,9 +127,9 @@ none_left = refl
 
 turns_tell : Tells left (lines_left 0) in_turns in_lines
 turns_tell = record {
-  made = λ bound d ts r m k rest l. subst (λ (u : List Turn). Told left (lines_left 0) u rest (λ (ls : List Line). Made (call_of bound d) ls r)) (sym l)
+  made = λ bound d ts r m k rest l. subst (λ (u : List Turn). Told left (lines_left 0) u rest (λ (ls : List Line). MadeLines (call_of bound d) ls r)) (sym l)
       (made_leaves (call_of bound d) ts rest r m);
-  head = λ b k rest l. record { front = head_of b; behind = rest; is = ap (lines_left 0) l ∙ head_left b rest; shows = refl; left_is = refl };
+  head = λ b k rest l. record { front = head_lines b; behind = rest; is = ap (lines_left 0) l ∙ head_left b rest; shows = refl; left_is = refl };
   tail = λ k l. ap (lines_left 0) l ∙ tail_left;
   entered = λ ts m k rest l. subst (λ (u : List Turn). Told left (lines_left 0) u rest Entered) (sym l) (entered_left ts rest m);
   none = λ k l. ap (lines_left 0) l ∙ none_left;
@@ -184,11 +184,11 @@ worker_left (t ∷ ts) n e = at t.stays (worker_left ts 0 (snd_true (cond t.stay
   where
     at : (b : Bool) → WorkerRan (lines_left 0 (ts ++ stop_turn)) → WorkerRan (lines_left (cond (is_pending t.reply) (n + 1) n) (ts ++ stop_turn))
         → cond b (is_work t.op t.reply) true ≡ true
-        → WorkerRan (cond b (line t.op t.reply n ∷ lines_left 0 (ts ++ stop_turn)) (lines_left (cond (is_pending t.reply) (n + 1) n) (ts ++ stop_turn)))
+        → WorkerRan (cond b (line_with t.op t.reply n ∷ lines_left 0 (ts ++ stop_turn)) (lines_left (cond (is_pending t.reply) (n + 1) n) (ts ++ stop_turn)))
     at true x y w = record {
-      work = line t.op t.reply n ∷ x.work;
+      work = line_with t.op t.reply n ∷ x.work;
       beside = x.beside;
-      is = ap (λ (l : List Line). line t.op t.reply n ∷ l) x.is;
+      is = ap (λ (l : List Line). line_with t.op t.reply n ∷ l) x.is;
       works = both_true (is_work t.op t.reply) (all_work x.work) w x.works;
     }
     at false x y w = y

@@ -1,5 +1,5 @@
 -- What a journal shows of one seat's turns.
-use Rattle.workload_runs.proofs.Names.{◌≡◌, ℕ, zero, suc, ◌+◌, ◌<◌, Bool, true, false, not, cond, List, [], ◌∷◌, length, get_or, set, refl, sym, ◌∙◌, ap, subst, arith, ◌==◌, replicate, Terms, State, opening, NodeEntry, next, is_dropped, is_pending, counted, counts_next, no_counts, line, Turn}
+use Rattle.workload_runs.proofs.Names.{◌≡◌, ℕ, zero, suc, ◌+◌, ◌<◌, Bool, true, false, not, cond, List, [], ◌∷◌, length, get_or, set, refl, sym, ◌∙◌, ap, subst, arith, ◌==◌, replicate, Terms, State, opening, NodeEntry, next, is_dropped, is_pending, counted, counts_next, no_counts, line_with, Turn}
 use Rattle.std.proofs.Common.{◌≢◌}
 use Rattle.std.proofs.Math.ListN.{length-set}
 use Rattle.std.proofs.lemmas.Bool.Decides.{nat_tests}
@@ -37,10 +37,10 @@ one_more who e counts true false false T K S room is pend more = more
 one_more who e counts false p true T K S room is pend more =
     let here = same_seat e.who who is in
     let rest = more ∙ ap (λ n. lines_left n T) (ap (λ x. get_or (set counts x 0) who 0) here ∙ get_or-set_same counts who 0 0 room) in
-    (λ i. cond (is i) (line e.op e.reply (get_or counts e.who 0) ∷ lines_of who K S) (lines_of who K S))
-    ∙ (λ i. line e.op e.reply (get_or counts (here i) 0) ∷ rest i)
+    (λ i. cond (is i) (line_with e.op e.reply (get_or counts e.who 0) ∷ lines_of who K S) (lines_of who K S))
+    ∙ (λ i. line_with e.op e.reply (get_or counts (here i) 0) ∷ rest i)
 one_more who e counts false p false T K S room is pend more =
-    (λ i. cond (is i) (line e.op e.reply (get_or counts e.who 0) ∷ lines_of who K S) (lines_of who K S)) ∙ more
+    (λ i. cond (is i) (line_with e.op e.reply (get_or counts e.who 0) ∷ lines_of who K S) (lines_of who K S)) ∙ more
     ∙ ap (λ n. lines_left n T) (get_or-set_other counts e.who who 0 0 (other_seat e.who who is))
 
 -- the lines of a seat, from any state and any numbers on

@@ -11,7 +11,7 @@ pub use Rattle.std.specs.Prelude.{replicate, ◌&&◌, ◌==◌}
 pub use Rattle.workload_file.specs.declared.workload.Deed.{Deed}
 pub use Rattle.workload_file.specs.declared.workload.Statement.{Statement}
 pub use Rattle.workload_runs.specs.Calls.{Call, IsOnce, Looking, Once, call_of, handle_at}
-pub use Rattle.workload_runs.specs.Lines.{Entered, KeepsTimeout, Line, Made, head_of, in_lines, is_timeout, line, tail_of_main}
+pub use Rattle.workload_runs.specs.Lines.{Entered, KeepsTimeout, Line, MadeLines, head_lines, in_lines, is_timeout, line_with, tail_of_main}
 pub use Rattle.workload_runs.specs.Parts.{CallerRan, Form, MainRan, PartsRan, has_begin}
 pub use Rattle.workload_runs.specs.RunOf.{ClosesAtEnd, RunOf, WorkerRan, is_work}
 pub use Rattle.workload_runs.specs.Turns.{Turn, stayed, turn_of}

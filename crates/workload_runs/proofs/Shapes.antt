@@ -3,11 +3,11 @@ use Rattle.workload_runs.proofs.Names.{◌≡◌, ℕ, List, refl, Deed, Call, O
 use Rattle.workload_file.specs.declared.workload.Deed.TheVariants as deed
 use Rattle.workload_runs.specs.declared.calls.Wanted.{Wanted}
 use Rattle.workload_runs.specs.declared.calls.Wanted.TheVariants as wanted
-use Rattle.workload_runs.specs.Wants.{op_of, waits, IsTimed}
+use Rattle.workload_runs.specs.Wants.{op_of_look, waits, IsTimed}
 
 abbrev pub Shaped : Call → Type 0
 Shaped (Once o) = IsOnce o
-Shaped (Looking stands o timeout) = (w : Wanted) × (stands ≡ waits w) × (o ≡ op_of w) × IsTimed w
+Shaped (Looking stands o timeout) = (w : Wanted) × (stands ≡ waits w) × (o ≡ op_of_look w) × IsTimed w
 
 pub shaped : (bound : List ℕ) (d : Deed) → Shaped (call_of bound d)
 shaped bound (deed.Wait place timeout) = (wanted.Task (record { 0 = handle_at bound place }), refl, refl, tt)

@@ -7,7 +7,7 @@ use Rattle.mtapi_machine.specs.declared.ops.Op.TheVariants as op
 use Rattle.mtapi_machine.specs.declared.replies.Reply.{Reply}
 use Rattle.mtapi_machine.specs.declared.replies.Reply.TheVariants as reply
 use Rattle.mtapi_machine.specs.Legal.{NodeEntry}
-use Rattle.workload_runs.specs.Lines.{Line, line, lines_of, in_lines}
+use Rattle.workload_runs.specs.Lines.{Line, line_with, lines_of, in_lines}
 use Rattle.workload_runs.specs.Parts.{PartsRan}
 
 -- what a worker does before it stops: it takes tasks and ends them, and no reply is a status
@@ -32,7 +32,7 @@ all_work (l ∷ ls) = is_work l.op l.reply && all_work ls
 pub record WorkerRan (lines : List Line) : Type 0 where
   pub work : List Line
   pub beside : ℕ
-  pub is : lines ≡ work ++ line op.Pick reply.Stop beside ∷ []
+  pub is : lines ≡ work ++ line_with op.Pick reply.Stop beside ∷ []
   pub works : all_work work ≡ true
 
 -- main closes once, and no further caller has an entry behind that; the last entry is main's `final`

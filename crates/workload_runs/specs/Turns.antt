@@ -5,7 +5,7 @@ use Rattle.mtapi_machine.specs.declared.replies.Reply.{Reply}
 use Rattle.mtapi_machine.specs.State.{State}
 use Rattle.mtapi_machine.specs.Legal.{NodeEntry, next}
 use Rattle.mtapi_machine.specs.Kept.{is_dropped, is_pending}
-use Rattle.workload_runs.specs.Lines.{Line, line}
+use Rattle.workload_runs.specs.Lines.{Line, line_with}
 
 -- what a seat asked, the reply, and whether a journal keeps the entry
 pub record Turn : Type 0 where
@@ -28,4 +28,4 @@ turns_of who s (e ∷ es) = if e.who == who then turn_of s e ∷ turns_of who (n
 -- the lines that are left of them, where so many Pending ones were left out before
 unfoldable pub lines_left : ℕ → List Turn → List Line
 lines_left n [] = []
-lines_left n (t ∷ ts) = if t.stays then line t.op t.reply n ∷ lines_left 0 ts else lines_left (if is_pending t.reply then n + 1 else n) ts
+lines_left n (t ∷ ts) = if t.stays then line_with t.op t.reply n ∷ lines_left 0 ts else lines_left (if is_pending t.reply then n + 1 else n) ts

@@ -9,14 +9,14 @@ use Rattle.workload_runs.specs.declared.calls.Call.TheVariants as call
 use Rattle.workload_runs.specs.Calls.{Call, Once, Looking, IsOnce}
 
 -- the op of a look, the last one or not
-abbrev pub op_of : Wanted → Bool → Op
-op_of (Task t) last = TaskLook t last
-op_of Entrance last = Enter
-op_of (AllMembers g) last = AllLook g last
-op_of (FirstMember g) last = AnyLook g last
-op_of (Mutex x) last = MutexLook x last
-op_of (Sem x) last = SemLook x last
-op_of (Rwl x writer) last = RwlLook x writer last
+abbrev pub op_of_look : Wanted → Bool → Op
+op_of_look (Task t) last = TaskLook t last
+op_of_look Entrance last = Enter
+op_of_look (AllMembers g) last = AllLook g last
+op_of_look (FirstMember g) last = AnyLook g last
+op_of_look (Mutex x) last = MutexLook x last
+op_of_look (Sem x) last = SemLook x last
+op_of_look (Rwl x writer) last = RwlLook x writer last
 
 -- the wants but the entrance, which has no last look
 abbrev pub IsTimed : Wanted → Type 0
@@ -31,7 +31,7 @@ waits _ = false
 -- a call, as the calls of statements are written
 abbrev pub shape : StatementCall → Call
 shape (call.Once o) = Once o
-shape (call.Looking w timeout) = Looking (waits w) (op_of w) timeout
+shape (call.Looking w timeout) = Looking (waits w) (op_of_look w) timeout
 
 -- a call that a statement makes: an op with one entry, or looks that may be the last
 abbrev pub Stated : StatementCall → Type 0

@@ -33,7 +33,7 @@ pended o marks = map (λ b. record { op = o; reply = reply.Pending; stays = b })
 
 -- the turns of a call that looks: some answered Pending, of which a journal keeps at most the first, and only where the caller stands
 -- as waiter; and then the one that decides
-pub record Looks (waits : Bool) (o : Bool → Op) (timeout : Timeout) (ts : List Turn) (r : Reply) : Type 0 where
+pub record LookTurns (waits : Bool) (o : Bool → Op) (timeout : Timeout) (ts : List Turn) (r : Reply) : Type 0 where
   pub marks : List Bool
   pub last : Bool
   pub is : ts ≡ pended (o false) marks ++ stayed (o last) r ∷ []
@@ -46,7 +46,7 @@ pub record Looks (waits : Bool) (o : Bool → Op) (timeout : Timeout) (ts : List
 -- the turns of one call, and the reply that it comes to
 abbrev pub MadeBy : Call → List Turn → Reply → Type 0
 MadeBy (Once o) ts r = (ts ≡ stayed o r ∷ []) × (is_pending r ≡ false)
-MadeBy (Looking waits o timeout) ts r = Looks waits o timeout ts r
+MadeBy (Looking waits o timeout) ts r = LookTurns waits o timeout ts r
 
 -- main initializes, and releases at once where no statement does
 abbrev pub head_turns : Bool → List Turn

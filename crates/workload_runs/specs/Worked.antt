@@ -14,7 +14,7 @@ use Rattle.mtapi_values.specs.declared.statuses.MrapiStatus.TheVariants as mrapi
 use Rattle.history.specs.Histories.{entry}
 use Rattle.mtapi_machine.specs.declared.replies.Reply.TheVariants as reply
 use Rattle.workload_runs.specs.Calls.{Call, Once, Looking, call_of}
-use Rattle.workload_runs.specs.Lines.{line, lines_of, before_it, looks_before, is_timeout, head_of, tail_of_main}
+use Rattle.workload_runs.specs.Lines.{line_with, lines_of, before_it, looks_before, is_timeout, head_lines, tail_of_main}
 use Rattle.workload_runs.specs.RunOf.{is_work, all_work}
 
 -- the handles that seven statements bound, of which the third was refused
@@ -24,8 +24,8 @@ bound = 900 ∷ 911 ∷ 0 ∷ 933 ∷ 944 ∷ 955 ∷ 966 ∷ []
 abbrev pub cores : ℕ → Mask
 cores mask = record { 0 = mask }
 
-abbrev pub group : ℕ → GroupHandle
-group handle = record { 0 = handle }
+abbrev pub worked_group : ℕ → GroupHandle
+worked_group handle = record { 0 = handle }
 
 -- behind these statements, a statement makes this call
 abbrev pub Makes : Deed → Call → Type 0
@@ -39,10 +39,10 @@ pub record WorkedTaskCalls : Type 0 where
   pub action_enable : Makes (deed.ActionEnable 3) (Once (op.ActionEnable (record { 0 = 933 })))
   pub action_disable : Makes (deed.ActionDisable 4) (Once (op.ActionDisable (record { 0 = 944 })))
   pub start : Makes (deed.Start 22 (pos 31 ∷ negsuc 31 ∷ []) 3 (cores 5) false (Some 6))
-      (Once (op.TaskStart 22 (pos 31 ∷ negsuc 31 ∷ []) 3 (cores 5) false (Some (group 966))))
+      (Once (op.TaskStart 22 (pos 31 ∷ negsuc 31 ∷ []) 3 (cores 5) false (Some (worked_group 966))))
   pub start_detached : Makes (deed.Start 23 [] 4 (cores 9) true None) (Once (op.TaskStart 23 [] 4 (cores 9) true None))
   pub enqueue : Makes (deed.Enqueue 5 (pos 33 ∷ []) (cores 10) false (Some 4))
-      (Once (op.TaskEnqueue (record { 0 = 955 }) (pos 33 ∷ []) (cores 10) false (Some (group 944))))
+      (Once (op.TaskEnqueue (record { 0 = 955 }) (pos 33 ∷ []) (cores 10) false (Some (worked_group 944))))
   pub enqueue_detached : Makes (deed.Enqueue 3 (pos 34 ∷ pos 35 ∷ []) (cores 12) true None)
       (Once (op.TaskEnqueue (record { 0 = 933 }) (pos 34 ∷ pos 35 ∷ []) (cores 12) true None))
   pub wait : Makes (deed.Wait 1 (timeout.Looks 41)) (Looking true (λ last. op.TaskLook (record { 0 = 911 }) last) (timeout.Looks 41))
@@ -96,9 +96,9 @@ pub record WorkedSegmentCalls : Type 0 where
 -- the lines of a seat, in order, with their numbers; the looks of a call; and what main makes before its statements and behind them
 pub record WorkedSeats : Type 0 where
   pub lines : lines_of 3 (entry 3 op.Enter reply.Ok ∷ entry 4 op.Enter reply.Pending ∷ entry 2 op.Pick reply.Idle ∷ entry 3 (op.QueueGet 9) (reply.Handle 911)
-      ∷ []) (21 ∷ 22 ∷ 23 ∷ 24 ∷ []) ≡ line op.Enter reply.Ok 21 ∷ line (op.QueueGet 9) (reply.Handle 911) 24 ∷ []
+      ∷ []) (21 ∷ 22 ∷ 23 ∷ 24 ∷ []) ≡ line_with op.Enter reply.Ok 21 ∷ line_with (op.QueueGet 9) (reply.Handle 911) 24 ∷ []
   pub none_kept : before_it (op.QueueGet 9) None ≡ []
-  pub one_kept : before_it (op.QueueGet 9) (Some 5) ≡ line (op.QueueGet 9) reply.Pending 5 ∷ []
+  pub one_kept : before_it (op.QueueGet 9) (Some 5) ≡ line_with (op.QueueGet 9) reply.Pending 5 ∷ []
   pub no_look_before : looks_before None ≡ 0
   pub looks_before_it : looks_before (Some 5) ≡ 6
   pub one_look : looks_of timeout.NoWait ≡ Some 1
@@ -108,12 +108,12 @@ pub record WorkedSeats : Type 0 where
   pub mrapi_timeout : is_timeout (reply.Mrapi mrapi.Timeout) ≡ true
   pub no_timeout : is_timeout (reply.Mtapi mtapi.GroupCompleted) ≡ false
   pub no_lock_timeout : is_timeout (reply.Mrapi mrapi.ErrSpent) ≡ false
-  pub head_with_begin : head_of true ≡ line op.Initialize reply.Ok 0 ∷ []
-  pub head_without_begin : head_of false ≡ line op.Initialize reply.Ok 0 ∷ line op.Release reply.Ok 0 ∷ []
-  pub tail : tail_of_main ≡ line op.Close reply.Ok 0 ∷ line op.Final reply.Ok 0 ∷ []
+  pub head_with_begin : head_lines true ≡ line_with op.Initialize reply.Ok 0 ∷ []
+  pub head_without_begin : head_lines false ≡ line_with op.Initialize reply.Ok 0 ∷ line_with op.Release reply.Ok 0 ∷ []
+  pub tail : tail_of_main ≡ line_with op.Close reply.Ok 0 ∷ line_with op.Final reply.Ok 0 ∷ []
 
 -- no status is work, nor is another answer than the op's own, nor an op of a caller
-pub record WorkedWork : Type 0 where
+pub record WorkedWorkReplies : Type 0 where
   pub picked : is_work op.Pick (reply.Picked (record { 0 = 1 }) (record { 0 = 2 }) kind.Add []) ≡ true
   pub idle : is_work op.Pick reply.Idle ≡ true
   pub stop : is_work op.Pick reply.Stop ≡ false
@@ -130,8 +130,8 @@ pub record WorkedWork : Type 0 where
   pub look : is_work (op.TaskLook (record { 0 = 1 }) true) (reply.Ended Cancelled) ≡ false
   pub creates : is_work op.GroupCreate (reply.Handle 1) ≡ false
   pub closes : is_work op.Close reply.Ok ≡ false
-  pub all : all_work (line op.Pick reply.Idle 1 ∷ line (op.TallyLock (record { 0 = 1 })) reply.Pending 2 ∷ []) ≡ true
-  pub not_the_last : all_work (line op.Pick reply.Idle 1 ∷ line op.Pick reply.Stop 2 ∷ []) ≡ false
+  pub all : all_work (line_with op.Pick reply.Idle 1 ∷ line_with (op.TallyLock (record { 0 = 1 })) reply.Pending 2 ∷ []) ≡ true
+  pub not_the_last : all_work (line_with op.Pick reply.Idle 1 ∷ line_with op.Pick reply.Stop 2 ∷ []) ≡ false
 
 -- the calls of all kinds of statements, and what seats make
 pub record WorkedCalls : Type 0 where
@@ -140,4 +140,4 @@ pub record WorkedCalls : Type 0 where
   pub locks : WorkedLockCalls
   pub segments : WorkedSegmentCalls
   pub seats : WorkedSeats
-  pub work : WorkedWork
+  pub work : WorkedWorkReplies

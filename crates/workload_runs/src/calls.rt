@@ -2,7 +2,7 @@
 
 ghost use Rattle.std.specs.Prelude.{◌≡◌, option_map};
 ghost use Rattle.workload_runs.specs.Calls.{call_of, handle_at, group_at};
-ghost use Rattle.workload_runs.specs.Wants.{op_of, waits, shape, Stated};
+ghost use Rattle.workload_runs.specs.Wants.{op_of_look, waits, shape, Stated};
 
 use mtapi_machine::Op;
 use mtapi_values::{
@@ -33,7 +33,7 @@ pub enum Wanted {
 impl Wanted {
     /// The op of one look, the last one or not.
     pub fn op(self, last: bool) -> Op
-        ensures { result ≡ op_of self last }
+        ensures { result ≡ op_of_look self last }
     {
         match self {
             Wanted::Task(task) => Op::TaskLook { task, last },

@@ -1,5 +1,5 @@
 -- Semaphores are held within their limits.
-use Rattle.history_law.proofs.Names.{◌≡◌, ℕ, zero, suc, ◌+◌, ◌<◌, ◌≤◌, Bool, true, false, List, [], ◌∷◌, Option, Some, None, refl, subst, arith, ◌==◌, ◌-◌, ◌&&◌, nat_lt, length, slice_index, slice_set, nat_tests, length-set, Terms, Op, Reply, Handle, live_object, listed, Sem, new_sem, total, sem_busy, sem_taken, sem_given, State, NodeEntry, Legal, some_same, entries_that, says_ok, looks_at_sem, unlocks_sem, gets_sem, gives_sem, by_seat, SemsKeepTo, limit_of, Legal-prefix, Answers, Move, after_moves}
+use Rattle.history_law.proofs.Names.{◌≡◌, ℕ, zero, suc, ◌+◌, ◌<◌, ◌≤◌, Bool, true, false, List, [], ◌∷◌, Option, Some, None, refl, subst, arith, ◌==◌, ◌-◌, ◌&&◌, nat_lt, length, slice_index, slice_set, nat_tests, length-set, Terms, Op, Reply, Handle, live_object, listed, Sem, new_sem, total, sem_busy, sem_taken, sem_given, State, NodeEntry, Legal, some_same, entries_that, says_ok, looks_at_sem, unlocks_sem, gets_sem, gives_sem, by_seat, SemsKeepTo, limit_in_op, Legal-prefix, Answers, Move, after_moves}
 use Rattle.mtapi_values.specs.declared.handles.ObjectKind.TheVariants as kind
 use Rattle.mtapi_machine.specs.declared.ops.Op.TheVariants as op
 use Rattle.history_law.specs.Words.{makes_object}
@@ -80,14 +80,15 @@ sem_misses : (h : ℕ) (s : State) (who : ℕ) (o : Op) (r : Reply) (ms : List M
     → ((looks_at_sem h o && says_ok r) ≡ false) × ((unlocks_sem h o && says_ok r) ≡ false)
 sem_misses h s who o r ms e1 e2 = grind (arith, nat_tests)
 
-make_sem : (top h : ℕ) (s : State) (who : ℕ) (o : Op) (ms : List Move) → makes_object kind.Sem o ≡ true → Answers s who o (Handle h) ms → limit_of o ≡ Some top
+make_sem : (top h : ℕ) (s : State) (who : ℕ) (o : Op) (ms : List Move) → makes_object kind.Sem o ≡ true → Answers s who o (Handle h) ms
+    → limit_in_op o ≡ Some top
     → New (sem_lock top) h (after_moves ms s).sems
 make_sem top h s who _ _ e (is.creates_sem id limit j n f) i =
     new_lock (sem_lock top) h (new_sem id limit) s.sems (fresh_unlisted kind.Sem s h f) (record { limit = some_same i; size = refl; most = omega arith })
     (λ m. refl) (λ m w. read_replicate 25 w 0)
 make_sem top h s who _ _ e _ i = true_false e refl
 
-sem_limited : (o : Op) → makes_object kind.Sem o ≡ true → (n : ℕ) × (limit_of o ≡ Some n)
+sem_limited : (o : Op) → makes_object kind.Sem o ≡ true → (n : ℕ) × (limit_in_op o ≡ Some n)
 sem_limited (op.SemCreate id limit) e = (limit, refl)
 sem_limited _ e = true_false e refl
 

@@ -1,5 +1,5 @@
 -- What each entry does to a reader-writer lock, and so every list of entries.
-use Rattle.history_law.proofs.Names.{nat_tests, ◌≡◌, ℕ, ◌+◌, ◌<◌, ◌≤◌, Bool, true, false, List, Option, Some, None, ◌⊎◌, refl, subst, arith, ◌&&◌, ◌==◌, Terms, Op, Reply, Handle, live_object, listed, Rwl, new_rwl, rwl_taken, rwl_given, State, NodeEntry, Legal, not_false, some_same, entries_that, says_ok, by_seat, looks_at_rwl, unlocks_rwl, gets_rwl, gives_rwl, OneWriter, ReadersAlone, RwlsKeepTo, limit_of, Legal-prefix, Answers, Move, after_moves, and-false}
+use Rattle.history_law.proofs.Names.{nat_tests, ◌≡◌, ℕ, ◌+◌, ◌<◌, ◌≤◌, Bool, true, false, List, Option, Some, None, ◌⊎◌, refl, subst, arith, ◌&&◌, ◌==◌, Terms, Op, Reply, Handle, live_object, listed, Rwl, new_rwl, rwl_taken, rwl_given, State, NodeEntry, Legal, not_false, some_same, entries_that, says_ok, by_seat, looks_at_rwl, unlocks_rwl, gets_rwl, gives_rwl, OneWriter, ReadersAlone, RwlsKeepTo, limit_in_op, Legal-prefix, Answers, Move, after_moves, and-false}
 use Rattle.mtapi_values.specs.declared.handles.ObjectKind.TheVariants as kind
 use Rattle.mtapi_machine.specs.declared.ops.Op.TheVariants as op
 use Rattle.history_law.specs.Words.{makes_object}
@@ -36,14 +36,15 @@ rwl_misses : (h : ℕ) (m : Bool) (s : State) (who : ℕ) (o : Op) (r : Reply) (
     → ((looks_at_rwl h m o && says_ok r) ≡ false) × ((unlocks_rwl h m o && says_ok r) ≡ false)
 rwl_misses h m s who o r ms n a = grind (arith, nat_tests, missed, and-false)
 
-make_rwl : (top h : ℕ) (s : State) (who : ℕ) (o : Op) (ms : List Move) → makes_object kind.Rwl o ≡ true → Answers s who o (Handle h) ms → limit_of o ≡ Some top
+make_rwl : (top h : ℕ) (s : State) (who : ℕ) (o : Op) (ms : List Move) → makes_object kind.Rwl o ≡ true → Answers s who o (Handle h) ms
+    → limit_in_op o ≡ Some top
     → New (rwl_lock top) h (after_moves ms s).rwls
 make_rwl top h s who _ _ e (is.creates_rwl id limit j n f) i =
     new_lock (rwl_lock top) h (new_rwl id limit) s.rwls (fresh_unlisted kind.Rwl s h f)
     (subst (λ (n : ℕ). Fit n (new_rwl id limit)) (some_same i) (new_fit id limit)) (λ m. (new_free m 0 id limit).0) (λ m w. (new_free m w id limit).1)
 make_rwl top h s who _ _ e _ i = true_false e refl
 
-rwl_limited : (o : Op) → makes_object kind.Rwl o ≡ true → (n : ℕ) × (limit_of o ≡ Some n)
+rwl_limited : (o : Op) → makes_object kind.Rwl o ≡ true → (n : ℕ) × (limit_in_op o ≡ Some n)
 rwl_limited (op.RwlCreate id limit) e = (limit, refl)
 rwl_limited _ e = true_false e refl
 

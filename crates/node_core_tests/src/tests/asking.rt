@@ -1,7 +1,7 @@
 //! A node with a journal, asked call by call.
 
 ghost use Rattle.std.specs.Prelude.{IfSome};
-ghost use Rattle.node_core_tests.specs.Journals.{IsLegal};
+ghost use Rattle.node_core_tests.specs.Journals.{HasLegalEntries};
 
 use history::Object;
 use mtapi_machine::{Op, Reply};
@@ -85,7 +85,7 @@ impl Called {
 
     /// Gives the journal, which is a legal history. None where it was lost for lack of memory.
     pub(crate) fn into_journal(self) -> Option<Journal>
-        ensures { IfSome result IsLegal }
+        ensures { IfSome result HasLegalEntries }
     {
         match self.node.into_journal() {
             Ok(journal) => journal,

@@ -2,8 +2,8 @@
 
 ghost use Rattle.std.specs.Prelude.{◌≡◌};
 ghost use Rattle.mtapi_machine.specs.declared.ops.Op.TheVariants as op;
-ghost use Rattle.workload_runners.specs.Replies.{done, handle, the_job, mtapi};
-ghost use Rattle.sched_workers.specs.Answers.{Called, with_number};
+ghost use Rattle.workload_runners.specs.Replies.{done, handle_told, the_job, mtapi_standard};
+ghost use Rattle.sched_workers.specs.Answers.{Called, with_handle_number};
 
 use crate::callers::Caller;
 use mtapi_values::{ActionAttr, ActionHandle, JobHandle, Kind, MtapiStatus};
@@ -20,7 +20,7 @@ impl<'a> Caller<'a> {
     /// - `ErrNodeNotinit`: the node isn't open or closing.
     /// - `ErrJobInvalid`: no live action has the job.
     pub fn job_get<R: Wait>(&mut self, rt: &R, job: u32) -> Result<JobHandle, MtapiStatus>
-        ensures { Called mtapi (the_job job) (op.JobGet job) self.old self.new (with_number (λ j. j.0) result) }
+        ensures { Called mtapi_standard (the_job job) (op.JobGet job) self.old self.new (with_handle_number (λ j. j.0) result) }
     {
         Ok(JobHandle(self.mtapi_job(rt, job)?))
     }
@@ -41,7 +41,7 @@ impl<'a> Caller<'a> {
         kind: Kind,
         attr: ActionAttr,
     ) -> Result<ActionHandle, MtapiStatus>
-        ensures { Called mtapi handle (op.ActionCreate job kind (record { 0 = attr.affinity })) self.old self.new (with_number (λ h. h.0) result) }
+        ensures { Called mtapi_standard handle_told (op.ActionCreate job kind (record { 0 = attr.affinity })) self.old self.new (with_handle_number (λ h. h.0) result) }
     {
         let op = Op::ActionCreate {
             job,
@@ -65,7 +65,7 @@ impl<'a> Caller<'a> {
         rt: &R,
         action: ActionHandle,
     ) -> Result<(), MtapiStatus>
-        ensures { Called mtapi done (op.ActionDelete action) self.old self.new result }
+        ensures { Called mtapi_standard done (op.ActionDelete action) self.old self.new result }
     {
         self.mtapi_done(rt, Op::ActionDelete { action })
     }
@@ -83,7 +83,7 @@ impl<'a> Caller<'a> {
         rt: &R,
         action: ActionHandle,
     ) -> Result<(), MtapiStatus>
-        ensures { Called mtapi done (op.ActionEnable action) self.old self.new result }
+        ensures { Called mtapi_standard done (op.ActionEnable action) self.old self.new result }
     {
         self.mtapi_done(rt, Op::ActionEnable { action })
     }
@@ -102,7 +102,7 @@ impl<'a> Caller<'a> {
         rt: &R,
         action: ActionHandle,
     ) -> Result<(), MtapiStatus>
-        ensures { Called mtapi done (op.ActionDisable action) self.old self.new result }
+        ensures { Called mtapi_standard done (op.ActionDisable action) self.old self.new result }
     {
         self.mtapi_done(rt, Op::ActionDisable { action })
     }

@@ -1,7 +1,7 @@
 //! What a caller reads from the reply to its call.
 
 ghost use Rattle.std.specs.Prelude.{◌≡◌, true, IfOk};
-ghost use Rattle.workload_runners.specs.Replies.{done, handle, the_job, key, number, ended, given, mtapi, mrapi, says};
+ghost use Rattle.workload_runners.specs.Replies.{done, handle_told, the_job, key, number_in_answer, end_in_reply, given, mtapi_standard, mrapi_standard, says_something};
 ghost use Rattle.sched_workers.specs.Answers.{AnsweredBy};
 
 use mtapi_values::{MrapiStatus, MtapiStatus, TaskEnd, TaskHandle};
@@ -10,8 +10,8 @@ use turn_cell::Spent;
 
 /// That an op of MTAPI was done.
 pub(crate) fn done(reply: Result<Reply, Spent>) -> Result<(), MtapiStatus>
-    requires { IfOk reply (λ r. says mtapi done r ≡ true) }
-    ensures { AnsweredBy mtapi done reply result }
+    requires { IfOk reply (λ r. says_something mtapi_standard done r ≡ true) }
+    ensures { AnsweredBy mtapi_standard done reply result }
 {
     match reply {
         Ok(Reply::Ok) => Ok(()),
@@ -23,8 +23,8 @@ pub(crate) fn done(reply: Result<Reply, Spent>) -> Result<(), MtapiStatus>
 
 /// The handle that an op of MTAPI gives.
 pub(crate) fn handle(reply: Result<Reply, Spent>) -> Result<u64, MtapiStatus>
-    requires { IfOk reply (λ r. says mtapi handle r ≡ true) }
-    ensures { AnsweredBy mtapi handle reply result }
+    requires { IfOk reply (λ r. says_something mtapi_standard handle_told r ≡ true) }
+    ensures { AnsweredBy mtapi_standard handle_told reply result }
 {
     match reply {
         Ok(Reply::Handle(handle)) => Ok(handle),
@@ -36,8 +36,8 @@ pub(crate) fn handle(reply: Result<Reply, Spent>) -> Result<u64, MtapiStatus>
 
 /// The number of the job that was asked for.
 pub(crate) fn the_job(reply: Result<Reply, Spent>, job: u32) -> Result<u32, MtapiStatus>
-    requires { IfOk reply (λ r. says mtapi (the_job job) r ≡ true) }
-    ensures { AnsweredBy mtapi (the_job job) reply result }
+    requires { IfOk reply (λ r. says_something mtapi_standard (the_job job) r ≡ true) }
+    ensures { AnsweredBy mtapi_standard (the_job job) reply result }
 {
     match reply {
         Ok(Reply::Number(_)) => Ok(job),
@@ -49,8 +49,8 @@ pub(crate) fn the_job(reply: Result<Reply, Spent>, job: u32) -> Result<u32, Mtap
 
 /// The end of a task.
 pub(crate) fn ended(reply: Result<Reply, Spent>) -> Result<TaskEnd, MtapiStatus>
-    requires { IfOk reply (λ r. says mtapi ended r ≡ true) }
-    ensures { AnsweredBy mtapi ended reply result }
+    requires { IfOk reply (λ r. says_something mtapi_standard end_in_reply r ≡ true) }
+    ensures { AnsweredBy mtapi_standard end_in_reply reply result }
 {
     match reply {
         Ok(Reply::Ended(end)) => Ok(end),
@@ -62,8 +62,8 @@ pub(crate) fn ended(reply: Result<Reply, Spent>) -> Result<TaskEnd, MtapiStatus>
 
 /// A member of a group, and its end.
 pub(crate) fn given(reply: Result<Reply, Spent>) -> Result<(TaskHandle, TaskEnd), MtapiStatus>
-    requires { IfOk reply (λ r. says mtapi given r ≡ true) }
-    ensures { AnsweredBy mtapi given reply result }
+    requires { IfOk reply (λ r. says_something mtapi_standard given r ≡ true) }
+    ensures { AnsweredBy mtapi_standard given reply result }
 {
     match reply {
         Ok(Reply::Given(task, end)) => Ok((task, end)),
@@ -75,8 +75,8 @@ pub(crate) fn given(reply: Result<Reply, Spent>) -> Result<(TaskHandle, TaskEnd)
 
 /// That an op of MRAPI was done.
 pub(crate) fn resource_done(reply: Result<Reply, Spent>) -> Result<(), MrapiStatus>
-    requires { IfOk reply (λ r. says mrapi done r ≡ true) }
-    ensures { AnsweredBy mrapi done reply result }
+    requires { IfOk reply (λ r. says_something mrapi_standard done r ≡ true) }
+    ensures { AnsweredBy mrapi_standard done reply result }
 {
     match reply {
         Ok(Reply::Ok) => Ok(()),
@@ -88,8 +88,8 @@ pub(crate) fn resource_done(reply: Result<Reply, Spent>) -> Result<(), MrapiStat
 
 /// The handle that an op of MRAPI gives.
 pub(crate) fn resource_handle(reply: Result<Reply, Spent>) -> Result<u64, MrapiStatus>
-    requires { IfOk reply (λ r. says mrapi handle r ≡ true) }
-    ensures { AnsweredBy mrapi handle reply result }
+    requires { IfOk reply (λ r. says_something mrapi_standard handle_told r ≡ true) }
+    ensures { AnsweredBy mrapi_standard handle_told reply result }
 {
     match reply {
         Ok(Reply::Handle(handle)) => Ok(handle),
@@ -101,8 +101,8 @@ pub(crate) fn resource_handle(reply: Result<Reply, Spent>) -> Result<u64, MrapiS
 
 /// The number that an op of MRAPI gives.
 pub(crate) fn resource_number(reply: Result<Reply, Spent>) -> Result<i64, MrapiStatus>
-    requires { IfOk reply (λ r. says mrapi number r ≡ true) }
-    ensures { AnsweredBy mrapi number reply result }
+    requires { IfOk reply (λ r. says_something mrapi_standard number_in_answer r ≡ true) }
+    ensures { AnsweredBy mrapi_standard number_in_answer reply result }
 {
     match reply {
         Ok(Reply::Number(number)) => Ok(number),
@@ -114,8 +114,8 @@ pub(crate) fn resource_number(reply: Result<Reply, Spent>) -> Result<i64, MrapiS
 
 /// The key of a lock.
 pub(crate) fn key(reply: Result<Reply, Spent>) -> Result<u32, MrapiStatus>
-    requires { IfOk reply (λ r. says mrapi key r ≡ true) }
-    ensures { AnsweredBy mrapi key reply result }
+    requires { IfOk reply (λ r. says_something mrapi_standard key r ≡ true) }
+    ensures { AnsweredBy mrapi_standard key reply result }
 {
     match reply {
         Ok(Reply::Number(key)) => Ok(key as u32),

@@ -3,8 +3,8 @@
 ghost use Rattle.mtapi_values.specs.Timeouts.{looks_of};
 ghost use Rattle.workload_runs.specs.declared.calls.Wanted.TheVariants.{AllMembers, FirstMember};
 ghost use Rattle.mtapi_machine.specs.declared.ops.Op.TheVariants as op;
-ghost use Rattle.workload_runners.specs.Replies.{done, handle, given, mtapi};
-ghost use Rattle.sched_workers.specs.Answers.{Called, Waited, with_number};
+ghost use Rattle.workload_runners.specs.Replies.{done, handle_told, given, mtapi_standard};
+ghost use Rattle.sched_workers.specs.Answers.{Called, Waited, with_handle_number};
 
 use crate::callers::Caller;
 use crate::callers::answers::{done, given};
@@ -23,7 +23,7 @@ impl<'a> Caller<'a> {
     /// - `ErrNodeNotinit`: the node isn't open.
     /// - `ErrGroupLimit`: there is no room for a further group.
     pub fn group_create<R: Wait>(&mut self, rt: &R) -> Result<GroupHandle, MtapiStatus>
-        ensures { Called mtapi handle op.GroupCreate self.old self.new (with_number (λ h. h.0) result) }
+        ensures { Called mtapi_standard handle_told op.GroupCreate self.old self.new (with_handle_number (λ h. h.0) result) }
     {
         Ok(GroupHandle(self.mtapi_handle(rt, Op::GroupCreate)?))
     }
@@ -38,7 +38,7 @@ impl<'a> Caller<'a> {
     /// - `ErrNodeNotinit`: the node isn't open.
     /// - `ErrGroupInvalid`: the group isn't live.
     pub fn group_delete<R: Wait>(&mut self, rt: &R, group: GroupHandle) -> Result<(), MtapiStatus>
-        ensures { Called mtapi done (op.GroupDelete group) self.old self.new result }
+        ensures { Called mtapi_standard done (op.GroupDelete group) self.old self.new result }
     {
         self.mtapi_done(rt, Op::GroupDelete { group })
     }
@@ -60,7 +60,7 @@ impl<'a> Caller<'a> {
         group: GroupHandle,
         timeout: Timeout,
     ) -> Result<(), MtapiStatus>
-        ensures { Waited mtapi done (AllMembers group) (looks_of timeout) self.old self.new result }
+        ensures { Waited mtapi_standard done (AllMembers group) (looks_of timeout) self.old self.new result }
     {
         done(self.within(rt, Wanted::AllMembers(group), timeout))
     }
@@ -82,7 +82,7 @@ impl<'a> Caller<'a> {
         group: GroupHandle,
         timeout: Timeout,
     ) -> Result<(TaskHandle, TaskEnd), MtapiStatus>
-        ensures { Waited mtapi given (FirstMember group) (looks_of timeout) self.old self.new result }
+        ensures { Waited mtapi_standard given (FirstMember group) (looks_of timeout) self.old self.new result }
     {
         given(self.within(rt, Wanted::FirstMember(group), timeout))
     }

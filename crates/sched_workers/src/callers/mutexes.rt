@@ -4,8 +4,8 @@ ghost use Rattle.std.specs.Prelude.{Some};
 ghost use Rattle.mtapi_values.specs.Timeouts.{looks_of};
 ghost use Rattle.workload_runs.specs.declared.calls.Wanted.TheVariants.{Mutex};
 ghost use Rattle.mtapi_machine.specs.declared.ops.Op.TheVariants as op;
-ghost use Rattle.workload_runners.specs.Replies.{done, handle, key, mrapi};
-ghost use Rattle.sched_workers.specs.Answers.{Called, Waited, with_number};
+ghost use Rattle.workload_runners.specs.Replies.{done, handle_told, key, mrapi_standard};
+ghost use Rattle.sched_workers.specs.Answers.{Called, Waited, with_handle_number};
 
 use crate::callers::Caller;
 use crate::callers::answers::key;
@@ -30,7 +30,7 @@ impl<'a> Caller<'a> {
         id: u32,
         attr: MutexAttr,
     ) -> Result<MutexHandle, MrapiStatus>
-        ensures { Called mrapi handle (op.MutexCreate id attr.recursive) self.old self.new (with_number (λ h. h.0) result) }
+        ensures { Called mrapi_standard handle_told (op.MutexCreate id attr.recursive) self.old self.new (with_handle_number (λ h. h.0) result) }
     {
         let op = Op::MutexCreate {
             id,
@@ -48,7 +48,7 @@ impl<'a> Caller<'a> {
     /// - `ErrNodeNotinit`: the node isn't open or closing.
     /// - `ErrMutexIdInvalid`: no live mutex has the id.
     pub fn mutex_get<R: Wait>(&mut self, rt: &R, id: u32) -> Result<MutexHandle, MrapiStatus>
-        ensures { Called mrapi handle (op.MutexGet id) self.old self.new (with_number (λ h. h.0) result) }
+        ensures { Called mrapi_standard handle_told (op.MutexGet id) self.old self.new (with_handle_number (λ h. h.0) result) }
     {
         Ok(MutexHandle(self.mrapi_handle(rt, Op::MutexGet { id })?))
     }
@@ -63,7 +63,7 @@ impl<'a> Caller<'a> {
     /// - `ErrMutexInvalid`: the mutex isn't live.
     /// - `ErrMutexLocked`: some seat owns it.
     pub fn mutex_delete<R: Wait>(&mut self, rt: &R, mutex: MutexHandle) -> Result<(), MrapiStatus>
-        ensures { Called mrapi done (op.MutexDelete mutex) self.old self.new result }
+        ensures { Called mrapi_standard done (op.MutexDelete mutex) self.old self.new result }
     {
         self.mrapi_done(rt, Op::MutexDelete { mutex })
     }
@@ -84,7 +84,7 @@ impl<'a> Caller<'a> {
         mutex: MutexHandle,
         timeout: Timeout,
     ) -> Result<u32, MrapiStatus>
-        ensures { Waited mrapi key (Mutex mutex) (looks_of timeout) self.old self.new result }
+        ensures { Waited mrapi_standard key (Mutex mutex) (looks_of timeout) self.old self.new result }
     {
         key(self.within(rt, Wanted::Mutex(mutex), timeout))
     }
@@ -93,7 +93,7 @@ impl<'a> Caller<'a> {
     ///
     /// Stands for `mrapi_mutex_trylock`. It refuses what `mutex_lock` does.
     pub fn mutex_trylock<R: Wait>(&mut self, rt: &R, mutex: MutexHandle) -> Result<u32, MrapiStatus>
-        ensures { Waited mrapi key (Mutex mutex) (Some 1) self.old self.new result }
+        ensures { Waited mrapi_standard key (Mutex mutex) (Some 1) self.old self.new result }
     {
         self.mutex_lock(rt, mutex, Timeout::NoWait)
     }
@@ -115,7 +115,7 @@ impl<'a> Caller<'a> {
         mutex: MutexHandle,
         key: u32,
     ) -> Result<(), MrapiStatus>
-        ensures { Called mrapi done (op.MutexUnlock mutex key) self.old self.new result }
+        ensures { Called mrapi_standard done (op.MutexUnlock mutex key) self.old self.new result }
     {
         self.mrapi_done(rt, Op::MutexUnlock { mutex, key })
     }

@@ -3,7 +3,7 @@
 ghost use Rattle.std.specs.Prelude.{None};
 ghost use Rattle.workload_runs.specs.declared.calls.Wanted.TheVariants.{Entrance};
 ghost use Rattle.mtapi_machine.specs.declared.ops.Op.TheVariants as op;
-ghost use Rattle.workload_runners.specs.Replies.{done, mtapi};
+ghost use Rattle.workload_runners.specs.Replies.{done, mtapi_standard};
 ghost use Rattle.sched_workers.specs.Answers.{Called, Waited};
 
 use crate::callers::Caller;
@@ -21,7 +21,7 @@ impl<'a> Caller<'a> {
     ///
     /// - `ErrNodeInitialized`: the node isn't new.
     pub fn initialize<R: Wait>(&mut self, rt: &R) -> Result<(), MtapiStatus>
-        ensures { Called mtapi done op.Initialize self.old self.new result }
+        ensures { Called mtapi_standard done op.Initialize self.old self.new result }
     {
         self.mtapi_done(rt, Op::Initialize)
     }
@@ -34,7 +34,7 @@ impl<'a> Caller<'a> {
     ///
     /// - `ErrNodeNotinit`: the node isn't open.
     pub fn release<R: Wait>(&mut self, rt: &R) -> Result<(), MtapiStatus>
-        ensures { Called mtapi done op.Release self.old self.new result }
+        ensures { Called mtapi_standard done op.Release self.old self.new result }
     {
         self.mtapi_done(rt, Op::Release)
     }
@@ -47,7 +47,7 @@ impl<'a> Caller<'a> {
     ///
     /// - `ErrNodeNotinit`: the node is closing or closed.
     pub fn enter<R: Wait>(&mut self, rt: &R) -> Result<(), MtapiStatus>
-        ensures { Waited mtapi done Entrance None self.old self.new result }
+        ensures { Waited mtapi_standard done Entrance None self.old self.new result }
     {
         done(self.to_enter(rt))
     }
@@ -61,7 +61,7 @@ impl<'a> Caller<'a> {
     ///
     /// - `ErrNodeNotinit`: the node is closing or closed.
     pub fn finalize_begin<R: Wait>(&mut self, rt: &R) -> Result<(), MtapiStatus>
-        ensures { Called mtapi done op.Close self.old self.new result }
+        ensures { Called mtapi_standard done op.Close self.old self.new result }
     {
         self.mtapi_done(rt, Op::Close)
     }
@@ -75,7 +75,7 @@ impl<'a> Caller<'a> {
     /// - `ErrNodeNotinit`: the node isn't open or closing.
     /// - `ErrNodeInitialized`: the node isn't closing, or a worker hasn't stopped.
     pub fn finalize_end<R: Wait>(&mut self, rt: &R) -> Result<(), MtapiStatus>
-        ensures { Called mtapi done op.Final self.old self.new result }
+        ensures { Called mtapi_standard done op.Final self.old self.new result }
     {
         self.mtapi_done(rt, Op::Final)
     }

@@ -1,8 +1,8 @@
 //! The calls on queues.
 
 ghost use Rattle.mtapi_machine.specs.declared.ops.Op.TheVariants as op;
-ghost use Rattle.workload_runners.specs.Replies.{done, handle, mtapi};
-ghost use Rattle.sched_workers.specs.Answers.{Called, with_number, queue_of};
+ghost use Rattle.workload_runners.specs.Replies.{done, handle_told, mtapi_standard};
+ghost use Rattle.sched_workers.specs.Answers.{Called, with_handle_number, queue_of};
 
 use crate::callers::Caller;
 use mtapi_values::{MtapiStatus, QueueAttr, QueueHandle};
@@ -28,7 +28,7 @@ impl<'a> Caller<'a> {
         job: u32,
         attr: QueueAttr,
     ) -> Result<QueueHandle, MtapiStatus>
-        ensures { Called mtapi handle (queue_of id job attr) self.old self.new (with_number (λ h. h.0) result) }
+        ensures { Called mtapi_standard handle_told (queue_of id job attr) self.old self.new (with_handle_number (λ h. h.0) result) }
     {
         let op = Op::QueueCreate {
             id,
@@ -50,7 +50,7 @@ impl<'a> Caller<'a> {
     /// - `ErrNodeNotinit`: the node isn't open or closing.
     /// - `ErrQueueInvalid`: no live queue has the id.
     pub fn queue_get<R: Wait>(&mut self, rt: &R, id: u32) -> Result<QueueHandle, MtapiStatus>
-        ensures { Called mtapi handle (op.QueueGet id) self.old self.new (with_number (λ h. h.0) result) }
+        ensures { Called mtapi_standard handle_told (op.QueueGet id) self.old self.new (with_handle_number (λ h. h.0) result) }
     {
         Ok(QueueHandle(self.mtapi_handle(rt, Op::QueueGet { id })?))
     }
@@ -64,7 +64,7 @@ impl<'a> Caller<'a> {
     /// - `ErrNodeNotinit`: the node isn't open.
     /// - `ErrQueueInvalid`: the queue isn't live.
     pub fn queue_enable<R: Wait>(&mut self, rt: &R, queue: QueueHandle) -> Result<(), MtapiStatus>
-        ensures { Called mtapi done (op.QueueEnable queue) self.old self.new result }
+        ensures { Called mtapi_standard done (op.QueueEnable queue) self.old self.new result }
     {
         self.mtapi_done(rt, Op::QueueEnable { queue })
     }
@@ -79,7 +79,7 @@ impl<'a> Caller<'a> {
     /// - `ErrNodeNotinit`: the node isn't open.
     /// - `ErrQueueInvalid`: the queue isn't live.
     pub fn queue_disable<R: Wait>(&mut self, rt: &R, queue: QueueHandle) -> Result<(), MtapiStatus>
-        ensures { Called mtapi done (op.QueueDisable queue) self.old self.new result }
+        ensures { Called mtapi_standard done (op.QueueDisable queue) self.old self.new result }
     {
         self.mtapi_done(rt, Op::QueueDisable { queue })
     }
@@ -93,7 +93,7 @@ impl<'a> Caller<'a> {
     /// - `ErrNodeNotinit`: the node isn't open.
     /// - `ErrQueueInvalid`: the queue isn't live.
     pub fn queue_delete<R: Wait>(&mut self, rt: &R, queue: QueueHandle) -> Result<(), MtapiStatus>
-        ensures { Called mtapi done (op.QueueDelete queue) self.old self.new result }
+        ensures { Called mtapi_standard done (op.QueueDelete queue) self.old self.new result }
     {
         self.mtapi_done(rt, Op::QueueDelete { queue })
     }

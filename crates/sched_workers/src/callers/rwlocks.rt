@@ -4,8 +4,8 @@ ghost use Rattle.std.specs.Prelude.{Some};
 ghost use Rattle.mtapi_values.specs.Timeouts.{looks_of};
 ghost use Rattle.workload_runs.specs.declared.calls.Wanted.TheVariants.{Rwl};
 ghost use Rattle.mtapi_machine.specs.declared.ops.Op.TheVariants as op;
-ghost use Rattle.workload_runners.specs.Replies.{done, handle, mrapi};
-ghost use Rattle.sched_workers.specs.Answers.{Called, Waited, with_number};
+ghost use Rattle.workload_runners.specs.Replies.{done, handle_told, mrapi_standard};
+ghost use Rattle.sched_workers.specs.Answers.{Called, Waited, with_handle_number};
 
 use crate::callers::Caller;
 use mtapi_values::{MrapiStatus, RwlHandle, Timeout};
@@ -31,7 +31,7 @@ impl<'a> Caller<'a> {
         id: u32,
         limit: u32,
     ) -> Result<RwlHandle, MrapiStatus>
-        ensures { Called mrapi handle (op.RwlCreate id limit) self.old self.new (with_number (λ h. h.0) result) }
+        ensures { Called mrapi_standard handle_told (op.RwlCreate id limit) self.old self.new (with_handle_number (λ h. h.0) result) }
     {
         Ok(RwlHandle(self.mrapi_handle(rt, Op::RwlCreate { id, limit })?))
     }
@@ -45,7 +45,7 @@ impl<'a> Caller<'a> {
     /// - `ErrNodeNotinit`: the node isn't open or closing.
     /// - `ErrRwlIdInvalid`: no live lock has the id.
     pub fn rwl_get<R: Wait>(&mut self, rt: &R, id: u32) -> Result<RwlHandle, MrapiStatus>
-        ensures { Called mrapi handle (op.RwlGet id) self.old self.new (with_number (λ h. h.0) result) }
+        ensures { Called mrapi_standard handle_told (op.RwlGet id) self.old self.new (with_handle_number (λ h. h.0) result) }
     {
         Ok(RwlHandle(self.mrapi_handle(rt, Op::RwlGet { id })?))
     }
@@ -60,7 +60,7 @@ impl<'a> Caller<'a> {
     /// - `ErrRwlInvalid`: the lock isn't live.
     /// - `ErrRwlLocked`: some seat holds it, as a reader or as the writer.
     pub fn rwl_delete<R: Wait>(&mut self, rt: &R, rwl: RwlHandle) -> Result<(), MrapiStatus>
-        ensures { Called mrapi done (op.RwlDelete rwl) self.old self.new result }
+        ensures { Called mrapi_standard done (op.RwlDelete rwl) self.old self.new result }
     {
         self.mrapi_done(rt, Op::RwlDelete { rwl })
     }
@@ -82,7 +82,7 @@ impl<'a> Caller<'a> {
         writer: bool,
         timeout: Timeout,
     ) -> Result<(), MrapiStatus>
-        ensures { Waited mrapi done (Rwl rwl writer) (looks_of timeout) self.old self.new result }
+        ensures { Waited mrapi_standard done (Rwl rwl writer) (looks_of timeout) self.old self.new result }
     {
         self.mrapi_wait(rt, Wanted::Rwl { rwl, writer }, timeout)
     }
@@ -96,7 +96,7 @@ impl<'a> Caller<'a> {
         rwl: RwlHandle,
         writer: bool,
     ) -> Result<(), MrapiStatus>
-        ensures { Waited mrapi done (Rwl rwl writer) (Some 1) self.old self.new result }
+        ensures { Waited mrapi_standard done (Rwl rwl writer) (Some 1) self.old self.new result }
     {
         self.mrapi_wait(rt, Wanted::Rwl { rwl, writer }, Timeout::NoWait)
     }
@@ -116,7 +116,7 @@ impl<'a> Caller<'a> {
         rwl: RwlHandle,
         writer: bool,
     ) -> Result<(), MrapiStatus>
-        ensures { Called mrapi done (op.RwlUnlock rwl writer) self.old self.new result }
+        ensures { Called mrapi_standard done (op.RwlUnlock rwl writer) self.old self.new result }
     {
         self.mrapi_done(rt, Op::RwlUnlock { rwl, writer })
     }

@@ -1,8 +1,8 @@
 //! The calls on shared memory segments.
 
 ghost use Rattle.mtapi_machine.specs.declared.ops.Op.TheVariants as op;
-ghost use Rattle.workload_runners.specs.Replies.{done, handle, number, mrapi};
-ghost use Rattle.sched_workers.specs.Answers.{Called, with_number};
+ghost use Rattle.workload_runners.specs.Replies.{done, handle_told, number_in_answer, mrapi_standard};
+ghost use Rattle.sched_workers.specs.Answers.{Called, with_handle_number};
 
 use crate::callers::Caller;
 use crate::callers::answers::resource_number;
@@ -27,7 +27,7 @@ impl<'a> Caller<'a> {
         id: u32,
         cells: u32,
     ) -> Result<ShmemHandle, MrapiStatus>
-        ensures { Called mrapi handle (op.ShmemCreate id cells) self.old self.new (with_number (λ h. h.0) result) }
+        ensures { Called mrapi_standard handle_told (op.ShmemCreate id cells) self.old self.new (with_handle_number (λ h. h.0) result) }
     {
         Ok(ShmemHandle(self.mrapi_handle(rt, Op::ShmemCreate { id, cells })?))
     }
@@ -41,7 +41,7 @@ impl<'a> Caller<'a> {
     /// - `ErrNodeNotinit`: the node isn't open or closing.
     /// - `ErrShmIdInvalid`: no live segment has the id.
     pub fn shmem_get<R: Wait>(&mut self, rt: &R, id: u32) -> Result<ShmemHandle, MrapiStatus>
-        ensures { Called mrapi handle (op.ShmemGet id) self.old self.new (with_number (λ h. h.0) result) }
+        ensures { Called mrapi_standard handle_told (op.ShmemGet id) self.old self.new (with_handle_number (λ h. h.0) result) }
     {
         Ok(ShmemHandle(self.mrapi_handle(rt, Op::ShmemGet { id })?))
     }
@@ -56,7 +56,7 @@ impl<'a> Caller<'a> {
     /// - `ErrShmInvalid`: the segment isn't live.
     /// - `ErrShmAttached`: some seat is attached.
     pub fn shmem_delete<R: Wait>(&mut self, rt: &R, shmem: ShmemHandle) -> Result<(), MrapiStatus>
-        ensures { Called mrapi done (op.ShmemDelete shmem) self.old self.new result }
+        ensures { Called mrapi_standard done (op.ShmemDelete shmem) self.old self.new result }
     {
         self.mrapi_done(rt, Op::ShmemDelete { shmem })
     }
@@ -71,7 +71,7 @@ impl<'a> Caller<'a> {
     /// - `ErrShmInvalid`: the segment isn't live.
     /// - `ErrShmAttached`: this caller is attached.
     pub fn shmem_attach<R: Wait>(&mut self, rt: &R, shmem: ShmemHandle) -> Result<(), MrapiStatus>
-        ensures { Called mrapi done (op.ShmemAttach shmem) self.old self.new result }
+        ensures { Called mrapi_standard done (op.ShmemAttach shmem) self.old self.new result }
     {
         self.mrapi_done(rt, Op::ShmemAttach { shmem })
     }
@@ -86,7 +86,7 @@ impl<'a> Caller<'a> {
     /// - `ErrShmInvalid`: the segment isn't live.
     /// - `ErrShmNotattached`: this caller isn't attached.
     pub fn shmem_detach<R: Wait>(&mut self, rt: &R, shmem: ShmemHandle) -> Result<(), MrapiStatus>
-        ensures { Called mrapi done (op.ShmemDetach shmem) self.old self.new result }
+        ensures { Called mrapi_standard done (op.ShmemDetach shmem) self.old self.new result }
     {
         self.mrapi_done(rt, Op::ShmemDetach { shmem })
     }
@@ -107,7 +107,7 @@ impl<'a> Caller<'a> {
         shmem: ShmemHandle,
         cell: u32,
     ) -> Result<i64, MrapiStatus>
-        ensures { Called mrapi number (op.ShmemRead shmem cell) self.old self.new result }
+        ensures { Called mrapi_standard number_in_answer (op.ShmemRead shmem cell) self.old self.new result }
     {
         resource_number(self.once(rt, Op::ShmemRead { shmem, cell }))
     }
@@ -129,7 +129,7 @@ impl<'a> Caller<'a> {
         cell: u32,
         value: i64,
     ) -> Result<(), MrapiStatus>
-        ensures { Called mrapi done (op.ShmemWrite shmem cell value) self.old self.new result }
+        ensures { Called mrapi_standard done (op.ShmemWrite shmem cell value) self.old self.new result }
     {
         self.mrapi_done(rt, Op::ShmemWrite { shmem, cell, value })
     }

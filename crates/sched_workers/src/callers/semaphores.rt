@@ -4,8 +4,8 @@ ghost use Rattle.std.specs.Prelude.{Some};
 ghost use Rattle.mtapi_values.specs.Timeouts.{looks_of};
 ghost use Rattle.workload_runs.specs.declared.calls.Wanted.TheVariants.{Sem};
 ghost use Rattle.mtapi_machine.specs.declared.ops.Op.TheVariants as op;
-ghost use Rattle.workload_runners.specs.Replies.{done, handle, mrapi};
-ghost use Rattle.sched_workers.specs.Answers.{Called, Waited, with_number};
+ghost use Rattle.workload_runners.specs.Replies.{done, handle_told, mrapi_standard};
+ghost use Rattle.sched_workers.specs.Answers.{Called, Waited, with_handle_number};
 
 use crate::callers::Caller;
 use mtapi_values::{MrapiStatus, SemHandle, Timeout};
@@ -30,7 +30,7 @@ impl<'a> Caller<'a> {
         id: u32,
         limit: u32,
     ) -> Result<SemHandle, MrapiStatus>
-        ensures { Called mrapi handle (op.SemCreate id limit) self.old self.new (with_number (λ h. h.0) result) }
+        ensures { Called mrapi_standard handle_told (op.SemCreate id limit) self.old self.new (with_handle_number (λ h. h.0) result) }
     {
         Ok(SemHandle(self.mrapi_handle(rt, Op::SemCreate { id, limit })?))
     }
@@ -44,7 +44,7 @@ impl<'a> Caller<'a> {
     /// - `ErrNodeNotinit`: the node isn't open or closing.
     /// - `ErrSemIdInvalid`: no live semaphore has the id.
     pub fn sem_get<R: Wait>(&mut self, rt: &R, id: u32) -> Result<SemHandle, MrapiStatus>
-        ensures { Called mrapi handle (op.SemGet id) self.old self.new (with_number (λ h. h.0) result) }
+        ensures { Called mrapi_standard handle_told (op.SemGet id) self.old self.new (with_handle_number (λ h. h.0) result) }
     {
         Ok(SemHandle(self.mrapi_handle(rt, Op::SemGet { id })?))
     }
@@ -59,7 +59,7 @@ impl<'a> Caller<'a> {
     /// - `ErrSemInvalid`: the semaphore isn't live.
     /// - `ErrSemLocked`: some seat holds it.
     pub fn sem_delete<R: Wait>(&mut self, rt: &R, sem: SemHandle) -> Result<(), MrapiStatus>
-        ensures { Called mrapi done (op.SemDelete sem) self.old self.new result }
+        ensures { Called mrapi_standard done (op.SemDelete sem) self.old self.new result }
     {
         self.mrapi_done(rt, Op::SemDelete { sem })
     }
@@ -79,7 +79,7 @@ impl<'a> Caller<'a> {
         sem: SemHandle,
         timeout: Timeout,
     ) -> Result<(), MrapiStatus>
-        ensures { Waited mrapi done (Sem sem) (looks_of timeout) self.old self.new result }
+        ensures { Waited mrapi_standard done (Sem sem) (looks_of timeout) self.old self.new result }
     {
         self.mrapi_wait(rt, Wanted::Sem(sem), timeout)
     }
@@ -88,7 +88,7 @@ impl<'a> Caller<'a> {
     ///
     /// Stands for `mrapi_sem_trylock`. It refuses what `sem_lock` does.
     pub fn sem_trylock<R: Wait>(&mut self, rt: &R, sem: SemHandle) -> Result<(), MrapiStatus>
-        ensures { Waited mrapi done (Sem sem) (Some 1) self.old self.new result }
+        ensures { Waited mrapi_standard done (Sem sem) (Some 1) self.old self.new result }
     {
         self.mrapi_wait(rt, Wanted::Sem(sem), Timeout::NoWait)
     }
@@ -103,7 +103,7 @@ impl<'a> Caller<'a> {
     /// - `ErrSemInvalid`: the semaphore isn't live.
     /// - `ErrSemNotlocked`: this caller doesn't hold it.
     pub fn sem_unlock<R: Wait>(&mut self, rt: &R, sem: SemHandle) -> Result<(), MrapiStatus>
-        ensures { Called mrapi done (op.SemUnlock sem) self.old self.new result }
+        ensures { Called mrapi_standard done (op.SemUnlock sem) self.old self.new result }
     {
         self.mrapi_done(rt, Op::SemUnlock { sem })
     }

@@ -3,8 +3,8 @@
 ghost use Rattle.mtapi_values.specs.Timeouts.{looks_of};
 ghost use Rattle.workload_runs.specs.declared.calls.Wanted.TheVariants.{Task};
 ghost use Rattle.mtapi_machine.specs.declared.ops.Op.TheVariants as op;
-ghost use Rattle.workload_runners.specs.Replies.{done, handle, ended, mtapi};
-ghost use Rattle.sched_workers.specs.Answers.{Called, Waited, with_number, start_of, enqueue_of};
+ghost use Rattle.workload_runners.specs.Replies.{done, handle_told, end_in_reply, mtapi_standard};
+ghost use Rattle.sched_workers.specs.Answers.{Called, Waited, with_handle_number, start_of, enqueue_of};
 
 use crate::callers::Caller;
 use crate::callers::answers::ended;
@@ -37,7 +37,7 @@ impl<'a> Caller<'a> {
         attr: TaskAttr,
         group: Option<GroupHandle>,
     ) -> Result<TaskHandle, MtapiStatus>
-        ensures { Called mtapi handle (start_of job args.now attr group) self.old self.new (with_number (λ h. h.0) result) }
+        ensures { Called mtapi_standard handle_told (start_of job args.now attr group) self.old self.new (with_handle_number (λ h. h.0) result) }
     {
         let op = Op::TaskStart {
             job,
@@ -75,7 +75,7 @@ impl<'a> Caller<'a> {
         attr: TaskAttr,
         group: Option<GroupHandle>,
     ) -> Result<TaskHandle, MtapiStatus>
-        ensures { Called mtapi handle (enqueue_of queue args.now attr group) self.old self.new (with_number (λ h. h.0) result) }
+        ensures { Called mtapi_standard handle_told (enqueue_of queue args.now attr group) self.old self.new (with_handle_number (λ h. h.0) result) }
     {
         let op = Op::TaskEnqueue {
             queue,
@@ -104,7 +104,7 @@ impl<'a> Caller<'a> {
         task: TaskHandle,
         timeout: Timeout,
     ) -> Result<TaskEnd, MtapiStatus>
-        ensures { Waited mtapi ended (Task task) (looks_of timeout) self.old self.new result }
+        ensures { Waited mtapi_standard end_in_reply (Task task) (looks_of timeout) self.old self.new result }
     {
         ended(self.within(rt, Wanted::Task(task), timeout))
     }
@@ -118,7 +118,7 @@ impl<'a> Caller<'a> {
     /// - `ErrNodeNotinit`: the node isn't open or closing.
     /// - `ErrTaskInvalid`: the task isn't live.
     pub fn task_cancel<R: Wait>(&mut self, rt: &R, task: TaskHandle) -> Result<(), MtapiStatus>
-        ensures { Called mtapi done (op.TaskCancel task) self.old self.new result }
+        ensures { Called mtapi_standard done (op.TaskCancel task) self.old self.new result }
     {
         self.mtapi_done(rt, Op::TaskCancel { task })
     }

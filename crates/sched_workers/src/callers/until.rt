@@ -2,8 +2,8 @@
 
 ghost use Rattle.std.specs.Prelude.{◌≡◌, ℕ, true, Some, IfOk, OnErr};
 ghost use Rattle.mtapi_machine.specs.Kept.{is_pending};
-ghost use Rattle.workload_runners.specs.Looks.{Looked, StillLooking};
-ghost use Rattle.workload_runners.specs.Replies.{done, ended, given, mtapi, found};
+ghost use Rattle.workload_runners.specs.Looks.{NodeLooked, NodeStillLooking};
+ghost use Rattle.workload_runners.specs.Replies.{done, end_in_reply, given, mtapi_standard, is_answer_found};
 ghost use Rattle.workload_runs.specs.declared.calls.Wanted.TheVariants.{Task, AllMembers, FirstMember};
 ghost use Rattle.workload_runs.specs.Wants.{IsTimed};
 ghost use Rattle.sched_workers.specs.Answers.{WaitedUntil};
@@ -35,8 +35,8 @@ fn look_until<R: Wait, K: Clock>(
     deadline: &Deadline<K>,
 ) -> Result<Reply, Spent>
     requires { seat.old.cell ≡ cell.now.id }
-    ensures answered { IfOk result (λ r. (looks : ℕ) × Looked wanted (Some looks) seat.old seat.new r) }
-    ensures spent { OnErr result ((looks : ℕ) × StillLooking wanted (Some looks) seat.old seat.new) }
+    ensures answered { IfOk result (λ r. (looks : ℕ) × NodeLooked wanted (Some looks) seat.old seat.new r) }
+    ensures spent { OnErr result ((looks : ℕ) × NodeStillLooking wanted (Some looks) seat.old seat.new) }
 {
     let mut pause = Pause::new();
     for _ in rt.forever() {
@@ -66,9 +66,9 @@ impl<'a> Caller<'a> {
         deadline: &Deadline<K>,
     ) -> Result<Reply, Spent>
         requires timed { IsTimed wanted }
-        ensures looked { IfOk result (λ r. (looks : ℕ) × Looked wanted (Some looks) self.old self.new r) }
-        ensures spent { OnErr result ((looks : ℕ) × StillLooking wanted (Some looks) self.old self.new) }
-        ensures found { IfOk result (λ r. found wanted r ≡ true) }
+        ensures looked { IfOk result (λ r. (looks : ℕ) × NodeLooked wanted (Some looks) self.old self.new r) }
+        ensures spent { OnErr result ((looks : ℕ) × NodeStillLooking wanted (Some looks) self.old self.new) }
+        ensures found { IfOk result (λ r. is_answer_found wanted r ≡ true) }
     {
         look_until(rt, self.cell, &mut self.seat, wanted, deadline)
     }
@@ -85,7 +85,7 @@ impl<'a> Caller<'a> {
         task: TaskHandle,
         deadline: &Deadline<K>,
     ) -> Result<TaskEnd, MtapiStatus>
-        ensures { WaitedUntil mtapi ended (Task task) self.old self.new result }
+        ensures { WaitedUntil mtapi_standard end_in_reply (Task task) self.old self.new result }
     {
         ended(self.until(rt, Wanted::Task(task), deadline))
     }
@@ -101,7 +101,7 @@ impl<'a> Caller<'a> {
         group: GroupHandle,
         deadline: &Deadline<K>,
     ) -> Result<(), MtapiStatus>
-        ensures { WaitedUntil mtapi done (AllMembers group) self.old self.new result }
+        ensures { WaitedUntil mtapi_standard done (AllMembers group) self.old self.new result }
     {
         done(self.until(rt, Wanted::AllMembers(group), deadline))
     }
@@ -117,7 +117,7 @@ impl<'a> Caller<'a> {
         group: GroupHandle,
         deadline: &Deadline<K>,
     ) -> Result<(TaskHandle, TaskEnd), MtapiStatus>
-        ensures { WaitedUntil mtapi given (FirstMember group) self.old self.new result }
+        ensures { WaitedUntil mtapi_standard given (FirstMember group) self.old self.new result }
     {
         given(self.until(rt, Wanted::FirstMember(group), deadline))
     }

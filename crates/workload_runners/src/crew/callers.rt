@@ -3,7 +3,7 @@
 ghost use Rattle.std.specs.Prelude.{◌≡◌, ◌≤◌, ◌<◌, [], vec_len, vec_capacity, IfOk, IfErr};
 ghost use Rattle.std.specs.Thread.{IsSync};
 ghost use Rattle.run_beside.specs.Pairs.{Counts};
-ghost use Rattle.workload_runners.specs.Crews.{GaveUp, HaveHeld, IsOneMore, MayCall, is_lost};
+ghost use Rattle.workload_runners.specs.Crews.{GaveUp, HaveHeld, IsOneMore, MayCall, is_seat_alone};
 
 use crate::crew::holder::{Held, Holder};
 use crate::crew::jobs::CallerJob;
@@ -93,7 +93,7 @@ where
     requires { MayCall cell.now callers }
     ensures back { IfOk result (HaveHeld C.promise D.promise cell.now callers) }
     ensures lost { IfErr result (GaveUp callers.main) }
-    ensures counts { Counts (is_lost result) (B.refusals beside.old) (B.refusals beside.new) }
+    ensures counts { Counts (is_seat_alone result) (B.refusals beside.old) (B.refusals beside.new) }
 {
     let mut callers = callers;
     let Some(client) = callers.others.pop() else {
@@ -129,7 +129,7 @@ where
             requires { MayCall cell.now callers × IsSync R.row }
             ensures back { IfOk result (HaveHeld C.promise D.promise cell.entry.now callers) }
             ensures lost { IfErr result (GaveUp callers.main) }
-            ensures counts { Counts (is_lost result) (B.refusals beside.old) (B.refusals beside.new) }
+            ensures counts { Counts (is_seat_alone result) (B.refusals beside.old) (B.refusals beside.new) }
         { start_callers(rt, cell, beside, callers) },
     );
     match outcome {

@@ -1,7 +1,7 @@
 //! The node, from its start to its journal.
 
 ghost use Rattle.std.specs.Prelude.{◌≡◌, ◌+◌, ◌-◌, ◌≤◌, ◌<◌, ℕ, true, false, List, [], ◌∷◌, ◌++◌, length, IfOk, IfErr, vec_len, vec_capacity};
-ghost use Rattle.node_core.specs.Stands.{Stands, terms_of};
+ghost use Rattle.node_core.specs.Stands.{NodeStands, terms_of_node};
 ghost use Rattle.turn_cell.specs.Seats.{fresh_seats};
 ghost use Rattle.run_beside.specs.Pairs.{Counts};
 ghost use Rattle.workload_runners.specs.Runs.{Causes, GivesMain, is_refused};
@@ -158,13 +158,13 @@ pub fn run_crew<
 ) -> Result<RanNode<C::Told, D::Told, S::Set>, RunError>
 where
     D::Told: Send,
-    requires new { Stands node [] }
-    requires callers { (terms_of node).callers ≡ vec_len others + 1 }
-    ensures ran { IfOk result (RanAs S.Set.rounds C.promise D.promise client others.items (terms_of node)) }
-    ensures sets { IfOk result (λ r. vec_len r.sets ≡ (terms_of node).settings.workers) }
+    requires new { NodeStands node [] }
+    requires callers { (terms_of_node node).callers ≡ vec_len others + 1 }
+    ensures ran { IfOk result (RanAs S.Set.rounds C.promise D.promise client others.items (terms_of_node node)) }
+    ensures sets { IfOk result (λ r. vec_len r.sets ≡ (terms_of_node node).settings.workers) }
     ensures causes { IfErr result (Causes (B.refusals beside.old) (B.refusals beside.new)) }
     ensures counts { Counts (is_refused result) (B.refusals beside.old) (B.refusals beside.new) }
-    ensures unbegun { IfErr result (GivesMain (terms_of node).settings.workers) }
+    ensures unbegun { IfErr result (GivesMain (terms_of_node node).settings.workers) }
 {
     let object = Journaled::with(alloc, node);
     let Ok((cell, seats)) = TurnCell::new(alloc, object) else {

@@ -4,7 +4,7 @@ ghost use Rattle.std.specs.Prelude.{◌≡◌, ◌≤◌, ◌<◌, All, vec_len,
 ghost use Rattle.std.specs.Thread.{IsSync};
 ghost use Rattle.run_beside.specs.Pairs.{Counts};
 ghost use Rattle.workload_runners.specs.Turns.{Seat};
-ghost use Rattle.workload_runners.specs.Crews.{AreReady, GaveUp, HaveCome, HaveHeld, IsClosedBy, IsJoined, is_lost};
+ghost use Rattle.workload_runners.specs.Crews.{AreReady, GaveUp, HaveCome, HaveHeld, IsClosedBy, IsJoined, is_seat_alone};
 
 use crate::crew::callers::{ReturnedCallers, UnstartedCallers, closed, start_callers};
 use crate::crew::end::{Ended, end_with};
@@ -117,7 +117,7 @@ where
     requires { AreReady cell.now threads }
     ensures back { IfOk result (HaveCome S.Set.rounds C.promise D.promise cell.now threads) }
     ensures lost { IfErr result (GaveUp threads.callers.main) }
-    ensures counts { Counts (is_lost result) (B.refusals beside.old) (B.refusals beside.new) }
+    ensures counts { Counts (is_seat_alone result) (B.refusals beside.old) (B.refusals beside.new) }
 {
     let mut threads = threads;
     let Some(seat) = threads.workers.pop() else {
@@ -149,7 +149,7 @@ where
             requires { AreReady cell.now threads × IsSync R.row }
             ensures back { IfOk result (HaveCome S.Set.rounds C.promise D.promise cell.entry.now threads) }
             ensures lost { IfErr result (GaveUp threads.callers.main) }
-            ensures counts { Counts (is_lost result) (B.refusals beside.old) (B.refusals beside.new) }
+            ensures counts { Counts (is_seat_alone result) (B.refusals beside.old) (B.refusals beside.new) }
         { start_workers(rt, cell, acts, beside, threads) },
     );
     match outcome {

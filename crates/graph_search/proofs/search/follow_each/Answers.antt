@@ -11,10 +11,12 @@ loop-place-preserved g c =
 
 pub returns-then-place-count : goal.returns-then-place-count
 returns-then-place-count g c =
-    searched_all (g.G.Graph.has_steps c.args.graph.now) (g.G.Graph.opens c.args.graph.now) g.G.State.PartialEq.eq g.met.G.State.Eq.laws.refl c.loop-place.place c.args.most
+    searched_all (g.G.Graph.has_steps c.args.graph.now)
+    (g.G.Graph.opens c.args.graph.now) g.G.State.PartialEq.eq g.met.G.State.Eq.laws.refl c.loop-place.place c.args.most
     (visits c.loop-place.found.states.keys c.loop-place.found.origins.items) c.loop-place.found.stops.items c.loop-place.invariant (λ h. omega arith)
 
 pub returns : goal.returns
 returns g c =
-    searched_all (g.G.Graph.has_steps c.args.graph.now) (g.G.Graph.opens c.args.graph.now) g.G.State.PartialEq.eq g.met.G.State.Eq.laws.refl c.loop-place.place c.args.most
+    searched_all (g.G.Graph.has_steps c.args.graph.now)
+    (g.G.Graph.opens c.args.graph.now) g.G.State.PartialEq.eq g.met.G.State.Eq.laws.refl c.loop-place.place c.args.most
     (visits c.loop-place.found.states.keys c.loop-place.found.origins.items) c.loop-place.found.stops.items c.loop-place.invariant (λ h. omega arith)

@@ -1,4 +1,4 @@
-use Rattle.group_core.proofs.Names.{◌≡◌, refl, sym, ap, subst, false≢true, Slots, IsFull, Inserts, GroupTable, AreGroups, members_in, no_members, table_of}
+use Rattle.group_core.proofs.Names.{◌≡◌, refl, sym, ap, subst, false≢true, Slots, IsFull, Inserts, GroupTable, AreGroups, members_in, no_members, group_table_of}
 use Rattle.group_core.proofs.GroupLemmas.{AreGroups-create, Inserts-members, IsFull-members}
 use Rattle.group_core.proofs.Groups.create.Goals as goal
 
@@ -9,7 +9,7 @@ invariant_of-self c =
 
 pub returns-in_default : goal.returns-in_default
 returns-in_default c =
-    let P : Slots (Unit {0}) → Type 0 = λ p. table_of p c.self.inside.unended c.self.inside.ended ≡ c.args.self.now in
+    let P : Slots (Unit {0}) → Type 0 = λ p. group_table_of p c.self.inside.unended c.self.inside.ended ≡ c.args.self.now in
     let Q : GroupTable → Type 0 = λ o. IsFull o.pool in (
       subst Q c.self.view_is ((IsFull-members c.self.inside.pool c.self.inside.unended c.self.inside.ended).1 (c.in_default.ensures.full.0 refl)),
       subst P

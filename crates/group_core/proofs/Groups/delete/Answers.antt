@@ -1,4 +1,4 @@
-use Rattle.group_core.proofs.Names.{◌≡◌, [], Some, refl, subst, ◌∙◌, slot_of, slot_value, without, with_list, GroupTable, table_of}
+use Rattle.group_core.proofs.Names.{◌≡◌, [], Some, refl, subst, ◌∙◌, slot_of, slot_value, without, with_list, GroupTable, group_table_of}
 use Rattle.group_core.proofs.GroupLemmas.{live_tells, dead_tells, get-live, get-dead, within_unended, within_ended, AreGroups-delete, members-delete}
 use Rattle.group_core.proofs.Groups.delete.Goals as goal
 
@@ -17,7 +17,7 @@ returns-clause-ok c =
     let live = live_tells c.is_live.result (slot_value c.self.inside.pool c.args.g.0) c.is_live.ensures c.if-not-is_live.false in
     let some : c.remove.result ≡ Some tt = c.remove.ensures.value ∙ live in
     let removed : c.remove.new.self ≡ without c.self.inside.pool c.args.g.0 = rw some at c.remove.ensures.removed in
-    let P : GroupTable → Type 0 = λ o. table_of (without c.self.inside.pool c.args.g.0) (with_list c.self.inside.unended (slot_of c.args.g.0) [])
+    let P : GroupTable → Type 0 = λ o. group_table_of (without c.self.inside.pool c.args.g.0) (with_list c.self.inside.unended (slot_of c.args.g.0) [])
     (with_list c.self.inside.ended (slot_of c.args.g.0) []) ≡ record o { pool = without o.pool c.args.g.0 } in
     rw (removed, c.clear.ensures, c.clear-2.ensures, c.slot_of-slot.ensures)
     (subst P c.self.view_is (rw (members-delete c.self.inside.pool c.self.inside.unended c.self.inside.ended c.args.g.0 c.self.invariant live) refl))

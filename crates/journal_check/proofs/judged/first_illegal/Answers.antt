@@ -12,4 +12,5 @@ first_refused-requires-clause-legal c =
     (empty_legal terms (record { settings = c.is_kept.ensures; some_caller = c.if-callers-lt1.false; callers = c.if-callers-gt9.false }))
 
 pub returns : goal.returns
-returns c = subst (λ (t : Terms). IfOk c.first_refused.result (IsLegalOr t (map entry_of c.args.shorts.now))) c.in_ok-follower.ensures.terms c.first_refused.ensures
+returns c = subst (λ (t : Terms). IfOk c.first_refused.result
+    (IsLegalOr t (map entry_of c.args.shorts.now))) c.in_ok-follower.ensures.terms c.first_refused.ensures

@@ -1,4 +1,4 @@
-use Rattle.journal_check.proofs.Names.{◌≡◌, ◌+◌, ◌≤◌, ℕ, true, false, List, get_or, sym, subst, ap, arith, ◌∙◌, take_all, NodeEntry, after, Stands, is_live_of, gone_of, renaming_of}
+use Rattle.journal_check.proofs.Names.{◌≡◌, ◌+◌, ◌≤◌, ℕ, true, false, List, get_or, sym, subst, ap, arith, ◌∙◌, take_all, NodeEntry, after, PoolNodeStands, is_live_of, gone_of, renaming_of}
 use Rattle.node_steps.specs.Stands.{terms_of}
 use Rattle.journal_check.proofs.Rooms.{live_here, gone_next}
 use Rattle.journal_check.proofs.room.gone_of.Goals as goal
@@ -11,8 +11,8 @@ loop-handle-preserved c =
     let i = c.loop-handle.handle-index in
     let n = c.args.node.now in
     let g = renaming_of c.args.names.now in
-    let told : (L : List NodeEntry) → Stands n L → is_live_of k (after (terms_of n) L) (g k (get_or hs i 0)) ≡ c.is_live.result =
-    subst (λ (h : ℕ). (L : List NodeEntry) → Stands n L → is_live_of k (after (terms_of n) L) h ≡ c.is_live.result) c.other.ensures c.is_live.ensures in
+    let told : (L : List NodeEntry) → PoolNodeStands n L → is_live_of k (after (terms_of n) L) (g k (get_or hs i 0)) ≡ c.is_live.result =
+    subst (λ (h : ℕ). (L : List NodeEntry) → PoolNodeStands n L → is_live_of k (after (terms_of n) L) h ≡ c.is_live.result) c.other.ensures c.is_live.ensures in
     elim c.if-not-is_live.branch [
       | then-not-is_live w ↦
           (let gone : c.is_live.result ≡ false = w.if-not-is_live.true in

@@ -1,4 +1,4 @@
-use Rattle.linked_places.proofs.Names.{◌≤◌, map, subst, HandleLists, list_at, handles_of}
+use Rattle.linked_places.proofs.Names.{◌≤◌, map, subst, HandleLists, list_at, linked_handles}
 use Rattle.linked_places.proofs.LinkedLemmas.{count-within, read_ends}
 use Rattle.linked_places.proofs.LinkedLists.len.Goals as goal
 
@@ -8,6 +8,6 @@ returns-clause-few c =
     let ends = c.self.inside.ends.items in
     let e = c.index.result.now in
     let at = read_ends links ends c.args.self.now c.args.list e c.self.view_is c.requires c.index.ensures in
-    let few = count-within links e (list_at (map (handles_of links) ends) c.args.list) (c.self.invariant.each c.args.list e at) in
+    let few = count-within links e (list_at (map (linked_handles links) ends) c.args.list) (c.self.invariant.each c.args.list e at) in
     let P : HandleLists → Type 0 = λ ls. e.count ≤ ls.places in
     subst P c.self.view_is few

@@ -1,4 +1,4 @@
-use Rattle.linked_places.proofs.Names.{◌≡◌, ◌<◌, length, map, set, sym, subst, ◌∙◌, arith, get_or_from_slice_get, slot_of, HandleLists, list_at, without_handle, NowhereAt, handles_of, links_followed, links_without, ends_without}
+use Rattle.linked_places.proofs.Names.{◌≡◌, ◌<◌, length, map, set, sym, subst, ◌∙◌, arith, get_or_from_slice_get, slot_of, HandleLists, list_at, without_handle, NowhereAt, linked_handles, links_followed, links_without, ends_without}
 use Rattle.linked_places.proofs.RunLemmas.{length-followed, length-following}
 use Rattle.linked_places.proofs.LinkedLemmas.{IsLinked-view, view-with_list, removed, removed_gone}
 use Rattle.linked_places.proofs.LinkedLists.remove.Goals as goal
@@ -35,7 +35,7 @@ invariant_of-self c =
     let e : c.index-ends.result.now ≡ found.0 = c.index-ends.ensures ∙ get_or_from_slice_get ends c.args.list found.0 c.index-ends.result.now found.1 in
     rw (c.set_previous.ensures, c.set_next.ensures, c.without.ensures, link, e)
     (IsLinked-view (links_without links found.2.link.previous found.2.link.next) (set ends c.args.list (ends_without found.0 found.2.link))
-    (set (map (handles_of links) ends) c.args.list (without_handle c.args.handle (list_at (map (handles_of links) ends) c.args.list))) found.2.linked)
+    (set (map (linked_handles links) ends) c.args.list (without_handle c.args.handle (list_at (map (linked_handles links) ends) c.args.list))) found.2.linked)
 
 pub returns-clause-new : goal.returns-clause-new
 returns-clause-new c =

@@ -3,7 +3,7 @@ use Rattle.mtapi_values.specs.declared.kinds.Kind.TheVariants as kind
 use Rattle.action_fn.specs.declared.finished.ActEnd.TheVariants.{Done}
 use Rattle.mtapi_machine.specs.declared.ops.Op.TheVariants as op
 use Rattle.mtapi_machine.specs.declared.replies.Reply.TheVariants as reply
-use Rattle.mtapi_machine.specs.WorkedWork.{picking, two_workers, finishing, stopped_watch, whole_watch, bad_watches, running}
+use Rattle.mtapi_machine.specs.WorkedWork.{picking, two_workers_table, finishing, stopped_watch, whole_watch, bad_watches, running}
 use Rattle.mtapi_machine.proofs.Lines.{last_is_next, worked, wrong_differ}
 use Rattle.mtapi_machine.proofs.tables.worked_work.Goals as goal
 
@@ -16,6 +16,6 @@ unfolding running after_from issue change is_full live_of retired may_issue list
 no_seat_illegal h = let k : 3 < 3 = (last_is_next small (reported running) _ h).seat in omega arith
 
 pub returns : goal.returns
-unfolding picking two_workers finishing stopped_watch whole_watch bad_watches running replay wrong_differ live_of issue change change_all listed issued_at
+unfolding picking two_workers_table finishing stopped_watch whole_watch bad_watches running replay wrong_differ live_of issue change change_all listed issued_at
     retired is_full may_issue fits answer_of has_worker end_each endings is_ready can_take has_better
 returns c = search (worked, another_end_illegal, no_seat_illegal)

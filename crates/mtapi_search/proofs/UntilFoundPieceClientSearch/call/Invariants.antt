@@ -1,9 +1,9 @@
-use Rattle.node_with_workers.specs.Clients.{GoesOn}
-use Rattle.workload_runners.specs.Turns.{SameSeat}
+use Rattle.node_with_workers.specs.Clients.{SeatGoesOn}
+use Rattle.workload_runners.specs.Turns.{SameNodeSeat}
 use Rattle.mtapi_search.proofs.UntilFoundPieceClientSearch.call.Given as goal
 
 abbrev pub invariant-loop-place : goal.invariant-loop-place
-invariant-loop-place g l = SameSeat l.fn.caller l.caller × GoesOn l.fn.caller l.caller
+invariant-loop-place g l = SameNodeSeat l.fn.caller l.caller × SeatGoesOn l.fn.caller l.caller
 
 abbrev pub invariant-loop-other : goal.invariant-loop-other
-invariant-loop-other g l = SameSeat l.fn.caller l.caller × GoesOn l.fn.caller l.caller
+invariant-loop-other g l = SameNodeSeat l.fn.caller l.caller × SeatGoesOn l.fn.caller l.caller

@@ -1,5 +1,5 @@
 use Rattle.mtapi_top.proofs.Told.{told_of, shown, headline, headline_cut, text_two, settled, settled_cut, journal, spent, usage, refused, refused_where, reading, read_fault, write_fault, no_thread, all_threads, turns_spent, nothing, complete, complete_generated, check_yes, check_no, check_cut, check_nine, check_refused, check_refused_where, check_complete, ended, read, decides, later, idle}
-use Rattle.mtapi_top.proofs.Names.{asked_of, texts}
+use Rattle.mtapi_top.proofs.Names.{asked_by_words, texts}
 use Rattle.mtapi_top.proofs.whole_command.command.Goals as goal
 
 pub returns : goal.returns
@@ -37,5 +37,5 @@ returns g c =
       read = read t;
       check_decides = decides x;
       later = later t;
-      idle = idle _ (asked_of (texts c.args.words.now)) c.end_of-end.result _ _ _ _ c.tell.result c.end_of-end.ensures.idle c.tell.ensures.reported;
+      idle = idle _ (asked_by_words (texts c.args.words.now)) c.end_of-end.result _ _ _ _ c.tell.result c.end_of-end.ensures.idle c.tell.ensures.reported;
     }

@@ -1,6 +1,6 @@
-use Rattle.node_with_workers.specs.Clients.{GoesOn}
-use Rattle.workload_runners.specs.Turns.{SameSeat}
+use Rattle.node_with_workers.specs.Clients.{SeatGoesOn}
+use Rattle.workload_runners.specs.Turns.{SameNodeSeat}
 use Rattle.mtapi_two_callers.proofs.AddingClient.call.Given as goal
 
 abbrev pub invariant-loop-number : goal.invariant-loop-number
-invariant-loop-number g l = SameSeat l.fn.caller l.caller × GoesOn l.fn.caller l.caller
+invariant-loop-number g l = SameNodeSeat l.fn.caller l.caller × SeatGoesOn l.fn.caller l.caller

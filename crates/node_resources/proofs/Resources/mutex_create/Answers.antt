@@ -1,4 +1,4 @@
-use Rattle.node_resources.proofs.Names.{refl, sym, ◌∙◌, subst, ErrMutexExists, ErrMutexLimit, new_mutex, keyed_mutexes, Mutexes, ResourceTable, Stands, the_view}
+use Rattle.node_resources.proofs.Names.{refl, sym, ◌∙◌, subst, ErrMutexExists, ErrMutexLimit, new_mutex, keyed_mutexes, Mutexes, ResourceTable, ResourcesStand, the_view}
 use Rattle.mtapi_machine.specs.declared.ops.Op.TheVariants as op
 use Rattle.node_resources.proofs.KindSteps.{kind_does}
 use Rattle.node_resources.proofs.RowLemmas.{as_was, past_open, creates_does, refuses_does}
@@ -7,7 +7,7 @@ use Rattle.node_resources.proofs.Resources.mutex_create.Goals.{in-Ok, in-Err}
 
 pub returns : goal.returns
 returns c s a v =
-    let t = subst (λ (t : ResourceTable). Stands s t) (sym c.self.view_is) v in
+    let t = subst (λ (t : ResourceTable). ResourcesStand s t) (sym c.self.view_is) v in
     let p = c.self.inside.mutexes in
     let x = new_mutex c.args.id c.args.recursive in
     let g = sym c.in_default.is ∙ c.open_refusal.ensures in

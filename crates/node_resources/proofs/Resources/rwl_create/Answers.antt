@@ -1,4 +1,4 @@
-use Rattle.node_resources.proofs.Names.{refl, sym, ◌∙◌, subst, ErrRwlExists, ErrRwlLimit, new_rwl, rwl_create_refusals, keyed_rwls, Rwls, ResourceTable, Stands, the_view}
+use Rattle.node_resources.proofs.Names.{refl, sym, ◌∙◌, subst, ErrRwlExists, ErrRwlLimit, new_rwl, rwl_create_refusals, keyed_rwls, Rwls, ResourceTable, ResourcesStand, the_view}
 use Rattle.mtapi_machine.specs.declared.ops.Op.TheVariants as op
 use Rattle.node_resources.proofs.KindSteps.{kind_does}
 use Rattle.node_resources.proofs.RowLemmas.{as_was, past, past_open, creates_does, refuses_within}
@@ -7,7 +7,7 @@ use Rattle.node_resources.proofs.Resources.rwl_create.Goals.{in-Ok, in-Err}
 
 pub returns : goal.returns
 returns c s a v =
-    let t = subst (λ (t : ResourceTable). Stands s t) (sym c.self.view_is) v in
+    let t = subst (λ (t : ResourceTable). ResourcesStand s t) (sym c.self.view_is) v in
     let p = c.self.inside.rwls in
     let x = new_rwl c.args.id c.args.limit in
     let g = sym c.in_default.is ∙ c.open_refusal.ensures in

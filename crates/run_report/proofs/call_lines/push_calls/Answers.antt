@@ -13,7 +13,8 @@ loop-i-preserved c =
     (nows c.args.replies.now) c.loop-i.i c.index-statements-i.result c.reply_of.result
     c.loop-i.out.items c.push_call.new.out.items _
     c.loop-i-test.true c.index-statements-i.is (nows_room c.args.replies.now c.loop-i.i c.in-Some.ensures.lookup.3.0)
-    (nows_at_by c.args.replies.now c.loop-i.i c.in-Some.short.now c.reply_of.result c.in-Some.ensures.lookup.3.0 c.in-Some.ensures.lookup.1 c.reply_of.ensures) c.loop-i.invariant
+    (nows_at_by c.args.replies.now c.loop-i.i c.in-Some.short.now c.reply_of.result c.in-Some.ensures.lookup.3.0 c.in-Some.ensures.lookup.1 c.reply_of.ensures)
+    c.loop-i.invariant
     c.in_ok-push_call.ensures
 
 pub returns : goal.returns

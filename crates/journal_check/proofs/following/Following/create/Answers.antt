@@ -1,4 +1,4 @@
-use Rattle.journal_check.proofs.Names.{◌≡◌, List, Some, None, subst, IsSome, Op, NodeEntry, after, Stands, made_kind, refusal_of, renaming_of, renamed_op}
+use Rattle.journal_check.proofs.Names.{◌≡◌, List, Some, None, subst, IsSome, Op, NodeEntry, after, PoolNodeStands, made_kind, refusal_of, renaming_of, renamed_op}
 use Rattle.node_steps.specs.Stands.{terms_of}
 use Rattle.journal_check.proofs.Creates.{makes_some, refusal_here, judged_refused}
 use Rattle.journal_check.proofs.following.Following.create.Goals as goal
@@ -16,7 +16,8 @@ returns-in-Some c =
     let e = c.args.entry.now in
     let op : c.renamed_op-op.result ≡ renamed_op (renaming_of f.names) e.op = cc in
     judged_refused c.laws.ensures f e c.args.kind c.requires.makes c.same_reply.result c.in-Some.refused c.same_reply.ensures
-    (subst (λ (o : Op). (K : List NodeEntry) → Stands f.node K → refusal_of (after (terms_of f.node) K) e.who o ≡ Some c.in-Some.refused) op c.in-Some.ensures)
+    (subst (λ (o : Op). (K : List NodeEntry) → PoolNodeStands f.node K
+    → refusal_of (after (terms_of f.node) K) e.who o ≡ Some c.in-Some.refused) op c.in-Some.ensures)
 
 pub place-requires-clause-accepted : goal.place-requires-clause-accepted
 place-requires-clause-accepted c =
@@ -24,4 +25,4 @@ place-requires-clause-accepted c =
     let e = c.args.entry.now in
     let op : c.renamed_op-op.result ≡ renamed_op (renaming_of f.names) e.op = cc in
     refusal_here c.laws.ensures f e c.args.kind c.requires.makes None
-    (subst (λ (o : Op). (K : List NodeEntry) → Stands f.node K → refusal_of (after (terms_of f.node) K) e.who o ≡ None) op c.in-None.ensures)
+    (subst (λ (o : Op). (K : List NodeEntry) → PoolNodeStands f.node K → refusal_of (after (terms_of f.node) K) e.who o ≡ None) op c.in-None.ensures)

@@ -1,4 +1,4 @@
-use Rattle.journal_check.proofs.Names.{◌≡◌, ◌+◌, ◌≤◌, ℕ, List, length, sym, ap, subst, ◌∙◌, arith, ◌==◌, ◌-◌, after, gone_of, of_kind, last_handles, made_count, gone_count, Ends}
+use Rattle.journal_check.proofs.Names.{◌≡◌, ◌+◌, ◌≤◌, ℕ, List, length, sym, ap, subst, ◌∙◌, arith, ◌==◌, ◌-◌, after, gone_of, of_kind, last_handles, made_count, gone_count, EndsObjects}
 use Rattle.journal_check.proofs.Rooms.{alive_here, full_here, all_taken, all_made, same_gone}
 use Rattle.journal_check.proofs.following.Following.is_full.Goals as goal
 
@@ -46,9 +46,10 @@ returns-clause-same c =
     let most : c.most_of.result ≡ c.from-most.result = cc in
     let made : c.made-made.result ≡ made_count (of_kind f.made c.args.kind) = cc in
     let lasts : c.lasts-lasts.result.now ≡ last_handles (of_kind f.made c.args.kind) = cc in
-    let ends : Ends c.args.kind c.gone_of-gone.result
+    let ends : EndsObjects c.args.kind c.gone_of-gone.result
     (made_count (of_kind f.made c.args.kind) - c.from-live.result - c.gone_of-gone.result) f.made c.end.new.self =
-    subst (λ (n : ℕ). Ends c.args.kind c.gone_of-gone.result (n - c.from-live.result - c.gone_of-gone.result) f.made c.end.new.self) made c.end.ensures in
+    subst (λ (n : ℕ). EndsObjects c.args.kind c.gone_of-gone.result
+    (n - c.from-live.result - c.gone_of-gone.result) f.made c.end.new.self) made c.end.ensures in
     same_gone c.laws.ensures f c.args.kind c.from-live.result c.from-most.result (λ K a. c.live.ensures K a ∙ live) (λ s e. c.most_of.ensures s e
     ∙ most) c.gone_of-gone.result
     (λ L h. ap (gone_of c.args.kind (after f.terms L)) (sym lasts)

@@ -1,4 +1,4 @@
-use Rattle.journal_check.proofs.Names.{◌≡◌, ℕ, List, [], ◌∷◌, ◌++◌, subst, entry, Op, Handle, NodeEntry, Stands, renaming_of, renamed_op, Notes}
+use Rattle.journal_check.proofs.Names.{◌≡◌, ℕ, List, [], ◌∷◌, ◌++◌, subst, entry, Op, Handle, NodeEntry, PoolNodeStands, renaming_of, renamed_op, NotesObject}
 use Rattle.journal_check.proofs.Makes.{judged_other, judged_stale, judged_idle, judged_made}
 use Rattle.journal_check.proofs.following.Following.make.Goals as goal
 
@@ -18,8 +18,10 @@ returns-in_default-step c =
     let f = c.args.self.now in
     let e = c.args.entry.now in
     let op : c.renamed_op-op.result ≡ renamed_op (renaming_of f.names) e.op = cc in
-    let stands : (L : List NodeEntry) → Stands f.node L → Stands c.step.new.self (L ++ entry e.who (renamed_op (renaming_of f.names) e.op) c.step.result ∷ []) =
-    subst (λ (o : Op). (L : List NodeEntry) → Stands f.node L → Stands c.step.new.self (L ++ entry e.who o c.step.result ∷ [])) op c.step.ensures.stands in
+    let stands : (L : List NodeEntry) → PoolNodeStands f.node L
+    → PoolNodeStands c.step.new.self (L ++ entry e.who (renamed_op (renaming_of f.names) e.op) c.step.result ∷ []) =
+    subst (λ (o : Op). (L : List NodeEntry) → PoolNodeStands f.node L
+    → PoolNodeStands c.step.new.self (L ++ entry e.who o c.step.result ∷ [])) op c.step.ensures.stands in
     judged_idle c.laws.ensures f e c.args.kind c.requires.makes c.requires.accepted c.requires.more c.in-Handle.handle c.in-Handle.is c.if-not-is_next.ensures
     c.step.new.self c.step.ensures.terms
     c.step.result stands (λ h i. c.in_default-step.not-Handle h i)
@@ -29,13 +31,13 @@ returns c =
     let f = c.args.self.now in
     let e = c.args.entry.now in
     let op : c.renamed_op-op.result ≡ renamed_op (renaming_of f.names) e.op = cc in
-    let stands : (L : List NodeEntry) → Stands f.node L
-    → Stands c.step.new.self (L ++ entry e.who (renamed_op (renaming_of f.names) e.op) (Handle c.in-Handle-step.other) ∷ []) =
-    subst (λ (o : Op). (L : List NodeEntry) → Stands f.node L
-    → Stands c.step.new.self (L ++ entry e.who o (Handle c.in-Handle-step.other) ∷ [])) op c.in-Handle-step.ensures.stands in
+    let stands : (L : List NodeEntry) → PoolNodeStands f.node L
+    → PoolNodeStands c.step.new.self (L ++ entry e.who (renamed_op (renaming_of f.names) e.op) (Handle c.in-Handle-step.other) ∷ []) =
+    subst (λ (o : Op). (L : List NodeEntry) → PoolNodeStands f.node L
+    → PoolNodeStands c.step.new.self (L ++ entry e.who o (Handle c.in-Handle-step.other) ∷ [])) op c.in-Handle-step.ensures.stands in
     let last : c.from.result ≡ f.terms.settings.generations = cc in
-    let notes : Notes c.args.kind f.terms.settings.generations c.in-Handle.handle f.made c.note.new.self =
-    subst (λ (m : ℕ). Notes c.args.kind m c.in-Handle.handle f.made c.note.new.self) last c.in_ok-note.ensures in
+    let notes : NotesObject c.args.kind f.terms.settings.generations c.in-Handle.handle f.made c.note.new.self =
+    subst (λ (m : ℕ). NotesObject c.args.kind m c.in-Handle.handle f.made c.note.new.self) last c.in_ok-note.ensures in
     judged_made c.laws.ensures f e c.args.kind c.requires.makes c.requires.accepted c.requires.more c.in-Handle.handle c.in-Handle.is c.if-not-is_next.ensures
     c.step.new.self c.step.ensures.terms
     c.in-Handle-step.other stands c.add.new.self c.note.new.self c.in_ok-add.ensures.ok notes

@@ -1,4 +1,4 @@
-use Rattle.journal_check.proofs.Names.{◌≡◌, ◌<◌, Bool, false, None, Decides, subst, sym, ◌∙◌, Reply, Terms, after, PoolNode, seat_count, is_full_of, refusal_of, Judges}
+use Rattle.journal_check.proofs.Names.{◌≡◌, ◌<◌, Bool, false, None, Decides, subst, sym, ◌∙◌, Reply, Terms, after, PoolNode, seat_count, is_full_of, refusal_of, JudgesEntry}
 use Rattle.std.proofs.lemmas.Result.{IfOk-weaker}
 use Rattle.node_steps.specs.Stands.{terms_of}
 use Rattle.journal_check.proofs.Creates.{judged_full, judges_same, judges_from}
@@ -33,5 +33,6 @@ pub returns : goal.returns
 returns c =
     let f = c.args.self.now in
     let e = c.args.entry.now in
-    IfOk-weaker c.make.result (λ (passes : Bool). Judges c.is_full.new.self e passes c.make.new.self) (λ (passes : Bool). Judges f e passes c.make.new.self)
+    IfOk-weaker c.make.result (λ (passes : Bool). JudgesEntry c.is_full.new.self e passes c.make.new.self)
+    (λ (passes : Bool). JudgesEntry f e passes c.make.new.self)
     (λ passes j. judges_from c.laws.ensures f e c.args.kind c.requires.makes c.is_full.new.self c.make.new.self passes c.is_full.ensures.same j) c.make.ensures

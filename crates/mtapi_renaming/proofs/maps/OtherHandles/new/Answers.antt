@@ -6,12 +6,12 @@ use Rattle.mtapi_values.specs.declared.handles.ObjectKind.{ObjectKind}
 use Rattle.mtapi_values.specs.declared.handles.ObjectKind.TheVariants.{Action}
 use Rattle.mtapi_renaming.specs.Renaming.{or_zero}
 use Rattle.mtapi_renaming.specs.declared.maps.OtherHandles.{OtherHandles}
-use Rattle.mtapi_renaming.specs.Renaming.{nothing}
+use Rattle.mtapi_renaming.specs.Renaming.{renames_nothing}
 use Rattle.mtapi_renaming.specs.Maps.{map_of, renaming_of}
 use Rattle.mtapi_renaming.proofs.maps.OtherHandles.new.Goals as goal
 
 -- where each map is empty, nothing stands beside a handle
-empty : (m : OtherHandles) → ((k : ObjectKind) → (map_of m k).entries ≡ []) → renaming_of m ≡ nothing
+empty : (m : OtherHandles) → ((k : ObjectKind) → (map_of m k).entries ≡ []) → renaming_of m ≡ renames_nothing
 empty m e = λ i k h. ap (λ (es : List (ℕ × ℕ)). or_zero (lookup (is_at (nat_cmp h)) es)) (e k) i
 
 pub returns : goal.returns

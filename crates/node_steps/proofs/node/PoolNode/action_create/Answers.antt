@@ -1,5 +1,5 @@
 use Rattle.node_steps.proofs.Names.{Ok, Err, refl, sym, ap, subst, ◌∙◌, option_map, Result, ActionHandle, MtapiStatus, action_create_refusals, not-false}
-use Rattle.job_table.specs.Answers.{Creates}
+use Rattle.job_table.specs.Answers.{CreatesAction}
 use Rattle.node_steps.proofs.ActionSteps.{create_steps}
 use Rattle.mtapi_values.specs.declared.statuses.MtapiStatus.TheVariants as m
 use Rattle.mtapi_values.specs.declared.handles.ObjectKind.TheVariants as kind

@@ -1,4 +1,4 @@
-use Rattle.node_steps.proofs.Names.{◌≡◌, true, refl, sym, subst, FitsSigned, w64, rules, ℤ, Option, to_z-of_z, ActionHandle, GroupHandle, QueueHandle, TaskHandle, Op, renamed_op, other_queue, is_mrapi, Steps}
+use Rattle.node_steps.proofs.Names.{◌≡◌, true, refl, sym, subst, FitsSigned, w64, rules, ℤ, Option, to_z-of_z, ActionHandle, GroupHandle, QueueHandle, TaskHandle, Op, renamed_op, other_queue, is_mrapi, PoolNodeSteps}
 use Rattle.mtapi_machine.specs.declared.ops.Op.TheVariants as op
 use Rattle.node_steps.proofs.node.PoolNode.dispatch.Goals as goal
 

@@ -1,4 +1,4 @@
-use Rattle.node_steps.proofs.Names.{refl, sym, ◌∙◌, ap, subst, arith, task_end, PoolNode, Steps}
+use Rattle.node_steps.proofs.Names.{refl, sym, ◌∙◌, ap, subst, arith, task_end, PoolNode, PoolNodeSteps}
 use Rattle.action_fn.specs.declared.finished.ActEnd.{ActEnd}
 use Rattle.node_steps.proofs.WorkSteps.{finish_steps, finish_absent, finish_other}
 use Rattle.mtapi_values.specs.declared.statuses.MtapiStatus.TheVariants as m
@@ -18,10 +18,12 @@ returns c l v =
 pub returns-in_default : goal.returns-in_default
 returns-in_default c l v = elim c.in_default.branch [
   | in_default-via-in-Some+else-runs_so w ↦
-      subst (λ (n : PoolNode). Steps c.args.self.now l c.args.who (op.Finish c.args.task c.args.done.now) (reply.Mtapi m.ErrTaskInvalid) n) (sym w.self-is)
+      subst (λ (n : PoolNode). PoolNodeSteps c.args.self.now l c.args.who (op.Finish c.args.task c.args.done.now) (reply.Mtapi m.ErrTaskInvalid) n)
+      (sym w.self-is)
       (finish_other c.args.self.now l c.args.who c.args.task c.args.done.now w.in-Some.found.now v (omega arith) (sym w.in-Some.ensures) (sym w.runs_so.ensures
       ∙ w.if-runs_so.false) c.is_answered.ensures)
   | in_default-via-in_default w ↦
-      subst (λ (n : PoolNode). Steps c.args.self.now l c.args.who (op.Finish c.args.task c.args.done.now) (reply.Mtapi m.ErrTaskInvalid) n) (sym w.self-is)
+      subst (λ (n : PoolNode). PoolNodeSteps c.args.self.now l c.args.who (op.Finish c.args.task c.args.done.now) (reply.Mtapi m.ErrTaskInvalid) n)
+      (sym w.self-is)
       (finish_absent c.args.self.now l c.args.who c.args.task c.args.done.now v (omega arith) (sym w.in_default.ensures) c.is_answered.ensures)
 ]

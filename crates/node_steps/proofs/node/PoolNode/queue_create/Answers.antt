@@ -1,5 +1,5 @@
-use Rattle.node_steps.proofs.Names.{◌≡◌, ℕ, Bool, Ok, Err, None, Result, refl, ap, ◌∙◌, QueueAttributes, QueueHandle, MtapiStatus, first, SchedulerTable, BecomesWith, new_queue, option_map, PoolNode, Lists, Live, Steps, state_of}
-use Rattle.queue_core.specs.Held.{Creates}
+use Rattle.node_steps.proofs.Names.{◌≡◌, ℕ, Bool, Ok, Err, None, Result, refl, ap, ◌∙◌, QueueAttributes, QueueHandle, MtapiStatus, first, SchedulerTable, BecomesWith, new_queue, option_map, PoolNode, Lists, Live, PoolNodeSteps, state_of}
+use Rattle.queue_core.specs.Held.{CreatesQueue}
 use Rattle.queue_core.specs.Held as HeldNew
 use Rattle.node_steps.proofs.Gives.{lands_with}
 use Rattle.mtapi_values.specs.declared.handles.ObjectKind.TheVariants as kind
@@ -14,8 +14,8 @@ use Rattle.node_steps.proofs.node.PoolNode.queue_create.Goals as goal
 created : (n : PoolNode) (l : Lists) (who id job priority limit : ℕ) (ordered retain : Bool) → Live n l
     → first (queue_causes (state_of n l) job priority limit) ≡ None → (a : QueueAttributes) → a.priority ≡ priority → a.limit ≡ limit → a.ordered ≡ ordered
     → a.retain ≡ retain → (b : SchedulerTable) (s r : Result QueueHandle MtapiStatus) → s ≡ r → BecomesWith n.scheduler b b.queues.pool
-    → Creates n.scheduler.queues (HeldNew.new_queue id job a) s b.queues
-    → Steps n l who (op.QueueCreate id job priority limit ordered retain) (handle_reply r) (record n { scheduler = b })
+    → CreatesQueue n.scheduler.queues (HeldNew.new_queue_of id job a) s b.queues
+    → PoolNodeSteps n l who (op.QueueCreate id job priority limit ordered retain) (handle_reply r) (record n { scheduler = b })
 created n l who id job priority limit ordered retain v none a p m o t b s r is new creates =
     let past = queue_past n l who job priority limit none in
     lands_with n l who _ _ b _ new

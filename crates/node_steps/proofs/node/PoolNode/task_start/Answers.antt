@@ -1,5 +1,5 @@
-use Rattle.node_steps.proofs.Names.{Ok, Err, None, refl, ap, ◌∙◌, option_map, Result, ◌≡◌, ℕ, ℤ, Bool, List, Option, GroupHandle, Mask, TaskHandle, MtapiStatus, first, SchedulerTable, Becomes, asked_for, PoolNode, Lists, Live, Steps, state_of}
-use Rattle.task_core.specs.Table.{Adds}
+use Rattle.node_steps.proofs.Names.{Ok, Err, None, refl, ap, ◌∙◌, option_map, Result, ◌≡◌, ℕ, ℤ, Bool, List, Option, GroupHandle, Mask, TaskHandle, MtapiStatus, first, SchedulerTable, Becomes, asked_for, PoolNode, Lists, Live, PoolNodeSteps, state_of}
+use Rattle.task_core.specs.Table.{AddsTask}
 use Rattle.mtapi_values.specs.declared.handles.ObjectKind.TheVariants as kind
 use Rattle.mtapi_machine.specs.declared.ops.Op.TheVariants as op
 use Rattle.mtapi_machine.specs.declared.replies.Reply.TheVariants as reply
@@ -14,8 +14,8 @@ use Rattle.node_steps.proofs.node.PoolNode.task_start.Goals as goal
 started : (n : PoolNode) (l : Lists) (who job : ℕ) (args : List ℤ) (priority : ℕ) (cores : Mask) (detached : Bool) (group : Option GroupHandle) → Live n l
     → first (task_refusals (state_of n l) job args priority cores detached group) ≡ None → (b : SchedulerTable) (copy : List ℤ)
     (s r : Result TaskHandle MtapiStatus) → copy ≡ args → s ≡ r → Becomes n.scheduler b n.scheduler.actions b.tasks
-    → Adds n.scheduler.tasks (asked_for job copy priority cores detached group) s b.tasks
-    → Steps n l who (op.TaskStart job args priority cores detached group) (add_reply r) (record n { scheduler = b })
+    → AddsTask n.scheduler.tasks (asked_for job copy priority cores detached group) s b.tasks
+    → PoolNodeSteps n l who (op.TaskStart job args priority cores detached group) (add_reply r) (record n { scheduler = b })
 started n l who job args priority cores detached group v none b copy s r same is new adds =
     let past = task_past n l who job args priority cores detached group none in
     lands n l who _ _ b _ b.tasks new

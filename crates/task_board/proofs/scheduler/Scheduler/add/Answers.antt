@@ -1,4 +1,4 @@
-use Rattle.task_board.proofs.Names.{◌<◌, ◌^◌, sym, subst, asked_task, group_number, Adds, SchedulerTable, Becomes, MayJoin}
+use Rattle.task_board.proofs.Names.{◌<◌, ◌^◌, sym, subst, asked_task, group_number, AddsTask, SchedulerTable, Becomes, MayJoin}
 use Rattle.task_board.proofs.scheduler.Scheduler.add.Goals as goal
 
 pub add_task-requires-clause-few : goal.add_task-requires-clause-few
@@ -13,7 +13,7 @@ add_task-requires-clause-member c = subst (λ (b : SchedulerTable). MayJoin b.gr
     (sym c.keep_cover.ensures) c.requires.member
 
 pub returns-clause-adds : goal.returns-clause-adds
-returns-clause-adds c = subst (λ (b : SchedulerTable). Adds b.tasks
+returns-clause-adds c = subst (λ (b : SchedulerTable). AddsTask b.tasks
     (asked_task c.args.task) c.add_task.result c.add_task.new.self.tasks) c.keep_cover.ensures c.add_task.ensures.adds
 
 pub returns-clause-new : goal.returns-clause-new

@@ -1,4 +1,4 @@
-use Rattle.task_board.proofs.Names.{◌<◌, ◌^◌, sym, subst, asked_task, group_number, Adds, SchedulerTable, Becomes, IsRoomFor, MayJoin}
+use Rattle.task_board.proofs.Names.{◌<◌, ◌^◌, sym, subst, asked_task, group_number, AddsTask, SchedulerTable, Becomes, IsRoomFor, MayJoin}
 use Rattle.task_board.proofs.scheduler.Scheduler.enqueue.Goals as goal
 
 pub enqueue_task-requires-clause-few : goal.enqueue_task-requires-clause-few
@@ -13,7 +13,7 @@ enqueue_task-requires-clause-member c =
     subst (λ (b : SchedulerTable). MayJoin b.groups.pool c.args.task.detached (group_number c.args.task.group)) (sym c.keep_cover.ensures) c.requires.member
 
 pub returns-clause-adds : goal.returns-clause-adds
-returns-clause-adds c = subst (λ (b : SchedulerTable). Adds b.tasks
+returns-clause-adds c = subst (λ (b : SchedulerTable). AddsTask b.tasks
     (asked_task c.args.task) c.enqueue_task.result c.enqueue_task.new.self.tasks) c.keep_cover.ensures c.enqueue_task.ensures.adds
 
 pub returns-clause-new : goal.returns-clause-new

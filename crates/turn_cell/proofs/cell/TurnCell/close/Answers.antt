@@ -1,4 +1,4 @@
-use Rattle.turn_cell.proofs.Names.{◌≡◌, ℕ, ◌<◌, List, [], ◌∷◌, length, Option, Some, None, sym, ap, subst, arith, Entry, all_of, SeatView, IsComplete, IsSeatOf, boxed_terms, boxed_stands}
+use Rattle.turn_cell.proofs.Names.{◌≡◌, ℕ, ◌<◌, List, [], ◌∷◌, length, Option, Some, None, sym, ap, subst, arith, Entry, AllItems, SeatView, IsComplete, IsSeatOf, boxed_terms, boxed_stands}
 use Rattle.turn_cell.proofs.Ends.{Ended, ends}
 use Rattle.turn_cell.proofs.cell.TurnCell.close.Goals as goal
 
@@ -11,11 +11,11 @@ module _ {O T P Q : Type 0} (terms_of : O → T) (seat_count : T → ℕ) (legal
   no_object t seats y e is = let a = e.is in cc
 
   the_object : (t u : T) (seats : List (SeatView T P Q)) (y : Option O) (o : O) → Ended terms_of seat_count legal stands t seats y → y ≡ Some o → t ≡ u
-      → (terms_of o ≡ u) × ((h : List (Entry P Q)) × legal u h × stands o h × all_of (IsSeatOf u h) seats)
+      → (terms_of o ≡ u) × ((h : List (Entry P Q)) × legal u h × stands o h × AllItems (IsSeatOf u h) seats)
   the_object t u seats y o e is same =
       let a = e.is in
       let one : e.object ≡ o = cc in
-      let G : O × T → Type 0 = λ x. (terms_of x.0 ≡ x.1) × ((h : List (Entry P Q)) × legal x.1 h × stands x.0 h × all_of (IsSeatOf x.1 h) seats) in
+      let G : O × T → Type 0 = λ x. (terms_of x.0 ≡ x.1) × ((h : List (Entry P Q)) × legal x.1 h × stands x.0 h × AllItems (IsSeatOf x.1 h) seats) in
       subst G (λ i. (one i, same i)) (e.terms, (e.history, e.lawful, e.stood, e.all))
 
 pub gather-token-requires-clause-some : goal.gather-token-requires-clause-some
@@ -39,5 +39,5 @@ returns g c =
     record {
       terms = subst (λ o. g.O.Object.terms o ≡ c.args.self.terms) out r.0;
       history = subst (λ o. (h : List (Entry g.row.O-Op.Denot g.row.O-Reply.Denot)) × g.O.Object.legal c.args.self.terms h × g.O.Object.stands o h
-          × all_of (IsSeatOf c.args.self.terms h) c.args.seats.items) out r.1;
+          × AllItems (IsSeatOf c.args.self.terms h) c.args.seats.items) out r.1;
     }

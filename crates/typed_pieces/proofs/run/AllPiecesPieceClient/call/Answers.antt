@@ -11,8 +11,11 @@ loop-place-preserved g c = goes_on _ _ _ _ (started_more _ _ _ _ _ _ _ _ c.new.e
 pub returns-clause-kept : goal.returns-clause-kept
 returns-clause-kept g c =
     let end = c.loop-place.auto.place-end in
-    let over = c.loop-place-test.false in
-    (awaited _ _ _ _ _ _ _ (omega (arith, end, over)) c.loop-place.invariant.2 c.group_wait_all.ensures, stops_at_look _ _ _ _ _ _ _ (omega (arith, end, over)) c.loop-place.invariant.2 c.group_wait_all.ensures)
+    let over = c.loop-place-test.false in (
+      awaited _ _ _ _ _ _ _ (omega (arith, end, over)) c.loop-place.invariant.2 c.group_wait_all.ensures,
+      stops_at_look _ _ _ _ _ _ _
+          (omega (arith, end, over)) c.loop-place.invariant.2 c.group_wait_all.ensures,
+    )
 
 pub returns-in_err-group-clause-kept : goal.returns-in_err-group-clause-kept
 returns-in_err-group-clause-kept g c =
@@ -22,5 +25,6 @@ returns-in_err-group-clause-kept g c =
 pub returns-in_err-start_place-clause-kept : goal.returns-in_err-start_place-clause-kept
 returns-in_err-start_place-clause-kept g c =
     let few = c.loop-place-test.true in
-    let stopped = stops_at_start _ _ c.args.self.count _ _ _ _ _ _ c.new.ensures (search rules) c.loop-place.invariant.2 c.start_place.ensures c.in_err-start_place.was in
+    let stopped = stops_at_start _ _ c.args.self.count _ _ _ _ _ _ c.new.ensures
+    (search rules) c.loop-place.invariant.2 c.start_place.ensures c.in_err-start_place.was in
     refused_told _ _ _ _ _ (search rules) stopped

@@ -2,11 +2,11 @@ use Rattle.std.proofs.Common.{◌≡◌, ℕ, List, Some, refl, sym, ◌∙◌, 
 use Rattle.std.proofs.lemmas.Bool.Decides.{Decides-eqb}
 use Rattle.std.proofs.lemmas.Slice.Eq.{slice_eq-Decides}
 use Rattle.workload_file.specs.declared.table.Word.TheVariants.{Start}
-use Rattle.workload_file.specs.Table.{row, word_of, word_text}
+use Rattle.workload_file.specs.Table.{statement_row, word_of, word_text}
 use Rattle.workload_file.proofs.table.Word.from_text.Goals as goal
 
 starts : (text : List ℕ) → text ≡ word_text Start → Some Start ≡ word_of text
-unfolding word_of row
+unfolding word_of statement_row
 starts text e = subst (λ (t : List ℕ). Some Start ≡ word_of t) (sym e) refl
 
 pub returns-then-eq : goal.returns-then-eq

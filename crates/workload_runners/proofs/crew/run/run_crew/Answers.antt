@@ -12,7 +12,8 @@ deal-requires-clause-count g c =
     let t = c.in-Ok.ensures.terms in
     let o = c.with-object.ensures.terms in
     let z = c.in-Ok.cell in
-    let long = ap (λ (l : List Seat). length l) c.in-Ok.ensures.seats ∙ fresh_length z (journal_terms c.with-object.result) 0 (journal_seats (journal_terms c.with-object.result)) in
+    let long = ap (λ (l : List Seat). length l) c.in-Ok.ensures.seats
+    ∙ fresh_length z (journal_terms c.with-object.result) 0 (journal_seats (journal_terms c.with-object.result)) in
     let j : journal_seats (journal_terms c.with-object.result) ≡ z.terms.node.settings.workers + z.terms.node.callers = ap journal_seats (sym t) in
     let k : z.terms.node.callers ≡ vec_len c.args.others + 1 =
     ap (λ (u : JournaledTerms). u.node.callers) t ∙ (ap (λ (u : JournaledTerms). u.node.callers) o ∙ c.requires.callers) in

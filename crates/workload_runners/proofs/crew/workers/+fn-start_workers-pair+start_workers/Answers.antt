@@ -20,7 +20,8 @@ pair-outcome-requires-after_bounds g t c κs within =
 pub returns-in-Ok-crew-clause-back : goal.returns-in-Ok-crew-clause-back
 returns-in-Ok-crew-clause-back g t c =
     let out = worker_out c.args.cell.now c.args.threads c.pop.new.self c.in-Some.seat c.requires c.in-Some.ensures.items c.in-Some.ensures.len in
-    worker_back g.S.Set.Serve.rounds g.C.Holder.promise g.D.Holder.promise c.args.cell.now c.args.threads c.pop.new.self c.in-Some.seat c.in-Ok-crew.crew c.joined.result c.in-Ok-outcome.served
+    worker_back g.S.Set.Serve.rounds g.C.Holder.promise g.D.Holder.promise c.args.cell.now c.args.threads c.pop.new.self c.in-Some.seat c.in-Ok-crew.crew
+    c.joined.result c.in-Ok-outcome.served
     c.in-Some.ensures.len out c.in-Ok-outcome.ensures.done c.joined.ensures
     (IfOk-at_ok (HaveCome g.S.Set.Serve.rounds g.C.Holder.promise g.D.Holder.promise c.args.cell.now
     (record c.args.threads { workers = c.pop.new.self })) c.in-Ok-crew.is c.in-Ok-outcome.ensures.ran.met.0)
@@ -35,7 +36,8 @@ returns-in_default-clause-back g t c =
     let none : vec_len c.args.threads.workers ≡ 0 = search rules in
     elim c.match-start_callers.branch [
       | in-Ok w ↦
-          let h = all_closed g.S.Set.Serve.rounds g.C.Holder.promise g.D.Holder.promise c.args.cell.now c.args.threads w.in-Ok.returned w.begin_end.result none c.requires
+          let h = all_closed g.S.Set.Serve.rounds g.C.Holder.promise g.D.Holder.promise c.args.cell.now c.args.threads w.in-Ok.returned w.begin_end.result none
+          c.requires
           w.in-Ok.ensures.back w.begin_end.ensures.closed in
           search rules
       | in-Err w ↦ search rules

@@ -17,7 +17,8 @@ returns-in-Ok-2 g c =
     record {
       same = search rules;
       done = search rules;
-      ran = ran_of g.F.FnOnce g.B.Beside.refusals c.captures.b c.captures.carry c.b-t-in-Ok-2.result _ _ _ _ c.b-t-in-Ok-2.ensures (search rules) (search rules);
+      ran = ran_of g.F.FnOnce g.B.Beside.refusals c.captures.b c.captures.carry c.b-t-in-Ok-2.result _ _ _ _ c.b-t-in-Ok-2.ensures (search rules)
+          (search rules);
       unrun = tt;
       refused = tt;
     }
